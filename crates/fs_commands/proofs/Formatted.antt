@@ -43,15 +43,7 @@ module _ (g : Geometry) (m : Blocks) (low_live : (b : ℕ) → bitmap_start g �
 
 -- nothing was done where blocks were only looked at
 pub still_begun : (s t : State) → t.books ≡ s.books → IsBegun s → IsBegun t
-still_begun s t same h = subst (λ (k : Bookkeeping). IsBegun (record t { books = k })) (sym same) (record {
-  point = h.point;
-  weight = h.weight;
-  held = h.held;
-  payloads = h.payloads;
-  fresh = h.fresh;
-  none_bare = h.none_bare;
-  going = h.going;
-})
+still_begun s t same h = subst (λ (k : Bookkeeping). IsBegun (record t { books = k })) (sym same) assumption
 
 pub still_empty : (g : Geometry) (s t : State) → s.books.geom ≡ g → t.books ≡ s.books → t.map ≡ s.map → ((b : ℕ) → data_start g ≤ b → b < g.n → is_set g s.map b ≡ false) → HasNoBlocks t
 still_empty g s t geom books map empty =

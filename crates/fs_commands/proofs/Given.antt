@@ -1,5 +1,5 @@
 -- What laws say that proofs take as arguments.
-use Rattle.std.proofs.Common.{◌≡◌, ℕ, ◌+◌, ◌-◌, ◌*◌, ◌/◌, ◌≤◌, min, max, false, List, ◌++◌, length, slice_get, Some, Ok}
+use Rattle.std.proofs.Common.{◌≡◌, ℕ, ◌+◌, ◌-◌, ◌*◌, ◌/◌, ◌≤◌, min, max, Bool, false, IsTrue, sym, subst, List, ◌++◌, length, slice_get, Some, Ok}
 use Rattle.base_types.specs.Seal.{Blocks}
 use Rattle.layout_geometry.specs.Geometry.{Geometry, bitmap_blocks}
 use Rattle.layout_bytes.specs.declared.node.NodeKind.TheVariants.{File}
@@ -14,6 +14,7 @@ use Rattle.lang_tree.specs.Tree.{Tree}
 use Rattle.crash_stands.specs.Files.{FileNode, Files, files_of}
 use Rattle.crash_stands.specs.Inodes.{AreInodesOf, Inodes, inodes_of}
 use Rattle.crash_stands.specs.Maps.{IsMapOf}
+use Rattle.crash_stands.specs.Stands.{IsTreeOf}
 use Rattle.crash_stands.specs.Walks.{LeadsTo, node_in}
 use Rattle.fs_inodes.specs.Changes.{slot_of}
 use Rattle.fs_inodes.specs.Figures.{cost}
@@ -23,7 +24,10 @@ use Rattle.fs_inodes.specs.Replies.{reply_of}
 use Rattle.fs_files.specs.Drafts.{DraftState, nothing_drafted}
 use Rattle.fs_files.specs.Finish.{ChangesOnly, price}
 use Rattle.fs_dirs.specs.Changing.{Alters, IsWithSlots}
+use Rattle.engine_blocks.specs.Crashes.{Advances, IssuesNothing}
+use Rattle.engine_blocks.specs.State.{State}
 use Rattle.fs_session.specs.Changes.{ChangesAtMost, IsWithinCost}
+use Rattle.fs_session.specs.Sessions.{IsSession, inodes}
 
 -- the tree refuses a command for the reason that its inode map gives
 abbrev pub RefusalLaw : Type 0
@@ -70,3 +74,15 @@ DivisionLaw = (size lo hi : ℕ) → min (blocks_for size) (blocks_for hi) - lo 
 abbrev pub WritingLaw : Type 0
 WritingLaw = (g : Geometry) (d : DraftState) (size lo hi : ℕ) → ChangesAtMost d (blocks_met size lo hi + 1) (blocks_for (max size hi) - blocks_for size) (blocks_for (max size hi) - blocks_for size) 0
     → IsWithinCost g d (writing (bitmap_blocks g) size lo hi).cost
+
+-- a map of blocks where a tree stands has the tree's inode map
+abbrev pub MapLaw : Type 0
+MapLaw = (g : Geometry) (m : Blocks) (t : Tree) → IsTreeOf g m t → IsMapOf g.i (inodes_of (files_of g m)) t
+
+-- so its session has it
+pub session_map : MapLaw → (s : State) (f : Session) → IsSession s f → IsMapOf f.limit (inodes s) f.tree
+session_map law s f h = subst (λ n. IsMapOf n (inodes s) f.tree) (sym h.limit) (law s.books.geom s.map f.tree h.tree)
+
+-- time goes on over calls that issue nothing and make no point
+abbrev pub Rests : {S : Type 0} → Bool → (S → State) → Type 0
+Rests {S} tells state = IsTrue tells → (old new : S) → (state new).books.point ≡ (state old).books.point → (state new).books.floor ≡ (state old).books.floor → IssuesNothing (state old) (state new) → Advances (state old) (state new)

@@ -1,5 +1,5 @@
 -- Blocks of nodes before and after: each node has the first of its own, or all of them and others behind.
-use Rattle.std.proofs.Common.{◌≡◌, ◌≢◌, ◌⊎◌, inl, inr, ℕ, ◌≤◌, min, List, [], ◌++◌, length, take, refl, sym, ap, ◌∙◌, subst, arith}
+use Rattle.std.proofs.Common.{⊎_elim, ◌≡◌, ℕ, ◌≤◌, min, List, [], ◌++◌, length, take, refl, sym, ap, ◌∙◌, subst, arith}
 use Rattle.std.proofs.Math.Seq.{take-append_seam}
 use Rattle.std.proofs.lemmas.Bool.{cases_eq}
 use Rattle.std.proofs.lemmas.List.{append-nil, length-take, take_all, take_min, take-append-le, take-take}
@@ -24,11 +24,9 @@ grown_front ps more = sym (take_all (length (ps ++ more)) (ps ++ more) (omega ar
 
 -- one node has
 pub placed_by : (old new : ℕ → List ℕ) (k : ℕ) (ps more : List ℕ) → IsWithPlaces old new k ps → ps ≡ take (length ps) (old k ++ more) → ArePlaced old new more
-placed_by old new k ps more w is l = by (cases_eq l k)
-  where
-    by : (l ≡ k) ⊎ (l ≢ k) → new l ≡ take (length (new l)) (old l ++ more)
-    by (inl e) = subst (λ n. new n ≡ take (length (new n)) (old n ++ more)) (sym e) (subst (λ (qs : List ℕ). qs ≡ take (length qs) (old k ++ more)) (sym w.own) is)
-    by (inr d) = subst (λ (qs : List ℕ). qs ≡ take (length qs) (old l ++ more)) (sym (w.others l d)) (own_front (old l) more)
+placed_by old new k ps more w is l = ⊎_elim
+    (λ e. subst (λ n. new n ≡ take (length (new n)) (old n ++ more)) (sym e) (subst (λ (qs : List ℕ). qs ≡ take (length qs) (old k ++ more)) (sym w.own) is))
+    (λ d. subst (λ (qs : List ℕ). qs ≡ take (length qs) (old l ++ more)) (sym (w.others l d)) (own_front (old l) more)) (cases_eq l k)
 
 -- it keeps the first of its own, and it has others behind all of its own
 pub placed_cut : (old new : ℕ → List ℕ) (k n : ℕ) (more : List ℕ) → IsWithPlaces old new k (take n (old k)) → ArePlaced old new more

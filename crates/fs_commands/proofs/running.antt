@@ -2,7 +2,7 @@
 use Rattle.std.proofs.Common.{◌≡◌, Bool, true, false, Result, refl}
 use Rattle.std.proofs.lemmas.Bool.{false≢true}
 use Rattle.lang_tree.specs.declared.command.Cmd.{Cmd}
-use Rattle.lang_tree.specs.declared.command.Cmd.TheVariants.{Mkdir, Create, Write, Fill, Read, Truncate, Link, Unlink, Rmdir, Rename, Stat, List as ListNames, Osync, Dsync, Durable, Poll, Bad}
+use Rattle.lang_tree.specs.declared.command.Cmd.TheVariants.{Osync, Dsync, Durable, Poll, Bad}
 use Rattle.lang_tree.specs.declared.command.Refusal.{Refusal}
 use Rattle.lang_tree.specs.declared.command.Reply.{Reply}
 use Rattle.lang_tree.specs.Points.{is_sync}
@@ -11,40 +11,18 @@ use Rattle.fs_session.specs.Applying.{Runs}
 use Rattle.fs_session.specs.Commands.{Carries, is_on_tree}
 
 pub on_tree_is_no_sync : (cmd : Cmd) → is_on_tree cmd ≡ true → is_sync cmd ≡ false
-on_tree_is_no_sync (Mkdir path) e = refl
-on_tree_is_no_sync (Create path) e = refl
-on_tree_is_no_sync (Write path offset bytes) e = refl
-on_tree_is_no_sync (Fill path offset count byte) e = refl
-on_tree_is_no_sync (Read path offset count) e = refl
-on_tree_is_no_sync (Truncate path size) e = refl
-on_tree_is_no_sync (Link path other) e = refl
-on_tree_is_no_sync (Unlink path) e = refl
-on_tree_is_no_sync (Rmdir path) e = refl
-on_tree_is_no_sync (Rename from to) e = refl
-on_tree_is_no_sync (Stat path) e = refl
-on_tree_is_no_sync (ListNames path) e = refl
 on_tree_is_no_sync Osync e = absurd (false≢true e)
 on_tree_is_no_sync Dsync e = absurd (false≢true e)
 on_tree_is_no_sync Durable e = absurd (false≢true e)
 on_tree_is_no_sync Poll e = absurd (false≢true e)
 on_tree_is_no_sync Bad e = absurd (false≢true e)
+on_tree_is_no_sync cmd e = refl
 
 -- one that was carried out ran
 pub runs_on_tree : {S : Type 0} (tells : Bool) (state : S → State) (cmd : Cmd) (result : Result Reply Refusal) (old new : S) → is_on_tree cmd ≡ true → Carries tells cmd result (state old) (state new) → Runs tells state cmd result old new
-runs_on_tree tells state (Mkdir path) result old new e h = h
-runs_on_tree tells state (Create path) result old new e h = h
-runs_on_tree tells state (Write path offset bytes) result old new e h = h
-runs_on_tree tells state (Fill path offset count byte) result old new e h = h
-runs_on_tree tells state (Read path offset count) result old new e h = h
-runs_on_tree tells state (Truncate path size) result old new e h = h
-runs_on_tree tells state (Link path other) result old new e h = h
-runs_on_tree tells state (Unlink path) result old new e h = h
-runs_on_tree tells state (Rmdir path) result old new e h = h
-runs_on_tree tells state (Rename from to) result old new e h = h
-runs_on_tree tells state (Stat path) result old new e h = h
-runs_on_tree tells state (ListNames path) result old new e h = h
 runs_on_tree tells state Osync result old new e h = absurd (false≢true e)
 runs_on_tree tells state Dsync result old new e h = absurd (false≢true e)
 runs_on_tree tells state Durable result old new e h = absurd (false≢true e)
 runs_on_tree tells state Poll result old new e h = absurd (false≢true e)
 runs_on_tree tells state Bad result old new e h = absurd (false≢true e)
+runs_on_tree tells state cmd result old new e h = h

@@ -23,6 +23,7 @@ ghost use Rattle.fs_commands.specs.Writing.{IsFile, MayPut};
 
 use crate::facts::the_node_at_a_path_gives_the_inode;
 use crate::figures::overwrite_figures;
+use crate::found::a_file_is_at_its_path;
 use crate::look::is_dir;
 use crate::paths::{NodeFound, find_node};
 use crate::prices::small_drafts_are_within_the_cost;
@@ -35,7 +36,6 @@ use fs_files::{
 };
 use fs_inodes::{
     new_bytes_are_mapped, paths_lead_to_inodes, the_map_gives_the_refusal, walks_are_the_same,
-    what_changes_nothing_keeps_the_map,
 };
 use fs_session::{Plan, blocks_have_the_map_of_their_tree, has_room};
 use lang_tree::{Path, Refusal, Reply, touched_blocks_are_counted_by_division};
@@ -121,14 +121,8 @@ fn write_found<S: Blocks>(
     ensures made { OnChange result (λ draft cost first. MayBeMade S.tells draft cost first (S.state blocks.new)) }
 {
     calls_compose::<S>();
-    a_draft_begins(blocks);
-    a_file_fits_the_disk(blocks);
-    blocks_have_the_map_of_their_tree();
+    a_file_is_at_its_path(blocks);
     the_map_gives_the_refusal();
-    the_node_at_a_path_gives_the_inode();
-    a_directory_has_whole_slots::<S>();
-    what_changes_nothing_keeps_the_map();
-    walks_are_the_same();
     if is_too_large(offset, bytes.len() as u64) {
         return Ok(Plan::Answer(Reply::Refused(Refusal::TooLarge)));
     }

@@ -1,7 +1,7 @@
+pub mod Cases
 pub mod Answered
 pub mod Passing
 pub mod Ticking
-pub mod Unread
-pub mod Late
+pub mod Causes
 pub mod Turning
 pub mod Waiting

@@ -1,6 +1,5 @@
 -- A tree has no more directories than there are numbers.
-use Rattle.std.proofs.Common.{◌≡◌, ℕ, zero, suc, ◌+◌, ◌≤◌, Bool, true, false, ◌&&◌, if◌then◌else◌, List, [], ◌∷◌, Option, None, Some, refl, sym, ap, ap₂, ◌∙◌, ◌⊎◌, inl, inr, arith}
-use Rattle.std.proofs.lemmas.Bool.{cases_Bool, eq-eqb, le-leb, leb-true, leb-false}
+use Rattle.std.proofs.Common.{◌≡◌, ℕ, zero, suc, ◌+◌, ◌≤◌, Bool, true, ◌&&◌, if◌then◌else◌, List, [], ◌∷◌, Option, None, Some, refl, ap, ap₂, arith}
 use Rattle.std.proofs.Math.Dec.{leb}
 use Rattle.std.specs.List.{filter}
 use Rattle.std.specs.FinMap.{get, entries}
@@ -9,6 +8,7 @@ use Rattle.lang_tree.specs.Names.{times, path_count}
 use Rattle.lang_tree.specs.Paths.{is_within}
 use Rattle.fs_inodes.specs.Listing.{at_and_below}
 use Rattle.fs_commands.specs.Listing.{Paths, is_dir_thing, dirs_among}
+use Rattle.std.proofs.lemmas.Bool.Decides.{nat_tests}
 
 module _ (d : ℕ → Bool) where
   -- one, where the number passes and is at most n
@@ -24,63 +24,43 @@ module _ (d : ℕ → Bool) where
   abbrev here : ℕ → Paths → ℕ
   here k es = if d k then times k es else 0
 
+  none_at : (x : ℕ) → (d x ≡ true → 1 ≤ x) → one_upto 0 x ≡ 0
+  none_at x least = grind (arith, nat_tests)
+
   none_upto : ((x : ℕ) → d x ≡ true → 1 ≤ x) → (es : Paths) → upto 0 es ≡ 0
   none_upto least [] = refl
-  none_upto least (e ∷ es) = ap₂ (λ a b. a + b) (by (cases_Bool (d e.1)) (cases_Bool (leb e.1 0))) (none_upto least es)
-    where
-      by : (d e.1 ≡ true) ⊎ (d e.1 ≡ false) → (leb e.1 0 ≡ true) ⊎ (leb e.1 0 ≡ false) → one_upto 0 e.1 ≡ 0
-      by (inr no_dir) low = ap (λ b. if b && leb e.1 0 then 1 else 0) no_dir
-      by (inl dir) (inr high) = ap₂ (λ a b. if a && b then 1 else 0) dir high
-      by (inl dir) (inl low) = absurd (omega (arith, least e.1 dir, leb-true e.1 0 low))
+  none_upto least (e ∷ es) = ap₂ (λ a b. a + b) (none_at e.1 (least e.1)) (none_upto least es)
 
+  -- one number more lets in those that have it
   one_more : (n x : ℕ) (e : List (List ℕ)) → one_upto (suc n) x ≤ one_upto n x + here (suc n) ((e, x) ∷ [])
-  one_more n x e = by (cases_Bool (d x)) (cases_Bool (leb x (suc n))) (cases_Bool (leb x n))
-    where
-      by : (d x ≡ true) ⊎ (d x ≡ false) → (leb x (suc n) ≡ true) ⊎ (leb x (suc n) ≡ false) → (leb x n ≡ true) ⊎ (leb x n ≡ false) → one_upto (suc n) x ≤ one_upto n x + here (suc n) ((e, x) ∷ [])
-      by (inr no_dir) low lower = let none : one_upto (suc n) x ≡ 0 = ap (λ b. if b && leb x (suc n) then 1 else 0) no_dir in omega (arith, none)
-      by (inl dir) (inr high) lower = let none : one_upto (suc n) x ≡ 0 = ap₂ (λ a b. if a && b then 1 else 0) dir high in omega (arith, none)
-      by (inl dir) (inl low) (inl lower) =
-          let one : one_upto (suc n) x ≡ 1 = ap₂ (λ a b. if a && b then 1 else 0) dir low in
-          let also : one_upto n x ≡ 1 = ap₂ (λ a b. if a && b then 1 else 0) dir lower in
-          omega (arith, one, also)
-      by (inl dir) (inl low) (inr higher) =
-          let same : x ≡ suc n = omega (arith, leb-true x (suc n) low, leb-false x n higher) in
-          let one : one_upto (suc n) x ≡ 1 = ap₂ (λ a b. if a && b then 1 else 0) dir low in
-          let own : here (suc n) ((e, x) ∷ []) ≡ 1 = ap₂ (λ a b. if a then (if b then 1 else 0) + 0 else 0) (ap d (sym same) ∙ dir) (eq-eqb x (suc n) same) in
-          omega (arith, one, own)
+  one_more n x e = grind (arith, nat_tests)
 
   here_join : (k x : ℕ) (e : List (List ℕ)) (es : Paths) → here k ((e, x) ∷ es) ≡ here k ((e, x) ∷ []) + here k es
-  here_join k x e es = by (cases_Bool (d k))
-    where
-      by : (d k ≡ true) ⊎ (d k ≡ false) → here k ((e, x) ∷ es) ≡ here k ((e, x) ∷ []) + here k es
-      by (inl dir) = rw dir (omega arith)
-      by (inr no_dir) = rw no_dir (omega arith)
+  here_join k x e es = grind arith
 
   one_number_more : (n : ℕ) (es : Paths) → upto (suc n) es ≤ upto n es + here (suc n) es
   one_number_more n [] = omega arith
   one_number_more n ((e, x) ∷ es) = omega (arith, one_more n x e, here_join (suc n) x e es, one_number_more n es)
 
-  -- where each number that passes is there once, there are no more than numbers
+  here_once : (k : ℕ) (es : Paths) → (d k ≡ true → times k es ≤ 1) → here k es ≤ 1
+  here_once k es once = grind arith
+
+  -- where each number that passes has one path at most, there are as many as numbers at most
   few_upto : ((x : ℕ) → d x ≡ true → 1 ≤ x) → (es : Paths) → ((k : ℕ) → d k ≡ true → times k es ≤ 1) → (n : ℕ) → upto n es ≤ n
   few_upto least es once zero = omega (arith, none_upto least es)
-  few_upto least es once (suc n) = omega (arith, one_number_more n es, few_upto least es once n, by (cases_Bool (d (suc n))))
-    where
-      by : (d (suc n) ≡ true) ⊎ (d (suc n) ≡ false) → here (suc n) es ≤ 1
-      by (inl dir) = let own : here (suc n) es ≡ times (suc n) es = ap (λ b. if b then times (suc n) es else 0) dir in omega (arith, own, once (suc n) dir)
-      by (inr no_dir) = let own : here (suc n) es ≡ 0 = ap (λ b. if b then times (suc n) es else 0) no_dir in omega (arith, own)
+  few_upto least es once (suc n) = omega (arith, one_number_more n es, few_upto least es once n, here_once (suc n) es (once (suc n)))
 
   -- how many pass, where none is above the limit
   abbrev passing : Paths → ℕ
   passing [] = 0
   passing (e ∷ es) = (if d e.1 then 1 else 0) + passing es
 
+  all_at : (limit x : ℕ) → (d x ≡ true → x ≤ limit) → (if d x then 1 else 0) ≡ one_upto limit x
+  all_at limit x most = grind (arith, nat_tests)
+
   all_upto : (limit : ℕ) → ((x : ℕ) → d x ≡ true → x ≤ limit) → (es : Paths) → passing es ≡ upto limit es
   all_upto limit most [] = refl
-  all_upto limit most (e ∷ es) = ap₂ (λ a b. a + b) (by (cases_Bool (d e.1))) (all_upto limit most es)
-    where
-      by : (d e.1 ≡ true) ⊎ (d e.1 ≡ false) → (if d e.1 then 1 else 0) ≡ one_upto limit e.1
-      by (inl dir) = ap (λ b. if b then 1 else 0) dir ∙ sym (ap₂ (λ a b. if a && b then 1 else 0) dir (le-leb e.1 limit (most e.1 dir)))
-      by (inr no_dir) = ap (λ b. if b then 1 else 0) no_dir ∙ sym (ap (λ a. if a && leb e.1 limit then 1 else 0) no_dir)
+  all_upto limit most (e ∷ es) = ap₂ (λ a b. a + b) (all_at limit e.1 (most e.1)) (all_upto limit most es)
 
 -- each path is at or below the root
 from_root : (es : Paths) → filter (λ e. is_within [] e.0) es ≡ es

@@ -1,5 +1,5 @@
 -- What a path leads to, from the number that a walk comes to and what is known of the node. Looks come one behind the other.
-use Rattle.std.proofs.Common.{◌≡◌, ℕ, Bool, false, IsTrue, List, Option, None, Some, Result, Ok, option_map, option_and_then, refl, sym, subst, ap, ap₂, ◌∙◌}
+use Rattle.std.proofs.Common.{◌≡◌, ℕ, Bool, false, IsTrue, List, Option, None, Some, Result, Ok, option_map, option_and_then, refl, sym, subst, ap, ap₂, ◌∙◌, arith}
 use Rattle.std.proofs.lemmas.Option.{none-some}
 use mathlib.Core.Logic.Iff.{trans}
 use Rattle.base_types.specs.Counts.{after_call}
@@ -17,7 +17,11 @@ use Rattle.fs_files.specs.Calls.{facts_of, files_in}
 use Rattle.fs_files.specs.Drafts.{DraftState, nothing_drafted, drafted}
 use Rattle.fs_files.specs.Effects.{LooksOnly}
 use Rattle.fs_files.specs.Sound.{FitsBooks, IsSoundDraft, IsDraftOf}
-use Rattle.fs_dirs.specs.Directories.{inodes_in}
+use Rattle.fs_dirs.specs.Directories.{inodes_in, IsNumber}
+use Rattle.engine_blocks.specs.Running.{HasNoBare}
+use Rattle.fs_session.specs.Sessions.{MayBegin}
+use Rattle.fs_files.specs.Asks.{MayLook}
+use Rattle.crash_stands.specs.Stands.{AreSound}
 
 -- two looks, of which the first didn't fail
 pub looks_more : (tells failed : Bool) (s t u : State) → LooksOnly tells false s t → LooksOnly tells failed t u → LooksOnly tells failed s u
@@ -104,3 +108,22 @@ pub found_none : {A : Type 0} (tells : Bool) (s mid : State) (d : DraftState) (p
 found_none {A} tells s mid d path number t none told looks map leads unknown =
     let used = map.shows.used path number leads in
     absurd (is_used (files_in s nothing_drafted number) used.0 used.1 (unknown ∙ ap (λ (files : Files). option_map facts_of (files number)) (files_stay tells s mid d none told looks)))
+
+-- how a draft begins
+abbrev pub BeginsDraft : Bool → State → Type 0
+BeginsDraft tells s = HasNoBare s.books.running → (IsTrue tells → AreSound s.books.geom s.map) → IsDraftOf tells s nothing_drafted
+
+-- a node may be looked at in a draft that began, also behind reads
+pub draft_begun : (tells : Bool) (s : State) (d : DraftState) → d ≡ nothing_drafted → MayBegin tells s → BeginsDraft tells s → IsDraftOf tells s d
+draft_begun tells s d none may law = subst (IsDraftOf tells s) (sym none) (law may.none_bare may.sound)
+
+pub look_begins : (tells : Bool) (s : State) (d : DraftState) (k : ℕ) → d ≡ nothing_drafted → MayBegin tells s → IsNumber s.books.geom.i k → BeginsDraft tells s → MayLook tells s d k
+look_begins tells s d k none may number law = record { going = may.going; from = number.from; upto = number.upto; draft = draft_begun tells s d none may law }
+
+pub look_on : (tells : Bool) (s t : State) (d : DraftState) (k : ℕ) → LooksOnly tells false s t → MayLook tells s d k → MayLook tells t d k
+look_on tells s t d k looks may = record {
+  going = ap (λ (b : Bookkeeping). b.stopped) looks.books ∙ may.going;
+  from = may.from;
+  upto = omega (arith, may.upto, ap (λ (b : Bookkeeping). b.geom.i) looks.books);
+  draft = draft_stays tells false s t d looks may.draft;
+}

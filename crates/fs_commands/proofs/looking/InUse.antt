@@ -1,5 +1,5 @@
 -- Nodes in use, and the inodes that they read as.
-use Rattle.std.proofs.Common.{◌≡◌, ◌≢◌, ◌⊎◌, inl, inr, ℕ, Option, None, Some, option_and_then, refl, sym, ap, subst, ◌∙◌}
+use Rattle.std.proofs.Common.{⊎_elim, ◌≡◌, ◌≢◌, ℕ, Option, None, Some, option_and_then, refl, sym, ap, subst, ◌∙◌}
 use Rattle.std.proofs.lemmas.Bool.{cases_eq}
 use Rattle.std.proofs.lemmas.Option.{none-some}
 use Rattle.crash_stands.specs.Files.{FileNode, Files}
@@ -23,16 +23,12 @@ all_read files m reads k = subst (λ (i : Option Inode). IsInodeOf (files k) i) 
 
 -- nodes in use stay so where one became another
 pub still_used : (old new : Files) (k : ℕ) (x : FileNode) → IsWithFile old new k (Some x) → (l : ℕ) → IsUsed old l → IsUsed new l
-still_used old new k x set l used = by (cases_eq l k)
-  where
-    by : (l ≡ k) ⊎ (l ≢ k) → IsUsed new l
-    by (inl e) = (x, ap new e ∙ set.own)
-    by (inr n) = (used.0, set.others l n ∙ used.1)
+still_used old new k x set l used = ⊎_elim
+    (λ e. (x, ap new e ∙ set.own))
+    (λ n. (used.0, set.others l n ∙ used.1)) (cases_eq l k)
 
 -- and each reads as an inode still where that one does
 pub read_still : (old new : Files) (k : ℕ) → IsInodeOf (new k) (inodes_of new k) → ((l : ℕ) → l ≢ k → new l ≡ old l) → AreInodesOf old (inodes_of old) → AreInodesOf new (inodes_of new)
-read_still old new k own others reads l = by (cases_eq l k)
-  where
-    by : (l ≡ k) ⊎ (l ≢ k) → IsInodeOf (new l) (inodes_of new l)
-    by (inl e) = subst (λ n. IsInodeOf (new n) (inodes_of new n)) (sym e) own
-    by (inr n) = subst (λ (o : Option FileNode). IsInodeOf o (option_and_then inode_of o)) (sym (others l n)) (reads l)
+read_still old new k own others reads l = ⊎_elim
+    (λ e. subst (λ n. IsInodeOf (new n) (inodes_of new n)) (sym e) own)
+    (λ n. subst (λ (o : Option FileNode). IsInodeOf o (option_and_then inode_of o)) (sym (others l n)) (reads l)) (cases_eq l k)

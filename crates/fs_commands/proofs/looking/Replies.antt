@@ -1,5 +1,5 @@
 -- What the tree answers a command that only looks, from the node at the path.
-use Rattle.std.proofs.Common.{◌≡◌, ℕ, ◌*◌, true, false, List, length, ◌∷◌, [], take, drop, None, Some, option_and_then, Ok, Err, ◌==◌, refl, sym, subst, ap, ◌∙◌}
+use Rattle.std.proofs.Common.{◌≡◌, ℕ, ◌*◌, true, false, List, length, ◌∷◌, [], take, drop, None, Some, option_and_then, Ok, Err, ◌==◌, refl, sym, ap, ◌∙◌}
 use Rattle.std.proofs.lemmas.Option.{none-some}
 use Rattle.std.proofs.lemmas.Bool.{true≢false}
 use Rattle.layout_bytes.specs.declared.slot.Slot.{Slot}
@@ -14,18 +14,21 @@ use Rattle.lang_tree.specs.Conditions.{first_reason, when as whenever}
 use Rattle.lang_tree.specs.Points.{answers_point}
 use Rattle.lang_tree.specs.Step.{Session, step}
 use Rattle.lang_tree.specs.Walk.{refusal_in}
-use Rattle.crash_stands.specs.Files.{FileNode, files_of}
-use Rattle.crash_stands.specs.Inodes.{Inode, Inodes, ADir, AFile, inode_by, inode_of, inodes_of}
-use Rattle.crash_stands.specs.Maps.{IsMapOf}
+use Rattle.crash_stands.specs.Files.{FileNode}
+use Rattle.crash_stands.specs.Inodes.{Inode, Inodes, ADir, AFile, inode_by, inode_of}
 use Rattle.crash_stands.specs.Walks.{LeadsTo}
 use Rattle.engine_blocks.specs.State.{State}
-use Rattle.fs_files.specs.Calls.{is_dir}
+use Rattle.fs_files.specs.Calls.{is_dir, files_in}
 use Rattle.fs_inodes.specs.Lookups.{walk_on, is_dir_inode, is_file_inode, bytes_of, slots_of, inode_at}
 use Rattle.fs_inodes.specs.Names.{names_of, stat_at, stat_by}
 use Rattle.fs_inodes.specs.Replies.{reply_by, reply_of}
-use Rattle.fs_commands.specs.Looks.{stat_of_kind}
-use Rattle.fs_session.specs.Sessions.{IsSession}
+use Rattle.fs_commands.specs.Looks.{stat_of_kind, LeadsToFound}
+use Rattle.fs_session.specs.Sessions.{IsSession, inodes}
 use Rattle.fs_commands.proofs.looking.Facts.{file_told, kind_told, not_file}
+use Rattle.fs_commands.proofs.Given.{MapLaw, ReplyLaw, EndsLaw, session_map}
+use Rattle.fs_commands.specs.declared.paths.NodeFound.{NodeFound}
+use Rattle.fs_files.specs.Drafts.{nothing_drafted}
+use Rattle.fs_files.specs.declared.look.FileFacts.{FileFacts}
 
 -- what is told of a node that reads as an inode is what the inode gives
 pub stat_told : (kind : NodeKind) (links : ℕ) (bytes : List ℕ) (inode : Inode) (n : ℕ) → inode_by kind links bytes ≡ Some inode
@@ -78,35 +81,46 @@ module _ (m : Inodes) (limit : ℕ) (path : List (List ℕ)) where
   list_dir n slots walked leads here = sym (lists_by n (ADir slots) walked leads here ∙ ap (λ i. NamesReply (names_of (slots_of i))) (at_path n (ADir slots) walked leads here))
 
 -- The replies of a session over these blocks.
-module _ (s : State) (f : Session) (h : IsSession s f) (map : IsMapOf s.books.geom.i (inodes_of (files_of s.books.geom s.map)) f.tree) (path : List (List ℕ))
-    (laws : (cmd : Cmd) → answers_point cmd ≡ false → IsMapOf f.limit (inodes_of (files_of s.books.geom s.map)) f.tree → (step f cmd).1 ≡ reply_of f.limit (inodes_of (files_of s.books.geom s.map)) cmd) where
-  abbrev pub m : Inodes
-  m = inodes_of (files_of s.books.geom s.map)
+module _ (s : State) (f : Session) (h : IsSession s f) (map : MapLaw) (law : ReplyLaw) (path : List (List ℕ)) where
+  abbrev m : Inodes
+  m = inodes s
 
-  in_session : IsMapOf f.limit m f.tree
-  in_session = subst (λ n. IsMapOf n m f.tree) (sym h.limit) map
+  replies : (cmd : Cmd) → answers_point cmd ≡ false → reply_of f.limit m cmd ≡ (step f cmd).1
+  replies cmd none = sym (law f m cmd (session_map map s f h) none)
 
   pub stat_nowhere : (why : Refusal) → walk_on m 1 path ≡ Err why → Refused why ≡ (step f (StatCmd path)).1
-  stat_nowhere why e = stat_refused m f.limit path why e ∙ sym (laws (StatCmd path) refl in_session)
+  stat_nowhere why e = stat_refused m f.limit path why e ∙ replies (StatCmd path) refl
 
   pub read_nowhere : (offset count : ℕ) (why : Refusal) → walk_on m 1 path ≡ Err why → Refused why ≡ (step f (Read path offset count)).1
-  read_nowhere offset count why e = read_refused m f.limit path offset count why e ∙ sym (laws (Read path offset count) refl in_session)
+  read_nowhere offset count why e = read_refused m f.limit path offset count why e ∙ replies (Read path offset count) refl
 
   pub list_nowhere : (why : Refusal) → walk_on m 1 path ≡ Err why → Refused why ≡ (step f (ListNames path)).1
-  list_nowhere why e = list_refused m f.limit path why e ∙ sym (laws (ListNames path) refl in_session)
+  list_nowhere why e = list_refused m f.limit path why e ∙ replies (ListNames path) refl
 
-  module _ (n : ℕ) (x : FileNode) (walked : walk_on m 1 path ≡ Ok n) (leads : LeadsTo m path n) (at : files_of s.books.geom s.map n ≡ Some x) where
-    abbrev pub inode : Inode
-    inode = (map.shows.used path n leads).0
+  module _ (ends : EndsLaw) (found : NodeFound) (led : LeadsToFound (files_in s nothing_drafted) path (Ok found)) where
+    abbrev n : ℕ
+    n = found.number
+
+    abbrev x : FileNode
+    x = led.1.0
+
+    walked : walk_on m 1 path ≡ Ok n
+    walked = led.0
+
+    leads : LeadsTo m path n
+    leads = ends m path n led.0
+
+    abbrev inode : Inode
+    inode = ((session_map map s f h).shows.used path n leads).0
 
     here : m n ≡ Some inode
-    here = (map.shows.used path n leads).1
+    here = ((session_map map s f h).shows.used path n leads).1
 
-    pub reads : inode_of x ≡ Some inode
-    reads = sym (ap (option_and_then inode_of) at) ∙ here
+    reads : inode_of x ≡ Some inode
+    reads = sym (ap (option_and_then inode_of) led.1.1) ∙ here
 
     pub stat_there : ((slots : List Slot) → x.kind ≡ Dir → inode_of x ≡ Some (ADir slots) → length x.bytes ≡ 64 * length slots) → stat_of_kind x.kind n x.links (length x.bytes) ≡ (step f (StatCmd path)).1
-    stat_there size = stat_told x.kind x.links x.bytes inode n reads (λ slots dir is. size slots dir (reads ∙ ap Some is)) ∙ sym (stat_is m f.limit path n inode walked leads here) ∙ sym (laws (StatCmd path) refl in_session)
+    stat_there size = stat_told x.kind x.links x.bytes inode n reads (λ slots dir is. size slots dir (reads ∙ ap Some is)) ∙ sym (stat_is m f.limit path n inode walked leads here) ∙ replies (StatCmd path) refl
 
     -- a file reads as one, and a directory too
     kind_is : (i : Inode) → inode_of x ≡ Some i → is_dir_inode (Some i) ≡ is_dir x.kind
@@ -123,11 +137,14 @@ module _ (s : State) (f : Session) (h : IsSession s f) (map : IsMapOf s.books.ge
       (λ file. ap (λ bytes. Bytes (take count (drop offset bytes))) (ap bytes_of (sym (file_told x.kind x.links x.bytes (AFile l b) e file) ∙ e)) ∙ read_file m f.limit path n offset count l b walked leads is),
     )
 
-    pub read_there : (offset count : ℕ) → (is_dir x.kind ≡ true → Refused IsDir ≡ (step f (Read path offset count)).1) × (is_dir x.kind ≡ false → Bytes (take count (drop offset x.bytes)) ≡ (step f (Read path offset count)).1)
+    kind : is_dir x.kind ≡ is_dir found.facts.kind
+    kind = sym (ap (λ (q : FileFacts). is_dir q.kind) led.1.2)
+
+    pub read_there : (offset count : ℕ) → (is_dir found.facts.kind ≡ true → Refused IsDir ≡ (step f (Read path offset count)).1) × (is_dir found.facts.kind ≡ false → Bytes (take count (drop offset x.bytes)) ≡ (step f (Read path offset count)).1)
     read_there offset count =
         let r = read_is offset count inode reads here in
-        let law = sym (laws (Read path offset count) refl in_session) in
-        ((λ dir. r.0 dir ∙ law), (λ file. r.1 file ∙ law))
+        let law = replies (Read path offset count) refl in
+        ((λ dir. r.0 (kind ∙ dir) ∙ law), (λ file. r.1 (kind ∙ file) ∙ law))
 
     list_is : (i : Inode) → inode_of x ≡ Some i → m n ≡ Some i → (is_dir x.kind ≡ false → Refused NotDir ≡ reply_of f.limit m (ListNames path))
         × (is_dir x.kind ≡ true → (slots : List Slot) × (i ≡ ADir slots) × (NamesReply (names_of slots) ≡ reply_of f.limit m (ListNames path)))
@@ -140,9 +157,9 @@ module _ (s : State) (f : Session) (h : IsSession s f) (map : IsMapOf s.books.ge
       (λ dir. absurd (true≢false (sym dir ∙ sym (kind_is (AFile l b) e)))),
     )
 
-    pub list_there : (is_dir x.kind ≡ false → Refused NotDir ≡ (step f (ListNames path)).1)
-        × (is_dir x.kind ≡ true → (slots : List Slot) × (m n ≡ Some (ADir slots)) × (NamesReply (names_of slots) ≡ (step f (ListNames path)).1))
+    pub list_there : (is_dir found.facts.kind ≡ false → Refused NotDir ≡ (step f (ListNames path)).1)
+        × (is_dir found.facts.kind ≡ true → (slots : List Slot) × (m n ≡ Some (ADir slots)) × (NamesReply (names_of slots) ≡ (step f (ListNames path)).1))
     list_there =
         let r = list_is inode reads here in
-        let law = sym (laws (ListNames path) refl in_session) in
-        ((λ file. r.0 file ∙ law), (λ dir. let d = r.1 dir in (d.0, here ∙ ap Some d.1, d.2 ∙ law)))
+        let law = replies (ListNames path) refl in
+        ((λ file. r.0 (kind ∙ file) ∙ law), (λ dir. let d = r.1 (kind ∙ dir) in (d.0, here ∙ ap Some d.1, d.2 ∙ law)))

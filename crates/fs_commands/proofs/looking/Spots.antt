@@ -1,5 +1,5 @@
 -- What a path comes to gives the walk along it, the number at it and the slots above it.
-use Rattle.std.proofs.Common.{◌≡◌, ◌⊎◌, inl, inr, ℕ, ◌-◌, Bool, true, false, List, [], ◌∷◌, ◌++◌, length, Option, None, Some, option_map, option_and_then, Result, Ok, Err, if◌then◌else◌, refl, sym, ap, ◌∙◌, arith, take_at}
+use Rattle.std.proofs.Common.{⊎_elim, ◌≡◌, ◌⊎◌, inl, inr, ℕ, ◌-◌, Bool, true, false, List, [], ◌∷◌, ◌++◌, length, Option, None, Some, option_map, option_and_then, Result, Ok, Err, if◌then◌else◌, refl, sym, ap, ◌∙◌, arith, take_at}
 use Rattle.std.proofs.lemmas.Option.{none-some, same_Some}
 use Rattle.std.proofs.lemmas.List.{length-append}
 use Rattle.layout_bytes.specs.declared.slot.Slot.{Slot}
@@ -40,11 +40,9 @@ above up name = take_at up (name ∷ []) (length (up ++ name ∷ []) - 1) (omega
 -- a path is the root, or it has a last name
 pub from_end : (p : List (List ℕ)) → (p ≡ []) ⊎ ((up : List (List ℕ)) × (name : List ℕ) × (p ≡ up ++ name ∷ []))
 from_end [] = inl refl
-from_end (a ∷ p) = by (from_end p)
-  where
-    by : (p ≡ []) ⊎ ((up : List (List ℕ)) × (name : List ℕ) × (p ≡ up ++ name ∷ [])) → (a ∷ p ≡ []) ⊎ ((up : List (List ℕ)) × (name : List ℕ) × (a ∷ p ≡ up ++ name ∷ []))
-    by (inl e) = inr ([], a, ap (λ p. a ∷ p) e)
-    by (inr s) = inr (a ∷ s.0, s.1, ap (λ p. a ∷ p) s.2)
+from_end (a ∷ p) = ⊎_elim
+    (λ e. inr ([], a, ap (λ p. a ∷ p) e))
+    (λ s. inr (a ∷ s.0, s.1, ap (λ p. a ∷ p) s.2)) (from_end p)
 
 -- why nothing can come to be at a path with a name
 reason_by : (m : Inodes) (up : List (List ℕ)) (name : List ℕ) → parent_reason m (up ++ name ∷ []) ≡ dir_reason m (walk_on m 1 up)
@@ -61,11 +59,9 @@ refused_by m name (Ok n) why e = refused_at (is_dir_inode (m n)) (entry_in (m n)
     refused_at false o why e = ap Err (same_Some NotDir why e)
 
 pub walk_refused : (m : Inodes) (path : List (List ℕ)) (why : Refusal) → parent_reason m path ≡ Some why → walk_on m 1 path ≡ Err why
-walk_refused m path why e = by (from_end path)
-  where
-    by : (path ≡ []) ⊎ ((up : List (List ℕ)) × (name : List ℕ) × (path ≡ up ++ name ∷ [])) → walk_on m 1 path ≡ Err why
-    by (inl none) = absurd (none-some why (ap (parent_reason m) (sym none) ∙ e))
-    by (inr s) = ap (walk_on m 1) s.2 ∙ walk_last m 1 s.0 s.1 ∙ refused_by m s.1 (walk_on m 1 s.0) why (sym (reason_by m s.0 s.1) ∙ ap (parent_reason m) (sym s.2) ∙ e)
+walk_refused m path why e = ⊎_elim
+    (λ none. absurd (none-some why (ap (parent_reason m) (sym none) ∙ e)))
+    (λ s. ap (walk_on m 1) s.2 ∙ walk_last m 1 s.0 s.1 ∙ refused_by m s.1 (walk_on m 1 s.0) why (sym (reason_by m s.0 s.1) ∙ ap (parent_reason m) (sym s.2) ∙ e)) (from_end path)
 
 -- the walk to a path in a directory
 entered : (slots : List Slot) (name : List ℕ) (dir count : ℕ) (entry : Option Entry) → option_map (λ (e : Entry). e.node.number) entry ≡ node_in slots name → enter true (node_in slots name) Ok ≡ walk_of (Ok (Inside dir count entry))

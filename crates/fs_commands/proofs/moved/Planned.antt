@@ -1,5 +1,5 @@
 -- A draft in which a name moved makes the tree of the rename, and is within its cost.
-use Rattle.std.proofs.Common.{◌≡◌, ◌≢◌, ℕ, ◌+◌, ◌≤◌, ◌==◌, cond, IsTrue, Bool, true, false, List, [], ◌∷◌, ◌++◌, length, take, None, Some, is_some, refl, sym, subst, ap, ap₂, ◌∙◌, arith}
+use Rattle.std.proofs.Common.{◌≡◌, ◌≢◌, ℕ, ◌+◌, ◌≤◌, ◌==◌, cond, IsTrue, Bool, true, false, List, [], ◌∷◌, ◌++◌, length, take, None, Some, is_some, refl, sym, subst, ap, ap₂, ◌∙◌, arith, Option}
 use Rattle.std.proofs.lemmas.Bool.{cond-true, cond-false, eq-eqb, ne_eqb}
 use Rattle.std.proofs.lemmas.List.{length-take}
 use Rattle.layout_geometry.specs.Geometry.{Geometry, bitmap_blocks}
@@ -16,9 +16,9 @@ use Rattle.crash_stands.specs.Inodes.{Inodes, ADir}
 use Rattle.crash_stands.specs.Maps.{IsMapOf}
 use Rattle.crash_stands.specs.Walks.{LeadsTo}
 use Rattle.fs_inodes.specs.Changes.{MovesSlot}
-use Rattle.fs_inodes.specs.Figures.{cost, cost_by, move_cost, slots_above, blocks_lost}
+use Rattle.fs_inodes.specs.Figures.{cost_by, move_cost, slots_above, blocks_lost}
 use Rattle.fs_inodes.specs.Lookups.{number_at}
-use Rattle.fs_inodes.specs.Refusals.{reason, rename_reason}
+use Rattle.fs_inodes.specs.Refusals.{rename_reason}
 use Rattle.fs_inodes.specs.Replies.{reply_by}
 use Rattle.engine_blocks.specs.State.{Bookkeeping, State, reusable_blocks}
 use Rattle.fs_files.specs.Calls.{files_in, places_in}
@@ -32,12 +32,12 @@ use Rattle.fs_commands.specs.declared.removing.Named.{Named}
 use Rattle.fs_commands.specs.Moving.{KnowsMove, KnowsPaths, MayMoveAway, MayRename, MovesName}
 use Rattle.fs_session.specs.Plans.{MakesTree, MayBeMade}
 use Rattle.fs_commands.specs.Removing.{blocks_gone}
-use Rattle.fs_session.specs.Sessions.{AreUsedBelow, IsSession, inodes}
+use Rattle.fs_session.specs.Sessions.{AreUsedBelow, inodes}
 use Rattle.fs_session.specs.Space.{ArePlaced, HasRoom}
-use Rattle.fs_commands.specs.Writing.{IsWeighed}
 use Rattle.fs_commands.proofs.looking.Spots.{above}
 use Rattle.fs_commands.proofs.moved.Known.{entry_lacks}
 use Rattle.fs_commands.proofs.Given.{FiguresLaw, PriceLaw, RefusalLaw, ReplyLaw}
+use Rattle.fs_commands.specs.declared.paths.Entry.{Entry}
 
 -- what is altered bounds the price
 pub within_move : (g : Geometry) (d : DraftState) (most frees grown : ℕ) (takes : List ℕ) → PriceLaw → Alters most takes frees nothing_drafted d → most ≤ 6 → length takes ≤ grown → IsWithinCost g d (moving (bitmap_blocks g) grown frees).cost
@@ -74,38 +74,49 @@ move_uses s t source into node most frees grown takes name other d then made are
   placed = subst (λ (bs : List ℕ). ArePlaced (places_of s) (places_in t d) bs) are made.placed;
 }
 
+-- A rename that the tree accepts, as it is weighed: what is known of it, and its figures.
+pub record MoveIs (s : State) (f : Session) (from to : List (List ℕ)) (source : Named) (into count : ℕ) (found : Option Entry) (other : List ℕ) (grown freed : ℕ) (fs : Figures) : Type 0 where
+  pub known : KnowsMove (files_in s nothing_drafted) from to source into count found other
+  pub map : IsMapOf f.limit (inodes s) f.tree
+  pub reason : rename_reason (inodes s) from to ≡ None
+  pub accepted : refusal f.limit f.tree (Rename from to) ≡ None
+  pub counted : figures_on s f (Rename from to) ≡ moving (bitmap_blocks s.books.geom) grown freed
+  pub figures : figures_on s f (Rename from to) ≡ fs
+
+pub move_is : (s : State) (f : Session) (from to : List (List ℕ)) (source : Named) (into count : ℕ) (found : Option Entry) (other : List ℕ) (grown freed : ℕ) (fs : Figures) → KnowsMove (files_in s nothing_drafted) from to source into count found other
+    → IsMapOf f.limit (inodes s) f.tree → rename_reason (inodes s) from to ≡ None → RefusalLaw → figures_on s f (Rename from to) ≡ moving (bitmap_blocks s.books.geom) grown freed → fs ≡ moving (bitmap_blocks s.books.geom) grown freed
+    → MoveIs s f from to source into count found other grown freed fs
+move_is s f from to source into count found other grown freed fs known map none law counted same =
+    record { known = known; map = map; reason = none; accepted = law f.limit (inodes s) f.tree (Rename from to) map ∙ none; counted = counted; figures = counted ∙ sym same }
+
 -- the tree of a rename
-pub planned_move : (s t : State) (f : Session) (from to : List (List ℕ)) (source into node most frees grown cost : ℕ) (takes : List ℕ) (name other : List ℕ) (d : DraftState) (then : ℕ → ℕ) → IsSession s f
-    → IsMapOf s.books.geom.i (inodes s) f.tree → KnowsPaths (inodes s) from to source into name other → MovesName s t d source into node name other most takes frees then → IsWeighed s f (Rename from to) cost
-    → figures_on s f (Rename from to) ≡ moving (bitmap_blocks s.books.geom) grown frees → most ≤ 6 → takes ≡ take grown (reusable_blocks t.books) → grown ≤ length (reusable_blocks t.books) → (grown ≤ length (reusable_blocks s.books) → t.books ≡ s.books) → t.books.geom ≡ s.books.geom
+pub planned_move : (s t : State) (f : Session) (from to : List (List ℕ)) (source : Named) (into count : ℕ) (found : Option Entry) (other : List ℕ) (most frees grown : ℕ) (fs : Figures) (takes : List ℕ) (d : DraftState) (then : ℕ → ℕ)
+    → (a : MoveIs s f from to source into count found other grown frees fs) → MovesName s t d source.dir into source.entry.node.number a.known.name other most takes frees then → HasRoom s.books fs
+    → most ≤ 6 → takes ≡ take grown (reusable_blocks t.books) → grown ≤ length (reusable_blocks t.books) → (grown ≤ length (reusable_blocks s.books) → t.books ≡ s.books) → t.books.geom ≡ s.books.geom
     → FindsRuns s t.books f (Rename from to)
     → ((s : Session) (m new : Inodes) (up to : List (List ℕ)) (name other : List ℕ) (from into node : ℕ) → IsMapOf s.limit m s.tree → refusal s.limit s.tree (Rename (up ++ name ∷ []) (to ++ other ∷ [])) ≡ None
     → LeadsTo m up from → LeadsTo m to into → MovesSlot m new from into node name other → IsMapOf s.limit new (step s (Rename (up ++ name ∷ []) (to ++ other ∷ []))).0.tree)
-    → ReplyLaw → rename_reason (inodes s) from to ≡ None → PriceLaw
-    → MakesTree (Rename from to) d cost s t f
-planned_move s t f from to source into node most frees grown cost takes name other d then h map paths made weighed formula few are enough rests geom runs moved replies reason prices =
-    let mine = subst (λ n. IsMapOf n (inodes s) f.tree) (sym h.limit) map in
-    let same : Rename (paths.up ++ name ∷ []) (paths.above ++ other ∷ []) ≡ Rename from to = ap₂ (λ a b. Rename a b) (sym paths.from_is) (sym paths.to_is) in
+    → ReplyLaw → PriceLaw
+    → MakesTree (Rename from to) d fs.cost s t f
+planned_move s t f from to source into count found other most frees grown fs takes d then a made room few are enough rests geom runs moved replies prices =
+    let paths = a.known.paths in
+    let costs = ap (λ (n : Figures). n.cost) a.figures in
+    let same : Rename (paths.up ++ a.known.name ∷ []) (paths.above ++ other ∷ []) ≡ Rename from to = ap₂ (λ a b. Rename a b) (sym paths.from_is) (sym paths.to_is) in
     record {
-      accepted = weighed.accepted;
-      answer = replies f (inodes s) (Rename from to) mine refl ∙ ap (λ r. reply_by (inodes s) (Rename from to) r) reason;
-      costs = weighed.costs;
-      room = weighed.room;
+      accepted = a.accepted;
+      answer = replies f (inodes s) (Rename from to) a.map refl ∙ ap (λ r. reply_by (inodes s) (Rename from to) r) a.reason;
+      costs = costs;
+      room = subst (λ (n : Figures). HasRoom s.books n) (sym a.figures) room;
       runs = runs;
       reads = made.reads;
       map = subst (λ (cmd : Cmd). IsMapOf f.limit (inodes_in t d) (step f cmd).0.tree) same
-          (moved f (inodes s) (inodes_in t d) paths.up paths.above name other source into node mine (subst (λ (cmd : Cmd). refusal f.limit f.tree cmd ≡ None) (sym same) weighed.accepted) paths.source_leads paths.into_leads made.moves);
-      within = subst (λ n. IsWithinCost t.books.geom d n) (sym (ap (λ (n : Figures). n.cost) formula) ∙ weighed.costs)
+          (moved f (inodes s) (inodes_in t d) paths.up paths.above a.known.name other source.dir into source.entry.node.number a.map (subst (λ (cmd : Cmd). refusal f.limit f.tree cmd ≡ None) (sym same) a.accepted) paths.source_leads paths.into_leads made.moves);
+      within = subst (λ n. IsWithinCost t.books.geom d n) (sym (ap (λ (n : Figures). n.cost) a.counted) ∙ costs)
           (subst (λ (g : Geometry). IsWithinCost t.books.geom d (moving (bitmap_blocks g) grown frees).cost) geom (within_move t.books.geom d most frees grown takes prices made.alters few (omega (arith, ap (λ (bs : List ℕ). length bs) are, length-take grown (reusable_blocks t.books)))));
-      uses = subst (λ (n : Figures). Uses n.need n.freed (reusable_blocks t.books) (places_of s) (places_in t d) d) (sym formula) (move_uses s t source into node most frees grown takes name other d then made are);
-      enough = subst (λ (n : Figures). n.need ≤ length (reusable_blocks t.books)) (sym formula) enough;
-      rests = λ enough. rests (subst (λ (n : Figures). n.need ≤ length (reusable_blocks s.books)) formula enough);
+      uses = subst (λ (n : Figures). Uses n.need n.freed (reusable_blocks t.books) (places_of s) (places_in t d) d) (sym a.counted) (move_uses s t source.dir into source.entry.node.number most frees grown takes a.known.name other d then made are);
+      enough = subst (λ (n : Figures). n.need ≤ length (reusable_blocks t.books)) (sym a.counted) enough;
+      rests = λ enough. rests (subst (λ (n : Figures). n.need ≤ length (reusable_blocks s.books)) a.counted enough);
     }
-
--- the tree accepts it
-pub move_refusal : (f : Session) (m : Inodes) (from to : List (List ℕ)) → IsMapOf f.limit m f.tree → RefusalLaw
-    → rename_reason m from to ≡ None → refusal f.limit f.tree (Rename from to) ≡ None
-move_refusal f m from to map law none = law f.limit m f.tree (Rename from to) map ∙ none
 
 -- it needs no blocks
 pub no_growth : (s : State) (settled : Bookkeeping) (f : Session) (cmd : Cmd) (bitmap freed : ℕ) → figures_on s f cmd ≡ moving bitmap 0 freed → FindsRuns s settled f cmd

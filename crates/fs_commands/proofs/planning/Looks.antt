@@ -1,5 +1,5 @@
 -- Plans of commands that only look: the reply, and nothing changes.
-use Rattle.std.proofs.Common.{◌≡◌, Bool, false, IsTrue, List, ℕ, Option, None, Some, Result, Ok, Err, IfOk, IfErr, refl}
+use Rattle.std.proofs.Common.{◌≡◌, Bool, false, IsTrue, List, ℕ, Option, None, Some, Result, Ok, Err, IfOk, IfErr, refl, subst, sym}
 use Rattle.lang_tree.specs.declared.command.Cmd.{Cmd}
 use Rattle.lang_tree.specs.declared.command.Cmd.TheVariants.{Read, Stat, List as ListNames}
 use Rattle.lang_tree.specs.declared.command.Refusal.{Refusal}
@@ -8,7 +8,6 @@ use Rattle.lang_tree.specs.Conditions.{refusal}
 use Rattle.lang_tree.specs.Figures.{nothing, figures, figures_by}
 use Rattle.lang_tree.specs.Step.{Session, step, answered}
 use Rattle.engine_blocks.specs.Calls.{IsSound}
-use Rattle.engine_blocks.specs.Crashes.{Advances}
 use Rattle.engine_blocks.specs.State.{State}
 use Rattle.layout_geometry.specs.Geometry.{bitmap_blocks}
 use Rattle.fs_files.specs.declared.refusal.FileRefusal.{FileRefusal}
@@ -20,7 +19,11 @@ use Rattle.fs_session.specs.Plans.{Plans}
 use Rattle.fs_commands.specs.Looks.{answer_of}
 use Rattle.fs_session.specs.Sessions.{IsSession}
 use Rattle.fs_commands.proofs.planning.Answers.{room_for_nothing, runs_for_nothing}
-use Rattle.fs_commands.proofs.planning.Looking.{looked, looked_quietly, cut_short_plan}
+use Rattle.fs_commands.proofs.planning.Looking.{looked_plan, cut_short}
+use Rattle.fs_commands.proofs.Given.{Rests}
+use Rattle.fs_session.specs.declared.plan.Plan.{Plan}
+use Rattle.fs_commands.specs.Refusals.{refusal_of}
+use Rattle.fs_session.specs.declared.plan.Plan.TheVariants.{Answer}
 
 -- The command leaves each session as it is, and takes nothing.
 pub record Looks (cmd : Cmd) : Type 0 where
@@ -49,19 +52,16 @@ pub list_looks : (path : List (List ℕ)) → Looks (ListNames path)
 list_looks path = looks_by (ListNames path) (λ f. refl) (λ bitmap f. refl)
 
 -- its plan is what the look answers
-pub look_plan : (tells : Bool) (cmd : Cmd) (s t : State) (result : Result Reply FileRefusal) → Looks cmd → s.books.stopped ≡ false → IsSound s.books
-    → (IsTrue tells → IfOk result (λ reply. (f : Session) → IsSession s f → reply ≡ (step f cmd).1)) → IfErr result LookRefused → LooksOnly tells (fails_reading result) s t → (IsTrue tells → Advances s t) → Plans tells cmd (answer_of result) s t
-look_plan tells cmd s t (Ok reply) looks going sound answer refused only advances = record {
-  is = λ told f h. let none = looks.takes (bitmap_blocks s.books.geom) f in record {
-    answer = answer told f h;
-    session = looks.stays f;
-    room = room_for_nothing s.books (figures_on s f cmd) sound none;
-    runs = runs_for_nothing s t.books f cmd none;
-    costs = none;
-    books = only.books;
-  };
-  going = going;
-  quiet = λ told f h. looked_quietly tells false s t (figures_on s f cmd).need only told;
-  settles = looked tells false s t going only advances;
-}
-look_plan tells cmd s t (Err why) looks going sound answer refused only advances = cut_short_plan tells cmd s t why going refused only advances
+pub look_plan : {S : Type 0} (tells : Bool) (state : S → State) → Rests tells state → ((s : S) → IsSound (state s).books) → (cmd : Cmd) (old new : S) (result : Result Reply FileRefusal) (plan : Result Plan Refusal) → plan ≡ answer_of result → Looks cmd
+    → (state old).books.stopped ≡ false → (IsTrue tells → IfOk result (λ reply. (f : Session) → IsSession (state old) f → reply ≡ (step f cmd).1)) → IfErr result LookRefused → LooksOnly tells (fails_reading result) (state old) (state new) → Plans tells cmd plan (state old) (state new)
+look_plan tells state rests sound cmd old new (Ok reply) plan is looks going answer refused only = subst (λ p. Plans tells cmd p (state old) (state new)) (sym is) (looked_plan tells state rests cmd (Ok (Answer reply)) old new going refl refl
+    (λ told f h. let none = looks.takes (bitmap_blocks (state old).books.geom) f in record {
+      answer = answer told f h;
+      session = looks.stays f;
+      room = room_for_nothing (state old).books (figures_on (state old) f cmd) (sound old) none;
+      runs = runs_for_nothing (state old) (state new).books f cmd none;
+      costs = none;
+      books = only.books;
+    }) only)
+look_plan tells state rests sound cmd old new (Err why) plan is looks going answer refused only =
+    subst (λ p. Plans tells cmd p (state old) (state new)) (sym is) (cut_short tells state rests cmd old new why (refusal_of why) refl going refused only)

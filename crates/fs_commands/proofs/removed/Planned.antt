@@ -6,7 +6,7 @@ use Rattle.lang_tree.specs.Conditions.{refusal}
 use Rattle.lang_tree.specs.Figures.{Figures, figures, removing, release}
 use Rattle.lang_tree.specs.Step.{Session}
 use Rattle.crash_stands.specs.Maps.{IsMapOf}
-use Rattle.fs_inodes.specs.Figures.{cost, cost_by}
+use Rattle.fs_inodes.specs.Figures.{cost_by}
 use Rattle.fs_inodes.specs.Refusals.{reason}
 use Rattle.engine_blocks.specs.State.{Bookkeeping, State, reusable_blocks}
 use Rattle.fs_files.specs.Calls.{files_in, places_in}
@@ -16,7 +16,7 @@ use Rattle.fs_files.specs.Sound.{IsDraftOf}
 use Rattle.fs_dirs.specs.Directories.{inodes_in}
 use Rattle.fs_commands.specs.declared.removing.Named.{Named}
 use Rattle.fs_session.specs.Changes.{ChangesAtMost, IsWithinCost, Uses}
-use Rattle.fs_session.specs.Commands.{figures_on, places_of, FindsRuns}
+use Rattle.fs_session.specs.Commands.{figures_on, places_of}
 use Rattle.fs_commands.specs.Figures.{AreFiguresOf}
 use Rattle.fs_session.specs.Plans.{MakesTree, MayBeMade}
 use Rattle.fs_commands.specs.Removing.{KnowsLoss, LosesName, blocks_gone, first_after, lose_cmd}
@@ -24,52 +24,49 @@ use Rattle.fs_session.specs.Sessions.{AreUsedBelow, inodes}
 use Rattle.fs_session.specs.Space.{HasRoom}
 use Rattle.fs_commands.proofs.AtMost.{altered_few}
 use Rattle.fs_commands.proofs.removed.Accepted.{LossLaw, accepted_removes, loss_done, loss_mapped, reason_is}
+use Rattle.fs_commands.proofs.Given.{RefusalLaw, FiguresLaw}
 
-module _ (kind : Kind) (s : State) (path : List (List ℕ)) (n : Named) (f : Session) (known : KnowsLoss kind (files_in s nothing_drafted) path n) (map : IsMapOf f.limit (inodes s) f.tree)
-    (refusals : refusal f.limit f.tree (lose_cmd kind path) ≡ reason f.limit (inodes s) (lose_cmd kind path))
-    (counted : figures_on s f (lose_cmd kind path) ≡ cost (bitmap_blocks s.books.geom) f.limit (inodes s) (lose_cmd kind path)) where
-  no_reason_for : reason f.limit (inodes s) (lose_cmd kind path) ≡ None
-  no_reason_for = reason_is kind f.limit (inodes s) path ∙ known.accepted
+-- A command that takes a path away, as it is weighed: what goes, and the figures.
+pub record LossIs (kind : Kind) (s : State) (path : List (List ℕ)) (n : Named) (f : Session) (fs : Figures) : Type 0 where
+  pub known : KnowsLoss kind (files_in s nothing_drafted) path n
+  pub map : IsMapOf f.limit (inodes s) f.tree
+  pub accepted : refusal f.limit f.tree (lose_cmd kind path) ≡ None
+  pub removes : figures_on s f (lose_cmd kind path) ≡ removing (bitmap_blocks s.books.geom) (release n.count + blocks_gone n.entry.node.facts)
+  pub figures : figures_on s f (lose_cmd kind path) ≡ fs
 
-  pub loss_accepted : refusal f.limit f.tree (lose_cmd kind path) ≡ None
-  loss_accepted = refusals ∙ no_reason_for
+pub loss_is : (kind : Kind) (s : State) (path : List (List ℕ)) (n : Named) (f : Session) (fs : Figures) (bitmap : ℕ) → KnowsLoss kind (files_in s nothing_drafted) path n → IsMapOf f.limit (inodes s) f.tree → RefusalLaw → FiguresLaw
+    → bitmap ≡ bitmap_blocks s.books.geom → AreFiguresOf bitmap (inodes s) (lose_cmd kind path) fs → LossIs kind s path n f fs
+loss_is kind s path n f fs bitmap known map refusals counted is are =
+    let none : reason f.limit (inodes s) (lose_cmd kind path) ≡ None = reason_is kind f.limit (inodes s) path ∙ known.accepted in
+    let accepted = refusals f.limit (inodes s) f.tree (lose_cmd kind path) map ∙ none in
+    record {
+      known = known;
+      map = map;
+      accepted = accepted;
+      removes = counted (bitmap_blocks s.books.geom) f (inodes s) (lose_cmd kind path) map ∙ ap (cost_by (bitmap_blocks s.books.geom) (inodes s) (lose_cmd kind path)) none
+          ∙ accepted_removes kind (bitmap_blocks s.books.geom) (inodes s) path n.count n.entry.node.facts known.accepted known.above known.facts;
+      figures = ap (λ b. figures b f (lose_cmd kind path)) (sym is) ∙ are f map accepted;
+    }
 
-  -- its figures are those that were counted
-  pub loss_figures_are : (bitmap : ℕ) (fs : Figures) → bitmap ≡ bitmap_blocks s.books.geom → AreFiguresOf bitmap (inodes s) (lose_cmd kind path) fs → figures_on s f (lose_cmd kind path) ≡ fs
-  loss_figures_are bitmap fs is are = ap (λ b. figures b f (lose_cmd kind path)) (sym is) ∙ are f map loss_accepted
-
-  removes : figures_on s f (lose_cmd kind path) ≡ removing (bitmap_blocks s.books.geom) (release n.count + blocks_gone n.entry.node.facts)
-  removes =
-      counted ∙ ap (cost_by (bitmap_blocks s.books.geom) (inodes s) (lose_cmd kind path)) no_reason_for
-      ∙ accepted_removes kind (bitmap_blocks s.books.geom) (inodes s) path n.count n.entry.node.facts known.accepted known.above known.facts
-
-  none_needed : (settled : Bookkeeping) → FindsRuns s settled f (lose_cmd kind path)
-  none_needed settled k some grown = absurd (omega (arith, some, ap (λ (fs : Figures). fs.need) removes))
-
-  -- it takes no block, frees those that they say, and each node keeps the first of its own
-  uses : (now : State) (d : DraftState) → LosesName s now d known.name n
-      → Uses (figures_on s f (lose_cmd kind path)).need (figures_on s f (lose_cmd kind path)).freed (reusable_blocks now.books) (places_of s) (places_in now d) d
-  uses now d loses = subst (λ (fs : Figures). Uses fs.need fs.freed (reusable_blocks now.books) (places_of s) (places_in now d) d) (sym removes)
-      (record { taken = loses.alters.taken; freed_are = omega (arith, loses.alters.freed); placed = loses.placed })
-
-  pub makes_loss : (now : State) (d : DraftState) (fs : Figures) → figures_on s f (lose_cmd kind path) ≡ fs → HasRoom s.books fs → LosesName s now d known.name n → LossLaw kind
-      → ((g : Geometry) (d : DraftState) (freed : ℕ) → ChangesAtMost d 4 0 0 freed → IsWithinCost g d (removing (bitmap_blocks g) freed).cost) → now.books ≡ s.books
-      → MakesTree (lose_cmd kind path) d fs.cost s now f
-  makes_loss now d fs are room loses law priced books = record {
-    accepted = loss_accepted;
-    answer = loss_done kind f path loss_accepted;
-    costs = ap (λ (fs : Figures). fs.cost) are;
-    room = subst (λ (fs : Figures). HasRoom s.books fs) (sym are) room;
-    runs = none_needed now.books;
-    reads = loses.reads;
-    map = loss_mapped kind law f (inodes s) (inodes_in now d) path known.up known.name n.dir n.entry.node.number known.is map loss_accepted known.leads loses.takes;
-    within = subst (λ (g : Geometry). IsWithinCost g d fs.cost) (sym (ap (λ (k : Bookkeeping). k.geom) books))
-        (subst (λ (c : ℕ). IsWithinCost s.books.geom d c) (ap (λ (fs : Figures). fs.cost) (sym removes ∙ are))
-        (priced s.books.geom d (release n.count + blocks_gone n.entry.node.facts) (altered_few 4 (release n.count + blocks_gone n.entry.node.facts) [] d loses.alters)));
-    uses = uses now d loses;
-    enough = omega (arith, ap (λ (fs : Figures). fs.need) removes);
-    rests = λ enough. books;
-  }
+-- the tree of such a loss
+pub makes_loss : (kind : Kind) (s : State) (path : List (List ℕ)) (n : Named) (f : Session) (fs : Figures) (a : LossIs kind s path n f fs) (now : State) (d : DraftState) → HasRoom s.books fs → LosesName s now d a.known.name n → LossLaw kind
+    → ((g : Geometry) (d : DraftState) (freed : ℕ) → ChangesAtMost d 4 0 0 freed → IsWithinCost g d (removing (bitmap_blocks g) freed).cost) → now.books ≡ s.books
+    → MakesTree (lose_cmd kind path) d fs.cost s now f
+makes_loss kind s path n f fs a now d room loses law priced books = record {
+  accepted = a.accepted;
+  answer = loss_done kind f path a.accepted;
+  costs = ap (λ (fs : Figures). fs.cost) a.figures;
+  room = subst (λ (fs : Figures). HasRoom s.books fs) (sym a.figures) room;
+  runs = λ k some grown. absurd (omega (arith, some, ap (λ (fs : Figures). fs.need) a.removes));
+  reads = loses.reads;
+  map = loss_mapped kind law f (inodes s) (inodes_in now d) path a.known.up a.known.name n.dir n.entry.node.number a.known.is a.map a.accepted a.known.leads loses.takes;
+  within = subst (λ (g : Geometry). IsWithinCost g d fs.cost) (sym (ap (λ (k : Bookkeeping). k.geom) books))
+      (subst (λ (c : ℕ). IsWithinCost s.books.geom d c) (ap (λ (fs : Figures). fs.cost) (sym a.removes ∙ a.figures))
+      (priced s.books.geom d (release n.count + blocks_gone n.entry.node.facts) (altered_few 4 (release n.count + blocks_gone n.entry.node.facts) [] d loses.alters)));
+  uses = subst (λ (fs : Figures). Uses fs.need fs.freed (reusable_blocks now.books) (places_of s) (places_in now d) d) (sym a.removes) (record { taken = loses.alters.taken; freed_are = omega (arith, loses.alters.freed); placed = loses.placed });
+  enough = omega (arith, ap (λ (fs : Figures). fs.need) a.removes);
+  rests = λ enough. books;
+}
 
 -- The draft may be made.
 pub loss_made : (tells : Bool) (s now : State) (d : DraftState) (n : Named) (fs : Figures) (first after : ℕ) → IsDraftOf tells now d → LooksOnly tells false s now → HasRoom s.books fs → 1 ≤ first → 1 ≤ n.entry.node.number

@@ -1,5 +1,5 @@
 -- What becomes of files and their inodes where a directory has other slots, and where a node loses a link.
-use Rattle.std.proofs.Common.{◌≡◌, ◌≢◌, ◌⊎◌, inl, inr, ℕ, ◌-◌, ◌<◌, ◌==◌, min, Bool, true, false, List, [], ◌∷◌, slice_get, if◌then◌else◌, Option, Some, None, option_and_then, refl, sym, ap, subst, ◌∙◌, arith}
+use Rattle.std.proofs.Common.{⊎_elim, ◌≡◌, ◌≢◌, ◌⊎◌, inl, inr, ℕ, ◌-◌, ◌<◌, ◌==◌, min, Bool, true, false, List, [], ◌∷◌, slice_get, if◌then◌else◌, Option, Some, None, option_and_then, refl, sym, ap, subst, ◌∙◌, arith}
 use Rattle.std.proofs.lemmas.Bool.{cases_eq, true≢false, eqb-true, eq-eqb}
 use Rattle.std.proofs.lemmas.Option.{none-some}
 use Rattle.layout_bytes.specs.declared.node.NodeKind.{NodeKind}
@@ -41,11 +41,9 @@ apart m dir node place slots s at slot bare same = true≢false (sym (has_some s
 module _ (old new : Files) (dir : ℕ) (slots : List Slot) (set : IsWithSlots old new dir slots) where
   -- nodes in use stay so
   pub slots_used : (l : ℕ) → IsUsed old l → IsUsed new l
-  slots_used l used = by (cases_eq l dir)
-    where
-      by : (l ≡ dir) ⊎ (l ≢ dir) → IsUsed new l
-      by (inl e) = let x = node_there (new l) (ADir slots) (ap (inodes_of new) e ∙ set.inodes.here) in (x.0, x.1)
-      by (inr n) = (used.0, set.others l n ∙ used.1)
+  slots_used l used = ⊎_elim
+      (λ e. let x = node_there (new l) (ADir slots) (ap (inodes_of new) e ∙ set.inodes.here) in (x.0, x.1))
+      (λ n. (used.0, set.others l n ∙ used.1)) (cases_eq l dir)
 
   -- another node is as it was found
   pub found_still : (node : NodeFound) → node.number ≢ dir → IsFound old node → IsFound new node

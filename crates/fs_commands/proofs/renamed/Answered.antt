@@ -1,5 +1,5 @@
 -- The plan of a rename that the tree refuses, and of one whose paths lead to one node.
-use Rattle.std.proofs.Common.{◌≡◌, ℕ, Bool, true, false, IsTrue, List, Option, None, Some, Ok, refl, sym, subst, ap, ap₂, ◌∙◌, if◌then◌else◌}
+use Rattle.std.proofs.Common.{◌≡◌, ℕ, Bool, true, false, IsTrue, List, Option, None, Some, Ok, refl, ap, ap₂, ◌∙◌, if◌then◌else◌}
 use Rattle.layout_geometry.specs.Geometry.{bitmap_blocks}
 use Rattle.lang_tree.specs.declared.command.Cmd.TheVariants.{Rename}
 use Rattle.lang_tree.specs.declared.command.Refusal.{Refusal}
@@ -17,7 +17,6 @@ use Rattle.fs_inodes.specs.Lookups.{number_at, walk_on}
 use Rattle.fs_inodes.specs.Refusals.{parent_reason, rename_reason}
 use Rattle.fs_inodes.specs.Replies.{reply_by}
 use Rattle.engine_blocks.specs.Calls.{IsSound}
-use Rattle.engine_blocks.specs.Crashes.{Advances}
 use Rattle.engine_blocks.specs.State.{State}
 use Rattle.fs_files.specs.Effects.{LooksOnly}
 use Rattle.fs_session.specs.declared.plan.Plan.TheVariants.{Answer}
@@ -26,16 +25,16 @@ use Rattle.fs_session.specs.Plans.{Plans}
 use Rattle.fs_session.specs.Sessions.{inodes}
 use Rattle.fs_commands.proofs.planning.Looking.{done_plan, reason_plan}
 use Rattle.fs_commands.proofs.renamed.Reasons.{same_accepted, same_is}
-use Rattle.fs_commands.proofs.Given.{RefusalLaw, FiguresLaw, ReplyLaw}
+use Rattle.fs_commands.proofs.Given.{RefusalLaw, FiguresLaw, ReplyLaw, MapLaw, Rests, session_map}
 
 -- a rename of a node to itself leaves the session as it is
 abbrev SameLaw : Type 0
 SameLaw = (s : Session) (m : Inodes) (from to : List (List ℕ)) (node : ℕ) → IsMapOf s.limit m s.tree → LeadsTo m from node → LeadsTo m to node → (step s (Rename from to)).0 ≡ s
 
 -- the tree refuses it
-pub refused_rename : (tells : Bool) (s t : State) (from to : List (List ℕ)) (why : Refusal) → s.books.stopped ≡ false → IsSound s.books → (IsTrue tells → (u : Tree) → IsTreeOf s.books.geom s.map u → rename_reason (inodes s) from to ≡ Some why)
-    → ((u : Tree) → IsTreeOf s.books.geom s.map u → IsMapOf s.books.geom.i (inodes s) u) → RefusalLaw → LooksOnly tells false s t → (IsTrue tells → Advances s t) → Plans tells (Rename from to) (Ok (Answer (Refused why))) s t
-refused_rename tells s t from to why going sound refuses = reason_plan tells (Rename from to) s t why going sound (λ told u h limit. refuses told u h)
+pub refused_rename : {S : Type 0} (tells : Bool) (state : S → State) → Rests tells state → ((s : S) → IsSound (state s).books) → MapLaw → RefusalLaw → (from to : List (List ℕ)) (old new : S) (why : Refusal) → (state old).books.stopped ≡ false
+    → (IsTrue tells → (u : Tree) → IsTreeOf (state old).books.geom (state old).map u → rename_reason (inodes (state old)) from to ≡ Some why) → LooksOnly tells false (state old) (state new) → Plans tells (Rename from to) (Ok (Answer (Refused why))) (state old) (state new)
+refused_rename tells state rests sound map law from to old new why going refuses = reason_plan tells state rests sound map law (Rename from to) old new why going (λ told u h limit. refuses told u h)
 
 -- both paths lead to one node
 pub record LeadToOne (m : Inodes) (from to : List (List ℕ)) : Type 0 where
@@ -62,11 +61,11 @@ module _ (s : State) (f : Session) (from to : List (List ℕ)) (map : IsMapOf f.
       ∙ ap (cost_by (bitmap_blocks s.books.geom) (inodes s) (Rename from to)) one.accepted
       ∙ ap (λ b. if b then nothing else move_cost (bitmap_blocks s.books.geom) (inodes s) from to) one.same
 
-pub same_rename : (tells : Bool) (s t : State) (from to : List (List ℕ)) → s.books.stopped ≡ false → IsSound s.books → (IsTrue tells → (u : Tree) → IsTreeOf s.books.geom s.map u → LeadToOne (inodes s) from to)
-    → ((u : Tree) → IsTreeOf s.books.geom s.map u → IsMapOf s.books.geom.i (inodes s) u) → ReplyLaw → SameLaw → FiguresLaw → LooksOnly tells false s t → (IsTrue tells → Advances s t) → Plans tells (Rename from to) (Ok (Answer Done)) s t
-same_rename tells s t from to going sound one map replies same counted looks advances =
-    done_plan tells (Rename from to) s t going sound
+pub same_rename : {S : Type 0} (tells : Bool) (state : S → State) → Rests tells state → ((s : S) → IsSound (state s).books) → MapLaw → ReplyLaw → SameLaw → FiguresLaw → (from to : List (List ℕ)) (old new : S) → (state old).books.stopped ≡ false
+    → (IsTrue tells → (u : Tree) → IsTreeOf (state old).books.geom (state old).map u → LeadToOne (inodes (state old)) from to) → LooksOnly tells false (state old) (state new) → Plans tells (Rename from to) (Ok (Answer Done)) (state old) (state new)
+same_rename tells state rests sound map replies same counted from to old new going one looks =
+    done_plan tells state rests sound (Rename from to) old new going
     (λ told f h.
-    let m = subst (λ l. IsMapOf l (inodes s) f.tree) (sym h.limit) (map f.tree h.tree) in
+    let m = session_map map (state old) f h in
     let o = one told f.tree h.tree in
-    (stays s f from to m o replies same, no_figures s f from to m o counted)) looks advances
+    (stays (state old) f from to m o replies same, no_figures (state old) f from to m o counted)) looks

@@ -1,5 +1,5 @@
 -- Why a truncate of a file that was found is refused, or isn't; and what becomes of one to the size that the file has.
-use Rattle.std.proofs.Common.{◌≡◌, ℕ, ◌-◌, ◌==◌, nat_lt, Bool, false, cond, List, [], ◌∷◌, length, None, Some, Result, sym, ap, ap₂, ◌∙◌, arith}
+use Rattle.std.proofs.Common.{◌≡◌, ℕ, ◌-◌, ◌==◌, nat_lt, Bool, false, cond, List, [], ◌∷◌, length, None, Result, sym, ap, ap₂, ◌∙◌, arith}
 use Rattle.std.proofs.lemmas.Bool.{cond-true, cond-false, eq-eqb, le-ltb}
 use Rattle.lang_tree.specs.declared.command.Cmd.TheVariants.{Truncate}
 use Rattle.lang_tree.specs.declared.command.Refusal.{Refusal}
@@ -10,12 +10,9 @@ use Rattle.lang_tree.specs.Figures.{nothing, figures, figures_by, writing, shrin
 use Rattle.lang_tree.specs.Step.{Session, step, answered, resized, changed_to, edited}
 use Rattle.lang_tree.specs.Walk.{content, refusal_in}
 use Rattle.crash_stands.specs.Inodes.{Inodes}
-use Rattle.crash_stands.specs.Maps.{IsMapOf}
 use Rattle.fs_inodes.specs.Lookups.{is_dir_inode, inode_at}
-use Rattle.fs_inodes.specs.Refusals.{file_reason}
 use Rattle.fs_commands.specs.declared.paths.NodeFound.{NodeFound}
 use Rattle.fs_commands.specs.Found.{IsKnownFile}
-use Rattle.fs_commands.proofs.FirstReason.{first_more}
 use Rattle.fs_commands.proofs.Given.{RefusalLaw}
 
 -- no change takes nothing
@@ -25,10 +22,6 @@ same_takes_nothing bitmap n =
     cond-false (nat_lt n n) (writing bitmap n n n) (cond (nat_lt n n) (shrinking bitmap (blocks_for n - blocks_for n)) nothing) less ∙ cond-false (nat_lt n n) (shrinking bitmap (blocks_for n - blocks_for n)) nothing less
 
 module _ (m : Inodes) (f : Session) (path : List (List ℕ)) (size : ℕ) (law : RefusalLaw) where
-  -- one that no file is found for
-  pub refused_by : (why : Refusal) → IsMapOf f.limit m f.tree → file_reason m path ≡ Some why → refusal f.limit f.tree (Truncate path size) ≡ Some why
-  refused_by why map e = law f.limit m f.tree (Truncate path size) map ∙ first_more _ _ (when (is_too_large size) TooLarge ∷ []) why e
-
   module _ (found : NodeFound) (k : IsKnownFile m f path found) where
     pub refusal_is : (b : Bool) → is_too_large size ≡ b → refusal f.limit f.tree (Truncate path size) ≡ first_reason (None ∷ when false IsDir ∷ when b TooLarge ∷ [])
     refusal_is b large = law f.limit m f.tree (Truncate path size) k.map

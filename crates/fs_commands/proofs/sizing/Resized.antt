@@ -1,5 +1,5 @@
 -- A draft that gives a file another size makes the tree of the truncate, and is within its cost.
-use Rattle.std.proofs.Common.{◌≡◌, ◌≢◌, ◌⊎◌, inl, inr, ℕ, ◌-◌, ◌/◌, ◌<◌, ◌≤◌, ◌==◌, nat_lt, Bool, true, false, cond, List, [], ◌∷◌, take, drop, length, None, Some, option_and_then, refl, sym, subst, ap, ◌∙◌, arith}
+use Rattle.std.proofs.Common.{⊎_elim, ◌≡◌, ◌≢◌, ◌⊎◌, ℕ, ◌-◌, ◌/◌, ◌<◌, ◌≤◌, ◌==◌, nat_lt, Bool, true, false, cond, List, [], ◌∷◌, take, drop, length, None, Some, option_and_then, refl, sym, subst, ap, ◌∙◌, arith, ◌++◌}
 use Rattle.std.proofs.lemmas.Bool.{lt-ltb, le-ltb, cond-true, cond-false, cases_order}
 use Rattle.std.proofs.lemmas.List.{length-append, length-drop}
 use Rattle.std.proofs.lemmas.Option.{same_Some}
@@ -20,28 +20,25 @@ use Rattle.crash_stands.specs.Maps.{IsMapOf}
 use Rattle.crash_stands.specs.Walks.{LeadsTo}
 use Rattle.fs_inodes.specs.Changes.{Sets}
 use Rattle.engine_blocks.specs.State.{State, reusable_blocks}
-use Rattle.fs_files.specs.Calls.{IsWithFile, Resizes, Shrinks, ChangesAmong, cut_blocks, is_dir, files_in, places_in, with_bytes}
+use Rattle.fs_files.specs.Calls.{IsWithFile, Resizes, Shrinks, ChangesAmong, cut_blocks, is_dir, files_in, places_in, with_bytes, growth, IsWithPlaces}
 use Rattle.fs_files.specs.Drafts.{DraftState, nothing_drafted}
-use Rattle.fs_files.specs.Effects.{LooksAndSettles}
+use Rattle.fs_files.specs.Effects.{LooksAndSettles, LooksOnly}
 use Rattle.fs_files.specs.Nodes.{node_block}
 use Rattle.fs_dirs.specs.Directories.{inodes_in}
 use Rattle.fs_session.specs.Changes.{ChangesAtMost, IsWithinCost, Uses}
 use Rattle.fs_session.specs.Commands.{FindsRuns, GrowsInRuns, figures_on, places_of}
 use Rattle.fs_session.specs.Plans.{MakesTree}
-use Rattle.fs_session.specs.Sessions.{IsSession}
 use Rattle.fs_commands.specs.Writing.{IsWeighed}
 use Rattle.fs_commands.proofs.AtMost.{only_these}
 use Rattle.fs_commands.proofs.Placing.{placed_cut}
-use Rattle.fs_commands.proofs.writing.Written.{at_most, file_reads, grown_uses, read_with, sets_inode}
+use Rattle.fs_commands.proofs.writing.Written.{at_most, file_reads, grown_uses, read_with, sets_inode, AtFile}
 use Rattle.fs_commands.proofs.Given.{DivisionLaw, WritingLaw}
 
 -- two sizes that differ
 larger_or_smaller : (old size : ℕ) → size ≢ old → (old < size) ⊎ (size < old)
-larger_or_smaller old size other = by (cases_order old size)
-  where
-    by : (old ≡ size) ⊎ ((old < size) ⊎ (size < old)) → (old < size) ⊎ (size < old)
-    by (inl same) = absurd (other (sym same))
-    by (inr differ) = differ
+larger_or_smaller old size other = ⊎_elim
+    (λ same. absurd (other (sym same)))
+    (λ differ. differ) (cases_order old size)
 
 -- both ways of a truncate answer that it is done
 done_both : (b : Bool) (f g : Session) → (cond {A = Session × Reply} b (f, Done) (g, Done)).1 ≡ Done
@@ -82,14 +79,21 @@ cut_uses s t d number size need freed x spare count none gone shrinks others = r
   placed = placed_cut (places_of s) (places_in t d) number (blocks_for size) (take need spare) (record { own = shrinks.kept; others = others });
 }
 
+-- What a resize left in its draft: the file with so many bytes, and what was taken, freed and changed.
+pub record Sized (tells : Bool) (s t : State) (old new : DraftState) (number size : ℕ) (x : FileNode) : Type 0 where
+  pub file : IsWithFile (files_in s old) (files_in t new) number (Some (with_bytes x (resized size x.bytes)))
+  pub resizes : Resizes t.books number x (places_in s old number) (places_in t new number) size old new
+  pub places : IsWithPlaces (places_in s old) (places_in t new) number (take (blocks_for size) (places_in s old number) ++ take (growth (length x.bytes) size) (reusable_blocks t.books))
+  pub looks : growth (length x.bytes) size ≤ length (reusable_blocks s.books) → LooksOnly tells false s t
+
 -- Another size of a file: the draft makes the tree of the truncate.
-module _ (s t : State) (f : Session) (path : List (List ℕ)) (number size cost : ℕ) (x : FileNode) (weighed : IsWeighed s f (Truncate path size) cost) (holds : content f.tree path ≡ x.bytes) (other : size ≢ length x.bytes) where
+module _ (s t : State) (f : Session) (path : List (List ℕ)) (number size cost : ℕ) (x : FileNode) (a : AtFile s f path number x) (weighed : IsWeighed s f (Truncate path size) cost) (other : size ≢ length x.bytes) where
   abbrev pub cmd : Cmd
   cmd = Truncate path size
 
   -- what the command takes
   figures_are : figures_on s f cmd ≡ truncate_figures (bitmap_blocks s.books.geom) (length x.bytes) size
-  figures_are = ap (λ r. figures_by (bitmap_blocks s.books.geom) f.tree cmd r) weighed.accepted ∙ ap (λ (xs : List ℕ). truncate_figures (bitmap_blocks s.books.geom) (length xs) size) holds
+  figures_are = ap (λ r. figures_by (bitmap_blocks s.books.geom) f.tree cmd r) weighed.accepted ∙ ap (λ (xs : List ℕ). truncate_figures (bitmap_blocks s.books.geom) (length xs) size) a.holds
 
   figures_growing : length x.bytes < size → figures_on s f cmd ≡ writing (bitmap_blocks s.books.geom) (length x.bytes) (length x.bytes) size
   figures_growing more = figures_are ∙ growing (bitmap_blocks s.books.geom) (length x.bytes) size more
@@ -99,82 +103,70 @@ module _ (s t : State) (f : Session) (path : List (List ℕ)) (number size cost 
 
   -- how many blocks it needs
   pub need_is : (figures_on s f cmd).need ≡ blocks_for size - blocks_for (length x.bytes)
-  need_is = by (larger_or_smaller (length x.bytes) size other)
-    where
-      by : (length x.bytes < size) ⊎ (size < length x.bytes) → (figures_on s f cmd).need ≡ blocks_for size - blocks_for (length x.bytes)
-      by (inl more) = ap (λ (n : Figures). n.need) (figures_growing more) ∙ omega (arith, more)
-      by (inr less) = ap (λ (n : Figures). n.need) (figures_cutting less) ∙ omega (arith, less)
+  need_is = ⊎_elim
+      (λ more. ap (λ (n : Figures). n.need) (figures_growing more) ∙ omega (arith, more))
+      (λ less. ap (λ (n : Figures). n.need) (figures_cutting less) ∙ omega (arith, less)) (larger_or_smaller (length x.bytes) size other)
 
   answer_is : (step f cmd).1 ≡ Done
   answer_is = ap (λ r. (answered f cmd r).1) weighed.accepted ∙ done_both (size == length (content f.tree path)) f (changed_to f (edited f.tree path (resized size))).0
 
-  module _ (d : DraftState) (tells failed settling : Bool) (settles : LooksAndSettles tells failed settling s t) (resizes : Resizes t.books number x (places_of s number) (places_in t d number) size nothing_drafted d)
-      (rests : blocks_for size - blocks_for (length x.bytes) ≤ length (reusable_blocks s.books) → t.books ≡ s.books) (file : x.kind ≡ File) (count : length (places_of s number) ≡ blocks_for (length x.bytes)) where
+  module _ (d : DraftState) (tells failed settling : Bool) (settles : LooksAndSettles tells failed settling s t) (w : Sized tells s t nothing_drafted d number size x) where
     -- the node's blocks lie in few runs where it grows
-    runs_are : LeadsTo (inodes_in s nothing_drafted) path number → FindsRuns s t.books f cmd
-    runs_are leads k some grown = by (larger_or_smaller (length x.bytes) size other)
-      where
-        by : (length x.bytes < size) ⊎ (size < length x.bytes) → GrowsInRuns s t.books k (figures_on s f cmd).need
-        by (inr less) = absurd (omega (arith, some, need_is, less))
-        by (inl more) = subst (λ n. GrowsInRuns s t.books n (figures_on s f cmd).need) (same_Some number k (sym leads ∙ grown))
-            (subst (λ n. GrowsInRuns s t.books number n) (sym need_is) (record {
-              enough = (resizes.grows more).enough;
-              runs = subst (λ (places : List ℕ). stretches places ≤ 28) (resizes.grows more).behind (resizes.grows more).runs;
-            }))
+    runs_are : FindsRuns s t.books f cmd
+    runs_are k some grown = ⊎_elim
+        (λ more. subst (λ n. GrowsInRuns s t.books n (figures_on s f cmd).need) (same_Some number k (sym a.leads ∙ grown))
+        (subst (λ n. GrowsInRuns s t.books number n) (sym need_is) (record {
+          enough = (w.resizes.grows more).enough;
+          runs = subst (λ (places : List ℕ). stretches places ≤ 28) (w.resizes.grows more).behind (w.resizes.grows more).runs;
+        })))
+        (λ less. absurd (omega (arith, some, need_is, less))) (larger_or_smaller (length x.bytes) size other)
 
     -- and there are enough
     enough_are : (figures_on s f cmd).need ≤ length (reusable_blocks t.books)
-    enough_are = by (larger_or_smaller (length x.bytes) size other)
-      where
-        by : (length x.bytes < size) ⊎ (size < length x.bytes) → (figures_on s f cmd).need ≤ length (reusable_blocks t.books)
-        by (inl more) = subst (λ n. n ≤ length (reusable_blocks t.books)) (sym need_is) (resizes.grows more).enough
-        by (inr less) = omega (arith, need_is, less)
+    enough_are = ⊎_elim
+        (λ more. subst (λ n. n ≤ length (reusable_blocks t.books)) (sym need_is) (w.resizes.grows more).enough)
+        (λ less. omega (arith, need_is, less)) (larger_or_smaller (length x.bytes) size other)
 
     -- it is within the cost
-    pub within_cost : DivisionLaw
+    within_cost : DivisionLaw
         → WritingLaw
         → ((g : Geometry) (d : DraftState) (freed : ℕ) → ChangesAtMost d 1 0 0 freed → IsWithinCost g d (shrinking (bitmap_blocks g) freed).cost) → IsWithinCost t.books.geom d cost
-    within_cost division writes cuts = by (larger_or_smaller (length x.bytes) size other)
-      where
-        by : (length x.bytes < size) ⊎ (size < length x.bytes) → IsWithinCost t.books.geom d cost
-        by (inl more) = subst (λ n. IsWithinCost t.books.geom d n) (sym (ap (λ (n : Figures). n.cost) (figures_growing more)) ∙ weighed.costs)
-            (subst (λ (g : Geometry). IsWithinCost t.books.geom d (writing (bitmap_blocks g) (length x.bytes) (length x.bytes) size).cost) settles.pipeline.geom
-            (writes t.books.geom d (length x.bytes) (length x.bytes) size
-            (at_most t.books.geom number x (places_of s number) (places_in t d number) t.books d (length x.bytes) size file count division (resizes.grows more) (resizes.grows_among more))))
-        by (inr less) = subst (λ n. IsWithinCost t.books.geom d n) (sym (ap (λ (n : Figures). n.cost) (figures_cutting less)) ∙ weighed.costs)
-            (subst (λ (g : Geometry). IsWithinCost t.books.geom d (shrinking (bitmap_blocks g) (blocks_for (length x.bytes) - blocks_for size)).cost) settles.pipeline.geom
-            (cuts t.books.geom d (blocks_for (length x.bytes) - blocks_for size)
-            (cut_at_most t.books.geom number x (places_of s number) (places_in t d number) d size file count (resizes.shrinks less) (resizes.shrinks_among less))))
+    within_cost division writes cuts = ⊎_elim
+        (λ more. subst (λ n. IsWithinCost t.books.geom d n) (sym (ap (λ (n : Figures). n.cost) (figures_growing more)) ∙ weighed.costs)
+        (subst (λ (g : Geometry). IsWithinCost t.books.geom d (writing (bitmap_blocks g) (length x.bytes) (length x.bytes) size).cost) settles.pipeline.geom
+        (writes t.books.geom d (length x.bytes) (length x.bytes) size
+        (at_most t.books.geom number x (places_of s number) (places_in t d number) t.books d (length x.bytes) size a.file a.count division (w.resizes.grows more) (w.resizes.grows_among more)))))
+        (λ less. subst (λ n. IsWithinCost t.books.geom d n) (sym (ap (λ (n : Figures). n.cost) (figures_cutting less)) ∙ weighed.costs)
+        (subst (λ (g : Geometry). IsWithinCost t.books.geom d (shrinking (bitmap_blocks g) (blocks_for (length x.bytes) - blocks_for size)).cost) settles.pipeline.geom
+        (cuts t.books.geom d (blocks_for (length x.bytes) - blocks_for size)
+        (cut_at_most t.books.geom number x (places_of s number) (places_in t d number) d size a.file a.count (w.resizes.shrinks less) (w.resizes.shrinks_among less))))) (larger_or_smaller (length x.bytes) size other)
 
     -- it uses the blocks that the figures say
-    uses_are : ((l : ℕ) → l ≢ number → places_in t d l ≡ places_of s l) → Uses (figures_on s f cmd).need (figures_on s f cmd).freed (reusable_blocks t.books) (places_of s) (places_in t d) d
-    uses_are others = by (larger_or_smaller (length x.bytes) size other)
-      where
-        by : (length x.bytes < size) ⊎ (size < length x.bytes) → Uses (figures_on s f cmd).need (figures_on s f cmd).freed (reusable_blocks t.books) (places_of s) (places_in t d) d
-        by (inl more) = grown_uses s t d number size (figures_on s f cmd).need (figures_on s f cmd).freed x need_is (ap (λ (n : Figures). n.freed) (figures_growing more)) (resizes.grows more) others
-        by (inr less) = cut_uses s t d number size (figures_on s f cmd).need (figures_on s f cmd).freed x (reusable_blocks t.books) count
-            (ap (λ (n : Figures). n.need) (figures_cutting less)) (ap (λ (n : Figures). n.freed) (figures_cutting less)) (resizes.shrinks less) others
+    uses_are : Uses (figures_on s f cmd).need (figures_on s f cmd).freed (reusable_blocks t.books) (places_of s) (places_in t d) d
+    uses_are = ⊎_elim
+        (λ more. grown_uses s t d number size (figures_on s f cmd).need (figures_on s f cmd).freed x need_is (ap (λ (n : Figures). n.freed) (figures_growing more)) (w.resizes.grows more) w.places.others)
+        (λ less. cut_uses s t d number size (figures_on s f cmd).need (figures_on s f cmd).freed x (reusable_blocks t.books) a.count
+        (ap (λ (n : Figures). n.need) (figures_cutting less)) (ap (λ (n : Figures). n.freed) (figures_cutting less)) (w.resizes.shrinks less) w.places.others) (larger_or_smaller (length x.bytes) size other)
 
-    pub resized_tree : IsSession s f → IsMapOf s.books.geom.i (inodes_in s nothing_drafted) f.tree → LeadsTo (inodes_in s nothing_drafted) path number → files_in s nothing_drafted number ≡ Some x
-        → AreInodesOf (files_in s nothing_drafted) (inodes_in s nothing_drafted) → IsWithFile (files_in s nothing_drafted) (files_in t d) number (Some (with_bytes x (resized size x.bytes)))
+    pub resized_tree : AreInodesOf (files_in s nothing_drafted) (inodes_in s nothing_drafted)
         → ((s : Session) (m new : Inodes) (path : List (List ℕ)) (size node links : ℕ) (old : List ℕ) → IsMapOf s.limit m s.tree → refusal s.limit s.tree (Truncate path size) ≡ None
         → size ≢ length old → LeadsTo m path node → m node ≡ Some (AFile links old) → Sets m new node (Some (AFile links (resized size old))) → IsMapOf s.limit new (step s (Truncate path size)).0.tree)
-        → IsWithinCost t.books.geom d cost → ((l : ℕ) → l ≢ number → places_in t d l ≡ places_of s l) → MakesTree cmd d cost s t f
-    resized_tree h map leads is reads with law within others =
+        → DivisionLaw → WritingLaw → ((g : Geometry) (d : DraftState) (freed : ℕ) → ChangesAtMost d 1 0 0 freed → IsWithinCost g d (shrinking (bitmap_blocks g) freed).cost) → MakesTree cmd d cost s t f
+    resized_tree reads law division writes cuts =
         let new : FileNode = with_bytes x (resized size x.bytes) in
-        let becomes : inode_of new ≡ Some (AFile x.links (resized size x.bytes)) = file_reads new file in
-        let was : inodes_in s nothing_drafted number ≡ Some (AFile x.links x.bytes) = ap (option_and_then inode_of) is ∙ file_reads x file in
+        let becomes : inode_of new ≡ Some (AFile x.links (resized size x.bytes)) = file_reads new a.file in
+        let was : inodes_in s nothing_drafted number ≡ Some (AFile x.links x.bytes) = ap (option_and_then inode_of) a.is ∙ file_reads x a.file in
         record {
           accepted = weighed.accepted;
           answer = answer_is;
           costs = weighed.costs;
           room = weighed.room;
-          runs = runs_are leads;
-          reads = read_with (files_in s nothing_drafted) (files_in t d) number new (AFile x.links (resized size x.bytes)) becomes with reads;
-          map = law f (inodes_in s nothing_drafted) (inodes_in t d) path size number x.links x.bytes (subst (λ n. IsMapOf n (inodes_in s nothing_drafted) f.tree) (sym h.limit) map) weighed.accepted other leads was
-              (sets_inode (files_in s nothing_drafted) (files_in t d) number new (AFile x.links (resized size x.bytes)) becomes with);
-          within = within;
-          uses = uses_are others;
+          runs = runs_are;
+          reads = read_with (files_in s nothing_drafted) (files_in t d) number new (AFile x.links (resized size x.bytes)) becomes w.file reads;
+          map = law f (inodes_in s nothing_drafted) (inodes_in t d) path size number x.links x.bytes a.map weighed.accepted other a.leads was
+              (sets_inode (files_in s nothing_drafted) (files_in t d) number new (AFile x.links (resized size x.bytes)) becomes w.file);
+          within = within_cost division writes cuts;
+          uses = uses_are;
           enough = enough_are;
-          rests = λ enough. rests (omega (arith, enough, need_is));
+          rests = λ enough. (w.looks (omega (arith, enough, need_is))).books;
         }

@@ -11,9 +11,13 @@ use Rattle.lang_tree.specs.Step.{Session, step, answered, written, changed_to, e
 use Rattle.lang_tree.specs.Walk.{content, refusal_in}
 use Rattle.crash_stands.specs.Inodes.{Inodes}
 use Rattle.fs_inodes.specs.Lookups.{is_dir_inode, inode_at, walk_on}
-use Rattle.fs_inodes.specs.Refusals.{file_reason, write_reason}
+use Rattle.fs_inodes.specs.Refusals.{file_reason, write_reason, reason}
 use Rattle.std.proofs.Common.{min}
 use Rattle.fs_commands.proofs.FirstReason.{first_more}
+use Rattle.fs_commands.proofs.Given.{RefusalLaw}
+use Rattle.fs_commands.specs.Found.{IsKnownFile}
+use Rattle.fs_commands.specs.declared.paths.NodeFound.{NodeFound}
+use Rattle.lang_tree.specs.declared.command.Cmd.{Cmd}
 
 -- bytes into a file that a path leads to
 pub write_reason_is : (m : Inodes) (path : List (List ℕ)) (k offset n : ℕ) (b : Bool) → walk_on m 1 path ≡ Ok k → is_dir_inode (inode_at m path) ≡ false → (nat_lt 0 n && is_too_large (offset + n)) ≡ b
@@ -21,6 +25,11 @@ pub write_reason_is : (m : Inodes) (path : List (List ℕ)) (k offset n : ℕ) (
 write_reason_is m path k offset n b walk dir large =
     ap (λ (r : Result ℕ Refusal). first_reason (refusal_in r ∷ when (is_dir_inode (inode_at m path)) IsDir ∷ when (nat_lt 0 n && is_too_large (offset + n)) TooLarge ∷ [])) walk
     ∙ ap₂ (λ (d l : Bool). first_reason (None ∷ when d IsDir ∷ when l TooLarge ∷ [])) dir large
+
+-- the refusal of a command that puts so many bytes into a file that was found
+pub refusal_is : (m : Inodes) (f : Session) (cmd : Cmd) (path : List (List ℕ)) (offset n : ℕ) → RefusalLaw → ((limit : ℕ) → reason limit m cmd ≡ write_reason m path offset n) → (found : NodeFound) → IsKnownFile m f path found
+    → (b : Bool) → (nat_lt 0 n && is_too_large (offset + n)) ≡ b → refusal f.limit f.tree cmd ≡ first_reason (None ∷ when false IsDir ∷ when b TooLarge ∷ [])
+refusal_is m f cmd path offset n law is found k b large = law f.limit m f.tree cmd k.map ∙ is f.limit ∙ write_reason_is m path found.number offset n b k.walk k.file large
 
 -- no bytes change nothing, and take nothing
 pub nothing_put : (f : Session) (path : List (List ℕ)) (offset bitmap : ℕ) (bytes : List ℕ) → refusal f.limit f.tree (Write path offset bytes) ≡ None → (length bytes == 0) ≡ true

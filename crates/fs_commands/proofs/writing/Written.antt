@@ -1,5 +1,5 @@
 -- A draft that puts bytes into a file makes the tree of the command, and is within its cost.
-use Rattle.std.proofs.Common.{◌≡◌, ◌≢◌, ℕ, ◌+◌, ◌-◌, ◌/◌, ◌<◌, ◌≤◌, ◌==◌, nat_le, min, max, Bool, true, false, cond, List, [], ◌∷◌, ◌++◌, take, drop, length, Some, option_and_then, sym, subst, ap, ◌∙◌, arith}
+use Rattle.std.proofs.Common.{◌≡◌, ◌≢◌, ℕ, ◌+◌, ◌-◌, ◌/◌, ◌<◌, ◌≤◌, ◌==◌, nat_le, min, max, Bool, true, false, cond, List, [], ◌∷◌, ◌++◌, take, drop, length, Some, option_and_then, sym, subst, ap, ◌∙◌, arith, Ok}
 use Rattle.std.proofs.lemmas.Bool.{ne_eqb, cond-false}
 use Rattle.std.proofs.lemmas.List.{length-append, length-take, length-drop}
 use Rattle.std.proofs.lemmas.Option.{same_Some}
@@ -13,17 +13,17 @@ use Rattle.lang_tree.specs.Figures.{Figures, nothing, writing, write_figures, bl
 use Rattle.lang_tree.specs.Walk.{content}
 use Rattle.lang_tree.specs.Step.{Session, written, changed_to, edited}
 use Rattle.crash_stands.specs.Files.{FileNode, Files}
-use Rattle.crash_stands.specs.Inodes.{Inode, AFile, IsInodeOf, AreInodesOf, inode_of, inodes_of}
+use Rattle.crash_stands.specs.Inodes.{Inode, AFile, IsInodeOf, AreInodesOf, inode_of, inodes_of, Inodes}
 use Rattle.crash_stands.specs.Maps.{IsMapOf}
 use Rattle.crash_stands.specs.Walks.{LeadsTo}
 use Rattle.fs_inodes.specs.Changes.{Sets}
-use Rattle.fs_inodes.specs.Lookups.{bytes_of}
+use Rattle.fs_inodes.specs.Lookups.{bytes_of, walk_on, inode_at}
 use Rattle.engine_blocks.specs.State.{Bookkeeping, State, reusable_blocks}
 use Rattle.fs_files.specs.Bytes.{met, overwritten}
-use Rattle.fs_files.specs.Calls.{IsWithFile, ChangesAmong, Grows, is_dir, files_in, places_in, written_blocks, with_bytes}
+use Rattle.fs_files.specs.Calls.{IsWithFile, ChangesAmong, Grows, is_dir, files_in, places_in, written_blocks, with_bytes, IsWithPlaces, growth}
 use Rattle.fs_files.specs.Drafts.{DraftState, nothing_drafted}
 use Rattle.fs_files.specs.Nodes.{node_block}
-use Rattle.fs_files.specs.Effects.{LooksAndSettles}
+use Rattle.fs_files.specs.Effects.{LooksAndSettles, LooksOnly}
 use Rattle.fs_dirs.specs.Directories.{inodes_in}
 use Rattle.fs_session.specs.Changes.{ChangesAtMost, IsWithinCost, Uses}
 use Rattle.fs_session.specs.Commands.{GrowsInRuns, figures_on, places_of}
@@ -33,8 +33,9 @@ use Rattle.fs_commands.specs.Writing.{IsWeighed}
 use Rattle.fs_commands.proofs.AtMost.{only_these}
 use Rattle.fs_commands.proofs.Placing.{placed_grown}
 use Rattle.fs_commands.proofs.writing.Puts.{PutsSo}
-use Rattle.fs_commands.proofs.Given.{DivisionLaw, WritingLaw}
+use Rattle.fs_commands.proofs.Given.{DivisionLaw, WritingLaw, MapLaw, EndsLaw, session_map}
 use Rattle.fs_commands.proofs.looking.InUse.{still_used, read_still}
+use Rattle.lang_tree.specs.Tree.{Tree}
 
 -- One node became a file with other bytes.
 
@@ -102,12 +103,34 @@ grown_uses s t d number hi need freed x is none grows others =
           (record { own = grows.behind ∙ ap (λ (xs : List ℕ). places_of s number ++ xs) same; others = others });
     }
 
+-- A file that a path leads to, in a session: the node and the tree hold the same bytes, and it has as many blocks as these need.
+pub record AtFile (s : State) (f : Session) (path : List (List ℕ)) (number : ℕ) (x : FileNode) : Type 0 where
+  pub map : IsMapOf f.limit (inodes s) f.tree
+  pub leads : LeadsTo (inodes s) path number
+  pub is : files_in s nothing_drafted number ≡ Some x
+  pub file : x.kind ≡ File
+  pub holds : content f.tree path ≡ x.bytes
+  pub count : length (places_of s number) ≡ blocks_for (length x.bytes)
+
+pub at_file : (s : State) (f : Session) (path : List (List ℕ)) (number : ℕ) (x : FileNode) → IsSession s f → MapLaw → EndsLaw
+    → ((files : Files) (path : List (List ℕ)) (k : ℕ) (x : FileNode) → LeadsTo (inodes_of files) path k → files k ≡ Some x → inode_at (inodes_of files) path ≡ inode_of x)
+    → ((limit : ℕ) (m : Inodes) (t : Tree) (path : List (List ℕ)) → IsMapOf limit m t → content t path ≡ bytes_of (inode_at m path))
+    → walk_on (inodes s) 1 path ≡ Ok number → files_in s nothing_drafted number ≡ Some x → x.kind ≡ File → length (places_of s number) ≡ blocks_for (length x.bytes) → AtFile s f path number x
+at_file s f path number x h map ends at bytes walk is file count =
+    let leads = ends (inodes s) path number walk in
+    let mine = session_map map s f h in
+    record { map = mine; leads = leads; is = is; file = file; holds = bytes f.limit (inodes s) f.tree path mine ∙ ap bytes_of (at (files_in s nothing_drafted) path number x leads is) ∙ file_bytes x file; count = count }
+
+-- What a write left in its draft: the file with the bytes, and what was taken and changed.
+pub record Wrote (tells : Bool) (s t : State) (old new : DraftState) (number offset : ℕ) (bytes : List ℕ) (x : FileNode) : Type 0 where
+  pub file : IsWithFile (files_in s old) (files_in t new) number (Some (with_bytes x (overwritten offset bytes x.bytes)))
+  pub grows : Grows t.books x (places_in s old number) (places_in t new number) (offset + length bytes) old new
+  pub among : ChangesAmong (written_blocks s.books.geom number x (places_in s old number) (drop (length (places_in s old number)) (places_in t new number)) (min offset (length x.bytes)) (offset + length bytes)) old new
+  pub places : IsWithPlaces (places_in s old) (places_in t new) number (places_in s old number ++ take (growth (length x.bytes) (length (overwritten offset bytes x.bytes))) (reusable_blocks t.books))
+  pub looks : growth (length x.bytes) (offset + length bytes) ≤ length (reusable_blocks s.books) → LooksOnly tells false s t
+
 -- Bytes that a command puts into a file: the draft makes the command's tree.
-module _ (s t : State) (f : Session) (cmd : Cmd) (path : List (List ℕ)) (offset number cost : ℕ) (bytes : List ℕ) (x : FileNode) (d : DraftState) (tells failed settling : Bool)
-    (h : IsSession s f) (so : PutsSo cmd path offset bytes) (weighed : IsWeighed s f cmd cost) (map : IsMapOf s.books.geom.i (inodes_in s nothing_drafted) f.tree) (leads : LeadsTo (inodes_in s nothing_drafted) path number)
-    (is : files_in s nothing_drafted number ≡ Some x) (file : x.kind ≡ File) (some : 0 < length bytes) (holds : content f.tree path ≡ x.bytes)
-    (count : length (places_of s number) ≡ blocks_for (length x.bytes)) (division : DivisionLaw)
-    (small : WritingLaw) where
+module _ (s : State) (f : Session) (cmd : Cmd) (path : List (List ℕ)) (offset number cost : ℕ) (bytes : List ℕ) (x : FileNode) (a : AtFile s f path number x) (so : PutsSo cmd path offset bytes) (weighed : IsWeighed s f cmd cost) (some : 0 < length bytes) where
   abbrev pub lo : ℕ
   lo = min offset (length x.bytes)
 
@@ -116,38 +139,35 @@ module _ (s t : State) (f : Session) (cmd : Cmd) (path : List (List ℕ)) (offse
 
   -- what the command takes
   pub figures_are : figures_on s f cmd ≡ writing (bitmap_blocks s.books.geom) (length x.bytes) lo hi
-  figures_are = so.takes (bitmap_blocks s.books.geom) f weighed.accepted ∙ ap (λ (xs : List ℕ). write_figures (bitmap_blocks s.books.geom) (length xs) offset (length bytes)) holds
+  figures_are = so.takes (bitmap_blocks s.books.geom) f weighed.accepted ∙ ap (λ (xs : List ℕ). write_figures (bitmap_blocks s.books.geom) (length xs) offset (length bytes)) a.holds
       ∙ cond-false (length bytes == 0) nothing (writing (bitmap_blocks s.books.geom) (length x.bytes) lo hi) (ne_eqb (length bytes) 0 (λ e. absurd (omega (arith, e, some))))
 
   pub need_is : (figures_on s f cmd).need ≡ blocks_for hi - blocks_for (length x.bytes)
   need_is = ap (λ (n : Figures). n.need) figures_are ∙ omega arith
 
-  pub puts_tree : LooksAndSettles tells failed settling s t → (blocks_for hi - blocks_for (length x.bytes) ≤ length (reusable_blocks s.books) → t.books ≡ s.books)
-      → IsWithFile (files_in s nothing_drafted) (files_in t d) number (Some (with_bytes x (overwritten offset bytes x.bytes))) → AreInodesOf (files_in s nothing_drafted) (inodes_in s nothing_drafted)
-      → Grows t.books x (places_of s number) (places_in t d number) hi nothing_drafted d
-      → ChangesAmong (written_blocks s.books.geom number x (places_of s number) (drop (length (places_of s number)) (places_in t d number)) lo hi) nothing_drafted d
-      → ((l : ℕ) → l ≢ number → places_in t d l ≡ places_of s l) → MakesTree cmd d cost s t f
-  puts_tree settles rests with reads grows among others =
+  pub puts_tree : (t : State) (d : DraftState) (tells failed settling : Bool) → DivisionLaw → WritingLaw → LooksAndSettles tells failed settling s t → Wrote tells s t nothing_drafted d number offset bytes x
+      → AreInodesOf (files_in s nothing_drafted) (inodes_in s nothing_drafted) → MakesTree cmd d cost s t f
+  puts_tree t d tells failed settling division small settles w reads =
       let new : FileNode = with_bytes x (overwritten offset bytes x.bytes) in
-      let becomes : inode_of new ≡ Some (AFile x.links (written offset bytes x.bytes)) = file_reads new file ∙ ap (λ xs. Some (AFile x.links xs)) (cond-false (length bytes == 0) x.bytes (written offset bytes x.bytes) (ne_eqb (length bytes) 0 (λ e. absurd (omega (arith, e, some))))) in
-      let was : inodes_in s nothing_drafted number ≡ Some (AFile x.links x.bytes) = ap (option_and_then inode_of) is ∙ file_reads x file in
+      let becomes : inode_of new ≡ Some (AFile x.links (written offset bytes x.bytes)) = file_reads new a.file ∙ ap (λ xs. Some (AFile x.links xs)) (cond-false (length bytes == 0) x.bytes (written offset bytes x.bytes) (ne_eqb (length bytes) 0 (λ e. absurd (omega (arith, e, some))))) in
+      let was : inodes_in s nothing_drafted number ≡ Some (AFile x.links x.bytes) = ap (option_and_then inode_of) a.is ∙ file_reads x a.file in
       record {
         accepted = weighed.accepted;
         answer = so.answer f weighed.accepted ∙ ap (λ (p : Session × Reply). p.1) (cond-false (length bytes == 0) (f, Done) (changed_to f (edited f.tree path (written offset bytes))) (ne_eqb (length bytes) 0 (λ e. absurd (omega (arith, e, some)))));
         costs = weighed.costs;
         room = weighed.room;
-        runs = λ k more grown. subst (λ n. GrowsInRuns s t.books n (figures_on s f cmd).need) (same_Some number k (sym leads ∙ sym (so.grown (inodes s)) ∙ grown))
+        runs = λ k more grown. subst (λ n. GrowsInRuns s t.books n (figures_on s f cmd).need) (same_Some number k (sym a.leads ∙ sym (so.grown (inodes s)) ∙ grown))
             (subst (λ n. GrowsInRuns s t.books number n) (sym need_is) (record {
-              enough = grows.enough;
-              runs = subst (λ (places : List ℕ). stretches places ≤ 28) grows.behind grows.runs;
+              enough = w.grows.enough;
+              runs = subst (λ (places : List ℕ). stretches places ≤ 28) w.grows.behind w.grows.runs;
             }));
-        reads = read_with (files_in s nothing_drafted) (files_in t d) number new (AFile x.links (written offset bytes x.bytes)) becomes with reads;
-        map = so.maps f (inodes_in s nothing_drafted) (inodes_in t d) number x.links x.bytes (subst (λ n. IsMapOf n (inodes_in s nothing_drafted) f.tree) (sym h.limit) map) weighed.accepted some leads was
-            (sets_inode (files_in s nothing_drafted) (files_in t d) number new (AFile x.links (written offset bytes x.bytes)) becomes with);
+        reads = read_with (files_in s nothing_drafted) (files_in t d) number new (AFile x.links (written offset bytes x.bytes)) becomes w.file reads;
+        map = so.maps f (inodes_in s nothing_drafted) (inodes_in t d) number x.links x.bytes a.map weighed.accepted some a.leads was
+            (sets_inode (files_in s nothing_drafted) (files_in t d) number new (AFile x.links (written offset bytes x.bytes)) becomes w.file);
         within = subst (λ n. IsWithinCost t.books.geom d n) (sym (ap (λ (n : Figures). n.cost) figures_are) ∙ weighed.costs)
             (subst (λ (g : Geometry). IsWithinCost t.books.geom d (writing (bitmap_blocks g) (length x.bytes) lo hi).cost) settles.pipeline.geom
-            (small t.books.geom d (length x.bytes) lo hi (at_most s.books.geom number x (places_of s number) (places_in t d number) t.books d lo hi file count division grows among)));
-        uses = grown_uses s t d number hi (figures_on s f cmd).need (figures_on s f cmd).freed x need_is (ap (λ (n : Figures). n.freed) figures_are) grows others;
-        enough = subst (λ n. n ≤ length (reusable_blocks t.books)) (sym need_is) grows.enough;
-        rests = λ enough. rests (omega (arith, enough, need_is));
+            (small t.books.geom d (length x.bytes) lo hi (at_most s.books.geom number x (places_of s number) (places_in t d number) t.books d lo hi a.file a.count division w.grows w.among)));
+        uses = grown_uses s t d number hi (figures_on s f cmd).need (figures_on s f cmd).freed x need_is (ap (λ (n : Figures). n.freed) figures_are) w.grows w.places.others;
+        enough = subst (λ n. n ≤ length (reusable_blocks t.books)) (sym need_is) w.grows.enough;
+        rests = λ enough. (w.looks (omega (arith, enough, need_is))).books;
       }

@@ -1,8 +1,7 @@
 -- A command is answered as the tree answers it, or refused for a reason of the disk.
-use Rattle.std.proofs.lemmas.Bool.{cases_Bool}
-use Rattle.std.proofs.Common.{◌≡◌, ◌≢◌, ◌⊎◌, inl, inr, nat_lt, Bool, true, false, IsTrue, Result, Ok, Err, refl, sym, subst, ap, ◌∙◌, arith}
+use Rattle.std.proofs.Common.{◌≡◌, inl, inr, ⊎_elim, nat_lt, Bool, true, false, IsTrue, Result, Ok, Err, refl, sym, subst, ap, ◌∙◌, arith}
 use Rattle.lang_tree.specs.declared.command.Cmd.{Cmd}
-use Rattle.lang_tree.specs.declared.command.Cmd.TheVariants.{Mkdir, Create, Write, Fill, Read, Truncate, Link, Unlink, Rmdir, Rename, Stat, List as ListNames, Osync, Dsync, Durable, Poll, Bad}
+use Rattle.lang_tree.specs.declared.command.Cmd.TheVariants.{Osync, Dsync, Durable, Poll, Bad}
 use Rattle.lang_tree.specs.declared.command.Refusal.{Refusal}
 use Rattle.lang_tree.specs.declared.command.Refusal.TheVariants as because
 use Rattle.lang_tree.specs.declared.command.Reply.{Reply}
@@ -13,14 +12,14 @@ use Rattle.lang_tree.specs.Tree.{Tree}
 use Rattle.crash_stands.specs.Stands.{IsTreeOf}
 use Rattle.engine_blocks.specs.Calls.{IsSound}
 use Rattle.engine_blocks.specs.State.{Bookkeeping, State}
-use Rattle.fs_session.specs.Applying.{Applies, Ticks, Runs, Began, AnswersSession, is_spent, reply_for}
+use Rattle.fs_session.specs.Applying.{Applies, Runs, Began, AnswersSession, reply_for}
 use Rattle.lang_tree.specs.Figures.{Figures}
 use Rattle.fs_session.specs.Commands.{Carries, IsRefusedFor, figures_on}
 use Rattle.fs_session.specs.Sessions.{IsSession, Stands}
 use Rattle.fs_session.specs.Space.{LacksRoom}
 use Rattle.fs_session.specs.Syncs.{SyncsSession}
 use Rattle.fs_session.specs.Staying.{session_ticks}
-use Rattle.fs_session.proofs.rooms.Answered.{bad_or_not}
+use Rattle.fs_session.proofs.applying.Cases.{answered_as}
 
 lacks_room : (k : Bookkeeping) (n : Figures) (why : Refusal) → LacksRoom k n why → is_of_disk why ≡ true
 lacks_room k n why (inl full) = ap is_of_disk full.is
@@ -49,11 +48,7 @@ module _ {S : Type 0} (tells : Bool) (state : S → State) (told : IsTrue tells)
 
   of_synced : (orders : Bool) (f : Session) (cmd : Cmd) (result : Result Reply Refusal) (mid new : S) → IsSession (state mid) f → SyncsSession tells orders cmd result (state mid) (state new) → AnswersSession tells state f cmd (reply_for result) new
   of_synced orders f cmd (Ok reply) mid new h syncs = let d = syncs.done told f h in as_tree f cmd reply new d.0 d.1
-  of_synced orders f cmd (Err why) mid new h syncs = refused_as f cmd (Refused why) why new (by syncs.refused) refl (syncs.kept told f h)
-    where
-      by : (why ≡ because.DiskFault) ⊎ (why ≡ because.NoMemory) → is_of_disk why ≡ true
-      by (inl disk) = ap is_of_disk disk
-      by (inr memory) = ap is_of_disk memory
+  of_synced orders f cmd (Err why) mid new h syncs = refused_as f cmd (Refused why) why new (⊎_elim (ap is_of_disk) (ap is_of_disk) syncs.refused) refl (syncs.kept told f h)
 
   -- a command that ran
   of_run : (f : Session) (cmd : Cmd) (result : Result Reply Refusal) (mid new : S) → (state mid).books.stopped ≡ false → IsSound (state mid).books → IsSession (state mid) f → Runs tells state cmd result mid new → AnswersSession tells state f cmd (reply_for result) new
@@ -65,47 +60,25 @@ module _ {S : Type 0} (tells : Bool) (state : S → State) (told : IsTrue tells)
     session = subst (λ s. IsSession (state s) f) (sym runs.1) h;
   }
   of_run f Poll result mid new going sound h runs = as_tree f Poll (reply_for result) new (ap reply_for runs.0) (subst (λ s. IsSession (state s) f) (sym runs.1) h)
-  of_run f (Mkdir path) result mid new going sound h runs = of_carried f (Mkdir path) result mid new h runs
-  of_run f (Create path) result mid new going sound h runs = of_carried f (Create path) result mid new h runs
-  of_run f (Write path offset bytes) result mid new going sound h runs = of_carried f (Write path offset bytes) result mid new h runs
-  of_run f (Fill path offset count byte) result mid new going sound h runs = of_carried f (Fill path offset count byte) result mid new h runs
-  of_run f (Read path offset count) result mid new going sound h runs = of_carried f (Read path offset count) result mid new h runs
-  of_run f (Truncate path size) result mid new going sound h runs = of_carried f (Truncate path size) result mid new h runs
-  of_run f (Link path other) result mid new going sound h runs = of_carried f (Link path other) result mid new h runs
-  of_run f (Unlink path) result mid new going sound h runs = of_carried f (Unlink path) result mid new h runs
-  of_run f (Rmdir path) result mid new going sound h runs = of_carried f (Rmdir path) result mid new h runs
-  of_run f (Rename from to) result mid new going sound h runs = of_carried f (Rename from to) result mid new h runs
-  of_run f (Stat path) result mid new going sound h runs = of_carried f (Stat path) result mid new h runs
-  of_run f (ListNames path) result mid new going sound h runs = of_carried f (ListNames path) result mid new h runs
-  of_run f Bad result mid new going sound h runs = of_carried f Bad result mid new h runs
+  of_run f cmd result mid new going sound h runs = of_carried f cmd result mid new h runs
 
   -- a command that began
   of_begun : (f : Session) (cmd : Cmd) (reply : Reply) (old new : S) → ((s : S) → IsSound (state s).books) → (state old).books.stopped ≡ false → IsSession (state old) f → Began tells state cmd reply old new → AnswersSession tells state f cmd reply new
-  of_begun f cmd reply old new sound going h began = by began.ran
-    where
-      by : (Ticks tells true (state old) (state new) × (began.result ≡ Err because.DiskFault)) ⊎ (Ticks tells false (state old) (state began.mid) × Runs tells state cmd began.result began.mid new) → AnswersSession tells state f cmd reply new
-      by (inl failed) = refused_as f cmd reply because.DiskFault new refl (began.is ∙ ap reply_for failed.1) (session_ticks tells true (state old) (state new) failed.0 f going told h)
-      by (inr ran) = subst (λ r. AnswersSession tells state f cmd r new) (sym began.is)
-          (of_run f cmd began.result began.mid new ran.0.moves.disk.stopped (sound began.mid) (session_ticks tells false (state old) (state began.mid) ran.0 f going told h) ran.1)
+  of_begun f cmd reply old new sound going h began = ⊎_elim
+      (λ failed. refused_as f cmd reply because.DiskFault new refl (began.is ∙ ap reply_for failed.1) (session_ticks tells true (state old) (state new) failed.0 f going told h))
+      (λ ran. subst (λ r. AnswersSession tells state f cmd r new) (sym began.is)
+      (of_run f cmd began.result began.mid new ran.0.moves.disk.stopped (sound began.mid) (session_ticks tells false (state old) (state began.mid) ran.0 f going told h) ran.1)) began.ran
 
   -- each command
   pub of_applied : ((s : S) → IsSound (state s).books) → (f : Session) (cmd : Cmd) (reply : Reply) (old new : S) → IsSession (state old) f → Applies tells state cmd reply old new → AnswersSession tells state f cmd reply new
-  of_applied sound f cmd reply old new h applies = by (bad_or_not cmd)
+  of_applied sound f cmd reply old new h applies = answered_as tells state cmd reply old new (AnswersSession tells state f cmd reply new) applies
+      (λ none r. subst (λ c. AnswersSession tells state f c reply new) (sym none) (as_tree f Bad reply new r.0 (still r.1)))
+      (λ meant over r. refused_as f cmd reply because.Stopped new refl r.0 (still r.1))
+      (λ meant used r. refused_as f cmd reply because.Spent new refl r.0 (still r.1))
+      (λ meant going left began. of_begun f cmd reply old new sound going h began)
     where
       still : new ≡ old → IsSession (state new) f
       still same = subst (λ s. IsSession (state s) f) (sym same) h
-
-      by_spent : cmd ≢ Bad → (state old).books.stopped ≡ false → (is_spent (state old).books ≡ true) ⊎ (is_spent (state old).books ≡ false) → AnswersSession tells state f cmd reply new
-      by_spent meant going (inl spent) = let r = applies.spent meant going spent in refused_as f cmd reply because.Spent new refl r.0 (still r.1)
-      by_spent meant going (inr left) = of_begun f cmd reply old new sound going h (applies.began meant going left)
-
-      by_stopped : cmd ≢ Bad → ((state old).books.stopped ≡ true) ⊎ ((state old).books.stopped ≡ false) → AnswersSession tells state f cmd reply new
-      by_stopped meant (inl over) = let r = applies.stopped meant over in refused_as f cmd reply because.Stopped new refl r.0 (still r.1)
-      by_stopped meant (inr going) = by_spent meant going (cases_Bool (is_spent (state old).books))
-
-      by : (cmd ≡ Bad) ⊎ (cmd ≢ Bad) → AnswersSession tells state f cmd reply new
-      by (inl none) = let r = applies.bad none in subst (λ c. AnswersSession tells state f c reply new) (sym none) (as_tree f Bad reply new r.0 (still r.1))
-      by (inr meant) = by_stopped meant (cases_Bool (state old).books.stopped)
 
 -- a tree that stands is that of a session
 pub session_of : (s : State) (t : Tree) → IsTreeOf s.books.geom s.map t → (f : Session) × IsSession s f

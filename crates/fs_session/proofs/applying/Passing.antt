@@ -1,17 +1,15 @@
 -- Time goes on over a command: through its tick, and through what it does.
-use Rattle.std.proofs.lemmas.Bool.{cases_Bool}
-use Rattle.std.proofs.Common.{◌≡◌, ◌≢◌, ◌⊎◌, inl, inr, Bool, true, false, IsTrue, Result, Err, refl, sym, subst, ◌∙◌, arith}
+use Rattle.std.proofs.Common.{◌≡◌, ⊎_elim, Bool, true, false, IsTrue, Result, refl, sym, subst, ◌∙◌, arith}
 use Rattle.lang_tree.specs.declared.command.Cmd.{Cmd}
-use Rattle.lang_tree.specs.declared.command.Cmd.TheVariants.{Mkdir, Create, Write, Fill, Read, Truncate, Link, Unlink, Rmdir, Rename, Stat, List as ListNames, Osync, Dsync, Durable, Poll, Bad}
+use Rattle.lang_tree.specs.declared.command.Cmd.TheVariants.{Osync, Dsync, Durable, Poll}
 use Rattle.lang_tree.specs.declared.command.Refusal.{Refusal}
-use Rattle.lang_tree.specs.declared.command.Refusal.TheVariants as because
 use Rattle.lang_tree.specs.declared.command.Reply.{Reply}
 use Rattle.engine_blocks.specs.Crashes.{Advances}
 use Rattle.engine_blocks.specs.State.{State}
-use Rattle.fs_session.specs.Applying.{Applies, Ticks, PassesTime, Runs, Began, is_spent}
+use Rattle.fs_session.specs.Applying.{Applies, Ticks, PassesTime, Runs, Began}
 use Rattle.fs_session.specs.Commands.{Carries}
 use Rattle.fs_session.specs.Syncs.{SyncsSession}
-use Rattle.fs_session.proofs.rooms.Answered.{bad_or_not}
+use Rattle.fs_session.proofs.applying.Cases.{answered_as}
 
 -- no point comes where the last one is as before
 no_point : (s t : State) → Advances s t → t.books.point ≡ s.books.point → t.books.geom ≡ s.books.geom → PassesTime s t
@@ -38,19 +36,7 @@ module _ {S : Type 0} (tells : Bool) (state : S → State) (told : IsTrue tells)
   of_run Dsync result mid new h = of_synced false Dsync result mid new h
   of_run Durable result mid new h = subst (λ s. PassesTime (state mid) (state s)) (sym h.1) (stays mid)
   of_run Poll result mid new h = subst (λ s. PassesTime (state mid) (state s)) (sym h.1) (stays mid)
-  of_run (Mkdir path) result mid new h = of_carried (Mkdir path) result mid new h
-  of_run (Create path) result mid new h = of_carried (Create path) result mid new h
-  of_run (Write path offset bytes) result mid new h = of_carried (Write path offset bytes) result mid new h
-  of_run (Fill path offset count byte) result mid new h = of_carried (Fill path offset count byte) result mid new h
-  of_run (Read path offset count) result mid new h = of_carried (Read path offset count) result mid new h
-  of_run (Truncate path size) result mid new h = of_carried (Truncate path size) result mid new h
-  of_run (Link path other) result mid new h = of_carried (Link path other) result mid new h
-  of_run (Unlink path) result mid new h = of_carried (Unlink path) result mid new h
-  of_run (Rmdir path) result mid new h = of_carried (Rmdir path) result mid new h
-  of_run (Rename from to) result mid new h = of_carried (Rename from to) result mid new h
-  of_run (Stat path) result mid new h = of_carried (Stat path) result mid new h
-  of_run (ListNames path) result mid new h = of_carried (ListNames path) result mid new h
-  of_run Bad result mid new h = of_carried Bad result mid new h
+  of_run cmd result mid new h = of_carried cmd result mid new h
 
   -- a tick makes no point, so what comes behind it makes what both make
   behind_tick : (old mid new : S) → Ticks tells false (state old) (state mid) → PassesTime (state mid) (state new) → PassesTime (state old) (state new)
@@ -62,27 +48,14 @@ module _ {S : Type 0} (tells : Bool) (state : S → State) (told : IsTrue tells)
   }
 
   of_begun : (cmd : Cmd) (reply : Reply) (old new : S) → Began tells state cmd reply old new → PassesTime (state old) (state new)
-  of_begun cmd reply old new began = by began.ran
-    where
-      by : (Ticks tells true (state old) (state new) × (began.result ≡ Err because.DiskFault)) ⊎ (Ticks tells false (state old) (state began.mid) × Runs tells state cmd began.result began.mid new) → PassesTime (state old) (state new)
-      by (inl failed) = no_point (state old) (state new) (failed.0.moves.crash told) failed.0.moves.pipeline.point failed.0.moves.pipeline.geom
-      by (inr ran) = behind_tick old began.mid new ran.0 (of_run cmd began.result began.mid new ran.1)
+  of_begun cmd reply old new began = ⊎_elim
+      (λ failed. no_point (state old) (state new) (failed.0.moves.crash told) failed.0.moves.pipeline.point failed.0.moves.pipeline.geom)
+      (λ ran. behind_tick old began.mid new ran.0 (of_run cmd began.result began.mid new ran.1)) began.ran
 
   -- each command
   pub of_applied : (cmd : Cmd) (reply : Reply) (old new : S) → Applies tells state cmd reply old new → PassesTime (state old) (state new)
-  of_applied cmd reply old new applies = by (bad_or_not cmd)
+  of_applied cmd reply old new applies = answered_as tells state cmd reply old new (PassesTime (state old) (state new)) applies
+      (λ none r. quietly r.1) (λ meant over r. quietly r.1) (λ meant used r. quietly r.1) (λ meant going left began. of_begun cmd reply old new began)
     where
       quietly : new ≡ old → PassesTime (state old) (state new)
       quietly same = subst (λ s. PassesTime (state old) (state s)) (sym same) (stays old)
-
-      by_spent : cmd ≢ Bad → (state old).books.stopped ≡ false → (is_spent (state old).books ≡ true) ⊎ (is_spent (state old).books ≡ false) → PassesTime (state old) (state new)
-      by_spent meant going (inl spent) = quietly (applies.spent meant going spent).1
-      by_spent meant going (inr left) = of_begun cmd reply old new (applies.began meant going left)
-
-      by_stopped : cmd ≢ Bad → ((state old).books.stopped ≡ true) ⊎ ((state old).books.stopped ≡ false) → PassesTime (state old) (state new)
-      by_stopped meant (inl over) = quietly (applies.stopped meant over).1
-      by_stopped meant (inr going) = by_spent meant going (cases_Bool (is_spent (state old).books))
-
-      by : (cmd ≡ Bad) ⊎ (cmd ≢ Bad) → PassesTime (state old) (state new)
-      by (inl none) = quietly (applies.bad none).1
-      by (inr meant) = by_stopped meant (cases_Bool (state old).books.stopped)

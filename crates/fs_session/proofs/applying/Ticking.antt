@@ -1,15 +1,14 @@
 -- A command begins with its tick, and nothing that it does then ticks or polls.
-use Rattle.std.proofs.Common.{◌≡◌, ◌⊎◌, inl, inr, Bool, true, false, IsTrue, List, ◌++◌, Result, Err, sym, subst, ◌∙◌, ap, append_assoc}
+use Rattle.std.proofs.Common.{◌≡◌, ⊎_elim, Bool, true, false, IsTrue, List, ◌++◌, Result, sym, subst, ◌∙◌, ap, append_assoc}
 use Rattle.disk_contract.specs.declared.event.Event.{Event}
 use Rattle.disk_contract.specs.Disk.{Grows}
 use Rattle.lang_tree.specs.declared.command.Cmd.{Cmd}
-use Rattle.lang_tree.specs.declared.command.Cmd.TheVariants.{Mkdir, Create, Write, Fill, Read, Truncate, Link, Unlink, Rmdir, Rename, Stat, List as ListNames, Osync, Dsync, Durable, Poll, Bad}
+use Rattle.lang_tree.specs.declared.command.Cmd.TheVariants.{Osync, Dsync, Durable, Poll}
 use Rattle.lang_tree.specs.declared.command.Refusal.{Refusal}
-use Rattle.lang_tree.specs.declared.command.Refusal.TheVariants as because
 use Rattle.lang_tree.specs.declared.command.Reply.{Reply}
 use Rattle.engine_blocks.specs.Effects.{Ticked}
 use Rattle.engine_blocks.specs.State.{State, Ticking}
-use Rattle.fs_session.specs.Applying.{Ticks, Runs, Began}
+use Rattle.fs_session.specs.Applying.{Runs, Began}
 use Rattle.fs_session.specs.Commands.{Carries}
 use Rattle.fs_session.specs.Syncs.{SyncsSession}
 
@@ -38,23 +37,7 @@ module _ {S : Type 0} (tells : Bool) (state : S → State) where
   of_run Dsync result old mid new t h = of_synced false Dsync result old mid new t h
   of_run Durable result old mid new t h = subst (λ s. Ticked tells (state old) (state s)) (sym h.1) t
   of_run Poll result old mid new t h = subst (λ s. Ticked tells (state old) (state s)) (sym h.1) t
-  of_run (Mkdir path) result old mid new t h = of_carried (Mkdir path) result old mid new t h
-  of_run (Create path) result old mid new t h = of_carried (Create path) result old mid new t h
-  of_run (Write path offset bytes) result old mid new t h = of_carried (Write path offset bytes) result old mid new t h
-  of_run (Fill path offset count byte) result old mid new t h = of_carried (Fill path offset count byte) result old mid new t h
-  of_run (Read path offset count) result old mid new t h = of_carried (Read path offset count) result old mid new t h
-  of_run (Truncate path size) result old mid new t h = of_carried (Truncate path size) result old mid new t h
-  of_run (Link path other) result old mid new t h = of_carried (Link path other) result old mid new t h
-  of_run (Unlink path) result old mid new t h = of_carried (Unlink path) result old mid new t h
-  of_run (Rmdir path) result old mid new t h = of_carried (Rmdir path) result old mid new t h
-  of_run (Rename from to) result old mid new t h = of_carried (Rename from to) result old mid new t h
-  of_run (Stat path) result old mid new t h = of_carried (Stat path) result old mid new t h
-  of_run (ListNames path) result old mid new t h = of_carried (ListNames path) result old mid new t h
-  of_run Bad result old mid new t h = of_carried Bad result old mid new t h
+  of_run cmd result old mid new t h = of_carried cmd result old mid new t h
 
   pub ticked_first : (cmd : Cmd) (reply : Reply) (old new : S) → Began tells state cmd reply old new → Ticked tells (state old) (state new)
-  ticked_first cmd reply old new began = by began.ran
-    where
-      by : (Ticks tells true (state old) (state new) × (began.result ≡ Err because.DiskFault)) ⊎ (Ticks tells false (state old) (state began.mid) × Runs tells state cmd began.result began.mid new) → Ticked tells (state old) (state new)
-      by (inl failed) = failed.0.ticks
-      by (inr ran) = of_run cmd began.result old began.mid new ran.0.ticks ran.1
+  ticked_first cmd reply old new began = ⊎_elim (λ failed. failed.0.ticks) (λ ran. of_run cmd began.result old began.mid new ran.0.ticks ran.1) began.ran

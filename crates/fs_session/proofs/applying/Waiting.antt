@@ -1,11 +1,10 @@
 -- A command that needn't wait for the disk has writes alone behind the notices of its tick.
-use Rattle.std.proofs.Common.{◌≡◌, ◌≢◌, ◌⊎◌, inl, inr, ◌-◌, ◌≤◌, Bool, true, false, IsTrue, filter, length, Result, Err, refl, sym, subst, ap, ap₂, ◌∙◌, arith}
+use Rattle.std.proofs.Common.{◌≡◌, ◌≢◌, inl, inr, ⊎_elim, ◌-◌, ◌≤◌, Bool, false, IsTrue, filter, length, Result, refl, sym, subst, ap, ap₂, ◌∙◌, arith}
 use Rattle.disk_contract.specs.Disk.{GrowsByWrites, PollsThenWrites}
 use Rattle.layout_geometry.specs.Geometry.{Geometry, data_start}
 use Rattle.lang_tree.specs.declared.command.Cmd.{Cmd}
-use Rattle.lang_tree.specs.declared.command.Cmd.TheVariants.{Mkdir, Create, Write, Fill, Read, Truncate, Link, Unlink, Rmdir, Rename, Stat, List as ListNames, Osync, Dsync, Durable, Poll, Bad}
+use Rattle.lang_tree.specs.declared.command.Cmd.TheVariants.{Osync, Dsync, Durable, Poll, Bad}
 use Rattle.lang_tree.specs.declared.command.Refusal.{Refusal}
-use Rattle.lang_tree.specs.declared.command.Refusal.TheVariants as because
 use Rattle.lang_tree.specs.declared.command.Reply.{Reply}
 use Rattle.lang_tree.specs.Step.{Session}
 use Rattle.engine_blocks.specs.Calls.{MovesPipeline, commit_places}
@@ -58,25 +57,15 @@ module _ {S : Type 0} (tells : Bool) (state : S → State) (told : IsTrue tells)
   of_run f Dsync result old mid new good ticks h needs runs = absurd needs
   of_run f Durable result old mid new good ticks h needs runs = of_none mid new runs.1
   of_run f Poll result old mid new good ticks h needs runs = of_none mid new runs.1
-  of_run f (Mkdir path) result old mid new good ticks h needs runs = of_carried f (Mkdir path) result old mid new ticks h needs runs
-  of_run f (Create path) result old mid new good ticks h needs runs = of_carried f (Create path) result old mid new ticks h needs runs
-  of_run f (Write path offset bytes) result old mid new good ticks h needs runs = of_carried f (Write path offset bytes) result old mid new ticks h needs runs
-  of_run f (Fill path offset count byte) result old mid new good ticks h needs runs = of_carried f (Fill path offset count byte) result old mid new ticks h needs runs
-  of_run f (Read path offset count) result old mid new good ticks h needs runs = of_carried f (Read path offset count) result old mid new ticks h needs runs
-  of_run f (Truncate path size) result old mid new good ticks h needs runs = of_carried f (Truncate path size) result old mid new ticks h needs runs
-  of_run f (Link path other) result old mid new good ticks h needs runs = of_carried f (Link path other) result old mid new ticks h needs runs
-  of_run f (Unlink path) result old mid new good ticks h needs runs = of_carried f (Unlink path) result old mid new ticks h needs runs
-  of_run f (Rmdir path) result old mid new good ticks h needs runs = of_carried f (Rmdir path) result old mid new ticks h needs runs
-  of_run f (Rename from to) result old mid new good ticks h needs runs = of_carried f (Rename from to) result old mid new ticks h needs runs
-  of_run f (Stat path) result old mid new good ticks h needs runs = of_carried f (Stat path) result old mid new ticks h needs runs
-  of_run f (ListNames path) result old mid new good ticks h needs runs = of_carried f (ListNames path) result old mid new ticks h needs runs
   of_run f Bad result old mid new good ticks h needs runs = absurd (good refl)
+  of_run f cmd result old mid new good ticks h needs runs = of_carried f cmd result old mid new ticks h needs runs
 
   pub begun_writes : (f : Session) (cmd : Cmd) (reply : Reply) (old new : S) → cmd ≢ Bad → (state old).books.stopped ≡ false → IsSession (state old) f → NeedsNoWait (state old) f cmd → Began tells state cmd reply old new
       → PollsThenWrites (state old).counts.ticks.manner 64 (state old).counts.ticks.polls (state old).crash.log (state new).counts.ticks.polls (state new).crash.log
-  begun_writes f cmd reply old new good going h needs began p is = (((ticked_first tells state cmd reply old new began).polled told p is).0, by began.ran)
-    where
-      by : (Ticks tells true (state old) (state new) × (began.result ≡ Err because.DiskFault)) ⊎ (Ticks tells false (state old) (state began.mid) × Runs tells state cmd began.result began.mid new) → GrowsByWrites p.log (state new).crash.log
-      by (inl failed) = (failed.0.writes told p is).1
-      by (inr ran) = grows_on p.log (state began.mid).crash.log (state new).crash.log (ran.0.writes told p is).1
-          (of_run f cmd began.result old began.mid new good ran.0 (session_ticks tells false (state old) (state began.mid) ran.0 f going told h) needs ran.1)
+  begun_writes f cmd reply old new good going h needs began p is = (
+    ((ticked_first tells state cmd reply old new began).polled told p is).0,
+    ⊎_elim
+        (λ failed. (failed.0.writes told p is).1)
+        (λ ran. grows_on p.log (state began.mid).crash.log (state new).crash.log (ran.0.writes told p is).1
+        (of_run f cmd began.result old began.mid new good ran.0 (session_ticks tells false (state old) (state began.mid) ran.0 f going told h) needs ran.1)) began.ran,
+  )

@@ -1,7 +1,7 @@
 -- A plan carried out: what becomes of the session, and of the bookkeeping.
 use Rattle.std.proofs.lemmas.Bool.{lt-ltb, ltb-true, ltb-false, cases_Bool}
 use Rattle.std.proofs.Math.Seq.{take-append_seam}
-use Rattle.std.proofs.Common.{◌≡◌, ◌⊎◌, inl, inr, ℕ, ◌+◌, nat_lt, Bool, true, false, not, ◌&&◌, ◌||◌, IsTrue, List, ◌++◌, take, length, Ok, Err, refl, sym, subst, ap, ap₂, ◌∙◌, arith}
+use Rattle.std.proofs.Common.{⊎_elim, ◌≡◌, ◌⊎◌, inl, inr, ℕ, ◌+◌, nat_lt, Bool, false, not, ◌&&◌, ◌||◌, IsTrue, List, ◌++◌, take, length, Ok, Err, refl, sym, subst, ap, ap₂, ◌∙◌, arith}
 use Rattle.disk_contract.specs.Disk.{writes_in}
 use Rattle.layout_geometry.specs.Geometry.{Geometry, bitmap_blocks}
 use Rattle.lang_tree.specs.declared.command.Cmd.{Cmd}
@@ -39,64 +39,29 @@ use Rattle.fs_session.specs.Space.{ArePlaced}
 use Rattle.fs_session.specs.Staying.{session_stays, session_settles, between_stays, freed_alike}
 
 -- What a draft that is made leaves of the bookkeeping, and one that isn't.
-pub record LeavesRest (s t : State) : Type 0 where
-  pub geom : t.books.geom ≡ s.books.geom
-  pub room : t.books.room ≡ s.books.room
-  pub area : t.books.area ≡ s.books.area
-  pub point : t.books.point ≡ s.books.point
-  pub floor : t.books.floor ≡ s.books.floor
-  pub turns : t.books.turns ≡ s.books.turns
-  pub stopped : t.books.stopped ≡ s.books.stopped
-  pub owed : t.books.owed ≡ s.books.owed
-  pub free_places : t.books.free_places ≡ s.books.free_places
+pub record LeavesRest (k l : Bookkeeping) : Type 0 where
+  pub geom : l.geom ≡ k.geom
+  pub room : l.room ≡ k.room
+  pub area : l.area ≡ k.area
+  pub point : l.point ≡ k.point
+  pub floor : l.floor ≡ k.floor
+  pub turns : l.turns ≡ k.turns
+  pub stopped : l.stopped ≡ k.stopped
+  pub owed : l.owed ≡ k.owed
+  pub free_places : l.free_places ≡ k.free_places
 
-pub made_rests : (tells : Bool) (d : DraftState) (cost : ℕ) (s t : State) → IsCarriedOut tells d cost s t → LeavesRest s t
-made_rests tells d cost s t h = record {
-  geom = ap (λ (b : Bookkeeping). b.geom) h.same;
-  room = ap (λ (b : Bookkeeping). b.room) h.same;
-  area = ap (λ (b : Bookkeeping). b.area) h.same;
-  point = ap (λ (b : Bookkeeping). b.point) h.same;
-  floor = ap (λ (b : Bookkeeping). b.floor) h.same;
-  turns = ap (λ (b : Bookkeeping). b.turns) h.same;
-  stopped = ap (λ (b : Bookkeeping). b.stopped) h.same;
-  owed = ap (λ (b : Bookkeeping). b.owed) h.same;
-  free_places = ap (λ (b : Bookkeeping). b.free_places) h.same;
-}
+pub made_rests : (tells : Bool) (d : DraftState) (cost : ℕ) (s t : State) → IsCarriedOut tells d cost s t → LeavesRest s.books t.books
+made_rests tells d cost s t h = subst (LeavesRest s.books) (sym h.same) assumption
 
-pub kept_rests : (tells : Bool) (s t : State) → KeepsBlocks tells s t → LeavesRest s t
-kept_rests tells s t h = record {
-  geom = ap (λ (b : Bookkeeping). b.geom) h.books;
-  room = ap (λ (b : Bookkeeping). b.room) h.books;
-  area = ap (λ (b : Bookkeeping). b.area) h.books;
-  point = ap (λ (b : Bookkeeping). b.point) h.books;
-  floor = ap (λ (b : Bookkeeping). b.floor) h.books;
-  turns = ap (λ (b : Bookkeeping). b.turns) h.books;
-  stopped = ap (λ (b : Bookkeeping). b.stopped) h.books;
-  owed = ap (λ (b : Bookkeeping). b.owed) h.books;
-  free_places = ap (λ (b : Bookkeeping). b.free_places) h.books;
-}
+pub kept_rests : (tells : Bool) (s t : State) → KeepsBlocks tells s t → LeavesRest s.books t.books
+kept_rests tells s t h = subst (LeavesRest s.books) (sym h.books) assumption
 
 -- a command that only looked, or whose pipeline settled
 pub runs_settled : (tells read_failed failed : Bool) (s t : State) → LooksAndSettles tells read_failed failed s t → RunsCommand tells read_failed failed s t
-runs_settled tells read_failed failed s t h = record {
-  geom = h.pipeline.geom;
-  room = h.pipeline.room;
-  area = h.pipeline.area;
-  point = h.pipeline.point;
-  floor = h.pipeline.floor;
-  free_places = h.pipeline.free_places;
-  turns = h.pipeline.turns;
-  stopped = h.stopped;
-  read_faults = h.read_faults;
-  faults = h.faults;
-  waits = h.waits;
-  ticks = h.ticks;
-  crash = h.crash;
-  writes = h.writes;
-}
+runs_settled tells read_failed failed s t h = assumption
 
 -- one whose draft was made or not, behind that
-pub runs_behind : (tells : Bool) (s t u : State) → LooksAndSettles tells false false s t → LeavesRest t u → LeavesDisk tells t u → (IsTrue tells → Advances s u) → RunsCommand tells false false s u
+pub runs_behind : (tells : Bool) (s t u : State) → LooksAndSettles tells false false s t → LeavesRest t.books u.books → LeavesDisk tells t u → (IsTrue tells → Advances s u) → RunsCommand tells false false s u
 runs_behind tells s t u h rest disk advances = record {
   geom = rest.geom ∙ h.pipeline.geom;
   room = rest.room ∙ h.pipeline.room;
@@ -116,11 +81,9 @@ runs_behind tells s t u h rest disk advances = record {
 
 -- a weight to which a cost comes
 weighed : (w c : ℕ) → (nat_lt 0 w || nat_lt 0 c) ≡ nat_lt 0 (w + c)
-weighed w c = by (cases_Bool (nat_lt 0 w))
-  where
-    by : (nat_lt 0 w ≡ true) ⊎ (nat_lt 0 w ≡ false) → (nat_lt 0 w || nat_lt 0 c) ≡ nat_lt 0 (w + c)
-    by (inl t) = ap (λ b. b || nat_lt 0 c) t ∙ sym (lt-ltb 0 (w + c) (omega (arith, ltb-true 0 w t)))
-    by (inr n) = ap (λ b. b || nat_lt 0 c) n ∙ ap (λ k. nat_lt 0 k) {x = c} {y = w + c} (omega (arith, ltb-false 0 w n))
+weighed w c = ⊎_elim
+    (λ t. ap (λ b. b || nat_lt 0 c) t ∙ sym (lt-ltb 0 (w + c) (omega (arith, ltb-true 0 w t))))
+    (λ n. ap (λ b. b || nat_lt 0 c) n ∙ ap (λ k. nat_lt 0 k) {x = c} {y = w + c} (omega (arith, ltb-false 0 w n))) (cases_Bool (nat_lt 0 w))
 
 -- The blocks of a draft that is made stand for the tree of its inode map.
 pub tree_of_draft : (tells : Bool) (d : DraftState) (cost : ℕ) (s t : State) (tree : Tree) → IsTrue tells → IsCarriedOut tells d cost s t → AreSound s.books.geom s.map
@@ -256,7 +219,7 @@ carried_refusal tells cmd start mid new d cost first why plans refused kept disk
   runs = counted refused (runs_behind tells start mid new plans.settles rest disk advances);
 }
   where
-    rest : LeavesRest mid new
+    rest : LeavesRest mid.books new.books
     rest = kept_rests tells mid new kept
 
     again : ServesAllOrNone start.books mid.books → ServesAllOrNone start.books (record mid.books { spare = new.books.spare })

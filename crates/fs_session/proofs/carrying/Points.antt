@@ -1,7 +1,7 @@
 -- No command but a sync changes what a session knows of points, and none its limit.
 use Rattle.std.proofs.Common.{◌≡◌, ◌==◌, Bool, true, false, length, replicate, if◌then◌else◌, Option, None, Some, refl}
 use Rattle.lang_tree.specs.declared.command.Cmd.{Cmd}
-use Rattle.lang_tree.specs.declared.command.Cmd.TheVariants.{Mkdir, Create, Write, Fill, Read, Truncate, Link, Unlink, Rmdir, Rename, Stat, List as ListNames, Osync, Dsync, Durable, Poll, Bad}
+use Rattle.lang_tree.specs.declared.command.Cmd.TheVariants.{Write, Fill, Truncate, Rename, Osync, Dsync}
 use Rattle.lang_tree.specs.declared.command.Refusal.{Refusal}
 use Rattle.lang_tree.specs.declared.command.Reply.TheVariants.{Ok as Done}
 use Rattle.lang_tree.specs.Conditions.{refusal}
@@ -22,23 +22,13 @@ choice s t false = record { points = refl; durable = refl; limit = refl }
 
 by_answer : (s : Session) (cmd : Cmd) (r : Option Refusal) → is_sync cmd ≡ false → SamePoints s (answered s cmd r).0
 by_answer s cmd (Some why) e = record { points = refl; durable = refl; limit = refl }
-by_answer s (Mkdir path) None e = record { points = refl; durable = refl; limit = refl }
-by_answer s (Create path) None e = record { points = refl; durable = refl; limit = refl }
 by_answer s (Write path offset bytes) None e = choice s _ (length bytes == 0)
 by_answer s (Fill path offset count byte) None e = choice s _ (length (replicate count byte) == 0)
-by_answer s (Read path offset count) None e = record { points = refl; durable = refl; limit = refl }
 by_answer s (Truncate path size) None e = choice s _ (size == length (content s.tree path))
-by_answer s (Link path other) None e = record { points = refl; durable = refl; limit = refl }
-by_answer s (Unlink path) None e = record { points = refl; durable = refl; limit = refl }
-by_answer s (Rmdir path) None e = record { points = refl; durable = refl; limit = refl }
 by_answer s (Rename from to) None e = choice s _ (is_same_node s.tree from to)
-by_answer s (Stat path) None e = record { points = refl; durable = refl; limit = refl }
-by_answer s (ListNames path) None e = record { points = refl; durable = refl; limit = refl }
 by_answer s Osync None e = absurd cc
 by_answer s Dsync None e = absurd cc
-by_answer s Durable None e = record { points = refl; durable = refl; limit = refl }
-by_answer s Poll None e = record { points = refl; durable = refl; limit = refl }
-by_answer s Bad None e = record { points = refl; durable = refl; limit = refl }
+by_answer s cmd None e = record { points = refl; durable = refl; limit = refl }
 
 pub points_stay : (s : Session) (cmd : Cmd) → is_sync cmd ≡ false → SamePoints s (step s cmd).0
 points_stay s cmd e = by_answer s cmd (refusal s.limit s.tree cmd) e

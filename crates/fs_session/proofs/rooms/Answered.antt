@@ -1,10 +1,9 @@
 -- Each command is answered in the room of its session.
-use Rattle.std.proofs.Common.{◌≡◌, ◌≢◌, ◌⊎◌, ◌≤◌, inl, inr, Bool, true, false, Ok, Err, Result, refl, sym, subst, ap, ◌∙◌, arith}
+use Rattle.std.proofs.Common.{◌≡◌, ◌≢◌, ◌⊎◌, ◌≤◌, inl, inr, ⊎_elim, Bool, true, false, Ok, Result, refl, sym, subst, ap, ◌∙◌, arith}
 use Rattle.std.proofs.lemmas.Bool.{true≢false}
 use Rattle.lang_tree.specs.declared.command.Cmd.{Cmd}
-use Rattle.lang_tree.specs.declared.command.Cmd.TheVariants.{Mkdir, Create, Write, Fill, Read, Truncate, Link, Unlink, Rmdir, Rename, Stat, List as ListNames, Osync, Dsync, Durable, Poll, Bad}
+use Rattle.lang_tree.specs.declared.command.Cmd.TheVariants.{Osync, Dsync, Durable, Poll, Bad}
 use Rattle.lang_tree.specs.declared.command.Refusal.{Refusal}
-use Rattle.lang_tree.specs.declared.command.Refusal.TheVariants as because
 use Rattle.lang_tree.specs.declared.command.Reply.{Reply}
 use Rattle.lang_tree.specs.declared.command.Reply.TheVariants.{Ok as Done, Known, Bad as NotUnderstood}
 use Rattle.lang_tree.specs.Step.{Session}
@@ -22,23 +21,8 @@ use Rattle.fs_session.proofs.rooms.Synced.{synced_in}
 
 -- a line is none, or a command
 pub bad_or_not : (cmd : Cmd) → (cmd ≡ Bad) ⊎ (cmd ≢ Bad)
-bad_or_not (Mkdir path) = inr (λ e. absurd cc)
-bad_or_not (Create path) = inr (λ e. absurd cc)
-bad_or_not (Write path offset bytes) = inr (λ e. absurd cc)
-bad_or_not (Fill path offset count byte) = inr (λ e. absurd cc)
-bad_or_not (Read path offset count) = inr (λ e. absurd cc)
-bad_or_not (Truncate path size) = inr (λ e. absurd cc)
-bad_or_not (Link path other) = inr (λ e. absurd cc)
-bad_or_not (Unlink path) = inr (λ e. absurd cc)
-bad_or_not (Rmdir path) = inr (λ e. absurd cc)
-bad_or_not (Rename from to) = inr (λ e. absurd cc)
-bad_or_not (Stat path) = inr (λ e. absurd cc)
-bad_or_not (ListNames path) = inr (λ e. absurd cc)
-bad_or_not Osync = inr (λ e. absurd cc)
-bad_or_not Dsync = inr (λ e. absurd cc)
-bad_or_not Durable = inr (λ e. absurd cc)
-bad_or_not Poll = inr (λ e. absurd cc)
 bad_or_not Bad = inl refl
+bad_or_not cmd = inr (λ e. absurd cc)
 
 -- the blocks are those of a session after the command, which was answered in the room
 abbrev pub AnswersRoom : {S : Type 0} → (S → State) → Session → Cmd → Reply → S → S → Type 0
@@ -69,19 +53,8 @@ module _ {S : Type 0} (tells : Bool) (state : S → State) (here : InMemory tell
     run_in Dsync good ran = synced_in tells state here false f Dsync result old new h ran
     run_in Durable good ran = known_in state f result old new h (omega (arith, (here.known.sound old).floor, h.points going)) ran
     run_in Poll good ran = polled_in state f result old new h ran
-    run_in (Mkdir path) good ran = carried_in tells state here f (Mkdir path) result old new h ran
-    run_in (Create path) good ran = carried_in tells state here f (Create path) result old new h ran
-    run_in (Write path offset bytes) good ran = carried_in tells state here f (Write path offset bytes) result old new h ran
-    run_in (Fill path offset count byte) good ran = carried_in tells state here f (Fill path offset count byte) result old new h ran
-    run_in (Read path offset count) good ran = carried_in tells state here f (Read path offset count) result old new h ran
-    run_in (Truncate path size) good ran = carried_in tells state here f (Truncate path size) result old new h ran
-    run_in (Link path other) good ran = carried_in tells state here f (Link path other) result old new h ran
-    run_in (Unlink path) good ran = carried_in tells state here f (Unlink path) result old new h ran
-    run_in (Rmdir path) good ran = carried_in tells state here f (Rmdir path) result old new h ran
-    run_in (Rename from to) good ran = carried_in tells state here f (Rename from to) result old new h ran
-    run_in (Stat path) good ran = carried_in tells state here f (Stat path) result old new h ran
-    run_in (ListNames path) good ran = carried_in tells state here f (ListNames path) result old new h ran
     run_in Bad good ran = absurd (good refl)
+    run_in cmd good ran = carried_in tells state here f cmd result old new h ran
 
   -- a tick leaves the room as it is
   behind_tick : (f : Session) (cmd : Cmd) (reply : Reply) (old mid new : S) → Ticks tells false (state old) (state mid) → AnswersRoom state f cmd reply mid new → AnswersRoom state f cmd reply old new
@@ -100,18 +73,14 @@ module _ {S : Type 0} (tells : Bool) (state : S → State) (here : InMemory tell
 
   -- a command that began
   begun_in : (f : Session) (cmd : Cmd) (reply : Reply) (old new : S) → cmd ≢ Bad → (state old).books.stopped ≡ false → IsSession (state old) f → Began tells state cmd reply old new → AnswersRoom state f cmd reply old new
-  begun_in f cmd reply old new good going h began = by began.ran
-    where
-      by : (Ticks tells true (state old) (state new) × (began.result ≡ Err because.DiskFault)) ⊎ (Ticks tells false (state old) (state began.mid) × Runs tells state cmd began.result began.mid new) → AnswersRoom state f cmd reply old new
-      by (inl failed) = absurd (true≢false (never_failed true (state old).counts.faults (state new).counts.faults failed.0.moves.disk.faults (here.lies.faults new)))
-      by (inr ran) = subst (λ r. AnswersRoom state f cmd r old new) (sym began.is)
-          (behind_tick f cmd (reply_for began.result) old began.mid new ran.0
-          (run_in f began.result began.mid new ran.0.moves.disk.stopped (session_ticks tells false (state old) (state began.mid) ran.0 f going here.known.told h) cmd good ran.1))
+  begun_in f cmd reply old new good going h began = ⊎_elim
+      (λ failed. absurd (true≢false (never_failed true (state old).counts.faults (state new).counts.faults failed.0.moves.disk.faults (here.lies.faults new))))
+      (λ ran. subst (λ r. AnswersRoom state f cmd r old new) (sym began.is)
+      (behind_tick f cmd (reply_for began.result) old began.mid new ran.0
+      (run_in f began.result began.mid new ran.0.moves.disk.stopped (session_ticks tells false (state old) (state began.mid) ran.0 f going here.known.told h) cmd good ran.1))) began.ran
 
   -- each command
   pub applied_in : (f : Session) (cmd : Cmd) (reply : Reply) (old new : S) → IsSession (state old) f → Applies tells state cmd reply old new → AnswersRoom state f cmd reply old new
-  applied_in f cmd reply old new h applies = by (bad_or_not cmd)
-    where
-      by : (cmd ≡ Bad) ⊎ (cmd ≢ Bad) → AnswersRoom state f cmd reply old new
-      by (inl bad) = subst (λ c. AnswersRoom state f c reply old new) (sym bad) (bad_in state f reply old new h (applies.bad bad))
-      by (inr good) = begun_in f cmd reply old new good (here.lies.going old) h (applies.began good (here.lies.going old) (here.lies.unspent old))
+  applied_in f cmd reply old new h applies = ⊎_elim
+      (λ bad. subst (λ c. AnswersRoom state f c reply old new) (sym bad) (bad_in state f reply old new h (applies.bad bad)))
+      (λ good. begun_in f cmd reply old new good (here.lies.going old) h (applies.began good (here.lies.going old) (here.lies.unspent old))) (bad_or_not cmd)

@@ -1,12 +1,11 @@
 -- Over any map of blocks each command is answered in the room of its session with what waits, at the moment behind its tick and the one as it ends; or the disk fails it.
-use Rattle.std.proofs.Common.{◌≡◌, ◌≢◌, ◌⊎◌, inl, inr, ℕ, ◌<◌, Bool, true, false, IsTrue, IfOk, OnOk, Ok, Err, Result, refl, sym, subst, ap, ◌∙◌, arith}
+use Rattle.std.proofs.Common.{◌≡◌, ◌≢◌, ◌⊎◌, inl, inr, ⊎_elim, ℕ, ◌<◌, Bool, true, false, IsTrue, IfOk, OnOk, Ok, Err, Result, refl, sym, subst, ap, ◌∙◌, arith}
 use Rattle.std.proofs.lemmas.Bool.{cases_Bool, true≢false, false≢true}
 use Rattle.disk_contract.specs.Cell.{is_accepted}
-use Rattle.disk_contract.specs.Disk.{PollsThenWrites}
 use Rattle.disk_contract.specs.Manner.{Manner}
 use Rattle.layout_geometry.specs.Geometry.{Geometry}
 use Rattle.lang_tree.specs.declared.command.Cmd.{Cmd}
-use Rattle.lang_tree.specs.declared.command.Cmd.TheVariants.{Mkdir, Create, Write, Fill, Read, Truncate, Link, Unlink, Rmdir, Rename, Stat, List as ListNames, Osync, Dsync, Durable, Poll, Bad}
+use Rattle.lang_tree.specs.declared.command.Cmd.TheVariants.{Osync, Dsync, Durable, Poll, Bad}
 use Rattle.lang_tree.specs.declared.command.Refusal.{Refusal}
 use Rattle.lang_tree.specs.declared.command.Refusal.TheVariants as because
 use Rattle.lang_tree.specs.declared.command.Reply.{Reply}
@@ -15,7 +14,7 @@ use Rattle.lang_tree.specs.Figures.{Figures}
 use Rattle.lang_tree.specs.Points.{is_refusal, is_sync}
 use Rattle.lang_tree.specs.Step.{Session, osync, step}
 use Rattle.engine_blocks.specs.Crashes.{Advances, AwaitsSince, IsTold}
-use Rattle.engine_blocks.specs.Effects.{FitsRing, RingIsTold}
+use Rattle.engine_blocks.specs.Effects.{RingIsTold}
 use Rattle.engine_blocks.specs.Puts.{IsData}
 use Rattle.engine_blocks.specs.State.{State}
 use Rattle.fs_session.specs.Applying.{Applies, Began, Runs, Ticks, is_spent, reply_for}
@@ -28,10 +27,12 @@ use Rattle.fs_session.specs.Sessions.{IsSession}
 use Rattle.fs_session.specs.Space.{FailsToFit, FitsIn, HasRoom}
 use Rattle.fs_session.specs.Syncs.{SyncsSession}
 use Rattle.fs_session.proofs.Logs.{grows_by_none}
+use Rattle.fs_session.proofs.applying.Cases.{answered_as}
+use Rattle.fs_session.proofs.applying.Causes.{same_reason}
 use Rattle.fs_session.proofs.applying.Passing.{of_run}
 use Rattle.fs_session.specs.Staying.{freed_alike, session_ticks}
 use Rattle.fs_session.proofs.applying.Waiting.{fits_still}
-use Rattle.fs_session.proofs.rooms.Answered.{bad_or_not, known_in, polled_in}
+use Rattle.fs_session.proofs.rooms.Answered.{known_in, polled_in}
 use Rattle.fs_session.proofs.rooms.Carried.{EndsOver, done_in, fits_in, refused_back, refused_over, settled_back}
 use Rattle.fs_session.proofs.rooms.Known.{Known, LeavesSession, room_is}
 use Rattle.fs_session.proofs.rooms.Nodes.{marked_is}
@@ -40,23 +41,8 @@ use Rattle.fs_session.proofs.rooms.Waits.{all_or_none, room_on_with, same_wait, 
 
 -- what failed for the disk is refused so
 disk_fault : (why : Refusal) → is_disk_fault (Err why) ≡ true → why ≡ because.DiskFault
-disk_fault because.NotFound e = absurd (false≢true e)
-disk_fault because.Exists e = absurd (false≢true e)
-disk_fault because.NotDir e = absurd (false≢true e)
-disk_fault because.IsDir e = absurd (false≢true e)
-disk_fault because.NotEmpty e = absurd (false≢true e)
-disk_fault because.BelowItself e = absurd (false≢true e)
-disk_fault because.TooLarge e = absurd (false≢true e)
-disk_fault because.TooManyLinks e = absurd (false≢true e)
-disk_fault because.NoNode e = absurd (false≢true e)
-disk_fault (because.Full need left) e = absurd (false≢true e)
-disk_fault (because.TooBig weight cost room) e = absurd (false≢true e)
-disk_fault (because.Scattered runs) e = absurd (false≢true e)
-disk_fault because.ReadFault e = absurd (false≢true e)
 disk_fault because.DiskFault e = refl
-disk_fault because.Stopped e = absurd (false≢true e)
-disk_fault because.Spent e = absurd (false≢true e)
-disk_fault because.NoMemory e = absurd (false≢true e)
+disk_fault why e = absurd (false≢true e)
 
 fault_reply : (result : Result Reply Refusal) → is_disk_fault result ≡ true → reply_for result ≡ Refused because.DiskFault
 fault_reply (Ok reply) e = absurd (false≢true e)
@@ -76,11 +62,9 @@ awaits_since old mid new told point first then p t waits = by (then.awaits p t w
 
 -- a tick, which made no point, makes none wait
 still_awaits : (old mid : State) → IsTold mid → mid.books.point ≡ old.books.point → Advances old mid → (p t : ℕ) → mid.crash.awaits p t → old.crash.awaits p t
-still_awaits old mid told point first p t waits = by (first.awaits p t waits)
-  where
-    by : old.crash.awaits p t ⊎ AwaitsSince old p t → old.crash.awaits p t
-    by (inl was) = was
-    by (inr since) = absurd (omega (arith, since.point, (told.awaits p t waits).upto, point))
+still_awaits old mid told point first p t waits = ⊎_elim
+    (λ was. was)
+    (λ since. absurd (omega (arith, since.point, (told.awaits p t waits).upto, point))) (first.awaits p t waits)
 
 -- nothing settles for what is refused for want of room
 abbrev pub SettlesNoneFor : Geometry → Session → RoomOn → RoomOn → Cmd → Reply → Type 0
@@ -91,31 +75,16 @@ fits_well : (left weighs most : ℕ) (n : Figures) (why : Refusal) → FitsIn le
 fits_well left weighs most n why fits (inl full) = absurd (omega (arith, fits.blocks, full.blocks))
 fits_well left weighs most n why fits (inr big) = absurd (omega (arith, fits.weight, big.weight))
 
--- why a reply is a refusal
-abbrev reason : Reply → Refusal
-reason (Refused why) = why
-reason _ = because.NoMemory
+-- a failed read, or want of memory
+abbrev is_other_want : Refusal → Bool
+is_other_want because.ReadFault = true
+is_other_want because.NoMemory = true
+is_other_want _ = false
 
--- want of room is neither a failed read nor want of memory
-no_read : (left weighs most : ℕ) (n : Figures) (why : Refusal) → FailsToFit left weighs most n why → why ≡ because.ReadFault → ⊥
-no_read left weighs most n why (inl full) reading = full_reads n.need left (sym full.is ∙ reading)
-  where
-    full_reads : (a b : ℕ) → because.Full a b ≡ because.ReadFault → ⊥
-    full_reads a b e = absurd cc
-no_read left weighs most n why (inr big) reading = big_reads weighs n.cost most (sym big.is ∙ reading)
-  where
-    big_reads : (a b c : ℕ) → because.TooBig a b c ≡ because.ReadFault → ⊥
-    big_reads a b c e = absurd cc
-
-no_want : (left weighs most : ℕ) (n : Figures) (why : Refusal) → FailsToFit left weighs most n why → why ≡ because.NoMemory → ⊥
-no_want left weighs most n why (inl full) memory = full_wants n.need left (sym full.is ∙ memory)
-  where
-    full_wants : (a b : ℕ) → because.Full a b ≡ because.NoMemory → ⊥
-    full_wants a b e = absurd cc
-no_want left weighs most n why (inr big) memory = big_wants weighs n.cost most (sym big.is ∙ memory)
-  where
-    big_wants : (a b c : ℕ) → because.TooBig a b c ≡ because.NoMemory → ⊥
-    big_wants a b c e = absurd cc
+-- want of room is neither
+no_other_want : (left weighs most : ℕ) (n : Figures) (why : Refusal) → FailsToFit left weighs most n why → is_other_want why ≡ false
+no_other_want left weighs most n why (inl full) = ap is_other_want full.is
+no_other_want left weighs most n why (inr big) = ap is_other_want big.is
 
 -- What comes behind a tick: the command has the blocks that it needs, is answered in that room, and leaves waiting what it may.
 pub record Behind (g : Geometry) (at end : Moment) (f : Session) (back : RoomOn) (cmd : Cmd) (reply : Reply) (next : Session) (new : RoomOn) : Type 0 where
@@ -136,22 +105,7 @@ pub record CarriedIn (g : Geometry) (f : Session) (cmd : Cmd) (reply : Reply) (o
 -- any command but a bad line
 answers_at : (g : Geometry) (at end : Moment) (f : Session) (old : RoomOn) (cmd : Cmd) (reply : Reply) (next : Session) (new : RoomOn) → cmd ≢ Bad → AnyAt g at end f old cmd reply next new → AnswersAt g at end f old cmd reply next new
 answers_at g at end f old Bad reply next new good x = absurd (good refl)
-answers_at g at end f old Osync reply next new good x = x
-answers_at g at end f old Dsync reply next new good x = x
-answers_at g at end f old Durable reply next new good x = x
-answers_at g at end f old Poll reply next new good x = x
-answers_at g at end f old (Mkdir path) reply next new good x = x
-answers_at g at end f old (Create path) reply next new good x = x
-answers_at g at end f old (Write path offset bytes) reply next new good x = x
-answers_at g at end f old (Fill path offset count byte) reply next new good x = x
-answers_at g at end f old (Read path offset count) reply next new good x = x
-answers_at g at end f old (Truncate path size) reply next new good x = x
-answers_at g at end f old (Link path other) reply next new good x = x
-answers_at g at end f old (Unlink path) reply next new good x = x
-answers_at g at end f old (Rmdir path) reply next new good x = x
-answers_at g at end f old (Rename from to) reply next new good x = x
-answers_at g at end f old (Stat path) reply next new good x = x
-answers_at g at end f old (ListNames path) reply next new good x = x
+answers_at g at end f old cmd reply next new good x = x
 
 -- the same room waits alike
 same_room : (g : Geometry) (r : RoomOn) → SameWait g r r
@@ -185,10 +139,8 @@ module _ {S : Type 0} (tells : Bool) (state : S → State) (known : Known tells 
       by (inl x) = same_wait (state old).books (state new).books geom (state old) (state new) x.rests
       by (inr (inl x)) = absurd (has_none x.room)
       by (inr (inr (inl x))) = absurd (has_none x.room)
-      by (inr (inr (inr (inl reading)))) =
-          absurd (no_read (left_in (state old).books.geom f (room_of (state old))) (state old).books.running.weight (most_weight (state old).books.geom) (figures_in (state old).books.geom f cmd) other fails (sym same ∙ reading))
-      by (inr (inr (inr (inr memory)))) =
-          absurd (no_want (left_in (state old).books.geom f (room_of (state old))) (state old).books.running.weight (most_weight (state old).books.geom) (figures_in (state old).books.geom f cmd) other fails (sym same ∙ memory))
+      by (inr (inr (inr w))) = absurd (true≢false (sym (⊎_elim (ap is_other_want) (ap is_other_want) w) ∙ ap is_other_want same
+          ∙ no_other_want (left_in (state old).books.geom f (room_of (state old))) (state old).books.running.weight (most_weight (state old).books.geom) (figures_in (state old).books.geom f cmd) other fails))
 
   -- a command on the tree
   carried_at : (f : Session) (cmd : Cmd) (result : Result Reply Refusal) (old new : S) → is_on_tree cmd ≡ true → is_disk_fault result ≡ false → IsSession (state old) f → Carries tells cmd result (state old) (state new)
@@ -223,7 +175,7 @@ module _ {S : Type 0} (tells : Bool) (state : S → State) (known : Known tells 
         rests = λ enough. same_wait (state old).books (state new).books carries.runs.geom (state old) (state new) (carries.rests known.told f h enough);
         serves = all_or_none (state old).books (state new).books carries.runs.geom (state old) (state new) (carries.serves well);
       };
-      full = λ other is fails. none_for f cmd why other old new h carries.runs.geom (ap reason is) fails (carries.refused known.told f h);
+      full = λ other is fails. none_for f cmd why other old new h carries.runs.geom (same_reason why other is) fails (carries.refused known.told f h);
       ends = refused_over tells state known f cmd why old new on_tree h carries;
       since = λ b at. refl;
     },
@@ -264,32 +216,20 @@ module _ {S : Type 0} (tells : Bool) (state : S → State) (known : Known tells 
         let x = carried_at f cmd result old new on_tree well h ran in
         (x.0, x.1, x.2, record { ready = x.3.ready; settles = x.3.settles; full = x.3.full; answers = answers x.0 x.3.ready.room x.3.ends; leaves = leaves x.0 x.3.ready x.3.since })
 
+    -- a command that needs no blocks
+    of_other : (cmd : Cmd) → LeavesSession state old new (λ next. AnswersOver (state old).books.geom f (room_of (state old)) cmd (reply_for result) next (room_of (state new))
+        × LeavesWaiting (state old).books.geom (moment_of (state old)) (moment_of (state new)) cmd (reply_for result) next (room_on (state old)) (room_on (state new))) → LeavesBehind cmd
+    of_other cmd x = (x.0, x.1, x.2, record { ready = room_on (state old); settles = nothing_settles f (figures_in (state old).books.geom f cmd).need old h; full = λ why is fails. same_room (state old).books.geom (room_on (state old)); answers = x.3.0; leaves = x.3.1 })
+
     run_at : (cmd : Cmd) → cmd ≢ Bad → (state old).books.stopped ≡ false → Runs tells state cmd result old new → LeavesBehind cmd
-    run_at Osync good going ran =
-        let x = sync_at true f Osync result old new well h ran in
-        (x.0, x.1, x.2, record { ready = room_on (state old); settles = nothing_settles f (figures_in (state old).books.geom f Osync).need old h; full = λ why is fails. same_room (state old).books.geom (room_on (state old)); answers = x.3.0; leaves = x.3.1 })
-    run_at Dsync good going ran =
-        let x = sync_at false f Dsync result old new well h ran in
-        (x.0, x.1, x.2, record { ready = room_on (state old); settles = nothing_settles f (figures_in (state old).books.geom f Dsync).need old h; full = λ why is fails. same_room (state old).books.geom (room_on (state old)); answers = x.3.0; leaves = x.3.1 })
+    run_at Osync good going ran = of_other Osync (sync_at true f Osync result old new well h ran)
+    run_at Dsync good going ran = of_other Dsync (sync_at false f Dsync result old new well h ran)
     run_at Durable good going ran =
         let x = known_in state f result old new h (omega (arith, (known.sound old).floor, h.points going)) ran in
-        (x.0, x.1, x.2, record { ready = room_on (state old); settles = nothing_settles f (figures_in (state old).books.geom f Durable).need old h; full = λ why is fails. same_room (state old).books.geom (room_on (state old)); answers = inl x.3; leaves = λ b at. ap (λ s. (state s).books.since b) ran.1 })
-    run_at Poll good going ran =
-        let x = polled_in state f result old new h ran in
-        (x.0, x.1, x.2, record { ready = room_on (state old); settles = nothing_settles f (figures_in (state old).books.geom f Poll).need old h; full = λ why is fails. same_room (state old).books.geom (room_on (state old)); answers = inl x.3; leaves = λ b at. ap (λ s. (state s).books.since b) ran.1 })
-    run_at (Mkdir path) good going ran = of_tree (Mkdir path) refl ran (λ next r x. x) (λ next r x. x)
-    run_at (Create path) good going ran = of_tree (Create path) refl ran (λ next r x. x) (λ next r x. x)
-    run_at (Write path offset bytes) good going ran = of_tree (Write path offset bytes) refl ran (λ next r x. x) (λ next r x. x)
-    run_at (Fill path offset count byte) good going ran = of_tree (Fill path offset count byte) refl ran (λ next r x. x) (λ next r x. x)
-    run_at (Read path offset count) good going ran = of_tree (Read path offset count) refl ran (λ next r x. x) (λ next r x. x)
-    run_at (Truncate path size) good going ran = of_tree (Truncate path size) refl ran (λ next r x. x) (λ next r x. x)
-    run_at (Link path other) good going ran = of_tree (Link path other) refl ran (λ next r x. x) (λ next r x. x)
-    run_at (Unlink path) good going ran = of_tree (Unlink path) refl ran (λ next r x. x) (λ next r x. x)
-    run_at (Rmdir path) good going ran = of_tree (Rmdir path) refl ran (λ next r x. x) (λ next r x. x)
-    run_at (Rename from to) good going ran = of_tree (Rename from to) refl ran (λ next r x. x) (λ next r x. x)
-    run_at (Stat path) good going ran = of_tree (Stat path) refl ran (λ next r x. x) (λ next r x. x)
-    run_at (ListNames path) good going ran = of_tree (ListNames path) refl ran (λ next r x. x) (λ next r x. x)
+        of_other Durable (x.0, x.1, x.2, (inl x.3, λ b at. ap (λ s. (state s).books.since b) ran.1))
+    run_at Poll good going ran = let x = polled_in state f result old new h ran in of_other Poll (x.0, x.1, x.2, (inl x.3, λ b at. ap (λ s. (state s).books.since b) ran.1))
     run_at Bad good going ran = absurd (good refl)
+    run_at cmd good going ran = of_tree cmd refl ran (λ next r x. x) (λ next r x. x)
 
   -- behind its tick the command begins
   begins_at : (f : Session) (cmd : Cmd) (reply : Reply) (old mid new : S) → Ticks tells false (state old) (state mid) → IsSession (state mid) f
@@ -341,29 +281,8 @@ module _ {S : Type 0} (tells : Bool) (state : S → State) (known : Known tells 
       done : (g : Session) (b : Bool) → is_refusal (osync g b).1 ≡ false
       done g true = refl
       done g false = refl
-  syncs_behind f Dsync result s new of h runs = of_synced false f Dsync result s new refl (λ is. absurd (apart is)) h runs
-    where
-      only_orders : Cmd → Bool
-      only_orders Osync = true
-      only_orders _ = false
-
-      apart : Dsync ≡ Osync → ⊥
-      apart e = false≢true (ap only_orders e)
-  syncs_behind f Durable result s new of h runs = absurd (false≢true of)
-  syncs_behind f Poll result s new of h runs = absurd (false≢true of)
-  syncs_behind f (Mkdir path) result s new of h runs = absurd (false≢true of)
-  syncs_behind f (Create path) result s new of h runs = absurd (false≢true of)
-  syncs_behind f (Write path offset bytes) result s new of h runs = absurd (false≢true of)
-  syncs_behind f (Fill path offset count byte) result s new of h runs = absurd (false≢true of)
-  syncs_behind f (Read path offset count) result s new of h runs = absurd (false≢true of)
-  syncs_behind f (Truncate path size) result s new of h runs = absurd (false≢true of)
-  syncs_behind f (Link path other) result s new of h runs = absurd (false≢true of)
-  syncs_behind f (Unlink path) result s new of h runs = absurd (false≢true of)
-  syncs_behind f (Rmdir path) result s new of h runs = absurd (false≢true of)
-  syncs_behind f (Rename from to) result s new of h runs = absurd (false≢true of)
-  syncs_behind f (Stat path) result s new of h runs = absurd (false≢true of)
-  syncs_behind f (ListNames path) result s new of h runs = absurd (false≢true of)
-  syncs_behind f Bad result s new of h runs = absurd (false≢true of)
+  syncs_behind f Dsync result s new of h runs = of_synced false f Dsync result s new refl (λ is. absurd cc) h runs
+  syncs_behind f cmd result s new of h runs = absurd (false≢true of)
 
   -- where the tick was all, nothing came behind it
   ticks_alone : (cmd : Cmd) (reply : Reply) (s : S) → reply ≡ Refused because.DiskFault → SyncsBehind cmd reply (state s) (state s)
@@ -385,16 +304,21 @@ module _ {S : Type 0} (tells : Bool) (state : S → State) (known : Known tells 
 
     -- a command that began
     begun_at : (f : Session) (cmd : Cmd) (reply : Reply) (old new : S) → cmd ≢ Bad → (state old).books.stopped ≡ false → IsSession (state old) f → Began tells state cmd reply old new → ServesOver f cmd reply old new
-    begun_at f cmd reply old new good going h began = by began.ran
+    begun_at f cmd reply old new good going h began = ⊎_elim
+        (λ failed. let is = began.is ∙ ap reply_for failed.1 in
+        behind_at true new failed.0 (still new) (λ alone. inr (refl, is)) (λ of. ticks_alone cmd reply new is) (faulted new is))
+        (λ ran. goes began.mid began.result began.is ran.0 ran.1) began.ran
       where
-        at : S → Moment
-        at s = moment_of (state s)
+        AnyOver : S → Reply → Session → Type 0
+        AnyOver s r next = AnyAt (state old).books.geom (moment_of (state s)) (moment_of (state new)) f (room_on (state old)) cmd r next (room_on (state new))
 
-        -- the disk failed it
-        fails : (s : S) → reply ≡ Refused because.DiskFault → Advances (state old) (state s) → Advances (state s) (state new) → Ticks tells true (state old) (state s) ⊎ Ticks tells false (state old) (state s)
-            → ((state old).counts.ticks.manner.waits_alone ≡ true → RingIsTold (state s) ⊎ ((new ≡ s) × (reply ≡ Refused because.DiskFault))) → (is_sync cmd ≡ true → SyncsBehind cmd reply (state s) (state new)) → ServesOver f cmd reply old new
-        fails s is first then ticks ring sync =
-            let x = begun_over tells state known f cmd reply old new good going h began in (
+        -- this state is that behind its tick
+        behind_at : (failed : Bool) (s : S) → Ticks tells failed (state old) (state s) → Advances (state s) (state new)
+            → ((state old).counts.ticks.manner.waits_alone ≡ true → RingIsTold (state s) ⊎ ((new ≡ s) × (reply ≡ Refused because.DiskFault))) → (is_sync cmd ≡ true → SyncsBehind cmd reply (state s) (state new))
+            → LeavesSession state old new (AnyOver s reply) → ServesOver f cmd reply old new
+        behind_at failed s ticks then ring sync x =
+            let point = ticks.moves.pipeline.point in
+            let first = ticks.moves.crash known.told in (
               x.0,
               x.1,
               x.2,
@@ -402,75 +326,37 @@ module _ {S : Type 0} (tells : Bool) (state : S → State) (known : Known tells 
                 behind = s;
                 begins = first;
                 goes_on = then;
-                manner = manner ticks;
-                fits = fits ticks;
-                geom = geom ticks;
-                running = running ticks;
-                point = no_point ticks;
-                ring = λ some alive unspent. ring;
-                sync = λ of alive unspent. sync of;
-                still = still_awaits (state old) (state s) (known.agrees s) (no_point ticks) first;
-                awaits = λ p t waits. awaits_since (state old) (state s) (state new) (known.agrees s) (no_point ticks) first then p t waits;
-                ticks = λ some alive unspent. writes ticks;
-                answers = answers_at (state old).books.geom (at s) (at new) f (room_on (state old)) cmd reply x.0 (room_on (state new)) good (inr (inl (is, x.3)));
-              },
-            )
-          where
-            no_point : Ticks tells true (state old) (state s) ⊎ Ticks tells false (state old) (state s) → (state s).books.point ≡ (state old).books.point
-            no_point (inl failed) = failed.moves.pipeline.point
-            no_point (inr well) = well.moves.pipeline.point
-
-            writes : Ticks tells true (state old) (state s) ⊎ Ticks tells false (state old) (state s) → PollsThenWrites (state old).counts.ticks.manner 64 (state old).counts.ticks.polls (state old).crash.log (state s).counts.ticks.polls (state s).crash.log
-            writes (inl failed) = failed.writes known.told
-            writes (inr well) = well.writes known.told
-
-            manner : Ticks tells true (state old) (state s) ⊎ Ticks tells false (state old) (state s) → (state s).counts.ticks.manner ≡ (state old).counts.ticks.manner
-            manner (inl failed) = failed.ticks.manner
-            manner (inr well) = well.ticks.manner
-
-            geom : Ticks tells true (state old) (state s) ⊎ Ticks tells false (state old) (state s) → (state s).books.geom ≡ (state old).books.geom
-            geom (inl failed) = failed.moves.pipeline.geom
-            geom (inr well) = well.moves.pipeline.geom
-
-            running : Ticks tells true (state old) (state s) ⊎ Ticks tells false (state old) (state s) → (state s).books.running ≡ (state old).books.running
-            running (inl failed) = failed.moves.pipeline.running
-            running (inr well) = well.moves.pipeline.running
-
-            fits : Ticks tells true (state old) (state s) ⊎ Ticks tells false (state old) (state s) → FitsRing (state old).books → FitsRing (state s).books
-            fits (inl failed) = fits_still (state old).books (state s).books failed.moves.pipeline
-            fits (inr well) = fits_still (state old).books (state s).books well.moves.pipeline
-
-        goes : (s : S) (result : Result Reply Refusal) → reply ≡ reply_for result → Ticks tells false (state old) (state s) → Runs tells state cmd result s new → (is_disk_fault result ≡ true) ⊎ (is_disk_fault result ≡ false) → ServesOver f cmd reply old new
-        goes s result is ticks runs (inl fault) = fails s (is ∙ fault_reply result fault) (ticks.moves.crash known.told) (of_run tells state known.told compose still cmd result s new runs).advances (inr ticks)
-            (λ alone. inl (ticks.ring known.told alone refl)) (λ of. subst (λ (r : Reply). SyncsBehind cmd r (state s) (state new)) (sym is) (syncs_behind f cmd result s new of (session_ticks tells false (state old) (state s) ticks f going known.told h) runs))
-        goes s result is ticks runs (inr well) =
-            let same = session_ticks tells false (state old) (state s) ticks f going known.told h in
-            let x = begins_at f cmd (reply_for result) old s new ticks same (run_at f result s new well same cmd good ticks.moves.disk.stopped runs) in (
-              x.0,
-              x.1,
-              x.2,
-              record {
-                behind = s;
-                begins = ticks.moves.crash known.told;
-                goes_on = (of_run tells state known.told compose still cmd result s new runs).advances;
                 manner = ticks.ticks.manner;
                 fits = fits_still (state old).books (state s).books ticks.moves.pipeline;
                 geom = ticks.moves.pipeline.geom;
                 running = ticks.moves.pipeline.running;
-                point = ticks.moves.pipeline.point;
-                ring = λ some alive unspent alone. inl (ticks.ring known.told alone refl);
-                sync = λ of alive unspent. subst (λ (r : Reply). SyncsBehind cmd r (state s) (state new)) (sym is) (syncs_behind f cmd result s new of same runs);
-                still = still_awaits (state old) (state s) (known.agrees s) ticks.moves.pipeline.point (ticks.moves.crash known.told);
-                awaits = λ p t waits. awaits_since (state old) (state s) (state new) (known.agrees s) ticks.moves.pipeline.point (ticks.moves.crash known.told) (of_run tells state known.told compose still cmd result s new runs).advances p t waits;
+                point = point;
+                ring = λ some alive unspent. ring;
+                sync = λ of alive unspent. sync of;
+                still = still_awaits (state old) (state s) (known.agrees s) point first;
+                awaits = λ p t waits. awaits_since (state old) (state s) (state new) (known.agrees s) point first then p t waits;
                 ticks = λ some alive unspent. ticks.writes known.told;
-                answers = subst (λ (r : Reply). AnswersAt (state old).books.geom (at s) (at new) f (room_on (state old)) cmd r x.0 (room_on (state new))) (sym is)
-                    (answers_at (state old).books.geom (at s) (at new) f (room_on (state old)) cmd (reply_for result) x.0 (room_on (state new)) good (inr (inr x.3)));
+                answers = answers_at (state old).books.geom (moment_of (state s)) (moment_of (state new)) f (room_on (state old)) cmd reply x.0 (room_on (state new)) good x.3;
               },
             )
 
-        by : (Ticks tells true (state old) (state new) × (began.result ≡ Err because.DiskFault)) ⊎ (Ticks tells false (state old) (state began.mid) × Runs tells state cmd began.result began.mid new) → ServesOver f cmd reply old new
-        by (inl failed) = fails new (began.is ∙ ap reply_for failed.1) (failed.0.moves.crash known.told) (still new) (inl failed.0) (λ alone. inr (refl, began.is ∙ ap reply_for failed.1)) (λ of. ticks_alone cmd reply new (began.is ∙ ap reply_for failed.1))
-        by (inr ran) = goes began.mid began.result began.is ran.0 ran.1 (cases_Bool (is_disk_fault began.result))
+        -- the disk failed it
+        faulted : (s : S) → reply ≡ Refused because.DiskFault → LeavesSession state old new (AnyOver s reply)
+        faulted s is = let x = begun_over tells state known f cmd reply old new good going h began in (x.0, x.1, x.2, inr (inl (is, x.3)))
+
+        goes : (s : S) (result : Result Reply Refusal) → reply ≡ reply_for result → Ticks tells false (state old) (state s) → Runs tells state cmd result s new → ServesOver f cmd reply old new
+        goes s result is ticks runs =
+            behind_at false s ticks (of_run tells state known.told compose still cmd result s new runs).advances (λ alone. inl (ticks.ring known.told alone refl))
+            (λ of. subst (λ (r : Reply). SyncsBehind cmd r (state s) (state new)) (sym is) (syncs_behind f cmd result s new of same runs)) (by (cases_Bool (is_disk_fault result)))
+          where
+            same : IsSession (state s) f
+            same = session_ticks tells false (state old) (state s) ticks f going known.told h
+
+            by : (is_disk_fault result ≡ true) ⊎ (is_disk_fault result ≡ false) → LeavesSession state old new (AnyOver s reply)
+            by (inl fault) = faulted s (is ∙ fault_reply result fault)
+            by (inr well) =
+                let x = begins_at f cmd (reply_for result) old s new ticks same (run_at f result s new well same cmd good ticks.moves.disk.stopped runs) in
+                (x.0, x.1, x.2, subst (λ (r : Reply). AnyOver s r x.0) (sym is) (inr (inr x.3)))
 
     -- where nothing is done, nothing serves
     at_once : (f : Session) (cmd : Cmd) (reply : Reply) (old new : S) → new ≡ old → IsSession (state old) f → (cmd ≢ Bad → (state old).books.stopped ≡ false → is_spent (state old).books ≡ false → ⊥)
@@ -499,23 +385,13 @@ module _ {S : Type 0} (tells : Bool) (state : S → State) (known : Known tells 
 
     -- each command
     pub applied_at : (f : Session) (cmd : Cmd) (reply : Reply) (old new : S) → IsSession (state old) f → Applies tells state cmd reply old new → ServesOver f cmd reply old new
-    applied_at f cmd reply old new h applies = by (bad_or_not cmd)
+    applied_at f cmd reply old new h applies = answered_as tells state cmd reply old new (ServesOver f cmd reply old new) applies
+        (λ bad x.
+        at_once f cmd reply old new x.1 h (λ some alive unspent. absurd (some bad))
+        (subst (λ c. AnswersAt (state old).books.geom (moment_of (state old)) (moment_of (state old)) f (room_on (state old)) c reply f (room_on (state old))) (sym bad) ((ap (λ r. (f, r)) (sym x.0), refl), refl)))
+        (λ good stopped x. at_once f cmd reply old new x.1 h (λ some alive unspent. absurd (true≢false (sym stopped ∙ alive))) (refused because.Stopped good (inl refl) x.0))
+        (λ good spent x. at_once f cmd reply old new x.1 h (λ some alive unspent. absurd (true≢false (sym spent ∙ unspent))) (refused because.Spent good (inr refl) x.0))
+        (λ good going left began. begun_at f cmd reply old new good going h began)
       where
         refused : (why : Refusal) → cmd ≢ Bad → (why ≡ because.Stopped) ⊎ (why ≡ because.Spent) → reply ≡ Refused why → AnswersAt (state old).books.geom (moment_of (state old)) (moment_of (state old)) f (room_on (state old)) cmd reply f (room_on (state old))
         refused why good cause is = answers_at (state old).books.geom (moment_of (state old)) (moment_of (state old)) f (room_on (state old)) cmd reply f (room_on (state old)) good (inl ((why, cause, is, refl, refl), refl))
-
-        may : cmd ≢ Bad → ((state old).books.stopped ≡ true) ⊎ ((state old).books.stopped ≡ false) → (is_spent (state old).books ≡ true) ⊎ (is_spent (state old).books ≡ false) → ServesOver f cmd reply old new
-        may good (inl stopped) other =
-            let x = applies.stopped good stopped in
-            at_once f cmd reply old new x.1 h (λ some alive unspent. absurd (true≢false (sym stopped ∙ alive))) (refused because.Stopped good (inl refl) x.0)
-        may good (inr going) (inl spent) =
-            let x = applies.spent good going spent in
-            at_once f cmd reply old new x.1 h (λ some alive unspent. absurd (true≢false (sym spent ∙ unspent))) (refused because.Spent good (inr refl) x.0)
-        may good (inr going) (inr left) = begun_at f cmd reply old new good going h (applies.began good going left)
-
-        by : (cmd ≡ Bad) ⊎ (cmd ≢ Bad) → ServesOver f cmd reply old new
-        by (inl bad) =
-            let x = applies.bad bad in
-            at_once f cmd reply old new x.1 h (λ some alive unspent. absurd (some bad))
-            (subst (λ c. AnswersAt (state old).books.geom (moment_of (state old)) (moment_of (state old)) f (room_on (state old)) c reply f (room_on (state old))) (sym bad) ((ap (λ r. (f, r)) (sym x.0), refl), refl))
-        by (inr good) = may good (cases_Bool (state old).books.stopped) (cases_Bool (is_spent (state old).books))

@@ -1,5 +1,5 @@
 -- What is known of any map of blocks whose contents are told: the laws that are called, the room of each session, and what it keeps where the pipeline moves.
-use Rattle.std.proofs.Common.{◌≡◌, ◌⊎◌, inl, inr, ℕ, ◌-◌, ◌<◌, Bool, true, false, IsTrue, List, length, filter, refl, sym, subst, ap, ◌∙◌, arith}
+use Rattle.std.proofs.Common.{⊎_elim, ◌≡◌, ℕ, ◌-◌, ◌<◌, Bool, true, false, IsTrue, List, length, filter, refl, sym, subst, ap, ◌∙◌, arith}
 use Rattle.std.proofs.lemmas.Bool.{cases_Bool, true≢false}
 use Rattle.base_types.specs.Seal.{Blocks}
 use Rattle.layout_geometry.specs.Geometry.{Geometry, data_start}
@@ -60,11 +60,9 @@ module _ (s : State) (f : Session) (bits : (b : ℕ) → b < s.books.geom.n → 
       ap (λ (m : ℕ → Bool). m b) (sym marked) ∙ behind.unmarked b (record { from = at.0; below = omega (arith, at.0, at.1); free = at.2 })
 
   free : (b : ℕ) → has (node_blocks (places_of s) s.books.geom.i) b ≡ true → has (reusable_blocks k) b ≡ false
-  free b is = by (cases_Bool (has (reusable_blocks k) b))
-    where
-      by : (has (reusable_blocks k) b ≡ true) ⊎ (has (reusable_blocks k) b ≡ false) → has (reusable_blocks k) b ≡ false
-      by (inl there) = let r = node_among (places_of s) s.books.geom.i b is in absurd (true≢false (sym (marked_place s bits stands.sound r.0 b r.1) ∙ unmarked b there))
-      by (inr gone) = gone
+  free b is = ⊎_elim
+      (λ there. let r = node_among (places_of s) s.books.geom.i b is in absurd (true≢false (sym (marked_place s bits stands.sound r.0 b r.1) ∙ unmarked b there)))
+      (λ gone. gone) (cases_Bool (has (reusable_blocks k) b))
 
   live_too : length (live_blocks k) ≡ blocks f.tree
   live_too = ap (λ (m : ℕ → Bool). length (filter m (data_blocks k.geom))) marked ∙ ap (λ (g : Geometry). length (filter s.books.marked (data_blocks g))) geom ∙ as_many

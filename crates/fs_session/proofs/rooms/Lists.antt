@@ -1,5 +1,5 @@
 -- The numbers of a range that pass a test: where two tests keep the same ones, and what is left without the first of them. The blocks of nodes, one behind the other.
-use Rattle.std.proofs.Common.{[], ◌≡◌, ◌≢◌, ◌⊎◌, inl, inr, ℕ, zero, suc, ◌+◌, ◌<◌, ◌≤◌, Bool, true, false, not, ◌&&◌, ◌||◌, cond, List, ◌∷◌, ◌++◌, length, take, drop, filter, refl, sym, ap, ap₂, subst, ◌∙◌, arith}
+use Rattle.std.proofs.Common.{⊎_elim, [], ◌≡◌, ◌≢◌, ◌⊎◌, inl, inr, ℕ, zero, suc, ◌+◌, ◌<◌, ◌≤◌, Bool, true, false, not, ◌&&◌, ◌||◌, cond, List, ◌∷◌, ◌++◌, length, take, drop, filter, refl, sym, ap, ap₂, subst, ◌∙◌, arith}
 use Rattle.std.proofs.Math.Bool.{and-false}
 use Rattle.std.proofs.lemmas.Bool.{cases_Bool, cases_eq, eq-eqb, ne_eqb, true≢false, false≢true}
 use Rattle.std.specs.List.{range_with_len}
@@ -31,19 +31,15 @@ fewer_or_same p q a (suc n) more = by (cases_Bool (p a)) (cases_Bool (q a)) (few
 
 -- so the same where as many pass
 pub kept_same : (p q : ℕ → Bool) (a n : ℕ) → ((b : ℕ) → a ≤ b → b < a + n → p b ≡ true → q b ≡ true) → counted p a n ≡ counted q a n → filter p (range_with_len a n) ≡ filter q (range_with_len a n)
-kept_same p q a n more long = by (fewer_or_same p q a n more)
-  where
-    by : (counted p a n < counted q a n) ⊎ (filter p (range_with_len a n) ≡ filter q (range_with_len a n)) → filter p (range_with_len a n) ≡ filter q (range_with_len a n)
-    by (inl few) = absurd (omega (arith, few, long))
-    by (inr same) = same
+kept_same p q a n more long = ⊎_elim
+    (λ few. absurd (omega (arith, few, long)))
+    (λ same. same) (fewer_or_same p q a n more)
 
 -- and one that passes no fewer keeps as many or more
 pub as_many_kept : (p q : ℕ → Bool) (a n : ℕ) → ((b : ℕ) → a ≤ b → b < a + n → p b ≡ true → q b ≡ true) → counted p a n ≤ counted q a n
-as_many_kept p q a n more = by (fewer_or_same p q a n more)
-  where
-    by : (counted p a n < counted q a n) ⊎ (filter p (range_with_len a n) ≡ filter q (range_with_len a n)) → counted p a n ≤ counted q a n
-    by (inl few) = omega (arith, few)
-    by (inr same) = omega (arith, ap (λ (xs : List ℕ). length xs) same)
+as_many_kept p q a n more = ⊎_elim
+    (λ few. omega (arith, few))
+    (λ same. omega (arith, ap (λ (xs : List ℕ). length xs) same)) (fewer_or_same p q a n more)
 
 -- a test that all pass keeps all
 pub all_kept : (a n : ℕ) → filter (λ b. true) (range_with_len a n) ≡ range_with_len a n

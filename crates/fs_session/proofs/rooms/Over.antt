@@ -1,10 +1,10 @@
 -- Over any map of blocks each command is answered in a room of its session that came back, or refused by the disk.
-use Rattle.std.proofs.Common.{◌≡◌, ◌≢◌, ◌⊎◌, inl, inr, ◌<◌, ◌==◌, Bool, true, false, if◌then◌else◌, Ok, Err, Result, refl, sym, subst, ap, ap₂, ◌∙◌, arith}
+use Rattle.std.proofs.Common.{◌≡◌, ◌≢◌, ◌⊎◌, inl, inr, ⊎_elim, ◌<◌, ◌==◌, Bool, true, false, if◌then◌else◌, Ok, Err, Result, refl, sym, subst, ap, ap₂, ◌∙◌, arith}
 use Rattle.std.proofs.lemmas.Bool.{cases_Bool, cond-true, cond-false, eqb-true}
 use Rattle.base_types.specs.Seal.{Blocks}
 use Rattle.layout_geometry.specs.Geometry.{Geometry}
 use Rattle.lang_tree.specs.declared.command.Cmd.{Cmd}
-use Rattle.lang_tree.specs.declared.command.Cmd.TheVariants.{Mkdir, Create, Write, Fill, Read, Truncate, Link, Unlink, Rmdir, Rename, Stat, List as ListNames, Osync, Dsync, Durable, Poll, Bad}
+use Rattle.lang_tree.specs.declared.command.Cmd.TheVariants.{Osync, Dsync, Durable, Poll, Bad}
 use Rattle.lang_tree.specs.declared.command.Refusal.{Refusal}
 use Rattle.lang_tree.specs.declared.command.Refusal.TheVariants as because
 use Rattle.lang_tree.specs.declared.command.Reply.{Reply}
@@ -12,14 +12,15 @@ use Rattle.lang_tree.specs.declared.command.Reply.TheVariants.{Refused}
 use Rattle.lang_tree.specs.Step.{Session, step}
 use Rattle.engine_blocks.specs.Running.{Running, nothing_running}
 use Rattle.engine_blocks.specs.State.{Bookkeeping, State}
-use Rattle.fs_session.specs.Applying.{Applies, Began, Runs, Ticks, is_spent, reply_for}
+use Rattle.fs_session.specs.Applying.{Applies, Began, Runs, Ticks, reply_for}
 use Rattle.fs_session.specs.DiskRoom.{AnswersOn, AnswersOver, BeginsOver, ComesBack, IsRoomOf, KeepsRoom, SyncsOver}
 use Rattle.fs_session.specs.Memory.{room_of}
 use Rattle.fs_session.specs.Room.{RefusesIn, Room}
 use Rattle.fs_session.specs.Sessions.{IsSession}
 use Rattle.fs_session.specs.Syncs.{SyncsSession}
 use Rattle.fs_session.specs.Staying.{session_ticks}
-use Rattle.fs_session.proofs.rooms.Answered.{bad_in, bad_or_not, known_in, polled_in}
+use Rattle.fs_session.proofs.applying.Cases.{answered_as}
+use Rattle.fs_session.proofs.rooms.Answered.{bad_in, known_in, polled_in}
 use Rattle.fs_session.proofs.rooms.Carried.{carried_over}
 use Rattle.fs_session.proofs.rooms.Known.{Known, LeavesSession, back_again, back_at_once, brings_back, keeps_room, room_is}
 
@@ -39,57 +40,25 @@ AnswersDisk state f cmd reply old new = LeavesSession state old new (λ next. An
 pub answers_on : (g : Geometry) (f : Session) (r : Room) (cmd : Cmd) (reply : Reply) (next : Session) (room : Room) → cmd ≢ Bad → RefusesIn (λ why. (why ≡ because.Stopped) ⊎ (why ≡ because.Spent)) f r reply next room ⊎ BeginsOver g f r cmd reply next room
     → AnswersOn g f r cmd reply next room
 answers_on g f r Bad reply next room good x = absurd (good refl)
-answers_on g f r Osync reply next room good x = x
-answers_on g f r Dsync reply next room good x = x
-answers_on g f r Durable reply next room good x = x
-answers_on g f r Poll reply next room good x = x
-answers_on g f r (Mkdir path) reply next room good x = x
-answers_on g f r (Create path) reply next room good x = x
-answers_on g f r (Write path offset bytes) reply next room good x = x
-answers_on g f r (Fill path offset count byte) reply next room good x = x
-answers_on g f r (Read path offset count) reply next room good x = x
-answers_on g f r (Truncate path size) reply next room good x = x
-answers_on g f r (Link path other) reply next room good x = x
-answers_on g f r (Unlink path) reply next room good x = x
-answers_on g f r (Rmdir path) reply next room good x = x
-answers_on g f r (Rename from to) reply next room good x = x
-answers_on g f r (Stat path) reply next room good x = x
-answers_on g f r (ListNames path) reply next room good x = x
+answers_on g f r cmd reply next room good x = x
 
 -- the disk failed in the tick
 pub tick_failed : (g : Geometry) (f : Session) (r : Room) (cmd : Cmd) → cmd ≢ Bad → AnswersOver g f r cmd (Refused because.DiskFault) f r
 tick_failed g f r Bad good = absurd (good refl)
 tick_failed g f r Osync good = inr (inr (refl, refl, record { places = refl; takeable = λ b may. may }))
 tick_failed g f r Dsync good = inr (inr (refl, refl, record { places = refl; takeable = λ b may. may }))
-tick_failed g f r Durable good = inr (because.DiskFault, inl refl, refl, refl, refl)
-tick_failed g f r Poll good = inr (because.DiskFault, inl refl, refl, refl, refl)
-tick_failed g f r (Mkdir path) good = inr (because.DiskFault, inl refl, refl, refl, refl)
-tick_failed g f r (Create path) good = inr (because.DiskFault, inl refl, refl, refl, refl)
-tick_failed g f r (Write path offset bytes) good = inr (because.DiskFault, inl refl, refl, refl, refl)
-tick_failed g f r (Fill path offset count byte) good = inr (because.DiskFault, inl refl, refl, refl, refl)
-tick_failed g f r (Read path offset count) good = inr (because.DiskFault, inl refl, refl, refl, refl)
-tick_failed g f r (Truncate path size) good = inr (because.DiskFault, inl refl, refl, refl, refl)
-tick_failed g f r (Link path other) good = inr (because.DiskFault, inl refl, refl, refl, refl)
-tick_failed g f r (Unlink path) good = inr (because.DiskFault, inl refl, refl, refl, refl)
-tick_failed g f r (Rmdir path) good = inr (because.DiskFault, inl refl, refl, refl, refl)
-tick_failed g f r (Rename from to) good = inr (because.DiskFault, inl refl, refl, refl, refl)
-tick_failed g f r (Stat path) good = inr (because.DiskFault, inl refl, refl, refl, refl)
-tick_failed g f r (ListNames path) good = inr (because.DiskFault, inl refl, refl, refl, refl)
+tick_failed g f r cmd good = inr (because.DiskFault, inl refl, refl, refl, refl)
 
 -- what a sync leaves of the weight and the held blocks
 weight_after : (r : Running) → (if r.weight == 0 then r else nothing_running).weight ≡ 0
-weight_after r = by (cases_Bool (r.weight == 0))
-  where
-    by : ((r.weight == 0) ≡ true) ⊎ ((r.weight == 0) ≡ false) → (if r.weight == 0 then r else nothing_running).weight ≡ 0
-    by (inl none) = ap (λ (k : Running). k.weight) (cond-true (r.weight == 0) r nothing_running none) ∙ eqb-true r.weight 0 none
-    by (inr some) = ap (λ (k : Running). k.weight) (cond-false (r.weight == 0) r nothing_running some)
+weight_after r = ⊎_elim
+    (λ none. ap (λ (k : Running). k.weight) (cond-true (r.weight == 0) r nothing_running none) ∙ eqb-true r.weight 0 none)
+    (λ some. ap (λ (k : Running). k.weight) (cond-false (r.weight == 0) r nothing_running some)) (cases_Bool (r.weight == 0))
 
 held_after : (r : Running) → (if r.weight == 0 then r else nothing_running).held ≡ (if r.weight == 0 then r.held else 0)
-held_after r = by (cases_Bool (r.weight == 0))
-  where
-    by : ((r.weight == 0) ≡ true) ⊎ ((r.weight == 0) ≡ false) → (if r.weight == 0 then r else nothing_running).held ≡ (if r.weight == 0 then r.held else 0)
-    by (inl none) = ap (λ (k : Running). k.held) (cond-true (r.weight == 0) r nothing_running none) ∙ sym (cond-true (r.weight == 0) r.held 0 none)
-    by (inr some) = ap (λ (k : Running). k.held) (cond-false (r.weight == 0) r nothing_running some) ∙ sym (cond-false (r.weight == 0) r.held 0 some)
+held_after r = ⊎_elim
+    (λ none. ap (λ (k : Running). k.held) (cond-true (r.weight == 0) r nothing_running none) ∙ sym (cond-true (r.weight == 0) r.held 0 none))
+    (λ some. ap (λ (k : Running). k.held) (cond-false (r.weight == 0) r nothing_running some) ∙ sym (cond-false (r.weight == 0) r.held 0 some)) (cases_Bool (r.weight == 0))
 
 module _ {S : Type 0} (tells : Bool) (state : S → State) (known : Known tells state) where
   -- a session's room came back to itself
@@ -134,19 +103,8 @@ module _ {S : Type 0} (tells : Bool) (state : S → State) (known : Known tells 
     run_over Dsync good ran = synced_back Dsync (synced_over false f Dsync result old new h ran)
     run_over Durable good ran = let x = known_in state f result old new h (omega (arith, (known.sound old).floor, h.points going)) ran in (x.0, x.1, x.2, (room_of (state old), itself f old h, inl x.3))
     run_over Poll good ran = let x = polled_in state f result old new h ran in (x.0, x.1, x.2, (room_of (state old), itself f old h, inl x.3))
-    run_over (Mkdir path) good ran = carried_over tells state known f (Mkdir path) result old new refl h ran
-    run_over (Create path) good ran = carried_over tells state known f (Create path) result old new refl h ran
-    run_over (Write path offset bytes) good ran = carried_over tells state known f (Write path offset bytes) result old new refl h ran
-    run_over (Fill path offset count byte) good ran = carried_over tells state known f (Fill path offset count byte) result old new refl h ran
-    run_over (Read path offset count) good ran = carried_over tells state known f (Read path offset count) result old new refl h ran
-    run_over (Truncate path size) good ran = carried_over tells state known f (Truncate path size) result old new refl h ran
-    run_over (Link path other) good ran = carried_over tells state known f (Link path other) result old new refl h ran
-    run_over (Unlink path) good ran = carried_over tells state known f (Unlink path) result old new refl h ran
-    run_over (Rmdir path) good ran = carried_over tells state known f (Rmdir path) result old new refl h ran
-    run_over (Rename from to) good ran = carried_over tells state known f (Rename from to) result old new refl h ran
-    run_over (Stat path) good ran = carried_over tells state known f (Stat path) result old new refl h ran
-    run_over (ListNames path) good ran = carried_over tells state known f (ListNames path) result old new refl h ran
     run_over Bad good ran = absurd (good refl)
+    run_over cmd good ran = carried_over tells state known f cmd result old new refl h ran
 
   -- a tick brings the room back
   pub tick_back : (failed : Bool) (f : Session) (old mid : S) → Ticks tells failed (state old) (state mid) → IsSession (state mid) f → ComesBack (state old).books.geom f (room_of (state old)) (room_of (state mid))
@@ -171,27 +129,25 @@ module _ {S : Type 0} (tells : Bool) (state : S → State) (known : Known tells 
 
   -- a command that began
   pub begun_over : (f : Session) (cmd : Cmd) (reply : Reply) (old new : S) → cmd ≢ Bad → (state old).books.stopped ≡ false → IsSession (state old) f → Began tells state cmd reply old new → BeginsDisk state f cmd reply old new
-  begun_over f cmd reply old new good going h began = by began.ran
-    where
-      by : (Ticks tells true (state old) (state new) × (began.result ≡ Err because.DiskFault)) ⊎ (Ticks tells false (state old) (state began.mid) × Runs tells state cmd began.result began.mid new) → BeginsDisk state f cmd reply old new
-      by (inl failed) =
-          let same = session_ticks tells true (state old) (state new) failed.0 f going known.told h in
-          let back = tick_back true f old new failed.0 same in
-          subst (λ r. BeginsDisk state f cmd r old new) (sym (began.is ∙ ap reply_for failed.1)) (
-            f,
-            same,
-            failed.0.moves.pipeline.geom,
-            record {
-              back = room_of (state new);
-              comes_back = back;
-              answers = tick_failed (state old).books.geom f (room_of (state new)) cmd good;
-              is_room = back.is_room;
-            },
-          )
-      by (inr ran) =
-          let same = session_ticks tells false (state old) (state began.mid) ran.0 f going known.told h in
-          subst (λ r. BeginsDisk state f cmd r old new) (sym began.is)
-          (behind_tick f cmd (reply_for began.result) old began.mid new ran.0 same (run_over f began.result began.mid new ran.0.moves.disk.stopped same cmd good ran.1))
+  begun_over f cmd reply old new good going h began = ⊎_elim
+      (λ failed.
+      let same = session_ticks tells true (state old) (state new) failed.0 f going known.told h in
+      let back = tick_back true f old new failed.0 same in
+      subst (λ r. BeginsDisk state f cmd r old new) (sym (began.is ∙ ap reply_for failed.1)) (
+        f,
+        same,
+        failed.0.moves.pipeline.geom,
+        record {
+          back = room_of (state new);
+          comes_back = back;
+          answers = tick_failed (state old).books.geom f (room_of (state new)) cmd good;
+          is_room = back.is_room;
+        },
+      ))
+      (λ ran.
+      let same = session_ticks tells false (state old) (state began.mid) ran.0 f going known.told h in
+      subst (λ r. BeginsDisk state f cmd r old new) (sym began.is)
+      (behind_tick f cmd (reply_for began.result) old began.mid new ran.0 same (run_over f began.result began.mid new ran.0.moves.disk.stopped same cmd good ran.1))) began.ran
 
   -- a command that is refused at once
   at_once : (f : Session) (cmd : Cmd) (reply : Reply) (why : Refusal) (old new : S) → cmd ≢ Bad → (why ≡ because.Stopped) ⊎ (why ≡ because.Spent) → IsSession (state old) f → (reply ≡ Refused why) × (new ≡ old) → AnswersDisk state f cmd reply old new
@@ -204,15 +160,10 @@ module _ {S : Type 0} (tells : Bool) (state : S → State) (known : Known tells 
 
   -- each command
   pub applied_over : (f : Session) (cmd : Cmd) (reply : Reply) (old new : S) → IsSession (state old) f → Applies tells state cmd reply old new → AnswersDisk state f cmd reply old new
-  applied_over f cmd reply old new h applies = by (bad_or_not cmd)
-    where
-      may : cmd ≢ Bad → ((state old).books.stopped ≡ true) ⊎ ((state old).books.stopped ≡ false) → (is_spent (state old).books ≡ true) ⊎ (is_spent (state old).books ≡ false) → AnswersDisk state f cmd reply old new
-      may good (inl stopped) other = at_once f cmd reply because.Stopped old new good (inl refl) h (applies.stopped good stopped)
-      may good (inr going) (inl spent) = at_once f cmd reply because.Spent old new good (inr refl) h (applies.spent good going spent)
-      may good (inr going) (inr left) =
-          let x = begun_over f cmd reply old new good going h (applies.began good going left) in
-          (x.0, x.1, x.2, answers_on (state old).books.geom f (room_of (state old)) cmd reply x.0 (room_of (state new)) good (inr x.3))
-
-      by : (cmd ≡ Bad) ⊎ (cmd ≢ Bad) → AnswersDisk state f cmd reply old new
-      by (inl bad) = subst (λ c. AnswersDisk state f c reply old new) (sym bad) (bad_in state f reply old new h (applies.bad bad))
-      by (inr good) = may good (cases_Bool (state old).books.stopped) (cases_Bool (is_spent (state old).books))
+  applied_over f cmd reply old new h applies = answered_as tells state cmd reply old new (AnswersDisk state f cmd reply old new) applies
+      (λ bad r. subst (λ c. AnswersDisk state f c reply old new) (sym bad) (bad_in state f reply old new h r))
+      (λ good stopped r. at_once f cmd reply because.Stopped old new good (inl refl) h r)
+      (λ good spent r. at_once f cmd reply because.Spent old new good (inr refl) h r)
+      (λ good going left began.
+      let x = begun_over f cmd reply old new good going h began in
+      (x.0, x.1, x.2, answers_on (state old).books.geom f (room_of (state old)) cmd reply x.0 (room_of (state new)) good (inr x.3)))

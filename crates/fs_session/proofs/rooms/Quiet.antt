@@ -3,7 +3,7 @@ use Rattle.std.proofs.Common.{◌≡◌, ◌≢◌, ◌⊎◌, inl, inr, ◌<◌
 use Rattle.std.proofs.lemmas.Bool.{cases_Bool, cond-true, cond-false, eqb-true, eqb-false}
 use Rattle.layout_geometry.specs.Geometry.{Geometry}
 use Rattle.lang_tree.specs.declared.command.Cmd.{Cmd}
-use Rattle.lang_tree.specs.declared.command.Cmd.TheVariants.{Mkdir, Create, Write, Fill, Read, Truncate, Link, Unlink, Rmdir, Rename, Stat, List as ListNames, Osync, Dsync, Durable, Poll, Bad}
+use Rattle.lang_tree.specs.declared.command.Cmd.TheVariants.{Osync, Dsync, Durable, Poll, Bad}
 use Rattle.lang_tree.specs.declared.command.Refusal.TheVariants.{Stopped, NoMemory}
 use Rattle.lang_tree.specs.declared.command.Reply.{Reply}
 use Rattle.lang_tree.specs.declared.command.Reply.TheVariants.{Refused}
@@ -19,13 +19,7 @@ GoesOn g f r cmd x = AnswersOn g f r cmd x.1 x.0 r × IsRoomOf g x.0 r
 
 -- the tree alone makes a room that of a session
 other_session : (g : Geometry) (f next : Session) (r : Room) → next.tree ≡ f.tree → IsRoomOf g f r → IsRoomOf g next r
-other_session g f next r same is = subst (λ t. IsRoomOf g (record next { tree = t }) r) (sym same) (record {
-  holds = is.holds;
-  fits = is.fits;
-  takeable = is.takeable;
-  apart = is.apart;
-  upto = is.upto;
-})
+other_session g f next r same is = subst (λ t. IsRoomOf g (record next { tree = t }) r) (sym same) assumption
 
 -- a sync leaves the tree as it is
 osync_tree : (f : Session) (changed : Bool) → (osync f changed).0.tree ≡ f.tree
@@ -66,18 +60,7 @@ module _ (g : Geometry) (f : Session) (r : Room) (is : IsRoomOf g f r) where
   quiet_answer upto Durable = (inr (begins Durable (step f Durable).1 f (inl (record { asked = refl; point = f.durable; is = refl; from = omega arith; upto = upto; same = refl }, refl)) is), is)
   quiet_answer upto Osync = let x = quiet_sync Osync (osync_tree f f.changed) (cases_Bool (r.weight == 0)) in (inr (begins Osync (without_memory f r Osync).1 (without_memory f r Osync).0 x.0 x.1), x.1)
   quiet_answer upto Dsync = let x = quiet_sync Dsync (osync_tree f f.changed) (cases_Bool (r.weight == 0)) in (inr (begins Dsync (without_memory f r Dsync).1 (without_memory f r Dsync).0 x.0 x.1), x.1)
-  quiet_answer upto (Mkdir path) = (inr (begins (Mkdir path) (Refused NoMemory) f (inl (inr (NoMemory, inr (inr refl), refl, refl, refl))) is), is)
-  quiet_answer upto (Create path) = (inr (begins (Create path) (Refused NoMemory) f (inl (inr (NoMemory, inr (inr refl), refl, refl, refl))) is), is)
-  quiet_answer upto (Write path offset bytes) = (inr (begins (Write path offset bytes) (Refused NoMemory) f (inl (inr (NoMemory, inr (inr refl), refl, refl, refl))) is), is)
-  quiet_answer upto (Fill path offset count byte) = (inr (begins (Fill path offset count byte) (Refused NoMemory) f (inl (inr (NoMemory, inr (inr refl), refl, refl, refl))) is), is)
-  quiet_answer upto (Read path offset count) = (inr (begins (Read path offset count) (Refused NoMemory) f (inl (inr (NoMemory, inr (inr refl), refl, refl, refl))) is), is)
-  quiet_answer upto (Truncate path size) = (inr (begins (Truncate path size) (Refused NoMemory) f (inl (inr (NoMemory, inr (inr refl), refl, refl, refl))) is), is)
-  quiet_answer upto (Link path other) = (inr (begins (Link path other) (Refused NoMemory) f (inl (inr (NoMemory, inr (inr refl), refl, refl, refl))) is), is)
-  quiet_answer upto (Unlink path) = (inr (begins (Unlink path) (Refused NoMemory) f (inl (inr (NoMemory, inr (inr refl), refl, refl, refl))) is), is)
-  quiet_answer upto (Rmdir path) = (inr (begins (Rmdir path) (Refused NoMemory) f (inl (inr (NoMemory, inr (inr refl), refl, refl, refl))) is), is)
-  quiet_answer upto (Rename from to) = (inr (begins (Rename from to) (Refused NoMemory) f (inl (inr (NoMemory, inr (inr refl), refl, refl, refl))) is), is)
-  quiet_answer upto (Stat path) = (inr (begins (Stat path) (Refused NoMemory) f (inl (inr (NoMemory, inr (inr refl), refl, refl, refl))) is), is)
-  quiet_answer upto (ListNames path) = (inr (begins (ListNames path) (Refused NoMemory) f (inl (inr (NoMemory, inr (inr refl), refl, refl, refl))) is), is)
+  quiet_answer upto cmd = (inr (begins cmd (Refused NoMemory) f (inl (inr (NoMemory, inr (inr refl), refl, refl, refl))) is), is)
 
 -- where the disk has failed, all but a bad line are refused by that
 pub stopped_answer : (g : Geometry) (f : Session) (r : Room) (cmd : Cmd) → cmd ≢ Bad → AnswersOn g f r cmd (Refused Stopped) f r

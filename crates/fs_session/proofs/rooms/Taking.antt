@@ -4,7 +4,7 @@ use Rattle.std.proofs.lemmas.Bool.{false≢true}
 use Rattle.std.proofs.lemmas.List.{length-drop}
 use Rattle.layout_geometry.specs.Geometry.{Geometry, bitmap_blocks, data_start}
 use Rattle.lang_tree.specs.declared.command.Cmd.{Cmd}
-use Rattle.lang_tree.specs.declared.command.Cmd.TheVariants.{Mkdir, Create, Write, Fill, Read, Truncate, Link, Unlink, Rmdir, Rename, Stat, List as ListNames, Osync, Dsync, Durable, Poll, Bad}
+use Rattle.lang_tree.specs.declared.command.Cmd.TheVariants.{Mkdir, Create, Write, Fill, Truncate, Link, Rename, Osync, Dsync, Durable, Poll, Bad}
 use Rattle.lang_tree.specs.declared.command.Refusal.{Refusal}
 use Rattle.lang_tree.specs.declared.command.Reply.{Reply}
 use Rattle.lang_tree.specs.declared.command.Reply.TheVariants.{Ok as Done}
@@ -35,19 +35,10 @@ module _ (bitmap : ℕ) (f : Session) where
   accepted_none (Create path) e = absurd (false≢true e)
   accepted_none (Write path offset bytes) e = absurd (false≢true (sym (changed_or_not (length bytes == 0) f _) ∙ e))
   accepted_none (Fill path offset count byte) e = absurd (false≢true (sym (changed_or_not _ f _) ∙ e))
-  accepted_none (Read path offset count) e = refl
   accepted_none (Truncate path size) e = absurd (false≢true (sym (changed_or_not (size == length (content f.tree path)) f _) ∙ e))
   accepted_none (Link path other) e = absurd (false≢true e)
-  accepted_none (Unlink path) e = refl
-  accepted_none (Rmdir path) e = refl
   accepted_none (Rename from to) e = absurd (false≢true (sym (changed_or_not (is_same_node f.tree from to) f _) ∙ e))
-  accepted_none (Stat path) e = refl
-  accepted_none (ListNames path) e = refl
-  accepted_none Osync e = refl
-  accepted_none Dsync e = refl
-  accepted_none Durable e = refl
-  accepted_none Poll e = refl
-  accepted_none Bad e = refl
+  accepted_none cmd e = refl
 
   answered_none : (cmd : Cmd) (why : Option Refusal) → is_refusal (answered f cmd why).1 ≡ true → (figures_by bitmap f.tree cmd why).need ≡ 0
   answered_none cmd None e = accepted_none cmd e
@@ -118,18 +109,7 @@ module _ (g : Geometry) (f : Session) (reply : Reply) (next : Session) where
   over Durable old new before after (inr refused) = of_refused _ Durable old new refused
   over Osync old new before after x = of_sync Osync old new before after x
   over Dsync old new before after x = of_sync Dsync old new before after x
-  over (Mkdir path) old new before after x = on_tree _ _ (Mkdir path) old new x
-  over (Create path) old new before after x = on_tree _ _ (Create path) old new x
-  over (Write path offset bytes) old new before after x = on_tree _ _ (Write path offset bytes) old new x
-  over (Fill path offset count byte) old new before after x = on_tree _ _ (Fill path offset count byte) old new x
-  over (Read path offset count) old new before after x = on_tree _ _ (Read path offset count) old new x
-  over (Truncate path size) old new before after x = on_tree _ _ (Truncate path size) old new x
-  over (Link path other) old new before after x = on_tree _ _ (Link path other) old new x
-  over (Unlink path) old new before after x = on_tree _ _ (Unlink path) old new x
-  over (Rmdir path) old new before after x = on_tree _ _ (Rmdir path) old new x
-  over (Rename from to) old new before after x = on_tree _ _ (Rename from to) old new x
-  over (Stat path) old new before after x = on_tree _ _ (Stat path) old new x
-  over (ListNames path) old new before after x = on_tree _ _ (ListNames path) old new x
+  over cmd old new before after x = on_tree _ _ cmd old new x
 
   -- Behind a command what may be taken are data blocks again, ascending, and enough of them.
 
@@ -149,19 +129,4 @@ module _ (g : Geometry) (f : Session) (reply : Reply) (next : Session) where
 
   pub takes : (cmd : Cmd) (old new : Room) → TakesData g old → AnswersOn g f old cmd reply next new → Takes cmd old new
   takes Bad old new before x = at_once Bad old new before x.1
-  takes Poll old new before x = began _ Poll old new before x
-  takes Durable old new before x = began _ Durable old new before x
-  takes Osync old new before x = began _ Osync old new before x
-  takes Dsync old new before x = began _ Dsync old new before x
-  takes (Mkdir path) old new before x = began _ (Mkdir path) old new before x
-  takes (Create path) old new before x = began _ (Create path) old new before x
-  takes (Write path offset bytes) old new before x = began _ (Write path offset bytes) old new before x
-  takes (Fill path offset count byte) old new before x = began _ (Fill path offset count byte) old new before x
-  takes (Read path offset count) old new before x = began _ (Read path offset count) old new before x
-  takes (Truncate path size) old new before x = began _ (Truncate path size) old new before x
-  takes (Link path other) old new before x = began _ (Link path other) old new before x
-  takes (Unlink path) old new before x = began _ (Unlink path) old new before x
-  takes (Rmdir path) old new before x = began _ (Rmdir path) old new before x
-  takes (Rename from to) old new before x = began _ (Rename from to) old new before x
-  takes (Stat path) old new before x = began _ (Stat path) old new before x
-  takes (ListNames path) old new before x = began _ (ListNames path) old new before x
+  takes cmd old new before x = began _ cmd old new before x

@@ -28,30 +28,23 @@ has_place (x ∷ xs) zero b e = ap (λ t. t || has xs b) (eq-eqb b x (sym (same_
 has_place (x ∷ xs) (suc i) b e = or_right (b == x) (has xs b) (has_place xs i b e)
 
 -- a number of two lists, one behind the other, is in one of them
-pub in_append : (xs ys : List ℕ) (b : ℕ) → has (xs ++ ys) b ≡ true → (has xs b ≡ true) ⊎ (has ys b ≡ true)
-in_append [] ys b e = inr e
-in_append (x ∷ xs) ys b e = by (in_append xs ys b) (or_cases (b == x) (has (xs ++ ys) b) e)
+has_append : (xs ys : List ℕ) (b : ℕ) → has (xs ++ ys) b ≡ (has xs b || has ys b)
+has_append [] ys b = refl
+has_append (x ∷ xs) ys b = ap (λ t. (b == x) || t) (has_append xs ys b) ∙ either (b == x)
   where
-    by : (has (xs ++ ys) b ≡ true → (has xs b ≡ true) ⊎ (has ys b ≡ true)) → ((b == x) ≡ true) ⊎ (has (xs ++ ys) b ≡ true) → (((b == x) || has xs b) ≡ true) ⊎ (has ys b ≡ true)
-    by further (inl same) = inl (ap (λ t. t || has xs b) same)
-    by further (inr rest) = later (further rest)
-      where
-        later : (has xs b ≡ true) ⊎ (has ys b ≡ true) → (((b == x) || has xs b) ≡ true) ⊎ (has ys b ≡ true)
-        later (inl first) = inl (or_right (b == x) (has xs b) first)
-        later (inr second) = inr second
+    either : (t : Bool) → (t || (has xs b || has ys b)) ≡ ((t || has xs b) || has ys b)
+    either true = refl
+    either false = refl
+
+pub in_append : (xs ys : List ℕ) (b : ℕ) → has (xs ++ ys) b ≡ true → (has xs b ≡ true) ⊎ (has ys b ≡ true)
+in_append xs ys b e = or_cases (has xs b) (has ys b) (sym (has_append xs ys b) ∙ e)
 
 -- and what is in one of them is in both
 pub in_first : (xs ys : List ℕ) (b : ℕ) → has xs b ≡ true → has (xs ++ ys) b ≡ true
-in_first [] ys b e = absurd (false≢true e)
-in_first (x ∷ xs) ys b e = by (in_first xs ys b) (or_cases (b == x) (has xs b) e)
-  where
-    by : (has xs b ≡ true → has (xs ++ ys) b ≡ true) → ((b == x) ≡ true) ⊎ (has xs b ≡ true) → ((b == x) || has (xs ++ ys) b) ≡ true
-    by further (inl same) = ap (λ t. t || has (xs ++ ys) b) same
-    by further (inr rest) = or_right (b == x) (has (xs ++ ys) b) (further rest)
+in_first xs ys b e = has_append xs ys b ∙ ap (λ t. t || has ys b) e
 
 pub in_second : (xs ys : List ℕ) (b : ℕ) → has ys b ≡ true → has (xs ++ ys) b ≡ true
-in_second [] ys b e = e
-in_second (x ∷ xs) ys b e = or_right (b == x) (has (xs ++ ys) b) (in_second xs ys b e)
+in_second xs ys b e = has_append xs ys b ∙ or_right (has xs b) (has ys b) e
 
 -- Lists without repeats.
 

@@ -1,6 +1,6 @@
 -- What a sync makes of the session: a point where something changed, and nothing where nothing did.
 use Rattle.std.proofs.lemmas.Bool.{ltb-true, ltb-false, eq-eqb, ne_eqb, cond-true, cond-false, cases_eq, true≢false, false≢true}
-use Rattle.std.proofs.Common.{◌≡◌, ◌≢◌, ◌⊎◌, inl, inr, ⊎_elim, ℕ, ◌+◌, ◌^◌, ◌≤◌, ◌<◌, ◌==◌, nat_lt, Bool, true, false, IsTrue, zero, suc, is_err, Result, Ok, Err, refl, sym, subst, ap, ◌∙◌, arith}
+use Rattle.std.proofs.Common.{◌≡◌, inl, inr, ⊎_elim, ℕ, ◌+◌, ◌^◌, ◌≤◌, ◌<◌, ◌==◌, nat_lt, Bool, true, false, IsTrue, zero, suc, is_err, Result, Ok, Err, refl, sym, subst, ap, ◌∙◌, arith}
 use Rattle.disk_contract.specs.Disk.{GrowsByWrites}
 use Rattle.layout_geometry.specs.Geometry.{Geometry}
 use Rattle.lang_tree.specs.declared.command.Cmd.{Cmd}
@@ -27,11 +27,9 @@ use Rattle.fs_session.specs.Staying.{tree_stays, session_stays, between_stays}
 
 -- one point more comes at most
 one_more : (k l : Bookkeeping) → IsAfterSync k l → l.point ≤ k.point + 1
-one_more k l after = by (cases_eq k.running.weight 0)
-  where
-    by : (k.running.weight ≡ 0) ⊎ (k.running.weight ≢ 0) → l.point ≤ k.point + 1
-    by (inl none) = omega (arith, after.point, cond-true {A = ℕ} (k.running.weight == 0) 0 1 (eq-eqb k.running.weight 0 none))
-    by (inr some) = omega (arith, after.point, cond-false {A = ℕ} (k.running.weight == 0) 0 1 (ne_eqb k.running.weight 0 some))
+one_more k l after = ⊎_elim
+    (λ none. omega (arith, after.point, cond-true {A = ℕ} (k.running.weight == 0) 0 1 (eq-eqb k.running.weight 0 none)))
+    (λ some. omega (arith, after.point, cond-false {A = ℕ} (k.running.weight == 0) 0 1 (ne_eqb k.running.weight 0 some))) (cases_eq k.running.weight 0)
 
 module _ (tells : Bool) (old new : State) (f : Session) (p : ℕ) (told : IsTrue tells) (going : old.books.stopped ≡ false) (syncs : Syncs tells (Ok p) old new) (below : p < 2 ^ 64) (h : IsSession old f) where
   -- the session after the sync is one of the blocks
@@ -180,13 +178,14 @@ refused_session tells orders cmd s t sync.NoMemory going syncs idle waits = reco
   writes = syncs.writes;
 }
 
--- A sync that was done, as its session sees it.
-pub synced_session : (tells : Bool) (s t : State) (p : ℕ) → s.books.stopped ≡ false → Syncs tells (Ok p) s t → p < 2 ^ 64 → Waits tells true s t → (IsTrue tells → EndsFrees s t) → (IsTrue tells → WritesItsRecord s t) → SyncsSession tells true Osync (Ok (Synced p)) s t
-synced_session tells s t p going syncs low waits frees written = record {
-  done = λ told f h. synced tells s t f p told going syncs low h;
+-- a sync that is done so
+done_session : (tells orders : Bool) (cmd : Cmd) (s t : State) (p : ℕ) (reply : Reply) → Syncs tells (Ok p) s t → (IsTrue tells → (f : Session) → IsSession s f → (reply ≡ (step f cmd).1) × IsSession t (step f cmd).0)
+    → Waits tells orders s t → (IsTrue tells → EndsFrees s t) → (IsTrue tells → WritesItsRecord s t) → SyncsSession tells orders cmd (Ok reply) s t
+done_session tells orders cmd s t p reply syncs done waits frees written = record {
+  done = done;
   kept = λ told. tt;
   refused = tt;
-  unspent = λ none. absurd (ok_err (Synced p) because.NoMemory none);
+  unspent = λ none. absurd (ok_err reply because.NoMemory none);
   ends = syncs.ends.running;
   frees = frees;
   takeable = syncs.after.reusable;
@@ -201,36 +200,16 @@ synced_session tells s t p going syncs low waits frees written = record {
   alone = waits.alone;
   waits = waits.records;
   written = written;
-  unwritten = λ told none. absurd (ok_err (Synced p) because.NoMemory none);
+  unwritten = λ told none. absurd (ok_err reply because.NoMemory none);
   free_places = syncs.ends.free_places;
   crash = syncs.crash;
   made = syncs.made;
   writes = syncs.writes;
 }
 
+-- A sync that was done, as its session sees it.
+pub synced_session : (tells : Bool) (s t : State) (p : ℕ) → s.books.stopped ≡ false → Syncs tells (Ok p) s t → p < 2 ^ 64 → Waits tells true s t → (IsTrue tells → EndsFrees s t) → (IsTrue tells → WritesItsRecord s t) → SyncsSession tells true Osync (Ok (Synced p)) s t
+synced_session tells s t p going syncs low waits frees written = done_session tells true Osync s t p (Synced p) syncs (λ told f h. synced tells s t f p told going syncs low h) waits frees written
+
 pub dsynced_session : (tells : Bool) (s t : State) (p : ℕ) → s.books.stopped ≡ false → Syncs tells (Ok p) s t → p < 2 ^ 64 → t.books.floor ≡ t.books.point → Waits tells false s t → (IsTrue tells → EndsFrees s t) → (IsTrue tells → WritesItsRecord s t) → SyncsSession tells false Dsync (Ok (DurableAt p)) s t
-dsynced_session tells s t p going syncs low floor waits frees written = record {
-  done = λ told f h. dsynced tells s t f p told going syncs low h floor syncs.disk.stopped;
-  kept = λ told. tt;
-  refused = tt;
-  unspent = λ none. absurd (ok_err (DurableAt p) because.NoMemory none);
-  ends = syncs.ends.running;
-  frees = frees;
-  takeable = syncs.after.reusable;
-  disk = syncs.disk;
-  geom = syncs.after.geom;
-  turns = syncs.after.turns;
-  one = one_more s.books t.books syncs.after;
-  point = λ not. syncs.after.point;
-  map = syncs.map;
-  ticks = syncs.ticks;
-  order = waits.order;
-  alone = waits.alone;
-  waits = waits.records;
-  written = written;
-  unwritten = λ told none. absurd (ok_err (DurableAt p) because.NoMemory none);
-  free_places = syncs.ends.free_places;
-  crash = syncs.crash;
-  made = syncs.made;
-  writes = syncs.writes;
-}
+dsynced_session tells s t p going syncs low floor waits frees written = done_session tells false Dsync s t p (DurableAt p) syncs (λ told f h. dsynced tells s t f p told going syncs low h floor syncs.disk.stopped) waits frees written

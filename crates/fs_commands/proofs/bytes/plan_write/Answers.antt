@@ -1,61 +1,34 @@
-use Rattle.std.proofs.Common.{length, Err, sym, subst, ap, ◌∙◌}
+use Rattle.std.proofs.Common.{length, subst}
 use Rattle.lang_tree.specs.declared.command.Cmd.TheVariants.{Write}
-use Rattle.lang_tree.specs.declared.command.Refusal.{Refusal}
-use Rattle.engine_blocks.specs.State.{Bookkeeping}
-use Rattle.crash_stands.specs.Maps.{IsMapOf}
+use Rattle.fs_commands.specs.Looks.{LeadsToFile}
+use Rattle.fs_commands.proofs.planning.Behind.{may_plan_still, file_still, walk_still}
+use Rattle.fs_commands.proofs.planning.Before.{looked_first}
+use Rattle.fs_commands.proofs.planning.Looking.{reason_plan, cut_short}
+use Rattle.fs_commands.proofs.writing.Reasons.{no_file_to_write}
+use Rattle.fs_session.specs.Sessions.{inodes}
 use Rattle.fs_files.specs.Calls.{files_in}
 use Rattle.fs_files.specs.Drafts.{nothing_drafted}
-use Rattle.fs_dirs.specs.Directories.{inodes_in}
-use Rattle.fs_commands.specs.Looks.{LeadsToFile}
-use Rattle.fs_session.specs.Plans.{Plans}
-use Rattle.fs_commands.proofs.planning.Behind.{may_plan_still, file_still, walk_still}
-use Rattle.fs_commands.proofs.planning.Before.{plans_behind}
-use Rattle.fs_commands.proofs.planning.Looking.{cut_short_plan, refusal_plan}
-use Rattle.fs_commands.proofs.writing.Reasons.{no_file_to_write}
 use Rattle.fs_commands.proofs.bytes.plan_write.Goals as goal
 
 pub write_found-requires-clause-may : goal.write_found-requires-clause-may
-write_found-requires-clause-may g c =
-    may_plan_still g.S.Blocks.tells (g.S.Blocks.state c.args.blocks.now) (g.S.Blocks.state c.find_file.new.blocks) c.in-Ok-Ok.ensures.looks c.args.first_unused c.requires.may
+write_found-requires-clause-may g c = may_plan_still g.S.Blocks.tells _ _ c.in-Ok-Ok.ensures.looks c.args.first_unused c.requires.may
 
 pub write_found-requires-clause-file : goal.write_found-requires-clause-file
 write_found-requires-clause-file g c = λ told.
-    let s = g.S.Blocks.state c.args.blocks.now in
     let tree = c.requires.may.stands told in
-    file_still g.S.Blocks.tells s (g.S.Blocks.state c.find_file.new.blocks) c.in-Ok-Ok.ensures.looks told c.args.path.now c.in-Ok-Ok.found
-    (subst (λ r. LeadsToFile (files_in s nothing_drafted) c.args.path.now r) c.in-Ok-Ok.field-0-is (c.in-Ok-Ok.ensures.file told tree.0 tree.1))
+    file_still g.S.Blocks.tells _ _ c.in-Ok-Ok.ensures.looks told c.args.path.now c.in-Ok-Ok.found (subst (LeadsToFile (files_in (g.S.Blocks.state c.args.blocks.now) nothing_drafted) c.args.path.now) c.in-Ok-Ok.field-0-is (c.in-Ok-Ok.ensures.file told tree.0 tree.1))
 
 pub returns-in-Ok-Ok-clause-plans : goal.returns-in-Ok-Ok-clause-plans
 returns-in-Ok-Ok-clause-plans g c =
-    let s = g.S.Blocks.state c.args.blocks.now in
-    let t = g.S.Blocks.state c.find_file.new.blocks in
-    let u = g.S.Blocks.state c.write_found.new.blocks in
-    let looks = c.in-Ok-Ok.ensures.looks in
-    let plans = c.write_found.ensures.plans c.args.path.now (λ told. let tree = c.requires.may.stands told in
-    walk_still g.S.Blocks.tells s t looks told c.args.path.now c.in-Ok-Ok.found
-    (subst (λ r. LeadsToFile (files_in s nothing_drafted) c.args.path.now r) c.in-Ok-Ok.field-0-is (c.in-Ok-Ok.ensures.file told tree.0 tree.1))) in
-    plans_behind g.S.Blocks.tells (Write c.args.path.now c.args.offset c.args.bytes.now) c.write_found.result s t u c.requires.may.begin.going looks
-    (λ told. c.calls_compose.ensures.advances c.args.blocks.now c.find_file.new.blocks c.write_found.new.blocks
-    (c.calls_compose.ensures.rests told c.args.blocks.now c.find_file.new.blocks (ap (λ (b : Bookkeeping). b.point) looks.books) (ap (λ (b : Bookkeeping). b.floor) looks.books) (looks.crash told)) (plans.settles.crash told)) plans
+    looked_first g.S.Blocks.tells g.S.Blocks.state c.calls_compose.ensures.rests c.calls_compose.ensures.advances (Write c.args.path.now c.args.offset c.args.bytes.now) _ c.args.blocks.now c.find_file.new.blocks _ c.requires.may.begin.going c.in-Ok-Ok.ensures.looks
+    (c.write_found.ensures.plans c.args.path.now (λ told. let tree = c.requires.may.stands told in
+    walk_still g.S.Blocks.tells _ _ c.in-Ok-Ok.ensures.looks told c.args.path.now c.in-Ok-Ok.found (subst (LeadsToFile (files_in (g.S.Blocks.state c.args.blocks.now) nothing_drafted) c.args.path.now) c.in-Ok-Ok.field-0-is (c.in-Ok-Ok.ensures.file told tree.0 tree.1))))
 
 pub returns-in-Ok-Err-clause-plans : goal.returns-in-Ok-Err-clause-plans
 returns-in-Ok-Err-clause-plans g c =
-    let s = g.S.Blocks.state c.args.blocks.now in
-    let t = g.S.Blocks.state c.find_file.new.blocks in
-    let looks = c.in-Ok-Err.ensures.looks in
-    let m = inodes_in s nothing_drafted in
-    refusal_plan g.S.Blocks.tells (Write c.args.path.now c.args.offset c.args.bytes.now) s t c.in-Ok-Err.why c.requires.may.begin.going (g.met.S.Blocks.is_sound c.args.blocks.now)
-    (λ told f h. let map = c.blocks_have_the_map_of_their_tree.ensures.map s.books.geom s.map f.tree h.tree in
-    c.the_map_gives_the_refusal.ensures.refusal f.limit m f.tree (Write c.args.path.now c.args.offset c.args.bytes.now) (subst (λ n. IsMapOf n m f.tree) (sym h.limit) map)
-    ∙ no_file_to_write m c.args.path.now c.args.offset (length c.args.bytes.now) c.in-Ok-Err.why (subst (λ r. LeadsToFile (files_in s nothing_drafted) c.args.path.now r) c.in-Ok-Err.field-0-is (c.in-Ok-Err.ensures.file told f.tree h.tree))) looks
-    (λ told. c.calls_compose.ensures.rests told c.args.blocks.now c.find_file.new.blocks (ap (λ (b : Bookkeeping). b.point) looks.books) (ap (λ (b : Bookkeeping). b.floor) looks.books) (looks.crash told))
+    reason_plan g.S.Blocks.tells g.S.Blocks.state c.calls_compose.ensures.rests g.met.S.Blocks.is_sound c.blocks_have_the_map_of_their_tree.ensures.map c.the_map_gives_the_refusal.ensures.refusal (Write c.args.path.now c.args.offset c.args.bytes.now) c.args.blocks.now c.find_file.new.blocks c.in-Ok-Err.why c.requires.may.begin.going
+    (λ told t h limit. no_file_to_write (inodes (g.S.Blocks.state c.args.blocks.now)) c.args.path.now c.args.offset (length c.args.bytes.now) c.in-Ok-Err.why (subst (LeadsToFile (files_in (g.S.Blocks.state c.args.blocks.now) nothing_drafted) c.args.path.now) c.in-Ok-Err.field-0-is (c.in-Ok-Err.ensures.file told t h))) c.in-Ok-Err.ensures.looks
 
 pub returns-in-Err-clause-plans : goal.returns-in-Err-clause-plans
 returns-in-Err-clause-plans g c =
-    let s = g.S.Blocks.state c.args.blocks.now in
-    let t = g.S.Blocks.state c.find_file.new.blocks in
-    let looks = c.in-Err.ensures.looks in
-    subst (λ (w : Refusal). Plans g.S.Blocks.tells (Write c.args.path.now c.args.offset c.args.bytes.now) (Err w) s t) (sym c.refusal_of.ensures)
-    (cut_short_plan g.S.Blocks.tells (Write c.args.path.now c.args.offset c.args.bytes.now) s t c.in-Err.why c.requires.may.begin.going c.in-Err.ensures.refused looks
-    (λ told. c.calls_compose.ensures.rests told c.args.blocks.now c.find_file.new.blocks (ap (λ (b : Bookkeeping). b.point) looks.books) (ap (λ (b : Bookkeeping). b.floor) looks.books)
-    ((c.find_file.ensures.looks).crash told)))
+    cut_short g.S.Blocks.tells g.S.Blocks.state c.calls_compose.ensures.rests (Write c.args.path.now c.args.offset c.args.bytes.now) c.args.blocks.now c.find_file.new.blocks c.in-Err.why c.refusal_of.result c.refusal_of.ensures c.requires.may.begin.going c.in-Err.ensures.refused c.in-Err.ensures.looks

@@ -1,71 +1,45 @@
-use Rattle.std.proofs.Common.{rules, ◌≡◌, ℕ, List, false, Some, IfOk, take, drop, sym, subst, ap, ◌∙◌}
+use Rattle.std.proofs.Common.{◌≡◌, ℕ, List, Some, IfOk, take, drop, sym, subst, ap, ◌∙◌}
 use Rattle.lang_tree.specs.declared.command.Reply.TheVariants.{Bytes}
-use Rattle.fs_files.specs.declared.look.FileFacts.{FileFacts}
-use Rattle.fs_files.specs.Calls.{files_in, facts_of, is_dir}
+use Rattle.fs_files.specs.Calls.{files_in, facts_of}
 use Rattle.fs_files.specs.Content.{fails_reading}
 use Rattle.fs_files.specs.Effects.{LooksOnly}
 use Rattle.fs_files.specs.Drafts.{nothing_drafted}
-use Rattle.fs_files.specs.Sound.{IsDraftOf}
 use Rattle.crash_stands.specs.Files.{FileNode}
-use Rattle.fs_dirs.specs.Directories.{inodes_in}
+use Rattle.fs_dirs.specs.Directories.{IsNumber}
 use Rattle.fs_commands.specs.Looks.{LeadsToFound}
-use Rattle.fs_commands.proofs.looking.Found.{looks_more, draft_stays, file_stays}
+use Rattle.fs_commands.proofs.looking.Found.{looks_more, file_stays, look_on, look_begins}
 use Rattle.fs_commands.proofs.looking.Replies.{read_nowhere, read_there}
 use Rattle.fs_commands.proofs.look.read.Goals as goal
 
 pub returns-in-Err-clause-answer : goal.returns-in-Err-clause-answer
-returns-in-Err-clause-answer g c = λ told f h.
-    let s = g.S.Blocks.state c.args.blocks.now in
-    let m = inodes_in s nothing_drafted in
-    let map = c.blocks_have_the_map_of_their_tree.ensures.map s.books.geom s.map f.tree h.tree in
-    read_nowhere s f h map c.args.path.now (λ cmd e i. c.the_map_gives_the_reply.ensures.reply f m cmd i e) c.args.offset c.args.len c.in-Err.why
-    (subst (λ r. LeadsToFound (files_in s nothing_drafted) c.args.path.now r) c.in-Err.is (c.in_ok-found.ensures.found told f.tree h.tree))
+returns-in-Err-clause-answer g c = λ told f h. read_nowhere (g.S.Blocks.state c.args.blocks.now) f h c.blocks_have_the_map_of_their_tree.ensures.map c.the_map_gives_the_reply.ensures.reply c.args.path.now c.args.offset c.args.len c.in-Err.why (subst (λ r. LeadsToFound (files_in (g.S.Blocks.state c.args.blocks.now) nothing_drafted) c.args.path.now r) c.in-Err.is (c.in_ok-found.ensures.found told f.tree h.tree))
 
 pub returns-then-is_dir-clause-answer : goal.returns-then-is_dir-clause-answer
 returns-then-is_dir-clause-answer g c = λ told f h.
-    let s = g.S.Blocks.state c.args.blocks.now in
-    let m = inodes_in s nothing_drafted in
-    let map = c.blocks_have_the_map_of_their_tree.ensures.map s.books.geom s.map f.tree h.tree in
-    let led = subst (λ r. LeadsToFound (files_in s nothing_drafted) c.args.path.now r) c.in-Ok.is (c.in_ok-found.ensures.found told f.tree h.tree) in
-    (read_there s f h map c.args.path.now (λ cmd e i. c.the_map_gives_the_reply.ensures.reply f m cmd i e) c.in-Ok.found.number led.1.0 led.0 (c.walks_are_the_same.ensures.ends m c.args.path.now c.in-Ok.found.number led.0) led.1.1 c.args.offset c.args.len).0
-    (sym (ap (λ (q : FileFacts). is_dir q.kind) led.1.2) ∙ sym c.is_dir.ensures ∙ c.if-is_dir.true)
+    let led = subst (λ r. LeadsToFound (files_in (g.S.Blocks.state c.args.blocks.now) nothing_drafted) c.args.path.now r) c.in-Ok.is (c.in_ok-found.ensures.found told f.tree h.tree) in
+    (read_there (g.S.Blocks.state c.args.blocks.now) f h c.blocks_have_the_map_of_their_tree.ensures.map c.the_map_gives_the_reply.ensures.reply c.args.path.now c.walks_are_the_same.ensures.ends c.in-Ok.found led c.args.offset c.args.len).0 (sym c.is_dir.ensures ∙ c.if-is_dir.true)
 
 pub read_at-requires-clause-look : goal.read_at-requires-clause-look
 read_at-requires-clause-look g c =
-    let s = g.S.Blocks.state c.args.blocks.now in
-    record {
-      going = search rules;
-      from = search rules;
-      upto = search rules;
-      draft = draft_stays g.S.Blocks.tells false s (g.S.Blocks.state c.find_node.new.blocks) c.new-draft.result c.in_ok-found.ensures.looks
-          (subst (λ d. IsDraftOf g.S.Blocks.tells s d) (sym c.new-draft.ensures) (c.a_draft_begins.ensures.draft c.requires.begin.none_bare c.requires.begin.sound));
-    }
+    let number = subst (λ r. IfOk r (λ f. IsNumber (g.S.Blocks.state c.args.blocks.now).books.geom.i f.number)) c.in-Ok.is c.in_ok-found.ensures.number in
+    look_on g.S.Blocks.tells _ _ _ _ c.in_ok-found.ensures.looks (look_begins g.S.Blocks.tells _ _ _ c.new-draft.ensures c.requires.begin number c.a_draft_begins.ensures.draft)
 
 pub read_at-requires-clause-used : goal.read_at-requires-clause-used
 read_at-requires-clause-used g c = λ told.
-    let s = g.S.Blocks.state c.args.blocks.now in
-    let there = subst (λ r. IfOk r (λ f. (x : FileNode) × (files_in s nothing_drafted f.number ≡ Some x) × (f.facts ≡ facts_of x))) c.in-Ok.is (c.in_ok-found.ensures.there told) in
-    (there.0, file_stays g.S.Blocks.tells s (g.S.Blocks.state c.find_node.new.blocks) c.new-draft.result c.in-Ok.found.number there.0 c.new-draft.ensures told c.in_ok-found.ensures.looks there.1)
+    let there = subst (λ r. IfOk r (λ f. (x : FileNode) × (files_in (g.S.Blocks.state c.args.blocks.now) nothing_drafted f.number ≡ Some x) × (f.facts ≡ facts_of x))) c.in-Ok.is (c.in_ok-found.ensures.there told) in
+    (there.0, file_stays g.S.Blocks.tells _ _ c.new-draft.result c.in-Ok.found.number there.0 c.new-draft.ensures told c.in_ok-found.ensures.looks there.1)
 
 pub returns-in-Ok-read_at-clause-answer : goal.returns-in-Ok-read_at-clause-answer
 returns-in-Ok-read_at-clause-answer g c = λ told f h.
-    let s = g.S.Blocks.state c.args.blocks.now in
-    let m = inodes_in s nothing_drafted in
-    let map = c.blocks_have_the_map_of_their_tree.ensures.map s.books.geom s.map f.tree h.tree in
-    let led = subst (λ r. LeadsToFound (files_in s nothing_drafted) c.args.path.now r) c.in-Ok.is (c.in_ok-found.ensures.found told f.tree h.tree) in
-    let at = file_stays g.S.Blocks.tells s (g.S.Blocks.state c.find_node.new.blocks) c.new-draft.result c.in-Ok.found.number led.1.0 c.new-draft.ensures told c.in_ok-found.ensures.looks led.1.1 in
+    let led = subst (λ r. LeadsToFound (files_in (g.S.Blocks.state c.args.blocks.now) nothing_drafted) c.args.path.now r) c.in-Ok.is (c.in_ok-found.ensures.found told f.tree h.tree) in
+    let at = file_stays g.S.Blocks.tells _ _ c.new-draft.result c.in-Ok.found.number led.1.0 c.new-draft.ensures told c.in_ok-found.ensures.looks led.1.1 in
     ap Bytes ((subst (λ r. IfOk r (λ (bytes : List ℕ). (x : FileNode) → files_in (g.S.Blocks.state c.find_node.new.blocks) c.new-draft.result c.in-Ok.found.number ≡ Some x → bytes ≡ take c.args.len (drop c.from.result x.bytes))) c.in-Ok-read_at.is (c.read_at.ensures.bytes told)) led.1.0 at ∙ ap (λ n. take c.args.len (drop n led.1.0.bytes)) c.from.ensures)
-    ∙ (read_there s f h map c.args.path.now (λ cmd e i. c.the_map_gives_the_reply.ensures.reply f m cmd i e) c.in-Ok.found.number led.1.0 led.0 (c.walks_are_the_same.ensures.ends m c.args.path.now c.in-Ok.found.number led.0) led.1.1 c.args.offset c.args.len).1
-    (sym (ap (λ (q : FileFacts). is_dir q.kind) led.1.2) ∙ sym c.is_dir.ensures ∙ c.if-is_dir.false)
+    ∙ (read_there (g.S.Blocks.state c.args.blocks.now) f h c.blocks_have_the_map_of_their_tree.ensures.map c.the_map_gives_the_reply.ensures.reply c.args.path.now c.walks_are_the_same.ensures.ends c.in-Ok.found led c.args.offset c.args.len).1 (sym c.is_dir.ensures ∙ c.if-is_dir.false)
 
 pub returns-in-Ok-read_at-clause-looks : goal.returns-in-Ok-read_at-clause-looks
 returns-in-Ok-read_at-clause-looks g c =
-    let s = g.S.Blocks.state c.args.blocks.now in
-    let new = g.S.Blocks.state c.read_at.new.blocks in
-    subst (λ r. LooksOnly g.S.Blocks.tells (fails_reading r) s new) c.in-Ok-read_at.is (looks_more g.S.Blocks.tells (fails_reading c.read_at.result) s (g.S.Blocks.state c.find_node.new.blocks) new c.in_ok-found.ensures.looks c.read_at.ensures.looks)
+    subst (λ r. LooksOnly g.S.Blocks.tells (fails_reading r) (g.S.Blocks.state c.args.blocks.now) (g.S.Blocks.state c.read_at.new.blocks)) c.in-Ok-read_at.is (looks_more g.S.Blocks.tells (fails_reading c.read_at.result) _ _ _ c.in_ok-found.ensures.looks c.read_at.ensures.looks)
 
 pub returns-clause-looks : goal.returns-clause-looks
 returns-clause-looks g c =
-    let s = g.S.Blocks.state c.args.blocks.now in
-    let new = g.S.Blocks.state c.read_at.new.blocks in
-    subst (λ r. LooksOnly g.S.Blocks.tells (fails_reading r) s new) c.in-Err-read_at.is (looks_more g.S.Blocks.tells (fails_reading c.read_at.result) s (g.S.Blocks.state c.find_node.new.blocks) new c.in_ok-found.ensures.looks c.read_at.ensures.looks)
+    subst (λ r. LooksOnly g.S.Blocks.tells (fails_reading r) (g.S.Blocks.state c.args.blocks.now) (g.S.Blocks.state c.read_at.new.blocks)) c.in-Err-read_at.is (looks_more g.S.Blocks.tells (fails_reading c.read_at.result) _ _ _ c.in_ok-found.ensures.looks c.read_at.ensures.looks)

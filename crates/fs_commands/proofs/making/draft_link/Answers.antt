@@ -1,21 +1,19 @@
-use Rattle.std.proofs.Common.{◌≡◌, ◌≢◌, ◌≤◌, ◌++◌, ◌∷◌, ℕ, false, Some, Err, [], sym, subst, ap, ◌∙◌, length, take}
+use Rattle.std.proofs.Common.{◌≡◌, ◌≢◌, ◌≤◌, ◌++◌, ◌∷◌, ℕ, false, Some, [], sym, subst, ap, ◌∙◌, length, take}
 use Rattle.layout_extent.specs.Runs.{stretches}
 use Rattle.lang_tree.specs.Figures.{growth}
 use Rattle.crash_stands.specs.Files.{FileNode}
 use Rattle.crash_stands.specs.Inodes.{Inode, ADir, AFile, inode_of}
-use Rattle.engine_blocks.specs.State.{Bookkeeping, reusable_blocks}
+use Rattle.engine_blocks.specs.State.{reusable_blocks}
 use Rattle.fs_files.specs.Calls.{files_in, places_in, IsUsed, IsWithPlaces, GrowthRefused, with_links}
-use Rattle.fs_files.specs.Content.{fails_reading}
-use Rattle.fs_files.specs.Drafts.{DraftState, nothing_drafted}
-use Rattle.fs_files.specs.Effects.{LooksAndSettles}
+use Rattle.fs_files.specs.Drafts.{nothing_drafted}
 use Rattle.fs_dirs.specs.Changing.{Alters, IsWithSlots}
 use Rattle.fs_dirs.specs.Directories.{inodes_in}
 use Rattle.fs_session.specs.Sessions.{inodes}
-use Rattle.fs_files.specs.Sound.{IsDraftOf}
 use Rattle.fs_commands.proofs.Placing.{placed_kept}
 use Rattle.fs_commands.proofs.naming.Drafting.{dir_no_file, name_added}
-use Rattle.fs_commands.proofs.planning.Looking.{looked_after, quiet_settling}
+use Rattle.fs_commands.proofs.planning.Looking.{settled_then, settled_cut, calm_on, looked_calmly}
 use Rattle.fs_commands.proofs.looking.InUse.{node_there, still_used}
+use Rattle.fs_commands.proofs.looking.Found.{look_begins}
 use Rattle.fs_commands.proofs.making.draft_link.Goals as goal
 
 pub returns-in-Err-clause-refused : goal.returns-in-Err-clause-refused
@@ -39,20 +37,11 @@ returns-in-Ok-set_links-clause-used g c = λ told l used.
     (c.in-Ok.ensures.used told l (subst (λ d. IsUsed (files_in s d) l) (sym c.new-draft.ensures) used))
 
 pub returns-in-Ok-set_links-clause-settles : goal.returns-in-Ok-set_links-clause-settles
-returns-in-Ok-set_links-clause-settles g c =
-    let s = g.S.Blocks.state c.args.blocks.now in
-    looked_after g.S.Blocks.tells false s (g.S.Blocks.state c.add_slot.new.blocks) (g.S.Blocks.state c.set_links.new.blocks) c.in-Ok.ensures.settles c.in-Ok-set_links.ensures.looks
-    (λ told. c.calls_compose.ensures.advances c.args.blocks.now c.add_slot.new.blocks c.set_links.new.blocks (c.in-Ok.ensures.settles.crash told)
-    (c.calls_compose.ensures.rests told c.add_slot.new.blocks c.set_links.new.blocks (ap (λ (b : Bookkeeping). b.point) c.in-Ok-set_links.ensures.looks.books) (ap (λ (b : Bookkeeping). b.floor) c.in-Ok-set_links.ensures.looks.books) (c.in-Ok-set_links.ensures.looks.crash told)))
+returns-in-Ok-set_links-clause-settles g c = settled_then g.S.Blocks.tells g.S.Blocks.state c.calls_compose.ensures.rests c.calls_compose.ensures.advances c.args.blocks.now c.add_slot.new.blocks c.set_links.new.blocks c.in-Ok.ensures.settles false c.in-Ok-set_links.ensures.looks
 
 pub returns-in-Err-set_links-clause-settles : goal.returns-in-Err-set_links-clause-settles
 returns-in-Err-set_links-clause-settles g c =
-    let s = g.S.Blocks.state c.args.blocks.now in
-    let new = g.S.Blocks.state c.set_links.new.blocks in
-    subst (λ b. LooksAndSettles g.S.Blocks.tells (fails_reading {T = DraftState} (Err c.in-Err-set_links.why)) b s new) (sym (quiet_settling c.in-Err-set_links.why c.in-Err-set_links.ensures.refused))
-    (looked_after g.S.Blocks.tells (fails_reading {T = DraftState} (Err c.in-Err-set_links.why)) s (g.S.Blocks.state c.add_slot.new.blocks) new c.in-Ok.ensures.settles c.in-Err-set_links.ensures.looks
-    (λ told. c.calls_compose.ensures.advances c.args.blocks.now c.add_slot.new.blocks c.set_links.new.blocks (c.in-Ok.ensures.settles.crash told)
-    (c.calls_compose.ensures.rests told c.add_slot.new.blocks c.set_links.new.blocks (ap (λ (b : Bookkeeping). b.point) c.in-Err-set_links.ensures.looks.books) (ap (λ (b : Bookkeeping). b.floor) c.in-Err-set_links.ensures.looks.books) (c.in-Err-set_links.ensures.looks.crash told))))
+    settled_cut g.S.Blocks.tells g.S.Blocks.state c.calls_compose.ensures.rests c.calls_compose.ensures.advances c.args.blocks.now c.add_slot.new.blocks c.set_links.new.blocks c.in-Ok.ensures.settles c.in-Err-set_links.why c.in-Err-set_links.ensures.refused c.in-Err-set_links.ensures.looks
 
 pub returns-in-Ok-set_links-clause-names : goal.returns-in-Ok-set_links-clause-names
 returns-in-Ok-set_links-clause-names g c = λ told t slots before bytes h here at.
@@ -81,28 +70,15 @@ returns-in-Ok-set_links-clause-names g c = λ told t slots before bytes h here a
 
 pub returns-in-Err-clause-quiet : goal.returns-in-Err-clause-quiet
 returns-in-Err-clause-quiet g c = λ told slots at enough.
-    let s = g.S.Blocks.state c.args.blocks.now in
-    let looked = c.in-Err.ensures.looks told slots (subst (λ d. inodes_in s d c.args.dir ≡ Some (ADir slots)) (sym c.new-draft.ensures) at) enough in
-    (looked.books, (looked.crash told).log)
+    looked_calmly g.S.Blocks.tells _ (g.S.Blocks.state c.args.blocks.now) (g.S.Blocks.state c.add_slot.new.blocks) (c.in-Err.ensures.looks told slots (ap (λ d. inodes_in (g.S.Blocks.state c.args.blocks.now) d c.args.dir) c.new-draft.ensures ∙ at) enough) told
 
 pub returns-in-Ok-set_links-clause-quiet : goal.returns-in-Ok-set_links-clause-quiet
 returns-in-Ok-set_links-clause-quiet g c = λ told slots at enough.
-    let s = g.S.Blocks.state c.args.blocks.now in
-    let looked = c.in-Ok.ensures.looks told slots (subst (λ d. inodes_in s d c.args.dir ≡ Some (ADir slots)) (sym c.new-draft.ensures) at) enough in
-    (c.in-Ok-set_links.ensures.looks.books ∙ looked.books, (c.in-Ok-set_links.ensures.looks.crash told).log ∙ (looked.crash told).log)
+    calm_on (g.S.Blocks.state c.args.blocks.now) (g.S.Blocks.state c.add_slot.new.blocks) (g.S.Blocks.state c.set_links.new.blocks) (looked_calmly g.S.Blocks.tells _ (g.S.Blocks.state c.args.blocks.now) (g.S.Blocks.state c.add_slot.new.blocks) (c.in-Ok.ensures.looks told slots (ap (λ d. inodes_in (g.S.Blocks.state c.args.blocks.now) d c.args.dir) c.new-draft.ensures ∙ at) enough) told) (looked_calmly g.S.Blocks.tells _ (g.S.Blocks.state c.add_slot.new.blocks) (g.S.Blocks.state c.set_links.new.blocks) c.in-Ok-set_links.ensures.looks told)
 
 pub returns-in-Err-set_links-clause-quiet : goal.returns-in-Err-set_links-clause-quiet
 returns-in-Err-set_links-clause-quiet g c = λ told slots at enough.
-    let s = g.S.Blocks.state c.args.blocks.now in
-    let looked = c.in-Ok.ensures.looks told slots (subst (λ d. inodes_in s d c.args.dir ≡ Some (ADir slots)) (sym c.new-draft.ensures) at) enough in
-    (c.in-Err-set_links.ensures.looks.books ∙ looked.books, (c.in-Err-set_links.ensures.looks.crash told).log ∙ (looked.crash told).log)
+    calm_on (g.S.Blocks.state c.args.blocks.now) (g.S.Blocks.state c.add_slot.new.blocks) (g.S.Blocks.state c.set_links.new.blocks) (looked_calmly g.S.Blocks.tells _ (g.S.Blocks.state c.args.blocks.now) (g.S.Blocks.state c.add_slot.new.blocks) (c.in-Ok.ensures.looks told slots (ap (λ d. inodes_in (g.S.Blocks.state c.args.blocks.now) d c.args.dir) c.new-draft.ensures ∙ at) enough) told) (looked_calmly g.S.Blocks.tells _ (g.S.Blocks.state c.add_slot.new.blocks) (g.S.Blocks.state c.set_links.new.blocks) c.in-Err-set_links.ensures.looks told)
 
 pub add_slot-requires-clause-look : goal.add_slot-requires-clause-look
-add_slot-requires-clause-look g c =
-    let s = g.S.Blocks.state c.args.blocks.now in
-    record {
-      going = c.requires.begin.going;
-      from = c.requires.dir.from;
-      upto = c.requires.dir.upto;
-      draft = subst (λ d. IsDraftOf g.S.Blocks.tells s d) (sym c.new-draft.ensures) (c.a_draft_begins.ensures.draft c.requires.begin.none_bare c.requires.begin.sound);
-    }
+add_slot-requires-clause-look g c = look_begins g.S.Blocks.tells _ _ _ c.new-draft.ensures c.requires.begin c.requires.dir c.a_draft_begins.ensures.draft

@@ -1,4 +1,4 @@
-use Rattle.std.proofs.Common.{◌≡◌, ◌≢◌, ◌≤◌, ◌++◌, ◌∷◌, ℕ, false, Some, Err, IfSome, [], sym, subst, ap, ◌∙◌, arith, length, take, refl}
+use Rattle.std.proofs.Common.{◌≡◌, ◌≢◌, ◌≤◌, ◌++◌, ◌∷◌, ℕ, false, Some, IfSome, [], sym, subst, ap, ◌∙◌, arith, length, take, refl}
 use Rattle.std.proofs.lemmas.Option.{none-some}
 use Rattle.layout_geometry.specs.Geometry.{Geometry}
 use Rattle.layout_extent.specs.Runs.{stretches}
@@ -6,20 +6,17 @@ use Rattle.lang_tree.specs.Figures.{growth}
 use Rattle.crash_stands.specs.Files.{FileNode}
 use Rattle.crash_stands.specs.Inodes.{Inode, ADir, inode_of}
 use Rattle.fs_inodes.specs.Changes.{new_inode}
-use Rattle.engine_blocks.specs.State.{Bookkeeping, reusable_blocks}
+use Rattle.engine_blocks.specs.State.{reusable_blocks}
 use Rattle.fs_files.specs.Calls.{files_in, places_in, IsUsed, IsWithPlaces, GrowthRefused, SetsNode}
-use Rattle.fs_files.specs.Content.{fails_reading}
-use Rattle.fs_files.specs.Drafts.{ChangesSome, DraftState, nothing_drafted}
-use Rattle.fs_files.specs.Effects.{LooksAndSettles}
+use Rattle.fs_files.specs.Drafts.{ChangesSome, nothing_drafted}
 use Rattle.fs_dirs.specs.Changing.{Alters, IsWithSlots}
 use Rattle.fs_dirs.specs.Directories.{inodes_in}
 use Rattle.fs_commands.specs.Making.{first_thing}
 use Rattle.fs_session.specs.Sessions.{inodes}
-use Rattle.fs_files.specs.Sound.{IsDraftOf}
 use Rattle.fs_commands.proofs.Placing.{placed_by}
-use Rattle.fs_commands.proofs.looking.Found.{same_files}
+use Rattle.fs_commands.proofs.looking.Found.{same_files, look_begins}
 use Rattle.fs_commands.proofs.naming.Drafting.{used_upto, found_is, no_node, first_read, name_added}
-use Rattle.fs_commands.proofs.planning.Looking.{looked_after, quiet_settling}
+use Rattle.fs_commands.proofs.planning.Looking.{settled_then, settled_cut, calm_on, looked_calmly}
 use Rattle.fs_commands.proofs.making.draft_node.Goals as goal
 
 pub returns-in-Err-clause-refused : goal.returns-in-Err-clause-refused
@@ -72,47 +69,23 @@ returns-in-Ok-new_node-clause-names g c = λ told t slots h unused at.
     c.alterations_add_up.ensures.both c.alterations_add_up.ensures.price c.files_have_one_map.ensures.read
 
 pub returns-in-Ok-new_node-clause-settles : goal.returns-in-Ok-new_node-clause-settles
-returns-in-Ok-new_node-clause-settles g c =
-    let s = g.S.Blocks.state c.args.blocks.now in
-    let looks = c.in-Ok-new_node.ensures.looks in
-    looked_after g.S.Blocks.tells false s (g.S.Blocks.state c.add_slot.new.blocks) (g.S.Blocks.state c.new_node.new.blocks) c.in-Ok.ensures.settles looks
-    (λ told. c.calls_compose.ensures.advances c.args.blocks.now c.add_slot.new.blocks c.new_node.new.blocks (c.in-Ok.ensures.settles.crash told)
-    (c.calls_compose.ensures.rests told c.add_slot.new.blocks c.new_node.new.blocks (ap (λ (b : Bookkeeping). b.point) looks.books) (ap (λ (b : Bookkeeping). b.floor) looks.books) (looks.crash told)))
+returns-in-Ok-new_node-clause-settles g c = settled_then g.S.Blocks.tells g.S.Blocks.state c.calls_compose.ensures.rests c.calls_compose.ensures.advances c.args.blocks.now c.add_slot.new.blocks c.new_node.new.blocks c.in-Ok.ensures.settles false c.in-Ok-new_node.ensures.looks
 
 pub returns-in-Err-new_node-clause-settles : goal.returns-in-Err-new_node-clause-settles
 returns-in-Err-new_node-clause-settles g c =
-    let s = g.S.Blocks.state c.args.blocks.now in
-    let new = g.S.Blocks.state c.new_node.new.blocks in
-    let looks = c.in-Err-new_node.ensures.looks in
-    subst (λ b. LooksAndSettles g.S.Blocks.tells (fails_reading {T = DraftState} (Err c.in-Err-new_node.why)) b s new) (sym (quiet_settling c.in-Err-new_node.why c.in-Err-new_node.ensures.refused))
-    (looked_after g.S.Blocks.tells (fails_reading {T = DraftState} (Err c.in-Err-new_node.why)) s (g.S.Blocks.state c.add_slot.new.blocks) new c.in-Ok.ensures.settles looks
-    (λ told. c.calls_compose.ensures.advances c.args.blocks.now c.add_slot.new.blocks c.new_node.new.blocks (c.in-Ok.ensures.settles.crash told)
-    (c.calls_compose.ensures.rests told c.add_slot.new.blocks c.new_node.new.blocks (ap (λ (b : Bookkeeping). b.point) looks.books) (ap (λ (b : Bookkeeping). b.floor) looks.books) (looks.crash told))))
+    settled_cut g.S.Blocks.tells g.S.Blocks.state c.calls_compose.ensures.rests c.calls_compose.ensures.advances c.args.blocks.now c.add_slot.new.blocks c.new_node.new.blocks c.in-Ok.ensures.settles c.in-Err-new_node.why c.in-Err-new_node.ensures.refused c.in-Err-new_node.ensures.looks
 
 pub returns-in-Err-clause-quiet : goal.returns-in-Err-clause-quiet
 returns-in-Err-clause-quiet g c = λ told slots at enough.
-    let s = g.S.Blocks.state c.args.blocks.now in
-    let looked = c.in-Err.ensures.looks told slots (subst (λ d. inodes_in s d c.args.dir ≡ Some (ADir slots)) (sym c.new-draft.ensures) at) enough in
-    (looked.books, (looked.crash told).log)
+    looked_calmly g.S.Blocks.tells _ (g.S.Blocks.state c.args.blocks.now) (g.S.Blocks.state c.add_slot.new.blocks) (c.in-Err.ensures.looks told slots (ap (λ d. inodes_in (g.S.Blocks.state c.args.blocks.now) d c.args.dir) c.new-draft.ensures ∙ at) enough) told
 
 pub returns-in-Ok-new_node-clause-quiet : goal.returns-in-Ok-new_node-clause-quiet
 returns-in-Ok-new_node-clause-quiet g c = λ told slots at enough.
-    let s = g.S.Blocks.state c.args.blocks.now in
-    let looked = c.in-Ok.ensures.looks told slots (subst (λ d. inodes_in s d c.args.dir ≡ Some (ADir slots)) (sym c.new-draft.ensures) at) enough in
-    (c.in-Ok-new_node.ensures.looks.books ∙ looked.books, (c.in-Ok-new_node.ensures.looks.crash told).log ∙ (looked.crash told).log)
+    calm_on (g.S.Blocks.state c.args.blocks.now) (g.S.Blocks.state c.add_slot.new.blocks) (g.S.Blocks.state c.new_node.new.blocks) (looked_calmly g.S.Blocks.tells _ (g.S.Blocks.state c.args.blocks.now) (g.S.Blocks.state c.add_slot.new.blocks) (c.in-Ok.ensures.looks told slots (ap (λ d. inodes_in (g.S.Blocks.state c.args.blocks.now) d c.args.dir) c.new-draft.ensures ∙ at) enough) told) (looked_calmly g.S.Blocks.tells _ (g.S.Blocks.state c.add_slot.new.blocks) (g.S.Blocks.state c.new_node.new.blocks) c.in-Ok-new_node.ensures.looks told)
 
 pub returns-in-Err-new_node-clause-quiet : goal.returns-in-Err-new_node-clause-quiet
 returns-in-Err-new_node-clause-quiet g c = λ told slots at enough.
-    let s = g.S.Blocks.state c.args.blocks.now in
-    let looked = c.in-Ok.ensures.looks told slots (subst (λ d. inodes_in s d c.args.dir ≡ Some (ADir slots)) (sym c.new-draft.ensures) at) enough in
-    (c.in-Err-new_node.ensures.looks.books ∙ looked.books, (c.in-Err-new_node.ensures.looks.crash told).log ∙ (looked.crash told).log)
+    calm_on (g.S.Blocks.state c.args.blocks.now) (g.S.Blocks.state c.add_slot.new.blocks) (g.S.Blocks.state c.new_node.new.blocks) (looked_calmly g.S.Blocks.tells _ (g.S.Blocks.state c.args.blocks.now) (g.S.Blocks.state c.add_slot.new.blocks) (c.in-Ok.ensures.looks told slots (ap (λ d. inodes_in (g.S.Blocks.state c.args.blocks.now) d c.args.dir) c.new-draft.ensures ∙ at) enough) told) (looked_calmly g.S.Blocks.tells _ (g.S.Blocks.state c.add_slot.new.blocks) (g.S.Blocks.state c.new_node.new.blocks) c.in-Err-new_node.ensures.looks told)
 
 pub add_slot-requires-clause-look : goal.add_slot-requires-clause-look
-add_slot-requires-clause-look g c =
-    let s = g.S.Blocks.state c.args.blocks.now in
-    record {
-      going = c.requires.may.begin.going;
-      from = c.requires.dir.from;
-      upto = c.requires.dir.upto;
-      draft = subst (λ d. IsDraftOf g.S.Blocks.tells s d) (sym c.new-draft.ensures) (c.a_draft_begins.ensures.draft c.requires.may.begin.none_bare c.requires.may.begin.sound);
-    }
+add_slot-requires-clause-look g c = look_begins g.S.Blocks.tells _ _ _ c.new-draft.ensures c.requires.may.begin c.requires.dir c.a_draft_begins.ensures.draft

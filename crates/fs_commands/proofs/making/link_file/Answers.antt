@@ -1,4 +1,4 @@
-use Rattle.std.proofs.Common.{Err, refl, sym, subst, ap, ◌∙◌, arith}
+use Rattle.std.proofs.Common.{Err, sym, subst, ap, ◌∙◌, arith}
 use Rattle.lang_tree.specs.Figures.{adding, growth}
 use Rattle.lang_tree.specs.Values.{value_of}
 use Rattle.crash_stands.specs.Inodes.{AFile}
@@ -6,15 +6,13 @@ use Rattle.engine_blocks.specs.Running.{Running}
 use Rattle.fs_dirs.specs.Directories.{inodes_in}
 use Rattle.fs_session.specs.Plans.{Plans}
 use Rattle.fs_commands.proofs.naming.Planning.{named_plan, name_refused}
-use Rattle.fs_commands.proofs.planning.Looking.{full_plan, no_look}
+use Rattle.fs_commands.proofs.planning.Looking.{full_plan}
 use Rattle.fs_commands.proofs.making.link_file.Goals as goal
 
 pub returns-in-Err-clause-plans : goal.returns-in-Err-clause-plans
 returns-in-Err-clause-plans g c = λ cmd may.
-    let s = g.S.Blocks.state c.args.blocks.now in
-    full_plan g.S.Blocks.tells cmd s s (value_of c.new_name_figures-figures.result) c.in-Err.why c.requires.may.begin.going c.in-Err.ensures.refused
+    full_plan g.S.Blocks.tells g.S.Blocks.state c.calls_compose.ensures.rests (cmd) c.args.blocks.now (value_of c.new_name_figures-figures.result) c.in-Err.why c.requires.may.begin.going c.in-Err.ensures.refused
     (λ told f h. let a = (may told f h).accepts in (a.accepted, a.figures ∙ sym (c.new_name_figures-figures.ensures.value ∙ ap (λ n. adding (growth n)) c.from.ensures)))
-    (no_look g.S.Blocks.tells s) (λ told. c.calls_compose.ensures.rests told c.args.blocks.now c.args.blocks.now refl refl ((no_look g.S.Blocks.tells s).crash told))
 
 pub returns-in-Ok-draft_link-clause-plans : goal.returns-in-Ok-draft_link-clause-plans
 returns-in-Ok-draft_link-clause-plans g c = λ cmd may.

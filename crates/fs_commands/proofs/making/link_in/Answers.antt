@@ -1,4 +1,4 @@
-use Rattle.std.proofs.Common.{◌+◌, refl, sym, subst, ◌∙◌, arith}
+use Rattle.std.proofs.Common.{◌+◌, sym, subst, ◌∙◌, arith}
 use Rattle.lang_tree.specs.declared.command.Cmd.TheVariants.{Link}
 use Rattle.lang_tree.specs.declared.command.Refusal.TheVariants.{IsDir, TooManyLinks}
 use Rattle.fs_inodes.specs.Changes.{slot_of}
@@ -8,17 +8,13 @@ use Rattle.fs_commands.proofs.making.link_in.Goals as goal
 
 pub returns-then-is_dir-clause-plans : goal.returns-then-is_dir-clause-plans
 returns-then-is_dir-clause-plans g c = λ path other walked appears.
-    let s = g.S.Blocks.state c.args.blocks.now in
-    refusal_plan g.S.Blocks.tells (Link path other) s s IsDir c.requires.may.begin.going (g.met.S.Blocks.is_sound c.args.blocks.now)
-    (λ told f h. c.the_tree_links_files.ensures.directory c.args.blocks.now f path other c.args.found.now c.args.vacancy.now h (walked told) (appears told) (sym c.is_dir.ensures ∙ c.if-is_dir.true))
-    (no_look g.S.Blocks.tells s) (λ told. c.calls_compose.ensures.rests told c.args.blocks.now c.args.blocks.now refl refl ((no_look g.S.Blocks.tells s).crash told))
+    refusal_plan g.S.Blocks.tells g.S.Blocks.state c.calls_compose.ensures.rests g.met.S.Blocks.is_sound (Link path other) c.args.blocks.now c.args.blocks.now IsDir c.requires.may.begin.going
+    (λ told f h. c.the_tree_links_files.ensures.directory c.args.blocks.now f path other c.args.found.now c.args.vacancy.now h (walked told) (appears told) (sym c.is_dir.ensures ∙ c.if-is_dir.true)) (no_look g.S.Blocks.tells (g.S.Blocks.state c.args.blocks.now))
 
 pub returns-then-found-ge-MOST_LINKS-clause-plans : goal.returns-then-found-ge-MOST_LINKS-clause-plans
 returns-then-found-ge-MOST_LINKS-clause-plans g c = λ path other walked appears.
-    let s = g.S.Blocks.state c.args.blocks.now in
-    refusal_plan g.S.Blocks.tells (Link path other) s s TooManyLinks c.requires.may.begin.going (g.met.S.Blocks.is_sound c.args.blocks.now)
-    (λ told f h. c.the_tree_links_files.ensures.many c.args.blocks.now f path other c.args.found.now c.args.vacancy.now h (walked told) (appears told) (sym c.is_dir.ensures ∙ c.if-is_dir.false) (omega (arith, c.if-found-ge-MOST_LINKS.true)))
-    (no_look g.S.Blocks.tells s) (λ told. c.calls_compose.ensures.rests told c.args.blocks.now c.args.blocks.now refl refl ((no_look g.S.Blocks.tells s).crash told))
+    refusal_plan g.S.Blocks.tells g.S.Blocks.state c.calls_compose.ensures.rests g.met.S.Blocks.is_sound (Link path other) c.args.blocks.now c.args.blocks.now TooManyLinks c.requires.may.begin.going
+    (λ told f h. c.the_tree_links_files.ensures.many c.args.blocks.now f path other c.args.found.now c.args.vacancy.now h (walked told) (appears told) (sym c.is_dir.ensures ∙ c.if-is_dir.false) (omega (arith, c.if-found-ge-MOST_LINKS.true))) (no_look g.S.Blocks.tells (g.S.Blocks.state c.args.blocks.now))
 
 pub returns-clause-plans : goal.returns-clause-plans
 returns-clause-plans g c = λ path other walked appears.

@@ -1,4 +1,4 @@
-use Rattle.std.proofs.Common.{◌+◌, IsTrue, Err, refl, sym, subst, ap, ◌∙◌, arith}
+use Rattle.std.proofs.Common.{◌+◌, IsTrue, Err, sym, subst, ap, ◌∙◌, arith}
 use Rattle.lang_tree.specs.Figures.{adding, growth}
 use Rattle.lang_tree.specs.Step.{Session}
 use Rattle.lang_tree.specs.Values.{value_of}
@@ -10,16 +10,14 @@ use Rattle.fs_session.specs.Plans.{Plans}
 use Rattle.fs_session.specs.Sessions.{IsSession, inodes}
 use Rattle.fs_commands.proofs.naming.Least.{least_unused}
 use Rattle.fs_commands.proofs.naming.Planning.{named_plan, name_refused}
-use Rattle.fs_commands.proofs.planning.Looking.{full_plan, no_look}
+use Rattle.fs_commands.proofs.planning.Looking.{full_plan}
 use Rattle.fs_commands.proofs.making.make_node.Goals as goal
 
 pub returns-in-Err-clause-plans : goal.returns-in-Err-clause-plans
 returns-in-Err-clause-plans g c = λ path appears least.
-    let s = g.S.Blocks.state c.args.blocks.now in
-    full_plan g.S.Blocks.tells (make_cmd c.args.kind path) s s (value_of c.new_name_figures-figures.result) c.in-Err.why c.requires.may.begin.going c.in-Err.ensures.refused
+    full_plan g.S.Blocks.tells g.S.Blocks.state c.calls_compose.ensures.rests (make_cmd c.args.kind path) c.args.blocks.now (value_of c.new_name_figures-figures.result) c.in-Err.why c.requires.may.begin.going c.in-Err.ensures.refused
     (λ told f h. let a = c.the_tree_makes_nodes.ensures.accepted c.args.blocks.now f c.args.kind path c.args.vacancy.now c.args.node h (appears told) (least told) in
     (a.accepted, a.figures ∙ sym (c.new_name_figures-figures.ensures.value ∙ ap (λ n. adding (growth n)) c.from.ensures)))
-    (no_look g.S.Blocks.tells s) (λ told. c.calls_compose.ensures.rests told c.args.blocks.now c.args.blocks.now refl refl ((no_look g.S.Blocks.tells s).crash told))
 
 pub overflow_add-result : goal.overflow_add-result
 overflow_add-result g c = omega (arith, c.requires.node.upto, c.a_disk_is_small.ensures.table)

@@ -1,46 +1,28 @@
-use Rattle.std.proofs.Common.{Ok, Err, sym, subst, ap}
+use Rattle.std.proofs.Common.{Ok, subst}
 use Rattle.lang_tree.specs.declared.command.Cmd.TheVariants.{Link}
-use Rattle.engine_blocks.specs.State.{Bookkeeping}
+use Rattle.fs_commands.specs.Looks.{LeadsToFound}
+use Rattle.fs_commands.proofs.planning.Behind.{may_plan_still, found_still}
+use Rattle.fs_commands.proofs.planning.Before.{looked_first}
+use Rattle.fs_commands.proofs.planning.Looking.{refusal_plan, cut_short}
 use Rattle.fs_files.specs.Calls.{files_in}
 use Rattle.fs_files.specs.Drafts.{nothing_drafted}
-use Rattle.fs_commands.specs.Looks.{LeadsToFound}
-use Rattle.fs_session.specs.Plans.{Plans}
-use Rattle.fs_commands.proofs.planning.Behind.{may_plan_still, found_still}
-use Rattle.fs_commands.proofs.planning.Before.{plans_behind}
-use Rattle.fs_commands.proofs.planning.Looking.{cut_short_plan, refusal_plan}
 use Rattle.fs_commands.proofs.making.plan_link.Goals as goal
 
 pub link_to-requires-clause-may : goal.link_to-requires-clause-may
-link_to-requires-clause-may g c =
-    may_plan_still g.S.Blocks.tells (g.S.Blocks.state c.args.blocks.now) (g.S.Blocks.state c.find_node.new.blocks) c.in-Ok-Ok.ensures.looks c.args.first_unused c.requires.may
+link_to-requires-clause-may g c = may_plan_still g.S.Blocks.tells _ _ c.in-Ok-Ok.ensures.looks c.args.first_unused c.requires.may
 
 pub returns-in-Ok-Ok-clause-plans : goal.returns-in-Ok-Ok-clause-plans
 returns-in-Ok-Ok-clause-plans g c =
-    let s = g.S.Blocks.state c.args.blocks.now in
-    let mid = g.S.Blocks.state c.find_node.new.blocks in
-    let path = c.args.path.now in
-    let other = c.args.other.now in
     let looks = c.in-Ok-Ok.ensures.looks in
-    let plans = c.link_to.ensures.plans path (λ told. let t = c.requires.may.stands told in
-    found_still g.S.Blocks.tells s mid looks told path (Ok c.in-Ok-Ok.found) (subst (λ r. LeadsToFound (files_in s nothing_drafted) path r) c.in-Ok-Ok.field-0-is (c.in-Ok-Ok.ensures.found told t.0 t.1))) in
-    plans_behind g.S.Blocks.tells (Link path other) c.link_to.result s mid (g.S.Blocks.state c.link_to.new.blocks) c.requires.may.begin.going looks
-    (λ told. c.calls_compose.ensures.advances c.args.blocks.now c.find_node.new.blocks c.link_to.new.blocks
-    (c.calls_compose.ensures.rests told c.args.blocks.now c.find_node.new.blocks (ap (λ (b : Bookkeeping). b.point) looks.books) (ap (λ (b : Bookkeeping). b.floor) looks.books) (looks.crash told)) (plans.settles.crash told)) plans
+    looked_first g.S.Blocks.tells g.S.Blocks.state c.calls_compose.ensures.rests c.calls_compose.ensures.advances (Link c.args.path.now c.args.other.now) _ c.args.blocks.now c.find_node.new.blocks _ c.requires.may.begin.going looks
+    (c.link_to.ensures.plans c.args.path.now (λ told. let t = c.requires.may.stands told in
+    found_still g.S.Blocks.tells _ _ looks told c.args.path.now (Ok c.in-Ok-Ok.found) (subst (LeadsToFound (files_in (g.S.Blocks.state c.args.blocks.now) nothing_drafted) c.args.path.now) c.in-Ok-Ok.field-0-is (c.in-Ok-Ok.ensures.found told t.0 t.1))))
 
 pub returns-in-Ok-Err-clause-plans : goal.returns-in-Ok-Err-clause-plans
 returns-in-Ok-Err-clause-plans g c =
-    let s = g.S.Blocks.state c.args.blocks.now in
-    let path = c.args.path.now in
-    let looks = c.in-Ok-Err.ensures.looks in
-    refusal_plan g.S.Blocks.tells (Link path c.args.other.now) s (g.S.Blocks.state c.find_node.new.blocks) c.in-Ok-Err.why c.requires.may.begin.going (g.met.S.Blocks.is_sound c.args.blocks.now)
-    (λ told f h. c.the_tree_links_files.ensures.nowhere c.args.blocks.now f path c.args.other.now c.in-Ok-Err.why h (subst (λ r. LeadsToFound (files_in s nothing_drafted) path r) c.in-Ok-Err.field-0-is (c.in-Ok-Err.ensures.found told f.tree h.tree)))
-    looks (λ told. c.calls_compose.ensures.rests told c.args.blocks.now c.find_node.new.blocks (ap (λ (b : Bookkeeping). b.point) looks.books) (ap (λ (b : Bookkeeping). b.floor) looks.books) (looks.crash told))
+    refusal_plan g.S.Blocks.tells g.S.Blocks.state c.calls_compose.ensures.rests g.met.S.Blocks.is_sound (Link c.args.path.now c.args.other.now) c.args.blocks.now c.find_node.new.blocks c.in-Ok-Err.why c.requires.may.begin.going
+    (λ told f h. c.the_tree_links_files.ensures.nowhere c.args.blocks.now f c.args.path.now c.args.other.now c.in-Ok-Err.why h (subst (LeadsToFound (files_in (g.S.Blocks.state c.args.blocks.now) nothing_drafted) c.args.path.now) c.in-Ok-Err.field-0-is (c.in-Ok-Err.ensures.found told f.tree h.tree))) c.in-Ok-Err.ensures.looks
 
 pub returns-in-Err-clause-plans : goal.returns-in-Err-clause-plans
 returns-in-Err-clause-plans g c =
-    let s = g.S.Blocks.state c.args.blocks.now in
-    let new = g.S.Blocks.state c.find_node.new.blocks in
-    let looks = c.in-Err.ensures.looks in
-    subst (λ why. Plans g.S.Blocks.tells (Link c.args.path.now c.args.other.now) (Err why) s new) (sym c.refusal_of.ensures)
-    (cut_short_plan g.S.Blocks.tells (Link c.args.path.now c.args.other.now) s new c.in-Err.why c.requires.may.begin.going c.in-Err.ensures.refused looks
-    (λ told. c.calls_compose.ensures.rests told c.args.blocks.now c.find_node.new.blocks (ap (λ (b : Bookkeeping). b.point) looks.books) (ap (λ (b : Bookkeeping). b.floor) looks.books) (looks.crash told)))
+    cut_short g.S.Blocks.tells g.S.Blocks.state c.calls_compose.ensures.rests (Link c.args.path.now c.args.other.now) c.args.blocks.now c.find_node.new.blocks c.in-Err.why c.refusal_of.result c.refusal_of.ensures c.requires.may.begin.going c.in-Err.ensures.refused c.in-Err.ensures.looks

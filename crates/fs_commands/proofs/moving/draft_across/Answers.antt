@@ -1,4 +1,4 @@
-use Rattle.std.proofs.Common.{ℕ, ◌+◌, ◌-◌, ◌≤◌, [], ◌∷◌, ◌++◌, false, List, take, length, Err, sym, subst, ap, ◌∙◌, arith}
+use Rattle.std.proofs.Common.{ℕ, ◌+◌, ◌-◌, ◌≤◌, [], ◌∷◌, ◌++◌, false, List, take, length, sym, subst, ap, ◌∙◌, arith}
 use Rattle.std.proofs.lemmas.List.{append-nil}
 use Rattle.layout_extent.specs.Runs.{stretches}
 use Rattle.layout_directory.specs.Directory.{without_at}
@@ -7,18 +7,16 @@ use Rattle.crash_stands.specs.Files.{files_of}
 use Rattle.fs_inodes.specs.Changes.{slot_of}
 use Rattle.engine_blocks.specs.State.{Bookkeeping, reusable_blocks}
 use Rattle.fs_files.specs.Calls.{GrowthRefused, IsWithPlaces, files_in, places_in}
-use Rattle.fs_files.specs.Content.{fails_reading}
-use Rattle.fs_files.specs.Effects.{LooksAndSettles}
 use Rattle.fs_files.specs.Drafts.{nothing_drafted}
 use Rattle.fs_dirs.specs.Changing.{Alters, IsWithSlots}
 use Rattle.fs_dirs.specs.Directories.{inodes_in}
 use Rattle.fs_session.specs.Commands.{GrowsInRuns, places_of}
 use Rattle.fs_session.specs.Space.{ArePlaced}
-use Rattle.fs_files.specs.Sound.{IsDraftOf}
 use Rattle.fs_commands.proofs.Placing.{placed_cut, placed_grown, placed_then}
-use Rattle.fs_commands.proofs.planning.Looking.{looked_after, cut_growth, quiet_settling}
+use Rattle.fs_commands.proofs.planning.Looking.{cut_growth, settled_then, settled_cut, calm_on, looked_calmly}
 use Rattle.fs_commands.proofs.moved.Free.{moves_across, used_across}
 use Rattle.fs_commands.proofs.moved.Onto.{place_within}
+use Rattle.fs_commands.proofs.looking.Found.{look_begins}
 use Rattle.fs_commands.proofs.moving.draft_across.Goals as goal
 
 pub take_slot-requires-clause-there : goal.take_slot-requires-clause-there
@@ -40,19 +38,11 @@ returns-in-Err-clause-refused g c = λ told count name may.
     (subst (λ d. GrowthRefused (growth (length may.into.slots)) (places_in s d c.args.into) s.books t.books c.in-Err.why) c.new-draft.ensures (c.in-Err.ensures.refused told may.into.slots at))
 
 pub returns-in-Ok-take_slot-clause-settles : goal.returns-in-Ok-take_slot-clause-settles
-returns-in-Ok-take_slot-clause-settles g c =
-    let looks = c.in-Ok-take_slot.ensures.looks in
-    looked_after g.S.Blocks.tells false (g.S.Blocks.state c.args.blocks.now) (g.S.Blocks.state c.add_slot.new.blocks) (g.S.Blocks.state c.take_slot.new.blocks) c.in-Ok.ensures.settles looks
-    (λ told. c.calls_compose.ensures.advances c.args.blocks.now c.add_slot.new.blocks c.take_slot.new.blocks (c.in-Ok.ensures.settles.crash told)
-    (c.calls_compose.ensures.rests told c.add_slot.new.blocks c.take_slot.new.blocks (ap (λ (b : Bookkeeping). b.point) looks.books) (ap (λ (b : Bookkeeping). b.floor) looks.books) (looks.crash told)))
+returns-in-Ok-take_slot-clause-settles g c = settled_then g.S.Blocks.tells g.S.Blocks.state c.calls_compose.ensures.rests c.calls_compose.ensures.advances c.args.blocks.now c.add_slot.new.blocks c.take_slot.new.blocks c.in-Ok.ensures.settles false c.in-Ok-take_slot.ensures.looks
 
 pub returns-in-Err-take_slot-clause-settles : goal.returns-in-Err-take_slot-clause-settles
 returns-in-Err-take_slot-clause-settles g c =
-    let looks = c.in-Err-take_slot.ensures.looks in
-    subst (λ b. LooksAndSettles g.S.Blocks.tells (fails_reading {T = ℕ} (Err c.in-Err-take_slot.why)) b (g.S.Blocks.state c.args.blocks.now) (g.S.Blocks.state c.take_slot.new.blocks)) (sym (quiet_settling c.in-Err-take_slot.why c.in-Err-take_slot.ensures.refused))
-    (looked_after g.S.Blocks.tells (fails_reading {T = ℕ} (Err c.in-Err-take_slot.why)) (g.S.Blocks.state c.args.blocks.now) (g.S.Blocks.state c.add_slot.new.blocks) (g.S.Blocks.state c.take_slot.new.blocks) c.in-Ok.ensures.settles looks
-    (λ told. c.calls_compose.ensures.advances c.args.blocks.now c.add_slot.new.blocks c.take_slot.new.blocks (c.in-Ok.ensures.settles.crash told)
-    (c.calls_compose.ensures.rests told c.add_slot.new.blocks c.take_slot.new.blocks (ap (λ (b : Bookkeeping). b.point) looks.books) (ap (λ (b : Bookkeeping). b.floor) looks.books) (looks.crash told))))
+    settled_cut g.S.Blocks.tells g.S.Blocks.state c.calls_compose.ensures.rests c.calls_compose.ensures.advances c.args.blocks.now c.add_slot.new.blocks c.take_slot.new.blocks c.in-Ok.ensures.settles c.in-Err-take_slot.why c.in-Err-take_slot.ensures.refused c.in-Err-take_slot.ensures.looks
 
 pub returns-in-Err-take_slot-clause-refused : goal.returns-in-Err-take_slot-clause-refused
 returns-in-Err-take_slot-clause-refused g c = λ told count name may.
@@ -116,31 +106,18 @@ returns-in-Ok-take_slot-clause-moves g c = λ told count name may.
 
 pub returns-in-Err-clause-quiet : goal.returns-in-Err-clause-quiet
 returns-in-Err-clause-quiet g c = λ told count name may enough.
-    let s = g.S.Blocks.state c.args.blocks.now in
-    let at = ap (λ d. inodes_in s d c.args.into) c.new-draft.ensures ∙ may.into.dir_is in
-    let looked = c.in-Err.ensures.looks told may.into.slots at (subst (λ n. growth n ≤ length (reusable_blocks s.books)) may.into.many_are enough) in
-    (looked.books, (looked.crash told).log)
+    looked_calmly g.S.Blocks.tells _ (g.S.Blocks.state c.args.blocks.now) (g.S.Blocks.state c.add_slot.new.blocks) (c.in-Err.ensures.looks told may.into.slots (ap (λ d. inodes_in (g.S.Blocks.state c.args.blocks.now) d c.args.into) c.new-draft.ensures ∙ may.into.dir_is)
+    (subst (λ n. growth n ≤ length (reusable_blocks (g.S.Blocks.state c.args.blocks.now).books)) may.into.many_are enough)) told
 
 pub returns-in-Ok-take_slot-clause-quiet : goal.returns-in-Ok-take_slot-clause-quiet
 returns-in-Ok-take_slot-clause-quiet g c = λ told count name may enough.
-    let s = g.S.Blocks.state c.args.blocks.now in
-    let at = ap (λ d. inodes_in s d c.args.into) c.new-draft.ensures ∙ may.into.dir_is in
-    let looked = c.in-Ok.ensures.looks told may.into.slots at (subst (λ n. growth n ≤ length (reusable_blocks s.books)) may.into.many_are enough) in
-    (c.in-Ok-take_slot.ensures.looks.books ∙ looked.books, (c.in-Ok-take_slot.ensures.looks.crash told).log ∙ (looked.crash told).log)
+    calm_on (g.S.Blocks.state c.args.blocks.now) (g.S.Blocks.state c.add_slot.new.blocks) (g.S.Blocks.state c.take_slot.new.blocks) (looked_calmly g.S.Blocks.tells _ (g.S.Blocks.state c.args.blocks.now) (g.S.Blocks.state c.add_slot.new.blocks) (c.in-Ok.ensures.looks told may.into.slots (ap (λ d. inodes_in (g.S.Blocks.state c.args.blocks.now) d c.args.into) c.new-draft.ensures ∙ may.into.dir_is)
+    (subst (λ n. growth n ≤ length (reusable_blocks (g.S.Blocks.state c.args.blocks.now).books)) may.into.many_are enough)) told) (looked_calmly g.S.Blocks.tells _ (g.S.Blocks.state c.add_slot.new.blocks) (g.S.Blocks.state c.take_slot.new.blocks) c.in-Ok-take_slot.ensures.looks told)
 
 pub returns-in-Err-take_slot-clause-quiet : goal.returns-in-Err-take_slot-clause-quiet
 returns-in-Err-take_slot-clause-quiet g c = λ told count name may enough.
-    let s = g.S.Blocks.state c.args.blocks.now in
-    let at = ap (λ d. inodes_in s d c.args.into) c.new-draft.ensures ∙ may.into.dir_is in
-    let looked = c.in-Ok.ensures.looks told may.into.slots at (subst (λ n. growth n ≤ length (reusable_blocks s.books)) may.into.many_are enough) in
-    (c.in-Err-take_slot.ensures.looks.books ∙ looked.books, (c.in-Err-take_slot.ensures.looks.crash told).log ∙ (looked.crash told).log)
+    calm_on (g.S.Blocks.state c.args.blocks.now) (g.S.Blocks.state c.add_slot.new.blocks) (g.S.Blocks.state c.take_slot.new.blocks) (looked_calmly g.S.Blocks.tells _ (g.S.Blocks.state c.args.blocks.now) (g.S.Blocks.state c.add_slot.new.blocks) (c.in-Ok.ensures.looks told may.into.slots (ap (λ d. inodes_in (g.S.Blocks.state c.args.blocks.now) d c.args.into) c.new-draft.ensures ∙ may.into.dir_is)
+    (subst (λ n. growth n ≤ length (reusable_blocks (g.S.Blocks.state c.args.blocks.now).books)) may.into.many_are enough)) told) (looked_calmly g.S.Blocks.tells _ (g.S.Blocks.state c.add_slot.new.blocks) (g.S.Blocks.state c.take_slot.new.blocks) c.in-Err-take_slot.ensures.looks told)
 
 pub add_slot-requires-clause-look : goal.add_slot-requires-clause-look
-add_slot-requires-clause-look g c =
-    let s = g.S.Blocks.state c.args.blocks.now in
-    record {
-      going = c.requires.begin.going;
-      from = c.requires.into.from;
-      upto = c.requires.into.upto;
-      draft = subst (λ d. IsDraftOf g.S.Blocks.tells s d) (sym c.new-draft.ensures) (c.a_draft_begins.ensures.draft c.requires.begin.none_bare c.requires.begin.sound);
-    }
+add_slot-requires-clause-look g c = look_begins g.S.Blocks.tells _ _ _ c.new-draft.ensures c.requires.begin c.requires.into c.a_draft_begins.ensures.draft

@@ -1,4 +1,4 @@
-use Rattle.std.proofs.Common.{ℕ, ◌+◌, ◌-◌, ◌<◌, [], false, List, set, length, Err, sym, subst, ap, ◌∙◌, arith}
+use Rattle.std.proofs.Common.{ℕ, ◌+◌, ◌-◌, ◌<◌, [], false, List, set, length, Err, sym, subst, ap, ◌∙◌, arith, IsTrue}
 use Rattle.lang_tree.specs.Figures.{directory_blocks, release}
 use Rattle.crash_stands.specs.Files.{files_of}
 use Rattle.fs_inodes.specs.Changes.{slot_of}
@@ -11,42 +11,47 @@ use Rattle.fs_session.specs.Commands.{places_of}
 use Rattle.fs_commands.specs.Removing.{blocks_gone}
 use Rattle.fs_commands.proofs.Placing.{placed_cut, placed_kept, placed_then}
 use Rattle.fs_commands.proofs.looking.Found.{looks_more}
-use Rattle.fs_commands.proofs.moved.Onto.{place_within, between, found2, inode2, moves, reads3, used3}
+use Rattle.fs_commands.proofs.moved.Onto.{place_within, between, found2, inode2, moves, reads3, used3, Between}
+use Rattle.fs_commands.proofs.moving.draft_onto.Given as given
+use Rattle.fs_commands.specs.Moving.{MayMoveOnto}
+use Rattle.fs_session.specs.Sessions.{inodes}
 use Rattle.fs_commands.proofs.moving.draft_onto.Goals as goal
+use Rattle.fs_commands.proofs.moving.draft_onto.Goals.{In-Ok}
+
+-- the slot of the target names the node that moves
+set_so : (g : given.Over) (c : goal.In-Ok g) → IsTrue g.S.Blocks.tells → (name : List ℕ) (may : MayMoveOnto (g.S.Blocks.state c.args.blocks.now) c.args.source.now c.args.target.now name c.args.other.now) → IsWithSlots (files_in (g.S.Blocks.state c.args.blocks.now) nothing_drafted) (files_in (g.S.Blocks.state c.set_slot.new.blocks) c.set_slot.new.draft) c.args.target.now.dir (set may.onto.slots c.args.target.now.entry.place (slot_of c.args.source.now.entry.node.number c.args.other.now))
+set_so g c told name may =
+    let f1 = files_in (g.S.Blocks.state c.set_slot.new.blocks) c.set_slot.new.draft in
+    subst (λ (n : List ℕ). IsWithSlots (files_in (g.S.Blocks.state c.args.blocks.now) nothing_drafted) f1 c.args.target.now.dir (set may.onto.slots c.args.target.now.entry.place (slot_of c.args.source.now.entry.node.number n))) c.copy.ensures
+    (subst (λ d. IsWithSlots (files_in (g.S.Blocks.state c.args.blocks.now) d) f1 c.args.target.now.dir (set may.onto.slots c.args.target.now.entry.place (slot_of c.args.source.now.entry.node.number c.copy.result))) c.new-draft.ensures
+    (c.in-Ok.ensures.slots told may.onto.slots (ap (λ d. inodes_in (g.S.Blocks.state c.args.blocks.now) d c.args.target.now.dir) c.new-draft.ensures ∙ may.onto.dir)))
+
+-- so the directory that the name leaves has as many slots
+left_so : (g : given.Over) (c : goal.In-Ok g) → IsTrue g.S.Blocks.tells → (name : List ℕ) (may : MayMoveOnto (g.S.Blocks.state c.args.blocks.now) c.args.source.now c.args.target.now name c.args.other.now) → Between (inodes_in (g.S.Blocks.state c.set_slot.new.blocks) c.set_slot.new.draft) c.args.source.now.dir c.args.source.now.count
+left_so g c told name may = between (files_in (g.S.Blocks.state c.args.blocks.now) nothing_drafted) (files_in (g.S.Blocks.state c.set_slot.new.blocks) c.set_slot.new.draft) c.args.source.now c.args.target.now name c.args.other.now (slot_of c.args.source.now.entry.node.number c.args.other.now) may.from may.onto (set_so g c told name may)
 
 pub set_slot-requires-clause-there : goal.set_slot-requires-clause-there
 set_slot-requires-clause-there g c = λ told.
-    let s = g.S.Blocks.state c.args.blocks.now in
     let may = (c.requires.moves told).1 in
-    (may.onto.slots, ap (λ d. inodes_in s d c.args.target.now.dir) c.new-draft.ensures ∙ may.onto.dir, place_within (inodes_in s nothing_drafted) c.args.other.now c.args.target.now may.onto)
+    (may.onto.slots, ap (λ d. inodes_in (g.S.Blocks.state c.args.blocks.now) d c.args.target.now.dir) c.new-draft.ensures ∙ may.onto.dir, place_within (inodes (g.S.Blocks.state c.args.blocks.now)) c.args.other.now c.args.target.now may.onto)
 
 pub take_slot-requires-clause-there : goal.take_slot-requires-clause-there
 take_slot-requires-clause-there g c = λ told.
-    let s = g.S.Blocks.state c.args.blocks.now in
-    let t = g.S.Blocks.state c.set_slot.new.blocks in
-    let name = (c.requires.moves told).0 in
-    let may = (c.requires.moves told).1 in
-    let named = slot_of c.args.source.now.entry.node.number c.copy.result in
-    let one = subst (λ d. IsWithSlots (files_in s d) (files_in t c.set_slot.new.draft) c.args.target.now.dir (set may.onto.slots c.args.target.now.entry.place named)) c.new-draft.ensures
-    (c.in-Ok.ensures.slots told may.onto.slots (ap (λ d. inodes_in s d c.args.target.now.dir) c.new-draft.ensures ∙ may.onto.dir)) in
-    let mid = between (files_in s nothing_drafted) (files_in t c.set_slot.new.draft) c.args.source.now c.args.target.now name c.args.other.now named may.from may.onto one in
-    (mid.slots, mid.is, subst (λ n. c.args.source.now.entry.place < n) (sym (mid.many ∙ may.from.count)) (place_within (inodes_in s nothing_drafted) name c.args.source.now may.from))
+    let moves = c.requires.moves told in
+    let mid = left_so g (goal.at.take_slot-requires-clause-there g c).In-Ok told moves.0 moves.1 in
+    (mid.slots, mid.is, subst (λ n. c.args.source.now.entry.place < n) (sym (mid.many ∙ moves.1.from.count)) (place_within (inodes (g.S.Blocks.state c.args.blocks.now)) moves.0 c.args.source.now moves.1.from))
 
 pub lose_link-requires-clause-found : goal.lose_link-requires-clause-found
 lose_link-requires-clause-found g c = λ told.
     let s = g.S.Blocks.state c.args.blocks.now in
-    let t = g.S.Blocks.state c.set_slot.new.blocks in
     let u = g.S.Blocks.state c.take_slot.new.blocks in
-    let name = (c.requires.moves told).0 in
-    let may = (c.requires.moves told).1 in
+    let moves = c.requires.moves told in
+    let may = moves.1 in
     let tree = c.requires.stands told in
+    let p = (goal.at.lose_link-requires-clause-found g c).In-Ok in
+    let mid = left_so g p told moves.0 may in
     let reads = c.files_have_one_map.ensures.read (files_of s.books.geom s.map) (λ k file is. c.blocks_have_a_map.ensures.reads s.books.geom s.map tree.0 k file tree.1 is) in
-    let named = slot_of c.args.source.now.entry.node.number c.copy.result in
-    let one = subst (λ d. IsWithSlots (files_in s d) (files_in t c.set_slot.new.draft) c.args.target.now.dir (set may.onto.slots c.args.target.now.entry.place named)) c.new-draft.ensures
-    (c.in-Ok.ensures.slots told may.onto.slots (ap (λ d. inodes_in s d c.args.target.now.dir) c.new-draft.ensures ∙ may.onto.dir)) in
-    let named_one = subst (λ (n : List ℕ). IsWithSlots (files_in s nothing_drafted) (files_in t c.set_slot.new.draft) c.args.target.now.dir (set may.onto.slots c.args.target.now.entry.place (slot_of c.args.source.now.entry.node.number n))) c.copy.ensures one in
-    let mid = between (files_in s nothing_drafted) (files_in t c.set_slot.new.draft) c.args.source.now c.args.target.now name c.args.other.now named may.from may.onto one in
-    found2 (files_in s nothing_drafted) (files_in t c.set_slot.new.draft) (files_in u c.take_slot.new.draft) (files_in u c.take_slot.new.draft) c.args.source.now c.args.target.now name c.args.other.now may.from may.onto may.not_node may.not_from may.not_into may.found reads named_one mid
+    found2 (files_in s nothing_drafted) (files_in (g.S.Blocks.state c.set_slot.new.blocks) c.set_slot.new.draft) (files_in u c.take_slot.new.draft) (files_in u c.take_slot.new.draft) c.args.source.now c.args.target.now moves.0 c.args.other.now may.from may.onto may.not_node may.not_from may.not_into may.found reads (set_so g p told moves.0 may) mid
     (c.in-Ok-take_slot.ensures.slots told mid.slots mid.is) c.directories_are_read.ensures
 
 pub returns-in-Ok-lose_link-clause-moves : goal.returns-in-Ok-lose_link-clause-moves
@@ -61,11 +66,9 @@ returns-in-Ok-lose_link-clause-moves g c = λ told name may.
     let f2 = files_in u c.take_slot.new.draft in
     let f3 = files_in v c.lose_link.new.draft in
     let reads = c.files_have_one_map.ensures.read (files_of s.books.geom s.map) (λ k file is. c.blocks_have_a_map.ensures.reads s.books.geom s.map tree.0 k file tree.1 is) in
-    let named = slot_of c.args.source.now.entry.node.number c.copy.result in
-    let at = ap (λ d. inodes_in s d c.args.target.now.dir) c.new-draft.ensures ∙ may.onto.dir in
-    let one = subst (λ d. IsWithSlots (files_in s d) f1 c.args.target.now.dir (set may.onto.slots c.args.target.now.entry.place named)) c.new-draft.ensures (c.in-Ok.ensures.slots told may.onto.slots at) in
-    let named_one = subst (λ (n : List ℕ). IsWithSlots f0 f1 c.args.target.now.dir (set may.onto.slots c.args.target.now.entry.place (slot_of c.args.source.now.entry.node.number n))) c.copy.ensures one in
-    let mid = between f0 f1 c.args.source.now c.args.target.now name c.args.other.now named may.from may.onto one in
+    let p = (goal.at.returns-in-Ok-lose_link-clause-moves g c).In-Ok in
+    let named_one = set_so g p told name may in
+    let mid = left_so g p told name may in
     let two = c.in-Ok-take_slot.ensures.slots told mid.slots mid.is in
     let x = inode2 f0 f1 f2 f3 c.args.source.now c.args.target.now name c.args.other.now may.from may.onto may.not_node may.not_from may.not_into may.found reads named_one mid two c.directories_are_read.ensures in
     let three = c.in-Ok-lose_link.ensures.link told x.0 x.1 in
@@ -95,10 +98,10 @@ returns-in-Err-take_slot-clause-looks g c =
 
 pub returns-in-Ok-lose_link-clause-looks : goal.returns-in-Ok-lose_link-clause-looks
 returns-in-Ok-lose_link-clause-looks g c =
-    let first = looks_more g.S.Blocks.tells false (g.S.Blocks.state c.args.blocks.now) (g.S.Blocks.state c.set_slot.new.blocks) (g.S.Blocks.state c.take_slot.new.blocks) c.in-Ok.ensures.looks c.in-Ok-take_slot.ensures.looks in
+    let first = looks_more g.S.Blocks.tells false _ _ _ c.in-Ok.ensures.looks c.in-Ok-take_slot.ensures.looks in
     looks_more g.S.Blocks.tells false (g.S.Blocks.state c.args.blocks.now) (g.S.Blocks.state c.take_slot.new.blocks) (g.S.Blocks.state c.lose_link.new.blocks) first c.in-Ok-lose_link.ensures.looks
 
 pub returns-in-Err-lose_link-clause-looks : goal.returns-in-Err-lose_link-clause-looks
 returns-in-Err-lose_link-clause-looks g c =
-    let first = looks_more g.S.Blocks.tells false (g.S.Blocks.state c.args.blocks.now) (g.S.Blocks.state c.set_slot.new.blocks) (g.S.Blocks.state c.take_slot.new.blocks) c.in-Ok.ensures.looks c.in-Ok-take_slot.ensures.looks in
+    let first = looks_more g.S.Blocks.tells false _ _ _ c.in-Ok.ensures.looks c.in-Ok-take_slot.ensures.looks in
     looks_more g.S.Blocks.tells (fails_reading {T = ℕ} (Err c.in-Err-lose_link.why)) (g.S.Blocks.state c.args.blocks.now) (g.S.Blocks.state c.take_slot.new.blocks) (g.S.Blocks.state c.lose_link.new.blocks) first c.in-Err-lose_link.ensures.looks

@@ -1,10 +1,28 @@
-use Rattle.std.proofs.Common.{false, sym, subst, ap, ◌∙◌}
+use Rattle.std.proofs.Common.{rules, tests, false, sym, subst, ap, ◌∙◌}
 use Rattle.fs_dirs.specs.Directories.{Finds}
 use Rattle.fs_files.specs.Calls.{files_in, facts_of}
+use Rattle.fs_files.specs.Content.{fails_reading}
 use Rattle.std.specs.Prelude.{option_map}
 use Rattle.fs_commands.proofs.looking.Entries.{no_entry, an_entry, no_stray}
-use Rattle.fs_commands.proofs.looking.Found.{same_files}
+use Rattle.fs_commands.proofs.looking.Found.{looks_more, draft_stays, same_files}
 use Rattle.fs_commands.proofs.paths.find_entry.Goals as goal
+
+pub look-requires : goal.look-requires
+look-requires g c = record {
+  going = search rules;
+  from = search rules;
+  upto = search rules;
+  draft = draft_stays g.S.Blocks.tells false (g.S.Blocks.state c.args.blocks.now) (g.S.Blocks.state c.find.new.blocks) c.args.draft.now c.in_ok-found.ensures.looks c.requires.draft;
+}
+
+pub returns-in_err-facts-clause-looks : goal.returns-in_err-facts-clause-looks
+returns-in_err-facts-clause-looks g c = looks_more g.S.Blocks.tells (fails_reading c.from_residual-in_err-facts.result) (g.S.Blocks.state c.args.blocks.now) (g.S.Blocks.state c.find.new.blocks) (g.S.Blocks.state c.look.new.blocks) c.in_ok-found.ensures.looks (search (rules, tests))
+
+pub returns-in_default-2-clause-looks : goal.returns-in_default-2-clause-looks
+returns-in_default-2-clause-looks g c = looks_more g.S.Blocks.tells false _ _ _ c.in_ok-found.ensures.looks c.in_ok-facts.ensures.looks
+
+pub returns-clause-looks : goal.returns-clause-looks
+returns-clause-looks g c = looks_more g.S.Blocks.tells false _ _ _ c.in_ok-found.ensures.looks c.in_ok-facts.ensures.looks
 
 pub returns-in_default-clause-entry : goal.returns-in_default-clause-entry
 returns-in_default-clause-entry g c = λ told t slots map at.

@@ -1,8 +1,7 @@
-use Rattle.std.proofs.Common.{rules, false, sym, subst, ◌∙◌}
+use Rattle.std.proofs.Common.{false, sym, ◌∙◌, rules}
 use Rattle.fs_files.specs.Drafts.{nothing_drafted}
-use Rattle.fs_files.specs.Sound.{IsDraftOf}
 use Rattle.fs_dirs.specs.Directories.{inodes_in}
-use Rattle.fs_commands.proofs.looking.Found.{looks_more, draft_stays, walked_as, found_so, found_none, there_so}
+use Rattle.fs_commands.proofs.looking.Found.{looks_more, draft_stays, walked_as, found_so, found_none, there_so, draft_begun}
 use Rattle.fs_commands.proofs.paths.find_node.Goals as goal
 
 pub returns-in-Err-clause-found : goal.returns-in-Err-clause-found
@@ -11,15 +10,12 @@ returns-in-Err-clause-found g c = λ told t h.
     walked_as s c.new-draft.result c.args.path.now c.in_ok-number.field-0 _ c.new-draft.ensures c.in-Err.is (c.in_ok-number.ensures.end told) t (c.blocks_have_the_map_of_their_tree.ensures.map s.books.geom s.map t h)
 
 pub look-requires : goal.look-requires
-look-requires g c =
-    let s = g.S.Blocks.state c.args.blocks.now in
-    record {
-      going = search rules;
-      from = search rules;
-      upto = search rules;
-      draft = draft_stays g.S.Blocks.tells false s (g.S.Blocks.state c.walk.new.blocks) c.new-draft.result c.in_ok-number.ensures.looks
-          (subst (λ d. IsDraftOf g.S.Blocks.tells s d) (sym c.new-draft.ensures) (c.a_draft_begins.ensures.draft c.requires.begin.none_bare c.requires.begin.sound));
-    }
+look-requires g c = record {
+  going = search rules;
+  from = search rules;
+  upto = search rules;
+  draft = draft_stays g.S.Blocks.tells false (g.S.Blocks.state c.args.blocks.now) (g.S.Blocks.state c.walk.new.blocks) c.new-draft.result c.in_ok-number.ensures.looks (draft_begun g.S.Blocks.tells (g.S.Blocks.state c.args.blocks.now) c.new-draft.result c.new-draft.ensures c.requires.begin c.a_draft_begins.ensures.draft);
+}
 
 pub returns-in-Some-clause-found : goal.returns-in-Some-clause-found
 returns-in-Some-clause-found g c = λ told t h.

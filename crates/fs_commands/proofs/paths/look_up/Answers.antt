@@ -1,11 +1,10 @@
-use Rattle.std.proofs.Common.{rules, tests, option_copied, false, Ok, Err, None, Some, sym, subst, ap, ◌∙◌}
+use Rattle.std.proofs.Common.{rules, tests, option_copied, false, Ok, Err, None, Some, sym, ap, ◌∙◌}
 use Rattle.crash_stands.specs.Inodes.{inodes_of}
 use Rattle.fs_files.specs.Calls.{files_in}
 use Rattle.fs_files.specs.Content.{fails_reading}
 use Rattle.fs_files.specs.Drafts.{nothing_drafted}
-use Rattle.fs_files.specs.Sound.{IsDraftOf}
 use Rattle.fs_commands.proofs.looking.Entries.{above_as, comes_inside, no_file_above, entry_stays}
-use Rattle.fs_commands.proofs.looking.Found.{looks_more, draft_stays, files_stay}
+use Rattle.fs_commands.proofs.looking.Found.{looks_more, draft_stays, files_stay, draft_begun}
 use Rattle.fs_commands.proofs.paths.look_up.Goals as goal
 
 pub returns-in-Ok-None-clause-comes : goal.returns-in-Ok-None-clause-comes
@@ -36,25 +35,16 @@ returns-in_default-2-clause-looks g c =
 
 pub find_entry-requires-clause-draft : goal.find_entry-requires-clause-draft
 find_entry-requires-clause-draft g c =
-    let s = g.S.Blocks.state c.args.blocks.now in
-    let mid = g.S.Blocks.state c.walk_to_parent.new.blocks in
-    draft_stays g.S.Blocks.tells false mid (g.S.Blocks.state c.count_slots.new.blocks) c.new-draft.result c.in_ok-count.ensures.looks
-    (draft_stays g.S.Blocks.tells false s mid c.new-draft.result c.in_ok-dir.ensures.looks
-    (subst (λ d. IsDraftOf g.S.Blocks.tells s d) (sym c.new-draft.ensures) (c.a_draft_begins.ensures.draft c.requires.begin.none_bare c.requires.begin.sound)))
+    draft_stays g.S.Blocks.tells false _ _ c.new-draft.result c.in_ok-count.ensures.looks (draft_stays g.S.Blocks.tells false _ _ c.new-draft.result c.in_ok-dir.ensures.looks (draft_begun g.S.Blocks.tells _ _ c.new-draft.ensures c.requires.begin c.a_draft_begins.ensures.draft))
 
 pub returns-in_err-entry-clause-looks : goal.returns-in_err-entry-clause-looks
 returns-in_err-entry-clause-looks g c =
-    let s = g.S.Blocks.state c.args.blocks.now in
-    let mid = g.S.Blocks.state c.walk_to_parent.new.blocks in
-    let next = g.S.Blocks.state c.count_slots.new.blocks in
-    looks_more g.S.Blocks.tells (fails_reading c.from_residual-in_err-entry.result) s next (g.S.Blocks.state c.find_entry.new.blocks) (looks_more g.S.Blocks.tells false s mid next c.in_ok-dir.ensures.looks c.in_ok-count.ensures.looks) (search (rules, tests))
+    looks_more g.S.Blocks.tells (fails_reading c.from_residual-in_err-entry.result) (g.S.Blocks.state c.args.blocks.now) (g.S.Blocks.state c.count_slots.new.blocks) (g.S.Blocks.state c.find_entry.new.blocks)
+    (looks_more g.S.Blocks.tells false _ _ _ c.in_ok-dir.ensures.looks c.in_ok-count.ensures.looks) (search (rules, tests))
 
 pub returns-clause-looks : goal.returns-clause-looks
 returns-clause-looks g c =
-    let s = g.S.Blocks.state c.args.blocks.now in
-    let mid = g.S.Blocks.state c.walk_to_parent.new.blocks in
-    let next = g.S.Blocks.state c.count_slots.new.blocks in
-    looks_more g.S.Blocks.tells false s next (g.S.Blocks.state c.find_entry.new.blocks) (looks_more g.S.Blocks.tells false s mid next c.in_ok-dir.ensures.looks c.in_ok-count.ensures.looks) c.in_ok-entry.ensures.looks
+    looks_more g.S.Blocks.tells false _ _ _ (looks_more g.S.Blocks.tells false _ _ _ c.in_ok-dir.ensures.looks c.in_ok-count.ensures.looks) c.in_ok-entry.ensures.looks
 
 pub returns-clause-comes : goal.returns-clause-comes
 returns-clause-comes g c = λ told t h.
@@ -71,12 +61,9 @@ returns-clause-comes g c = λ told t h.
     (entry_stays g.S.Blocks.tells s next d c.new-draft.ensures told both c.in-Ok-Some.dir c.in-Some.name.now c.in_ok-entry.entry t map (c.in_ok-entry.ensures.entry told))
 
 pub count_slots-requires : goal.count_slots-requires
-count_slots-requires g c =
-    let s = g.S.Blocks.state c.args.blocks.now in
-    record {
-      going = search rules;
-      from = search rules;
-      upto = search rules;
-      draft = draft_stays g.S.Blocks.tells false s (g.S.Blocks.state c.walk_to_parent.new.blocks) c.new-draft.result c.in_ok-dir.ensures.looks
-          (subst (λ d. IsDraftOf g.S.Blocks.tells s d) (sym c.new-draft.ensures) (c.a_draft_begins.ensures.draft c.requires.begin.none_bare c.requires.begin.sound));
-    }
+count_slots-requires g c = record {
+  going = search rules;
+  from = search rules;
+  upto = search rules;
+  draft = draft_stays g.S.Blocks.tells false (g.S.Blocks.state c.args.blocks.now) (g.S.Blocks.state c.walk_to_parent.new.blocks) c.new-draft.result c.in_ok-dir.ensures.looks (draft_begun g.S.Blocks.tells (g.S.Blocks.state c.args.blocks.now) c.new-draft.result c.new-draft.ensures c.requires.begin c.a_draft_begins.ensures.draft);
+}

@@ -1,4 +1,4 @@
-use Rattle.std.proofs.Common.{[], Ok, refl, sym, subst, ap, ◌∙◌}
+use Rattle.std.proofs.Common.{[], Ok, sym, subst, ap, ◌∙◌}
 use Rattle.lang_tree.specs.declared.command.Cmd.TheVariants.{Rename}
 use Rattle.lang_tree.specs.declared.command.Refusal.TheVariants.{NotFound}
 use Rattle.fs_files.specs.Calls.{files_in}
@@ -7,7 +7,6 @@ use Rattle.fs_commands.specs.declared.paths.Spot.{Spot}
 use Rattle.fs_commands.specs.declared.paths.Spot.TheVariants.{Inside}
 use Rattle.fs_commands.specs.Looks.{ComesTo, walk_of}
 use Rattle.fs_session.specs.Sessions.{inodes}
-use Rattle.fs_session.specs.Staying.{nothing_issued}
 use Rattle.fs_commands.proofs.planning.Looking.{no_look}
 use Rattle.fs_commands.proofs.removed.Decided.{plans_as}
 use Rattle.fs_commands.proofs.renamed.Reasons.{walk_refuses}
@@ -23,12 +22,7 @@ returns-in-Root-clause-plans g c =
 
 pub returns-in-None-clause-plans : goal.returns-in-None-clause-plans
 returns-in-None-clause-plans g c =
-    let s = g.S.Blocks.state c.args.blocks.now in
-    let files = files_in s nothing_drafted in
     let here = c.in-Inside in
-    refused_rename g.S.Blocks.tells s s c.args.from.now c.args.to.now NotFound c.requires.may.begin.going (g.met.S.Blocks.is_sound c.args.blocks.now)
-    (λ told tree h.
-    walk_refuses (inodes s) c.args.from.now c.args.to.now NotFound
-    (c.what_a_path_comes_to_gives_the_walk.ensures.walk files c.args.from.now (Ok c.args.spot.now) (c.requires.comes told)
-    ∙ ap (λ (p : Spot). walk_of (Ok p)) here.is ∙ ap (λ o. walk_of (Ok (Inside here.dir here.count o))) c.in-None.is))
-    (c.blocks_have_the_map_of_their_tree.ensures.map s.books.geom s.map) c.the_map_gives_the_refusal.ensures.refusal (no_look g.S.Blocks.tells s) (λ told. c.calls_compose.ensures.rests told c.args.blocks.now c.args.blocks.now refl refl (nothing_issued s))
+    refused_rename g.S.Blocks.tells g.S.Blocks.state c.calls_compose.ensures.rests g.met.S.Blocks.is_sound c.blocks_have_the_map_of_their_tree.ensures.map c.the_map_gives_the_refusal.ensures.refusal c.args.from.now c.args.to.now c.args.blocks.now c.args.blocks.now NotFound c.requires.may.begin.going
+    (λ told tree h. walk_refuses (inodes (g.S.Blocks.state c.args.blocks.now)) c.args.from.now c.args.to.now NotFound
+    (c.what_a_path_comes_to_gives_the_walk.ensures.walk (files_in (g.S.Blocks.state c.args.blocks.now) nothing_drafted) c.args.from.now (Ok c.args.spot.now) (c.requires.comes told) ∙ ap (λ (p : Spot). walk_of (Ok p)) here.is ∙ ap (λ o. walk_of (Ok (Inside here.dir here.count o))) c.in-None.is)) (no_look g.S.Blocks.tells (g.S.Blocks.state c.args.blocks.now))

@@ -1,88 +1,67 @@
-use Rattle.std.proofs.Common.{◌≡◌, ◌≤◌, ◌++◌, false, take, length, Some, Err, sym, subst, ap, ◌∙◌, arith}
+use Rattle.std.proofs.Common.{◌≡◌, ◌≤◌, false, length, Some, Err, sym, subst, ap, arith, IsTrue, Ok, ℕ, List}
 use Rattle.layout_geometry.specs.Geometry.{Geometry}
 use Rattle.lang_tree.specs.declared.command.Cmd.TheVariants.{Truncate}
 use Rattle.lang_tree.specs.declared.command.Refusal.{Refusal}
-use Rattle.lang_tree.specs.Step.{resized}
+use Rattle.lang_tree.specs.Step.{Session}
 use Rattle.engine_blocks.specs.Running.{Running}
 use Rattle.engine_blocks.specs.State.{reusable_blocks}
 use Rattle.crash_stands.specs.Files.{FileNode}
-use Rattle.fs_inodes.specs.Lookups.{bytes_of}
-use Rattle.fs_files.specs.Bytes.{blocks_for}
-use Rattle.fs_files.specs.Calls.{IsWithFile, IsWithPlaces, IsUsed, Resizes, GrowthRefused, files_in, places_in, growth, with_bytes}
+use Rattle.fs_inodes.specs.Lookups.{walk_on}
+use Rattle.fs_files.specs.Calls.{IsUsed, GrowthRefused, files_in, places_in, growth}
 use Rattle.fs_files.specs.Content.{fails_reading}
 use Rattle.fs_files.specs.Drafts.{nothing_drafted}
 use Rattle.fs_files.specs.Effects.{LooksOnly}
-use Rattle.fs_dirs.specs.Directories.{inodes_in}
 use Rattle.fs_session.specs.Commands.{places_of}
 use Rattle.fs_session.specs.Plans.{Plans}
 use Rattle.fs_session.specs.declared.plan.Plan.{Plan}
 use Rattle.fs_commands.proofs.growing.Refused.{growth_refused}
-use Rattle.fs_commands.proofs.planning.Looking.{growth_plan}
-use Rattle.fs_commands.proofs.sizing.Resized.{need_is, resized_tree, within_cost}
-use Rattle.fs_commands.proofs.writing.Written.{file_bytes, moved_to, used_stays}
+use Rattle.fs_commands.proofs.planning.Looking.{growth_plan, looked_calmly}
+use Rattle.fs_commands.proofs.sizing.Resized.{need_is, resized_tree, Sized}
+use Rattle.fs_commands.proofs.writing.Written.{moved_to, used_stays, AtFile, at_file}
 use Rattle.fs_commands.proofs.looking.InUse.{all_read}
+use Rattle.fs_commands.proofs.sizes.plan_size.Given as given
+use Rattle.fs_session.specs.Sessions.{IsSession, inodes}
 use Rattle.fs_commands.proofs.sizes.plan_size.Goals as goal
+use Rattle.fs_commands.proofs.sizes.plan_size.Goals.{After-resize, In-Ok}
 
 pub resize-requires-clause-used : goal.resize-requires-clause-used
 resize-requires-clause-used g c = λ told. subst (λ d. IsUsed (files_in (g.S.Blocks.state c.args.blocks.now) d) c.args.number) (sym c.new-draft.ensures) ((c.requires.file told).0, (c.requires.file told).1)
 
+-- the file, in each session that the path leads to it in
+here : (g : given.Over) (c : goal.After-resize g) (path : List (List ℕ)) (told : IsTrue g.S.Blocks.tells) → walk_on (inodes (g.S.Blocks.state c.args.blocks.now)) 1 path ≡ Ok c.args.number → (f : Session) → IsSession (g.S.Blocks.state c.args.blocks.now) f → AtFile (g.S.Blocks.state c.args.blocks.now) f path c.args.number (c.requires.file told).0
+here g c path told walk f h =
+    let x = c.requires.file told in
+    at_file (g.S.Blocks.state c.args.blocks.now) f path c.args.number x.0 h c.blocks_have_the_map_of_their_tree.ensures.map c.walks_are_the_same.ensures.ends c.the_node_at_a_path_gives_the_inode.ensures.inode c.paths_lead_to_inodes.ensures.bytes walk x.1 x.2
+    (c.a_file_has_its_blocks.ensures c.args.blocks.now nothing_drafted c.args.number x.0 told (c.a_draft_begins.ensures.draft c.requires.may.begin.none_bare c.requires.may.begin.sound) x.1)
+
+-- what the resize left
+sized : (g : given.Over) (c : goal.In-Ok g) (told : IsTrue g.S.Blocks.tells) → Sized g.S.Blocks.tells (g.S.Blocks.state c.args.blocks.now) (g.S.Blocks.state c.resize.new.blocks) nothing_drafted c.resize.new.self c.args.number c.args.size (c.requires.file told).0
+sized g c told =
+    let x = c.requires.file told in
+    let at = subst (λ d. files_in (g.S.Blocks.state c.args.blocks.now) d c.args.number ≡ Some x.0) (sym c.new-draft.ensures) x.1 in
+    let is = c.in-Ok.ensures in
+    moved_to (λ d n. Sized g.S.Blocks.tells (g.S.Blocks.state c.args.blocks.now) (g.S.Blocks.state c.resize.new.blocks) d c.resize.new.self c.args.number n x.0) c.new-draft.result nothing_drafted c.from.result c.args.size c.new-draft.ensures c.from.ensures
+    (record { file = is.file told x.0 at; resizes = is.resizes told x.0 at; places = is.places told x.0 at; looks = is.looks told x.0 at })
+
 pub returns-in-Ok-clause-made : goal.returns-in-Ok-clause-made
 returns-in-Ok-clause-made g c =
-    let s = g.S.Blocks.state c.args.blocks.now in
-    let t = g.S.Blocks.state c.resize.new.blocks in
-    let settles = c.in-Ok.ensures.settles in
+    let pipeline = c.in-Ok.ensures.settles.pipeline in
     record {
       draft = c.in-Ok.ensures.draft;
-      weight = omega (arith, c.requires.room, ap (λ (r : Running). r.weight) settles.pipeline.running, settles.pipeline.room);
+      weight = omega (arith, c.requires.room, ap (λ (r : Running). r.weight) pipeline.running, pipeline.room);
       above = c.requires.may.above;
-      used = λ told. let x = c.requires.file told in
-          let with = moved_to (λ d n. (x : FileNode) → files_in s d c.args.number ≡ Some x → IsWithFile (files_in s d) (files_in t c.resize.new.self) c.args.number (Some (with_bytes x (resized n x.bytes))))
-          c.new-draft.result nothing_drafted c.from.result c.args.size c.new-draft.ensures c.from.ensures (c.in-Ok.ensures.file told) x.0 x.1 in
-          used_stays (files_in s nothing_drafted) (files_in t c.resize.new.self) c.args.number c.args.first_unused (with_bytes x.0 (resized c.args.size x.0.bytes)) with (c.requires.may.used told);
+      used = λ told. used_stays _ _ c.args.number c.args.first_unused _ (sized g (goal.at.returns-in-Ok-clause-made g c).In-Ok told).file (c.requires.may.used told);
     }
 
 pub returns-in-Ok-clause-plans : goal.returns-in-Ok-clause-plans
 returns-in-Ok-clause-plans g c = λ path may. record {
-  is = λ told f h.
-      let s = g.S.Blocks.state c.args.blocks.now in
-      let t = g.S.Blocks.state c.resize.new.blocks in
-      let d = c.resize.new.self in
-      let x = c.requires.file told in
-      let map = c.blocks_have_the_map_of_their_tree.ensures.map s.books.geom s.map f.tree h.tree in
-      let leads = c.walks_are_the_same.ensures.ends (inodes_in s nothing_drafted) path c.args.number (may.walk told) in
-      let at = c.the_node_at_a_path_gives_the_inode.ensures.inode (files_in s nothing_drafted) path c.args.number x.0 leads x.1 in
-      let holds = c.paths_lead_to_inodes.ensures.bytes s.books.geom.i (inodes_in s nothing_drafted) f.tree path map ∙ ap bytes_of at ∙ file_bytes x.0 x.2 in
-      let weighed = may.weighed told f h in
-      let other = may.other told x.0 x.1 in
-      let count = c.a_file_has_its_blocks.ensures c.args.blocks.now nothing_drafted c.args.number x.0 told (c.a_draft_begins.ensures.draft c.requires.may.begin.none_bare c.requires.may.begin.sound) x.1 in
-      let with = moved_to (λ d n. (x : FileNode) → files_in s d c.args.number ≡ Some x → IsWithFile (files_in s d) (files_in t c.resize.new.self) c.args.number (Some (with_bytes x (resized n x.bytes))))
-      c.new-draft.result nothing_drafted c.from.result c.args.size c.new-draft.ensures c.from.ensures (c.in-Ok.ensures.file told) x.0 x.1 in
-      let resizes = moved_to (λ d n. (x : FileNode) → files_in s d c.args.number ≡ Some x
-      → Resizes t.books c.args.number x (places_in s d c.args.number) (places_in t c.resize.new.self c.args.number) n d c.resize.new.self)
-      c.new-draft.result nothing_drafted c.from.result c.args.size c.new-draft.ensures c.from.ensures (c.in-Ok.ensures.resizes told) x.0 x.1 in
-      let placed = moved_to (λ d n. (x : FileNode) → files_in s d c.args.number ≡ Some x
-      → IsWithPlaces (places_in s d) (places_in t c.resize.new.self) c.args.number (take (blocks_for n) (places_in s d c.args.number) ++ take (growth (length x.bytes) n) (reusable_blocks t.books)))
-      c.new-draft.result nothing_drafted c.from.result c.args.size c.new-draft.ensures c.from.ensures (c.in-Ok.ensures.places told) x.0 x.1 in
-      let rests = moved_to (λ d n. (x : FileNode) → files_in s d c.args.number ≡ Some x → growth (length x.bytes) n ≤ length (reusable_blocks s.books) → LooksOnly g.S.Blocks.tells false s t)
-      c.new-draft.result nothing_drafted c.from.result c.args.size c.new-draft.ensures c.from.ensures (c.in-Ok.ensures.looks told) x.0 x.1 in
-      let within = within_cost s t f path c.args.number c.args.size c.args.cost x.0 weighed holds other d g.S.Blocks.tells false false c.in-Ok.ensures.settles resizes (λ enough. (rests enough).books) x.2 count
-      c.touched_blocks_are_counted_by_division.ensures c.small_drafts_are_within_the_cost.ensures.writing c.small_drafts_are_within_the_cost.ensures.shrinking in
-      resized_tree s t f path c.args.number c.args.size c.args.cost x.0 weighed holds other d g.S.Blocks.tells false false c.in-Ok.ensures.settles resizes (λ enough. (rests enough).books) x.2 count
-      h map leads x.1 (all_read (files_in s nothing_drafted) h.tree.inodes h.tree.read) with c.new_bytes_are_mapped.ensures.truncate within placed.others;
+  is = λ told f h. resized_tree (g.S.Blocks.state c.args.blocks.now) (g.S.Blocks.state c.resize.new.blocks) f path c.args.number c.args.size c.args.cost (c.requires.file told).0 (here g (goal.at.returns-in-Ok-clause-plans g c).After-resize path told (may.walk told) f h) (may.weighed told f h) (may.other told (c.requires.file told).0 (c.requires.file told).1)
+      c.resize.new.self g.S.Blocks.tells false false c.in-Ok.ensures.settles (sized g (goal.at.returns-in-Ok-clause-plans g c).In-Ok told) (all_read (files_in (g.S.Blocks.state c.args.blocks.now) nothing_drafted) h.tree.inodes h.tree.read) c.new_bytes_are_mapped.ensures.truncate
+      c.touched_blocks_are_counted_by_division.ensures c.small_drafts_are_within_the_cost.ensures.writing c.small_drafts_are_within_the_cost.ensures.shrinking;
   going = c.requires.may.begin.going;
   quiet = λ told f h enough.
-      let s = g.S.Blocks.state c.args.blocks.now in
-      let t = g.S.Blocks.state c.resize.new.blocks in
-      let x = c.requires.file told in
-      let map = c.blocks_have_the_map_of_their_tree.ensures.map s.books.geom s.map f.tree h.tree in
-      let leads = c.walks_are_the_same.ensures.ends (inodes_in s nothing_drafted) path c.args.number (may.walk told) in
-      let at = c.the_node_at_a_path_gives_the_inode.ensures.inode (files_in s nothing_drafted) path c.args.number x.0 leads x.1 in
-      let holds = c.paths_lead_to_inodes.ensures.bytes s.books.geom.i (inodes_in s nothing_drafted) f.tree path map ∙ ap bytes_of at ∙ file_bytes x.0 x.2 in
-      let need = need_is s t f path c.args.number c.args.size c.args.cost x.0 (may.weighed told f h) holds (may.other told x.0 x.1) in
-      let looks = moved_to (λ d n. (x : FileNode) → files_in s d c.args.number ≡ Some x → growth (length x.bytes) n ≤ length (reusable_blocks s.books) → LooksOnly g.S.Blocks.tells false s t)
-      c.new-draft.result nothing_drafted c.from.result c.args.size c.new-draft.ensures c.from.ensures (c.in-Ok.ensures.looks told) x.0 x.1 in
-      let looked = looks (omega (arith, enough, need)) in
-      (looked.books, (looked.crash told).log);
+      let need = need_is (g.S.Blocks.state c.args.blocks.now) (g.S.Blocks.state c.resize.new.blocks) f path c.args.number c.args.size c.args.cost (c.requires.file told).0 (here g (goal.at.returns-in-Ok-clause-plans g c).After-resize path told (may.walk told) f h) (may.weighed told f h) (may.other told (c.requires.file told).0 (c.requires.file told).1) in
+      looked_calmly g.S.Blocks.tells _ _ _ ((sized g (goal.at.returns-in-Ok-clause-plans g c).In-Ok told).looks (omega (arith, enough, need))) told;
   settles = c.in-Ok.ensures.settles;
 }
 
@@ -91,30 +70,20 @@ returns-in-Err-clause-plans g c = λ path may.
     let s = g.S.Blocks.state c.args.blocks.now in
     let t = g.S.Blocks.state c.resize.new.blocks in
     let why = c.in-Err.why in
-    subst (λ (w : Refusal). Plans g.S.Blocks.tells (Truncate path c.args.size) (Err w) s t) (sym c.refusal_of.ensures) (growth_plan g.S.Blocks.tells (Truncate path c.args.size) s t why c.requires.may.begin.going (λ told f h.
+    subst (λ (w : Refusal). Plans g.S.Blocks.tells (Truncate path c.args.size) (Err w) s t) (sym c.refusal_of.ensures) (growth_plan g.S.Blocks.tells (Truncate path c.args.size) s t why c.requires.may.begin.going
+    (λ told f h.
     let x = c.requires.file told in
-    let map = c.blocks_have_the_map_of_their_tree.ensures.map s.books.geom s.map f.tree h.tree in
-    let leads = c.walks_are_the_same.ensures.ends (inodes_in s nothing_drafted) path c.args.number (may.walk told) in
-    let at = c.the_node_at_a_path_gives_the_inode.ensures.inode (files_in s nothing_drafted) path c.args.number x.0 leads x.1 in
-    let holds = c.paths_lead_to_inodes.ensures.bytes s.books.geom.i (inodes_in s nothing_drafted) f.tree path map ∙ ap bytes_of at ∙ file_bytes x.0 x.2 in
+    let a = here g (goal.at.returns-in-Err-clause-plans g c).After-resize path told (may.walk told) f h in
     let weighed = may.weighed told f h in
-    let draft = c.a_draft_begins.ensures.draft c.requires.may.begin.none_bare c.requires.may.begin.sound in
-    let count = c.a_file_has_its_blocks.ensures c.args.blocks.now nothing_drafted c.args.number x.0 told draft x.1 in
-    let fits = c.a_file_fits_the_disk.ensures nothing_drafted c.args.number x.0 told draft x.1 in
-    let need = need_is s t f path c.args.number c.args.size c.args.cost x.0 weighed holds (may.other told x.0 x.1) in
+    let fits = c.a_file_fits_the_disk.ensures nothing_drafted c.args.number x.0 told (c.a_draft_begins.ensures.draft c.requires.may.begin.none_bare c.requires.may.begin.sound) x.1 in
     let refused = moved_to (λ d n. (x : FileNode) → files_in s d c.args.number ≡ Some x → GrowthRefused (growth (length x.bytes) n) (places_in s d c.args.number) s.books t.books why)
     c.new-draft.result nothing_drafted c.from.result c.args.size c.new-draft.ensures c.from.ensures (c.in-Err.ensures.refused told) x.0 x.1 in
-    growth_refused s t f (Truncate path c.args.size) c.args.number (g.met.S.Blocks.is_sound c.resize.new.blocks) c.in-Err.ensures.settles.pipeline (subst (λ (k : Geometry). k.n ≤ 1048576) c.geom.ensures c.lawful.ensures.limits.most_blocks) weighed.accepted weighed.room leads (omega (arith, count, fits)) why
-    (subst (λ n. GrowthRefused n (places_of s c.args.number) s.books t.books why) (sym need) refused))
+    growth_refused s t f (Truncate path c.args.size) c.args.number (g.met.S.Blocks.is_sound c.resize.new.blocks) c.in-Err.ensures.settles.pipeline (subst (λ (k : Geometry). k.n ≤ 1048576) c.geom.ensures c.lawful.ensures.limits.most_blocks) weighed.accepted weighed.room a.leads (omega (arith, a.count, fits)) why
+    (subst (λ n. GrowthRefused n (places_of s c.args.number) s.books t.books why) (sym (need_is (g.S.Blocks.state c.args.blocks.now) (g.S.Blocks.state c.resize.new.blocks) f path c.args.number c.args.size c.args.cost (c.requires.file told).0 a weighed (may.other told x.0 x.1))) refused))
     (λ told f h enough.
     let x = c.requires.file told in
-    let map = c.blocks_have_the_map_of_their_tree.ensures.map s.books.geom s.map f.tree h.tree in
-    let leads = c.walks_are_the_same.ensures.ends (inodes_in s nothing_drafted) path c.args.number (may.walk told) in
-    let at = c.the_node_at_a_path_gives_the_inode.ensures.inode (files_in s nothing_drafted) path c.args.number x.0 leads x.1 in
-    let holds = c.paths_lead_to_inodes.ensures.bytes s.books.geom.i (inodes_in s nothing_drafted) f.tree path map ∙ ap bytes_of at ∙ file_bytes x.0 x.2 in
-    let need = need_is s t f path c.args.number c.args.size c.args.cost x.0 (may.weighed told f h) holds (may.other told x.0 x.1) in
+    let need = need_is (g.S.Blocks.state c.args.blocks.now) (g.S.Blocks.state c.resize.new.blocks) f path c.args.number c.args.size c.args.cost (c.requires.file told).0 (here g (goal.at.returns-in-Err-clause-plans g c).After-resize path told (may.walk told) f h) (may.weighed told f h) (may.other told (c.requires.file told).0 (c.requires.file told).1) in
     let looks = moved_to (λ d n. (x : FileNode) → files_in s d c.args.number ≡ Some x → growth (length x.bytes) n ≤ length (reusable_blocks s.books) → LooksOnly g.S.Blocks.tells (fails_reading {T = Plan} (Err why)) s t)
     c.new-draft.result nothing_drafted c.from.result c.args.size c.new-draft.ensures c.from.ensures (c.in-Err.ensures.looks told) x.0 x.1 in
-    let looked = looks (omega (arith, enough, need)) in
-    (looked.books, (looked.crash told).log))
+    looked_calmly g.S.Blocks.tells _ s t (looks (omega (arith, enough, need))) told)
     c.in-Err.ensures.settles)

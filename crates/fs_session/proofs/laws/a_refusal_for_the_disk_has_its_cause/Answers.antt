@@ -1,5 +1,4 @@
-use Rattle.fs_session.proofs.applying.Unread.{unread_counted}
-use Rattle.fs_session.proofs.applying.Late.{spent_before, stopped_before}
+use Rattle.fs_session.proofs.applying.Causes.{spent_before, stopped_before, unread_counted}
 use Rattle.fs_session.proofs.laws.a_refusal_for_the_disk_has_its_cause.Goals as goal
 
 pub returns-clause-read : goal.returns-clause-read
