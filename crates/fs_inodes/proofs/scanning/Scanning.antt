@@ -113,15 +113,6 @@ file_part m new w d n name links all bytes rest ch part next there = still_part 
 
 -- The slots of the record are those of the directory.
 
--- no slot of the record has the name, where none of the directory has
-pub name_of_list : (m new : Inodes) (d n : ℕ) (name : List ℕ) (x : Inode) (slots : List Slot) → m d ≡ Some (ADir slots) → (ch : AddsSlot m new d n name x) → node_in slots name ≡ None → node_in ch.slots name ≡ None
-name_of_list m new d n name x slots at ch free = ap (λ l. node_in l name) (one_dir ch.slots slots ch.dir at) ∙ free
-
--- the directory of the whole goes on behind the record's slots
-pub whole_of_list : (m new w : Inodes) (d n : ℕ) (name : List ℕ) (x : Inode) (slots rest : List Slot) → m d ≡ Some (ADir slots) → (ch : AddsSlot m new d n name x)
-    → w d ≡ Some (ADir (slots ++ slot_of n name ∷ rest)) → w d ≡ Some (ADir (ch.slots ++ slot_of n name ∷ rest))
-whole_of_list m new w d n name x slots rest at ch next = next ∙ ap (λ l. Some (ADir (l ++ slot_of n name ∷ rest))) (sym (one_dir ch.slots slots ch.dir at))
-
 -- The end.
 
 module _ (m w : Inodes) (part : IsPartOf m w) (through : IsThrough m w) (all : SawAll m w) (links : LinksFit m w) where
