@@ -1,25 +1,21 @@
 -- A file has other bytes.
-use Rattle.std.proofs.Common.{◌≡◌, ℕ, List, Option, Some, None, option_map, option_and_then, sym, refl, ap, ◌∙◌, ◌⊎◌, inl, inr, arith}
+use Rattle.std.proofs.Common.{◌≡◌, ℕ, List, Option, Some, option_map, ◌∙◌, ◌⊎◌, arith}
 use Rattle.std.proofs.lemmas.Bool.{cases_eq}
 use Rattle.std.specs.FinMap.{get, insert}
 use Rattle.layout_bytes.specs.declared.slot.Slot.{Slot}
 use Rattle.lang_tree.specs.Tree.{Tree, File, IsSound}
 use Rattle.lang_tree.specs.Names.{path_count}
 use Rattle.crash_stands.specs.Inodes.{Inodes, ADir, AFile, AreDistinct, thing_of}
-use Rattle.crash_stands.specs.Walks.{Entries, entries_of, entry_in}
+use Rattle.crash_stands.specs.Walks.{Entries, entries_of}
 use Rattle.fs_inodes.specs.Changes.{Sets}
 use Rattle.fs_inodes.proofs.basics.Paths.{Path}
 use Rattle.fs_inodes.proofs.basics.FinMaps.{node_here, node_other}
-use Rattle.fs_inodes.proofs.commands.Adding.{dir_file, one_file}
+use Rattle.fs_inodes.proofs.commands.Adding.{one_file}
 use Rattle.fs_inodes.proofs.agreement.Agree.{Agrees, GoesOn}
 
 -- paths go on by entries that are the same
 pub same_goes : (e f : Entries) (names : Path → Option ℕ) → ((k : ℕ) (b : List ℕ) → f k b ≡ e k b) → GoesOn e names → GoesOn f names
-same_goes e f names same goes up b = goes up b ∙ by (names up)
-  where
-    by : (o : Option ℕ) → option_and_then (λ k. e k b) o ≡ option_and_then (λ k. f k b) o
-    by None = refl
-    by (Some k) = sym (same k b)
+same_goes e f names same goes up b = grind (arith, names up)
 
 module _ (limit : ℕ) (m new : Inodes) (t : Tree) (a : Agrees limit m t) (k links : ℕ) (old bytes : List ℕ) (there : m k ≡ Some (AFile links old)) (ch : Sets m new k (Some (AFile links bytes))) where
   -- no entry changed
@@ -40,10 +36,4 @@ module _ (limit : ℕ) (m new : Inodes) (t : Tree) (a : Agrees limit m t) (k lin
 
   -- the new map is that of the tree with the new bytes
   pub edited_agrees : IsSound limit (record { names = t.names; nodes = insert t.nodes k (File bytes) }) → Agrees limit new (record { names = t.names; nodes = insert t.nodes k (File bytes) })
-  edited_agrees sound = record {
-    sound = sound;
-    goes = same_goes (entries_of m) (entries_of new) (get t.names) same_entries a.goes;
-    nodes = edited_nodes;
-    links = edited_links;
-    distinct = edited_distinct;
-  }
+  edited_agrees sound = grind (arith, same_goes, t.names, same_entries, a.goes, edited_nodes, edited_links, edited_distinct)

@@ -1,5 +1,5 @@
 -- One inode set, and each change as some inodes set one after the other: the map with them in place of the old ones is one that a command makes.
-use Rattle.std.proofs.Common.{◌≡◌, ◌≢◌, ℕ, if◌then◌else◌, List, [], ◌∷◌, ◌++◌, slice_get, Option, Some, None, option_and_then, sym, refl, ap, ◌∙◌, ◌⊎◌, eq-eqb, ne_eqb}
+use Rattle.std.proofs.Common.{◌≡◌, ◌≢◌, ℕ, if◌then◌else◌, List, [], ◌∷◌, ◌++◌, slice_get, Option, Some, option_and_then, sym, refl, ap, ◌∙◌, ◌⊎◌, eq-eqb, ne_eqb, arith}
 use Rattle.layout_bytes.specs.declared.slot.Slot.{Slot}
 use Rattle.layout_directory.specs.Directory.{without_at}
 use Rattle.crash_stands.specs.Inodes.{Inode, Inodes, ADir}
@@ -40,33 +40,18 @@ neither m a x b y k off away = set_other (with_inode m a x) b y k away ∙ set_o
 -- a node set, and then the directory with the new slot
 pub adds : (m : Inodes) (up node : ℕ) (name : List ℕ) (x : Inode) (slots : List Slot) → m up ≡ Some (ADir slots) → up ≢ node
     → AddsSlot m (with_inode (with_inode m node (Some x)) up (Some (ADir (slots ++ slot_of node name ∷ [])))) up node name x
-adds m up node name x slots dir apart = record {
-  slots = slots;
-  dir = dir;
-  added = second_here m node (Some x) up (Some (ADir (slots ++ slot_of node name ∷ [])));
-  named = first_here m node (Some x) up (Some (ADir (slots ++ slot_of node name ∷ []))) (λ e. apart (sym e));
-  others = λ k off away. neither m node (Some x) up (Some (ADir (slots ++ slot_of node name ∷ []))) k away off;
-}
+adds m up node name x slots dir apart = grind (arith, second_here, first_here, neither)
 
 -- the directory without the slot, and then the node with one link less
 pub takes : (m : Inodes) (up node place : ℕ) (name : List ℕ) (slots : List Slot) → m up ≡ Some (ADir slots) → slice_get slots place ≡ Some (slot_of node name) → up ≢ node
     → TakesSlot m (with_inode (with_inode m up (Some (ADir (without_at place slots)))) node (option_and_then one_link_less (m node))) up node name
-takes m up node place name slots dir slot apart = record {
-  slots = slots;
-  place = place;
-  dir = dir;
-  slot = slot;
-  taken = first_here m up (Some (ADir (without_at place slots))) node (option_and_then one_link_less (m node)) apart;
-  left = second_here m up (Some (ADir (without_at place slots))) node (option_and_then one_link_less (m node));
-  others = neither m up (Some (ADir (without_at place slots))) node (option_and_then one_link_less (m node));
-}
+takes m up node place name slots dir slot apart = grind (arith, first_here, second_here, neither)
 
 -- Of a move.
 
 -- with one link less, another node is as it was
 less_other : (m : Inodes) (o : Option ℕ) (k : ℕ) → (o ≡ Some k → ⊥) → with_less m o k ≡ m k
-less_other m None k off = refl
-less_other m (Some w) k off = set_other m w (option_and_then one_link_less (m w)) k (λ e. off (ap Some (sym e)))
+less_other m o k h1 = grind (arith, set_other)
 
 -- and the node itself has one link less
 less_here : (m : Inodes) (o : Option ℕ) (k : ℕ) → o ≡ Some k → with_less m o k ≡ option_and_then one_link_less (m k)
