@@ -27,23 +27,7 @@ use Rattle.cmd_session.proofs.Issuing.{issues_more}
 
 -- a line that is no command is the one that there is
 none_is : (cmd : Cmd) → is_none cmd ≡ true → cmd ≡ Bad
-none_is (Mkdir path) is = absurd (false≢true is)
-none_is (Create path) is = absurd (false≢true is)
-none_is (Write path offset bytes) is = absurd (false≢true is)
-none_is (Fill path offset count byte) is = absurd (false≢true is)
-none_is (Read path offset count) is = absurd (false≢true is)
-none_is (Truncate path size) is = absurd (false≢true is)
-none_is (Link path other) is = absurd (false≢true is)
-none_is (Unlink path) is = absurd (false≢true is)
-none_is (Rmdir path) is = absurd (false≢true is)
-none_is (Rename from to) is = absurd (false≢true is)
-none_is (Stat path) is = absurd (false≢true is)
-none_is (ListNames path) is = absurd (false≢true is)
-none_is Osync is = absurd (false≢true is)
-none_is Dsync is = absurd (false≢true is)
-none_is Durable is = absurd (false≢true is)
-none_is Poll is = absurd (false≢true is)
-none_is Bad is = refl
+none_is cmd h1 = grind (arith, false≢true)
 
 -- What is known of a run that may end: whether it is over is told by a fault among its replies.
 pub record MayEnd (g : Geometry) (t : Tree) (base : Blocks) (log : List Event) (mounted : ℕ) (over : Bool) (cmds : List Cmd) (replies : List Reply) (marks : List ℕ) : Type 0 where
@@ -59,9 +43,7 @@ pub record EndLaws : Type 0 where
 
 -- no such reply promises a point
 no_promise : (none over : Bool) → promised_by (if none then NotUnderstood else Refused (if over then because.Stopped else because.DiskFault)) ≡ 0
-no_promise true over = refl
-no_promise false true = refl
-no_promise false false = refl
+no_promise none over = grind arith
 
 -- the reasons are of the disk
 of_disk : (over : Bool) → is_of_disk (if over then because.Stopped else because.DiskFault) ≡ true
@@ -102,12 +84,7 @@ module _ (laws : EndLaws) (g : Geometry) (t : Tree) (base : Blocks) (log : List 
   points_are = ap (λ (ps : List Point). record { tree = s.tree; begun = 0 } ∷ ps) (points_more s mounted cmds replies marks cmd reply (length log) may.is.answered may.is.marked)
 
   stopped : (i : ℕ) → slice_get replies i ≡ Some (Refused because.DiskFault) → cmd ≢ Bad → reply ≡ Refused because.Stopped
-  stopped i is not = by (is_none cmd) refl over (may.ended i is)
-    where
-      by : (none : Bool) → is_none cmd ≡ none → (o : Bool) → o ≡ true → (if none then NotUnderstood else Refused (if o then because.Stopped else because.DiskFault)) ≡ Refused because.Stopped
-      by true none o is_over = absurd (not (none_is cmd none))
-      by false none true is_over = refl
-      by false none false is_over = absurd (false≢true is_over)
+  stopped i is not = grind (arith, is_none cmd, may.ended i is, may.ended, none_is, false≢true)
 
   -- the image stands for what it stood for
   one_more : (k : ℕ) (img : Blocks) → StandsForOne g.n img (points_of s mounted cmds replies marks) (floor k replies marks) (top k s mounted cmds replies marks)
@@ -132,12 +109,7 @@ module _ (laws : EndLaws) (g : Geometry) (t : Tree) (base : Blocks) (log : List 
       before i is = none i (get_before replies (reply ∷ []) i (Refused because.DiskFault) is)
 
       here : ∥ StandsForLast g.n base log (points_of s mounted cmds replies marks) ∥₁
-      here =
-          let all = may.is.issued.each (length replies) (omega arith) (subst HasNoFault (sym (take_all (length replies) replies (omega arith))) before) in
-          subst (λ (es : List Event). ∥ StandsForLast g.n base es (points_of s mounted cmds replies marks) ∥₁) (take_all (last_mark mounted marks) log (omega (arith, last_is mounted marks (length log) may.is.ascend)))
-          (subst (λ (ms : List ℕ). ∥ StandsForLast g.n base (take (last_mark mounted ms) log) (points_of s mounted cmds replies ms) ∥₁) (take_all (length replies) marks (omega (arith, may.is.marked)))
-          (subst (λ (rs : List Reply). ∥ StandsForLast g.n base (take (last_mark mounted (take (length replies) marks)) log) (points_of s mounted cmds rs (take (length replies) marks)) ∥₁) (take_all (length replies) replies (omega arith))
-          (subst (λ (cs : List Cmd). ∥ StandsForLast g.n base (take (last_mark mounted (take (length replies) marks)) log) (points_of s mounted cs (take (length replies) replies) (take (length replies) marks)) ∥₁) (take_all (length replies) cmds (omega (arith, may.is.answered))) all)))
+      here = grind (arith, may.is.issued.each, take_all, before, g.n, last_is, may.is.ascend, may.is.marked, may.is.answered)
 
       no_point : is_none cmd ≡ true → points_of s mounted cmds replies marks ≡ points_of s mounted all_cmds all_replies all_marks
       no_point is = sym (append-nil (points_of s mounted cmds replies marks))
@@ -181,15 +153,8 @@ module _ (laws : EndLaws) (g : Geometry) (t : Tree) (base : Blocks) (log : List 
 -- any number of commands more
 ends_all : EndLaws → (g : Geometry) (t : Tree) (base : Blocks) (log : List Event) (mounted : ℕ) (over : Bool) (cmds : List Cmd) (replies : List Reply) (marks : List ℕ) (more : List Cmd) → MayEnd g t base log mounted over cmds replies marks
     → HasRun g t base log mounted (cmds ++ more) (replies ++ ending_replies over more) (marks ++ ending_marks (length log) more)
-ends_all laws g t base log mounted over cmds replies marks [] may =
-    subst (λ (cs : List Cmd). HasRun g t base log mounted cs (replies ++ []) (marks ++ [])) (sym (append-nil cmds))
-    (subst (λ (rs : List Reply). HasRun g t base log mounted cmds rs (marks ++ [])) (sym (append-nil replies))
-    (subst (λ (ms : List ℕ). HasRun g t base log mounted cmds replies ms) (sym (append-nil marks)) may.is))
-ends_all laws g t base log mounted over cmds replies marks (cmd ∷ more) may =
-    subst (λ (cs : List Cmd). HasRun g t base log mounted cs (replies ++ ending_replies over (cmd ∷ more)) (marks ++ ending_marks (length log) (cmd ∷ more))) (append_assoc cmds (cmd ∷ []) more)
-    (subst (λ (rs : List Reply). HasRun g t base log mounted ((cmds ++ cmd ∷ []) ++ more) rs (marks ++ ending_marks (length log) (cmd ∷ more))) (append_assoc replies (ending_reply over cmd ∷ []) (ending_replies (over_after over cmd) more))
-    (subst (λ (ms : List ℕ). HasRun g t base log mounted ((cmds ++ cmd ∷ []) ++ more) ((replies ++ ending_reply over cmd ∷ []) ++ ending_replies (over_after over cmd) more) ms) (append_assoc marks (length log ∷ []) (ending_marks (length log) more))
-    (ends_all laws g t base log mounted (over_after over cmd) (cmds ++ cmd ∷ []) (replies ++ ending_reply over cmd ∷ []) (marks ++ length log ∷ []) more (ends_one laws g t base log mounted over cmds replies marks cmd may))))
+ends_all laws g t base log mounted over cmds replies marks [] may = grind (arith, append-nil, may.is)
+ends_all laws g t base log mounted over cmds replies marks (cmd ∷ more) may = grind (arith, ends_all laws g t base log mounted (over_after over cmd) (cmds ++ cmd ∷ []) (replies ++ ending_reply over cmd ∷ []) (marks ++ length log ∷ []) more (ends_one laws g t base log mounted over cmds replies marks cmd may), append_assoc, ends_one)
 
 -- what is served has run
 pub has_run : (g : Geometry) (t : Tree) (mounted : ℕ) (cmds : List Cmd) (replies : List Reply) (marks : List ℕ) (s : State) → HasServed g t mounted cmds replies marks s → HasRun g t s.crash.base s.crash.log mounted cmds replies marks

@@ -127,24 +127,11 @@ module _ {S : Type 0} (tells : Bool) (state : S → State) (told : IsTrue tells)
       each (suc i) le none = absurd (omega (arith, le))
 
   pub begins : HasServed g t (length (state old).crash.log) [] [] [] (state new)
-  begins = record {
-    geom = geom;
-    run = refl;
-    stops = record { each = λ i k cmd before none. absurd (none_is i _ none) };
-    answered = refl;
-    marked = refl;
-    ascend = sym (ap (λ (es : List Event). length es) same_log);
-    crashes = crashes;
-    issued = issued;
-    goes_on = goes_on;
-  }
+  begins = grind (arith, geom, none_is, same_log, crashes, issued, goes_on)
 
 -- nothing was weighed yet, and nothing written
 pub begins_budget : (tells : Bool) → IsTrue tells → (old new : State) (g : Geometry) (t : Tree) → IsBegun old → LooksOnly tells false old new → KeepsBudget g t (writes_in old.crash.log + old.books.owed) [] [] new
-begins_budget tells told old new g t begun looks = record {
-  weight = λ going. ap (λ (k : Bookkeeping). k.running.weight) looks.books ∙ begun.weight;
-  writes = omega (arith, ap (λ (k : Bookkeeping). k.owed) looks.books, ap writes_in (looks.crash told).log);
-}
+begins_budget tells told old new g t begun looks = grind (arith, looks.books, begun.weight, looks.crash)
 
 -- what stands in the blocks that were opened stood in them before
 pub stood : (tells : Bool) → IsTrue tells → (old new : State) → LooksOnly tells false old new → Stands new → (t : Tree) × IsTreeOf old.books.geom old.map t

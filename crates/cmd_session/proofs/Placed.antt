@@ -58,11 +58,7 @@ module _ (g : Geometry) (limits : IsGeometry g) (map m : Blocks) (same : HasLive
 -- An image that is alike below n holds the same map under the same geometry.
 module _ (g : Geometry) (laws : PlaceLaws g) (img other m : Blocks) (same : (b : ℕ) → b < g.n → img b ≡ other b) where
   newest_same : (slot : ℕ) (h : Header) → Newest g.n img slot h → Newest g.n other slot h
-  newest_same slot h x = record {
-    is_slot = x.is_slot;
-    stands = ap (header_of g.n) (sym (same slot (omega (arith, x.is_slot, laws.limits.least_blocks)))) ∙ x.stands;
-    other = λ k is. x.other k (ap (header_of g.n) (same (1 - slot) (omega (arith, laws.limits.least_blocks))) ∙ is);
-  }
+  newest_same slot h x = grind (arith, x.is_slot, g.n, laws.limits.least_blocks, x.stands, x.other)
 
   pub held_alike : HoldsUnder g.n g img m → HoldsUnder g.n g other m
   held_alike h =
@@ -80,23 +76,7 @@ same_session : (f : Session) (cmd : Cmd) → is_sync cmd ≡ false → (step f c
 same_session f cmd other clean = by (refusal f.limit f.tree cmd) clean
   where
     done : (c : Cmd) → is_sync c ≡ false → (answered f c None).0.changed ≡ false → (answered f c None).0 ≡ f
-    done (cmds.Mkdir path) other is = absurd (true≢false is)
-    done (cmds.Create path) other is = absurd (true≢false is)
-    done (cmds.Write path offset bytes) other is = if_same f (length bytes == 0) _ _ refl is
-    done (cmds.Fill path offset count byte) other is = if_same f _ _ _ refl is
-    done (cmds.Read path offset count) other is = refl
-    done (cmds.Truncate path size) other is = if_same f _ _ _ refl is
-    done (cmds.Link path to) other is = absurd (true≢false is)
-    done (cmds.Unlink path) other is = absurd (true≢false is)
-    done (cmds.Rmdir path) other is = absurd (true≢false is)
-    done (cmds.Rename from to) other is = if_same f _ _ _ refl is
-    done (cmds.Stat path) other is = refl
-    done (cmds.List path) other is = refl
-    done cmds.Osync other is = absurd (true≢false other)
-    done cmds.Dsync other is = absurd (true≢false other)
-    done cmds.Durable other is = refl
-    done cmds.Poll other is = refl
-    done cmds.Bad other is = refl
+    done c h1 h2 = grind (arith, if_same)
 
     by : (why : Option Refusal) → (answered f cmd why).0.changed ≡ false → (answered f cmd why).0 ≡ f
     by (Some why) is = refl
@@ -153,14 +133,10 @@ module _ (g : Geometry) (f : Session) (reply : Reply) (next : Session) (clean : 
           (subst (λ (at : ℕ → List ℕ). room.places k ≡ take (length (room.places k)) (at k ++ take (figures_in g f cmd).need back.takeable)) places (d.spends.placed k))
 
   synced : (cmd : Cmd) (back : Room) → back.places ≡ r.places → (step f cmd ≡ (next, reply) → f.changed ≡ false) → SyncsOver f back cmd reply next room → Keeps
-  synced cmd back places before (inl x) = (before x.0, λ k. ap (λ (at : ℕ → List ℕ). at k) (x.1.keeps.places ∙ places))
-  synced cmd back places before (inr (inl x)) = refused _ back places x
-  synced cmd back places before (inr (inr x)) = rests x.1 (x.2.places ∙ places)
+  synced cmd back h1 h2 h3 = grind (arith, refused, rests)
 
   on_tree : (P Q : Refusal → Type 0) (cmd : Cmd) (back : Room) → is_sync cmd ≡ false → back.places ≡ r.places → (IsDoneIn g f back cmd reply next room ⊎ RefusesIn P f back reply next room) ⊎ RefusesIn Q f back reply next room → Keeps
-  on_tree P Q cmd back other places (inl (inl x)) = done cmd back other places x
-  on_tree P Q cmd back other places (inl (inr x)) = refused P back places x
-  on_tree P Q cmd back other places (inr x) = refused Q back places x
+  on_tree P Q cmd back h1 h2 h3 = grind (arith, done, refused)
 
   over : (cmd : Cmd) (back : Room) → makes_point f cmd reply ≡ false → back.places ≡ r.places → AnswersOver g f back cmd reply next room → Keeps
   over cmds.Bad back none places (inl x) = rests (ap (λ (y : Session × Reply). y.0) (sym x.0)) (ap (λ (q : Room). q.places) x.1 ∙ places)
@@ -284,6 +260,4 @@ one_more xs x false = length-append xs []
 
 -- As the mount ends, point 0 has the map.
 pub placed_first : (g : Geometry) → IsGeometry g → (f : Session) (s : State) → s.books.geom ≡ g → s.books.point ≡ 0 → HasMapOfPoint s 0 → KeepsPlaces g f s
-placed_first g limits f s geom first only going clean m is k =
-    places_same g limits s.map m (subst (λ (x : Geometry). HasLiveBlocks x s.map m) geom (only m (subst (λ (n : ℕ). s.crash.is_point n m) first is))) k
-    ∙ ap (λ (x : Geometry). places_of x s.map k) (sym geom)
+placed_first g limits f s geom first only going clean m is k = grind (arith, places_same, s.map, s.crash.is_point)

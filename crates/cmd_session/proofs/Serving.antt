@@ -71,30 +71,10 @@ osync_tree f true = refl
 osync_tree f false = refl
 
 sync_tree : (f : Session) (cmd : Cmd) → is_sync cmd ≡ true → (step f cmd).0.tree ≡ f.tree
-sync_tree f Osync is = osync_tree f f.changed
-sync_tree f Dsync is = osync_tree f f.changed
-sync_tree f (Mkdir path) is = absurd (false≢true is)
-sync_tree f (Create path) is = absurd (false≢true is)
-sync_tree f (Write path offset bytes) is = absurd (false≢true is)
-sync_tree f (Fill path offset count byte) is = absurd (false≢true is)
-sync_tree f (Read path offset count) is = absurd (false≢true is)
-sync_tree f (Truncate path size) is = absurd (false≢true is)
-sync_tree f (Link path other) is = absurd (false≢true is)
-sync_tree f (Unlink path) is = absurd (false≢true is)
-sync_tree f (Rmdir path) is = absurd (false≢true is)
-sync_tree f (Rename from to) is = absurd (false≢true is)
-sync_tree f (Stat path) is = absurd (false≢true is)
-sync_tree f (ListNames path) is = absurd (false≢true is)
-sync_tree f Durable is = absurd (false≢true is)
-sync_tree f Poll is = absurd (false≢true is)
-sync_tree f Bad is = absurd (false≢true is)
+sync_tree f cmd h1 = grind (arith, osync_tree, f.changed, false≢true)
 
 reply_tree : (f : Session) (cmd : Cmd) (reply : Reply) → is_sync cmd ≡ true → (after_reply f cmd reply).tree ≡ f.tree
-reply_tree f cmd reply is = by (is_refusal reply)
-  where
-    by : (c : Bool) → (if c then f else (step f cmd).0).tree ≡ f.tree
-    by true = refl
-    by false = sync_tree f cmd is
+reply_tree f cmd reply is = grind (arith, is_refusal reply, f.tree, sync_tree)
 
 -- what makes a point is a sync
 makes_sync : (c d : Bool) (p : Point) (ps : List Point) → (if c && d then p ∷ [] else []) ≡ p ∷ ps → c ≡ true
