@@ -1,5 +1,5 @@
 -- A path lies below another one where it begins with all its names and has more.
-use Rattle.std.proofs.Common.{◌≡◌, ℕ, ◌<◌, ◌≤◌, Bool, true, false, ◌&&◌, List, [], ◌∷◌, length, refl, arith}
+use Rattle.std.proofs.Common.{◌≡◌, ℕ, ◌<◌, ◌≤◌, Bool, false, ◌&&◌, List, [], ◌∷◌, length, refl, arith}
 use Rattle.std.specs.Prelude.{bytes_eq, if◌then◌else◌, Option, None}
 use Rattle.std.specs.List.{starts_with}
 use Rattle.lang_tree.specs.Paths.{is_below, strip, has_names}

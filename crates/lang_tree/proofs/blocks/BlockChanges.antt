@@ -1,14 +1,14 @@
 -- The blocks of a sound tree after a change: with a path more or less, with other bytes in a file, and after a move.
-use Rattle.std.proofs.Common.{◌≡◌, ℕ, ◌+◌, ◌-◌, ◌==◌, max, Bool, true, false, if◌then◌else◌, List, [], ◌∷◌, ◌++◌, length, take, drop, replicate, Option, Some, None, is_none, is_some, refl, sym, ap, ap₂, ◌∙◌, ◌⊎◌, inl, inr, arith, length-append, length-take, length-drop, true≢false, nat_le}
+use Rattle.std.proofs.Common.{◌≡◌, ℕ, ◌+◌, ◌-◌, ◌==◌, max, Bool, true, false, if◌then◌else◌, List, [], ◌∷◌, ◌++◌, length, Option, Some, None, is_none, is_some, refl, sym, ap, ap₂, ◌∙◌, ◌⊎◌, inl, inr, arith, length-append, length-take, length-drop, true≢false, nat_le}
 use Rattle.std.proofs.lemmas.List.{length-replicate}
 use Rattle.std.specs.Cmp.{nat_cmp_total}
 use Rattle.std.specs.FinMap.{nat_cmp-IsAntisymmetric, get, insert, remove, entries}
 use Rattle.std.proofs.lemmas.Option.{none-some}
 use Rattle.lang_tree.specs.declared.command.Refusal.{Refusal}
-use Rattle.lang_tree.specs.declared.command.Refusal.TheVariants.{Exists, IsDir, NotDir, NotEmpty, BelowItself, TooManyLinks, NoNode}
+use Rattle.lang_tree.specs.declared.command.Refusal.TheVariants.{Exists, IsDir, TooManyLinks, NoNode}
 use Rattle.lang_tree.specs.Tree.{Tree, Thing, Dir, File, IsSound}
 use Rattle.lang_tree.specs.Paths.{name_in, is_within, parent}
-use Rattle.lang_tree.specs.Names.{holds_names, renamed}
+use Rattle.lang_tree.specs.Names.{renamed}
 use Rattle.lang_tree.specs.Walk.{walk_refusal, parent_refusal, thing_at, is_dir, is_file, is_there, is_same_node, links, counted, content, bytes_in}
 use Rattle.lang_tree.specs.Conditions.{when, least_unused, make_refusal, link_refusal, rmdir_refusal, rename_refusal}
 use Rattle.lang_tree.specs.Step.{with_node, added, with_bytes, edited_at, edited, written, resized, linked_by, linked, with_used, removed, removed_by, moved}

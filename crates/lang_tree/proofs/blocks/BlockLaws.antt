@@ -1,17 +1,16 @@
 -- The blocks of a sound tree after a command are those before it, with what its figures need and without what they free.
-use Rattle.std.proofs.Common.{◌≡◌, ℕ, ◌+◌, ◌-◌, ◌<◌, ◌≤◌, ◌==◌, min, max, nat_lt, Bool, true, false, ◌&&◌, if◌then◌else◌, List, [], length, replicate, Option, Some, None, refl, sym, ap, ◌∙◌, arith, eqb-true}
+use Rattle.std.proofs.Common.{◌≡◌, ℕ, ◌+◌, ◌-◌, ◌<◌, ◌≤◌, ◌==◌, min, max, nat_lt, Bool, true, false, ◌&&◌, if◌then◌else◌, List, [], length, replicate, None, refl, sym, ap, ◌∙◌, arith, eqb-true}
 use Rattle.std.proofs.lemmas.Bool.{ltb-true, ltb-false}
 use Rattle.std.proofs.lemmas.List.{length-replicate}
 use Rattle.lang_tree.specs.declared.command.Cmd.{Cmd}
 use Rattle.lang_tree.specs.declared.command.Cmd.TheVariants.{Mkdir, Create, Write, Fill, Read, Truncate, Link, Unlink, Rmdir, Rename, Stat, List as ListNames, Osync, Dsync, Durable, Poll, Bad}
 use Rattle.lang_tree.specs.declared.command.Reply.TheVariants.{Ok as Done}
-use Rattle.lang_tree.specs.declared.command.Refusal.{Refusal}
 use Rattle.lang_tree.specs.declared.command.Refusal.TheVariants.{IsDir, TooLarge}
 use Rattle.lang_tree.specs.Tree.{Tree, Dir, File, IsSound}
 use Rattle.lang_tree.specs.Walk.{walk_refusal, thing_at, is_dir, is_same_node, content}
 use Rattle.lang_tree.specs.Conditions.{when, is_too_large, write_refusal, truncate_refusal, refusal}
 use Rattle.lang_tree.specs.Step.{Session, step, answered, changed_to, edited, written, resized, removed, moved, osync}
-use Rattle.lang_tree.specs.Figures.{Figures, nothing, writing, shrinking, blocks, blocks_for, write_figures, truncate_figures, move_figures, figures_by, figures}
+use Rattle.lang_tree.specs.Figures.{Figures, nothing, writing, blocks, blocks_for, write_figures, truncate_figures, move_figures, figures_by, figures}
 use Rattle.lang_tree.proofs.walking.Found.{no_reasons, not_so}
 use Rattle.lang_tree.proofs.soundness.Sound.{can_unlink}
 use Rattle.lang_tree.proofs.blocks.BlockChanges.{length_written, length_resized, added_blocks, linked_blocks, edited_blocks, gone_blocks, rmdir_blocks, moved_blocks}

@@ -1,12 +1,12 @@
 -- Blocks as sums: what the files of a tree take, and what its directories take with a path more or less.
-use Rattle.std.proofs.Common.{◌≡◌, ℕ, ◌+◌, true, false, if◌then◌else◌, List, [], ◌∷◌, ◌++◌, length, Option, Some, None, is_some, refl, sym, ap, ap₂, ◌∙◌, ◌⊎◌, inl, inr, arith, true≢false}
+use Rattle.std.proofs.Common.{◌≡◌, ℕ, ◌+◌, true, false, if◌then◌else◌, List, [], ◌∷◌, ◌++◌, length, Option, Some, None, is_some, refl, sym, ap, ap₂, ◌∙◌, ◌⊎◌, arith, true≢false}
 use Rattle.std.proofs.lemmas.Bool.{false_from_ne_true}
-use Rattle.std.specs.List.{filter_map, cons_option}
+use Rattle.std.specs.List.{filter_map}
 use Rattle.std.specs.Cmp.{nat_cmp_total}
 use Rattle.std.specs.FinMap.{nat_cmp-IsAntisymmetric, get, insert, remove, entries}
 use Rattle.std.proofs.lemmas.Option.{none-some}
 use Rattle.lang_tree.specs.Tree.{Names, Nodes, Thing}
-use Rattle.lang_tree.specs.Paths.{strip, name_in, lone_name, has_names, is_below, parent}
+use Rattle.lang_tree.specs.Paths.{strip, name_in, lone_name, is_below, parent}
 use Rattle.lang_tree.specs.Names.{names_in, holds_names}
 use Rattle.lang_tree.specs.Figures.{content_blocks, file_blocks, directory_blocks, all_directory_blocks, growth, release}
 use Rattle.lang_tree.proofs.basics.Order.{path_total, path_same}

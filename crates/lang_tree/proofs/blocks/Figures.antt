@@ -1,17 +1,15 @@
 -- A command changes a session exactly where it costs something in the journal, sync points aside.
-use Rattle.std.proofs.Common.{◌≡◌, ℕ, ◌+◌, ◌-◌, ◌<◌, ◌≤◌, ◌==◌, min, Bool, true, false, ◌||◌, if◌then◌else◌, nat_lt, length, replicate, Option, Some, None, refl, sym, ap, ap₂, ◌∙◌, ◌⊎◌, inl, inr, arith, lt-ltb, le-ltb, eqb-true}
+use Rattle.std.proofs.Common.{◌≡◌, ℕ, ◌+◌, ◌-◌, ◌<◌, ◌≤◌, ◌==◌, Bool, true, false, ◌||◌, if◌then◌else◌, nat_lt, length, replicate, Option, ap, ◌∙◌, ◌⊎◌, arith, lt-ltb, le-ltb, eqb-true}
 use Rattle.std.proofs.lemmas.Bool.{cases_lt, eqb-false}
 use Rattle.std.proofs.lemmas.List.{length-replicate}
 use Rattle.lang_tree.specs.declared.command.Cmd.{Cmd}
-use Rattle.lang_tree.specs.declared.command.Cmd.TheVariants.{Mkdir, Create, Write, Fill, Read, Truncate, Link, Unlink, Rmdir, Rename, Stat, List as ListNames, Osync, Dsync, Durable, Poll, Bad}
 use Rattle.lang_tree.specs.declared.command.Reply.TheVariants.{Ok as Done}
 use Rattle.lang_tree.specs.declared.command.Refusal.{Refusal}
 use Rattle.lang_tree.specs.Tree.{Tree}
-use Rattle.lang_tree.specs.Walk.{is_same_node, content, is_there}
 use Rattle.lang_tree.specs.Conditions.{refusal}
 use Rattle.lang_tree.specs.Step.{Session, step, answered, changed_to}
 use Rattle.lang_tree.specs.Points.{is_sync}
-use Rattle.lang_tree.specs.Figures.{Figures, nothing, moving, writing, shrinking, blocks_for, are_in_one, truncate_figures, move_figures, figures_by, figures}
+use Rattle.lang_tree.specs.Figures.{Figures, nothing, moving, writing, truncate_figures, figures_by, figures}
 
 or_false : (b : Bool) → b ≡ (b || false)
 or_false b = grind arith

@@ -1,15 +1,13 @@
 -- What a command that moves a path leaves at each path.
-use Rattle.std.proofs.Common.{◌≡◌, ℕ, true, false, if◌then◌else◌, List, ◌++◌, Option, Some, None, refl, sym, ap, ◌∙◌, arith}
+use Rattle.std.proofs.Common.{◌≡◌, ℕ, true, false, if◌then◌else◌, List, ◌++◌, None, ap, ◌∙◌, arith}
 use Rattle.std.specs.FinMap.{get, remove}
 use Rattle.lang_tree.specs.declared.command.Cmd.TheVariants.{Rename}
-use Rattle.lang_tree.specs.declared.command.Reply.TheVariants.{Ok as Done}
-use Rattle.lang_tree.specs.declared.command.Refusal.{Refusal}
 use Rattle.lang_tree.specs.Tree.{Tree, IsSound}
 use Rattle.lang_tree.specs.Paths.{is_within}
 use Rattle.lang_tree.specs.Names.{renamed}
 use Rattle.lang_tree.specs.Walk.{is_same_node}
 use Rattle.lang_tree.specs.Conditions.{refusal}
-use Rattle.lang_tree.specs.Step.{Session, step, answered, changed_to, moved, removed, removed_by}
+use Rattle.lang_tree.specs.Step.{Session, step, removed}
 use Rattle.lang_tree.proofs.basics.Order.{path_total, path_same}
 use Rattle.lang_tree.proofs.basics.Strips.{has}
 use Rattle.lang_tree.proofs.basics.Finds.{remove_absent}

@@ -1,10 +1,10 @@
 -- From moment to moment neither bound on the points that a crash may leave falls.
-use Rattle.std.proofs.Common.{◌≡◌, ◌≤◌, ◌<◌, ◌⊎◌, ℕ, ◌+◌, max, nat_le, Bool, true, false, if◌then◌else◌, List, [], ◌∷◌, refl, inl, inr, arith}
+use Rattle.std.proofs.Common.{◌≡◌, ◌≤◌, ◌<◌, ◌⊎◌, ℕ, ◌+◌, max, nat_le, Bool, if◌then◌else◌, List, [], ◌∷◌, arith}
 use Rattle.std.proofs.lemmas.Bool.Decides.{nat_tests}
 use Rattle.lang_tree.specs.declared.command.Cmd.{Cmd}
 use Rattle.lang_tree.specs.declared.command.Reply.{Reply}
 use Rattle.lang_tree.specs.Step.{Session}
-use Rattle.lang_tree.specs.Points.{Point, points_after, begun_by, top, promised_by, floor}
+use Rattle.lang_tree.specs.Points.{Point, points_after, begun_by, top, floor}
 
 -- what counts from mark m on counts at a later moment where it counts at an earlier one
 counts : (n m k later : ℕ) (early late : Bool) → nat_le m k ≡ early → nat_le m later ≡ late → k ≤ later → (if early then n else 0) ≤ (if late then n else 0)

@@ -1,19 +1,17 @@
 -- The reasons from outside the tree: none of them is one of the tree's own, and a run with some of them is one with more.
-use Rattle.std.proofs.Common.{◌≡◌, ◌==◌, ◌⊎◌, ℕ, ◌+◌, nat_lt, nat_le, is_none, Bool, true, false, if◌then◌else◌, ◌&&◌, List, [], ◌∷◌, ◌++◌, length, replicate, Option, Some, None, Result, Ok, Err, refl, sym, ap, ◌∙◌, inl, inr, subst, arith}
-use Rattle.std.specs.FinMap.{get}
+use Rattle.std.proofs.Common.{◌≡◌, ◌==◌, ◌⊎◌, ℕ, ◌+◌, nat_lt, nat_le, is_none, Bool, true, false, if◌then◌else◌, ◌&&◌, List, [], ◌∷◌, ◌++◌, length, Option, Some, None, Result, refl, ap, ◌∙◌, arith}
 use Rattle.std.proofs.lemmas.Bool.{false≢true}
 use Rattle.lang_tree.specs.declared.command.Cmd.{Cmd}
 use Rattle.lang_tree.specs.declared.command.Cmd.TheVariants.{Mkdir, Create, Write, Fill, Read, Truncate, Link, Unlink, Rmdir, Rename, Stat, List as ListNames, Osync, Dsync, Durable, Poll, Bad}
 use Rattle.lang_tree.specs.declared.command.Reply.{Reply}
 use Rattle.lang_tree.specs.declared.command.Reply.TheVariants.{Ok as Done, Refused}
 use Rattle.lang_tree.specs.declared.command.Refusal.{Refusal}
-use Rattle.lang_tree.specs.declared.command.Refusal.TheVariants.{NotFound, Exists, NotDir, IsDir, NotEmpty, BelowItself, TooLarge, TooManyLinks, NoNode, Full, TooBig, Scattered, ReadFault, DiskFault, Stopped, Spent, NoMemory}
-use Rattle.lang_tree.specs.Tree.{Tree, Thing, Dir, File}
-use Rattle.lang_tree.specs.Paths.{parent, is_below}
+use Rattle.lang_tree.specs.declared.command.Refusal.TheVariants.{Exists, NotDir, IsDir, NotEmpty, BelowItself, TooLarge, TooManyLinks, NoNode, NoMemory}
+use Rattle.lang_tree.specs.Tree.{Tree, Thing}
 use Rattle.lang_tree.specs.Names.{holds_names}
-use Rattle.lang_tree.specs.Walk.{walk, walk_from, walk_refusal, parent_refusal, no_directory, refusal_in, enter, thing_at, is_dir, is_file, is_there, is_same_node, links, content}
+use Rattle.lang_tree.specs.Walk.{walk_from, walk_refusal, parent_refusal, no_directory, refusal_in, enter, thing_at, is_dir, is_file, is_there, is_same_node, links}
 use Rattle.lang_tree.specs.Conditions.{when, first_reason, refusal, onto_refusal, is_too_large, least_unused}
-use Rattle.lang_tree.specs.Step.{Session, step, answered, changed_to, osync, edited, written, resized, moved, removed, stat_by, stat_of}
+use Rattle.lang_tree.specs.Step.{Session, step, answered, changed_to, osync, stat_by, stat_of}
 use Rattle.lang_tree.specs.Run.{Answers, Run, is_of_memory, is_of_disk}
 
 -- a reason of the tree's own, where there is one

@@ -1,5 +1,5 @@
 -- The sync points of a run with a dsync, and which of them crashes may leave, moment by moment.
-use Rattle.std.proofs.Common.{◌≡◌, ℕ, true, false, List, [], ◌∷◌, map, refl, ap, ◌∙◌, arith}
+use Rattle.std.proofs.Common.{◌≡◌, ℕ, true, false, List, [], ◌∷◌, map, ap, ◌∙◌, arith}
 use Rattle.std.specs.List.{range_with_len}
 use Rattle.std.specs.FinMap.{insert, empty}
 use Rattle.lang_tree.specs.declared.command.Cmd.{Cmd}

@@ -4,8 +4,8 @@ use Rattle.std.specs.FinMap.{get, remove}
 use Rattle.lang_tree.specs.Tree.{Tree, Names, IsSound}
 use Rattle.lang_tree.specs.Paths.{is_within}
 use Rattle.lang_tree.specs.Names.{path_count, holds_names, renamed}
-use Rattle.lang_tree.specs.Walk.{walk_refusal, parent_refusal, is_same_node}
-use Rattle.lang_tree.specs.Conditions.{file_refusal, rmdir_refusal, onto_refusal, rename_refusal}
+use Rattle.lang_tree.specs.Walk.{is_same_node}
+use Rattle.lang_tree.specs.Conditions.{file_refusal, rmdir_refusal, rename_refusal}
 use Rattle.lang_tree.proofs.basics.Order.{path_total}
 use Rattle.lang_tree.proofs.basics.Strips.{below_is, below_at}
 use Rattle.lang_tree.proofs.basics.Finds.{gone_here}

@@ -1,5 +1,5 @@
 -- No command makes a file larger than 2^30 bytes.
-use Rattle.std.proofs.Common.{◌≡◌, ℕ, ◌+◌, ◌-◌, ◌≤◌, ◌==◌, nat_lt, Bool, true, false, cond, ◌&&◌, if◌then◌else◌, List, [], ◌∷◌, ◌++◌, length, take, drop, replicate, Option, Some, None, is_some, refl, sym, ap, ◌∙◌, subst, T, arith, true≢false}
+use Rattle.std.proofs.Common.{◌≡◌, ℕ, ◌+◌, ◌-◌, ◌≤◌, ◌==◌, nat_lt, Bool, true, false, cond, ◌&&◌, if◌then◌else◌, List, [], ◌∷◌, ◌++◌, length, replicate, Option, Some, None, is_some, refl, sym, ap, ◌∙◌, subst, T, arith, true≢false}
 use Rattle.std.proofs.lemmas.Bool.{ltb-false}
 use Rattle.std.proofs.lemmas.List.{length-append, length-take, length-drop, length-replicate}
 use Rattle.std.specs.Ordering.{eq_by_cmp, nat_cmp}
@@ -10,12 +10,10 @@ use Rattle.lang_tree.specs.declared.command.Cmd.{Cmd}
 use Rattle.lang_tree.specs.declared.command.Cmd.TheVariants.{Mkdir, Create, Write, Fill, Read, Truncate, Link, Unlink, Rmdir, Rename, Stat, List as ListNames, Osync, Dsync, Durable, Poll, Bad}
 use Rattle.lang_tree.specs.declared.command.Reply.TheVariants.{Ok as Done}
 use Rattle.lang_tree.specs.declared.command.Refusal.{Refusal}
-use Rattle.lang_tree.specs.declared.command.Refusal.TheVariants.{IsDir, TooLarge}
 use Rattle.lang_tree.specs.Tree.{Tree, Nodes, Thing, Dir, File, HasSmallFiles}
-use Rattle.lang_tree.specs.Names.{path_count}
-use Rattle.lang_tree.specs.Walk.{walk_refusal, thing_at, is_dir, content, is_same_node}
+use Rattle.lang_tree.specs.Walk.{is_same_node}
 use Rattle.lang_tree.specs.Conditions.{when, first_reason, is_too_large, least_unused, refusal, write_refusal, truncate_refusal}
-use Rattle.lang_tree.specs.Step.{Session, start, step, answered, accepted, changed_to, with_node, with_bytes, edited_at, edited, linked_by, removed, removed_by, moved, write, truncate, osync, written, resized}
+use Rattle.lang_tree.specs.Step.{Session, start, step, accepted, changed_to, with_node, with_bytes, edited_at, edited, linked_by, removed, removed_by, moved, write, truncate, osync, written, resized}
 
 -- the nodes of a tree hold no file larger than the bound
 abbrev Small : ℕ → Nodes → Type 0

@@ -9,7 +9,7 @@ use Rattle.lang_tree.specs.declared.command.Cmd.TheVariants.{Mkdir, Create, Writ
 use Rattle.lang_tree.specs.declared.command.Reply.{Reply}
 use Rattle.lang_tree.specs.declared.command.Reply.TheVariants.{Ok as Done}
 use Rattle.lang_tree.specs.declared.command.Refusal.{Refusal}
-use Rattle.lang_tree.specs.declared.command.Refusal.TheVariants.{Exists, IsDir, NotDir, NotEmpty, BelowItself, TooManyLinks}
+use Rattle.lang_tree.specs.declared.command.Refusal.TheVariants.{Exists, IsDir, TooManyLinks}
 use Rattle.lang_tree.specs.Tree.{Tree, Names, Nodes, Thing, Dir, File, IsSound, path_cmp}
 use Rattle.lang_tree.specs.Paths.{parent}
 use Rattle.lang_tree.specs.Names.{holds_names}

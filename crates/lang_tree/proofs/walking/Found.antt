@@ -1,14 +1,13 @@
 -- What walks and refusals tell of a sound tree: what is there, what is a directory, and what lies below a path.
-use Rattle.std.proofs.Common.{◌≡◌, ℕ, Bool, true, false, ◌&&◌, List, [], ◌∷◌, ◌++◌, Option, Some, None, option_and_then, Result, Ok, Err, is_some, if◌then◌else◌, sym, refl, ap, ◌∙◌, ◌⊎◌, inl, inr, append_assoc, append-nil, eq-eqb, arith}
+use Rattle.std.proofs.Common.{◌≡◌, ℕ, Bool, true, false, ◌&&◌, List, [], ◌∷◌, ◌++◌, Option, Some, None, option_and_then, Ok, is_some, if◌then◌else◌, sym, refl, ap, ◌∙◌, ◌⊎◌, inl, inr, append_assoc, append-nil, eq-eqb, arith}
 use Rattle.std.proofs.lemmas.Bool.{false_from_ne_true}
 use Rattle.std.specs.FinMap.{get, entries, get-entries}
 use Rattle.std.proofs.lemmas.Option.{none-some}
 use Rattle.lang_tree.specs.declared.command.Refusal.{Refusal}
-use Rattle.lang_tree.specs.declared.command.Refusal.TheVariants.{NotDir, IsDir, NotEmpty, BelowItself}
 use Rattle.lang_tree.specs.Tree.{Tree, Names, Thing, Dir, File, IsSound}
 use Rattle.lang_tree.specs.Paths.{is_within, is_below, parent}
 use Rattle.lang_tree.specs.Names.{holds_names}
-use Rattle.lang_tree.specs.Walk.{walk, walk_from, enter, is_dir, is_file, thing_at, refusal_in, walk_refusal, no_directory, parent_refusal, are_same, is_same_node}
+use Rattle.lang_tree.specs.Walk.{walk, walk_from, is_dir, is_file, thing_at, walk_refusal, parent_refusal, are_same, is_same_node}
 use Rattle.lang_tree.specs.Conditions.{when, first_reason, onto_refusal, rename_refusal}
 use Rattle.lang_tree.proofs.basics.Order.{path_total, path_same}
 use Rattle.lang_tree.proofs.basics.Strips.{within_is, below_is, below_at, from_end, no_append, parent_append}

@@ -1,5 +1,4 @@
-use Rattle.std.proofs.Common.{◌≡◌, ◌∙◌, ◌≤◌, ◌<◌, length, ap, rules, arith}
-use Rattle.std.specs.Prelude.{bytes_eq}
+use Rattle.std.proofs.Common.{◌≡◌, ◌∙◌, ◌≤◌, ◌<◌, arith}
 use Rattle.std.specs.List.{starts_with}
 use Rattle.lang_tree.proofs.basics.BelowPath.{below_longer, starts_below}
 use Rattle.lang_tree.proofs.path.Path.is_below.Goals as goal
