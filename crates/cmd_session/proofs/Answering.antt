@@ -1,31 +1,29 @@
 -- What one command does on its disk, by what the file system says of any blocks.
-use Rattle.std.proofs.Common.{◌≡◌, ◌≢◌, ◌⊎◌, inl, inr, ℕ, ◌+◌, ◌<◌, ◌≤◌, Bool, true, false, IsTrue, Result, Err, refl, sym, ap, ◌∙◌, subst, arith}
+use Rattle.std.proofs.Common.{◌≡◌, ◌≢◌, ◌⊎◌, inl, inr, ℕ, ◌+◌, ◌<◌, ◌≤◌, Bool, true, false, IsTrue, Result, ap, ◌∙◌, subst, arith}
 use Rattle.std.proofs.lemmas.Bool.{cases_Bool, false≢true}
 use Rattle.base_types.specs.Counts.{after_call}
 use Rattle.disk_contract.specs.Cell.{has_lost}
 use Rattle.disk_contract.specs.Disk.{PollsFirst, PollsThenWrites}
 use Rattle.disk_contract.specs.Manner.{HasFailedBy}
 use Rattle.lang_tree.specs.declared.command.Cmd.{Cmd}
-use Rattle.lang_tree.specs.declared.command.Cmd.TheVariants.{Mkdir, Create, Write, Fill, Read, Truncate, Link, Unlink, Rmdir, Rename, Stat, List as ListNames, Osync, Dsync, Durable, Poll, Bad}
+use Rattle.lang_tree.specs.declared.command.Cmd.TheVariants.{Durable, Bad}
 use Rattle.lang_tree.specs.declared.command.Refusal.{Refusal}
 use Rattle.lang_tree.specs.declared.command.Refusal.TheVariants.{DiskFault as FaultOfDisk, ReadFault, Spent, Stopped}
 use Rattle.lang_tree.specs.declared.command.Reply.{Reply}
-use Rattle.lang_tree.specs.declared.command.Reply.TheVariants.{Bad as NotUnderstood, Known, Refused}
+use Rattle.lang_tree.specs.declared.command.Reply.TheVariants.{Known, Refused}
 use Rattle.lang_tree.specs.Step.{Session}
 use Rattle.engine_blocks.specs.Calls.{commit_places, commit_writes}
 use Rattle.engine_blocks.specs.Crashes.{Advances, IsTold, StillAwaits, WritesAtMost}
 use Rattle.engine_blocks.specs.Effects.{Ticked}
 use Rattle.engine_blocks.specs.State.{State}
 use Rattle.cmd_session.specs.Budget.{sync_budget, sync_places, writes_of}
-use Rattle.cmd_session.specs.Ending.{is_none}
-use Rattle.fs_session.specs.Applying.{Applies, Began, NeedsNoWait, Runs, Ticks, is_spent, reply_for}
+use Rattle.fs_session.specs.Applying.{Applies, Began, NeedsNoWait, Runs, is_spent}
 use Rattle.fs_session.specs.Commands.{Carries, is_disk_fault}
 use Rattle.fs_session.specs.DiskRoom.{IsRoomOf}
 use Rattle.fs_session.specs.Memory.{room_of}
 use Rattle.fs_session.specs.Sessions.{IsSession}
 use Rattle.fs_session.specs.Syncs.{SyncsSession}
 use Rattle.cmd_session.specs.Answered.{StepsOn, WaitsOn}
-use Rattle.cmd_session.specs.Pacing.{is_fault}
 
 -- a line that is none is told apart
 none_or_one : (cmd : Cmd) → (cmd ≡ Bad) ⊎ (cmd ≢ Bad)
@@ -56,8 +54,7 @@ module _ {S : Type 0} (tells : Bool) (state : S → State) (told : IsTrue tells)
 
       -- where a call failed the blocks have stopped
       unless : (failed : Bool) (mid now : State) → now.books.stopped ≡ false → now.books.stopped ≡ failed → now.counts.faults ≡ after_call failed mid.counts.faults → now.counts.faults ≡ mid.counts.faults
-      unless false mid now going is counts = counts
-      unless true mid now going is counts = absurd (false≢true (sym going ∙ is))
+      unless failed mid now h1 h2 h3 = grind (arith, false≢true)
 
       carried : (c : Cmd) (result : Result Reply Refusal) (mid : S) → Carries tells c result (state mid) (state new) → (state new).counts.faults ≡ (state mid).counts.faults
       carried c result mid x = unless (is_disk_fault result) (state mid) (state new) calm x.runs.stopped x.runs.faults
@@ -76,12 +73,10 @@ module _ {S : Type 0} (tells : Bool) (state : S → State) (told : IsTrue tells)
       by_spent meant run (inr left) = begun (applies.began meant run left)
 
       by_stopped : cmd ≢ Bad → ((state old).books.stopped ≡ true) ⊎ ((state old).books.stopped ≡ false) → (state new).counts.faults ≡ (state old).counts.faults
-      by_stopped meant (inl over) = same old new (applies.stopped meant over).1
-      by_stopped meant (inr run) = by_spent meant run (cases_Bool (is_spent (state old).books))
+      by_stopped h1 h2 = grind (arith, cases_Bool (is_spent (state old).books), same, applies.stopped, by_spent)
 
       by : (cmd ≡ Bad) ⊎ (cmd ≢ Bad) → (state new).counts.faults ≡ (state old).counts.faults
-      by (inl none) = same old new (applies.bad none).1
-      by (inr meant) = by_stopped meant (cases_Bool (state old).books.stopped)
+      by h1 = grind (arith, cases_Bool (state old).books.stopped, same, applies.bad, by_stopped)
 
   -- one that is refused as spent leaves the blocks as they are
   idles : (reply ≡ Refused Spent → is_spent (state old).books ≡ true) → reply ≡ Refused Spent → new ≡ old

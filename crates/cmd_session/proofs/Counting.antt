@@ -1,9 +1,6 @@
 -- What a command's reply tells of points: how many it made, what it promised, and whether the session has ended.
 use Rattle.std.proofs.Common.{◌≡◌, ◌≢◌, ◌⊎◌, inl, inr, ⊎_elim, ℕ, ◌+◌, ◌<◌, ◌≤◌, ◌==◌, nat_lt, Bool, true, false, IsTrue, ◌&&◌, if◌then◌else◌, List, [], ◌∷◌, length, Result, Ok, Err, refl, sym, ◌∙◌, ap, subst, arith}
 use Rattle.std.proofs.lemmas.Bool.{cases_Bool, cases_eq, cases_lt, cond-true, cond-false, eq-eqb, ne_eqb, lt-ltb, le-ltb, true≢false, false≢true}
-use Rattle.base_types.specs.Seal.{Blocks}
-use Rattle.layout_geometry.specs.Geometry.{Geometry}
-use Rattle.crash_stands.specs.Stands.{IsTreeOf}
 use Rattle.lang_tree.specs.declared.command.Cmd.{Cmd}
 use Rattle.lang_tree.specs.declared.command.Cmd.TheVariants.{Mkdir, Create, Write, Fill, Read, Truncate, Link, Unlink, Rmdir, Rename, Stat, List as ListNames, Osync, Dsync, Durable, Poll, Bad}
 use Rattle.lang_tree.specs.declared.command.Refusal.{Refusal}
@@ -46,28 +43,23 @@ abbrev point_where : Session → ℕ → Bool → List Point
 point_where f begun c = if c then record { tree = f.tree; begun = begun } ∷ [] else []
 
 one_if : (c : Bool) (p : Point) → length (if c then p ∷ [] else []) ≡ one_where c
-one_if true p = refl
-one_if false p = refl
+one_if c p = grind arith
 
 one_list : (c : Bool) (p : Point) → 0 < length (if c then p ∷ [] else []) → (if c then p ∷ [] else []) ≡ p ∷ []
-one_list true p some = refl
-one_list false p some = absurd (omega (arith, some))
+one_list c p h1 = grind arith
 
 -- one more where anything was weighed
 weighed : (r : Running) → if_changed r 1 0 ≡ one_where (nat_lt 0 r.weight)
 weighed r = grind (arith, cases_eq r.weight 0, r.weight == 0, r.weight, cond-true, eq-eqb, cond-false, le-ltb, ne_eqb, lt-ltb, cases_lt)
 
 and_true : (c : Bool) → (true && (c && true)) ≡ c
-and_true true = refl
-and_true false = refl
+and_true c = grind arith
 
 and_false : (c : Bool) → (true && (c && false)) ≡ false
-and_false true = refl
-and_false false = refl
+and_false c = grind arith
 
 pub osync_written : (f : Session) (b : Bool) → may_have_written (osync f b).1 ≡ true
-osync_written f true = refl
-osync_written f false = refl
+osync_written f b = grind arith
 
 -- What a reply tells of the points: how many there are by then, that a new one has the session's tree, that what was promised is on the disk, and that a fault ends the session.
 pub record TellsPoints (f : Session) (cmd : Cmd) (reply : Reply) (begun : ℕ) (old new : State) : Type 0 where
@@ -137,8 +129,7 @@ module _ {S : Type 0} (tells : Bool) (state : S → State) (told : IsTrue tells)
 
   -- what is done with no call of the disk
   of_nothing : (f : Session) (cmd : Cmd) (reply : Reply) (mid new : S) → is_sync cmd ≡ false → (state mid).books.stopped ≡ false → new ≡ mid → (reply ≡ Refused because.DiskFault → ⊥) → CountsMade f cmd reply begun (state mid) (state new)
-  of_nothing f cmd reply mid new is going same calm = none f cmd reply (state mid) (state new) is (ap (λ (s : S). (state s).books.point) same) (λ e. absurd (calm e))
-      (λ on. absurd (true≢false (sym on ∙ ap (λ (s : S). (state s).books.stopped) same ∙ going)))
+  of_nothing f cmd reply mid new is going same calm = grind (arith, none)
 
   known_calm : (n : ℕ) → Known n ≡ Refused because.DiskFault → ⊥
   known_calm n e = false≢true (ap is_refusal e)
@@ -240,12 +231,10 @@ module _ {S : Type 0} (tells : Bool) (state : S → State) (told : IsTrue tells)
         bad is = at_once f cmd reply old new (applies.bad is).1 (ap (λ (ps : List Point). length ps) (none_made f cmd reply begun (ap is_sync is))) (ap promised_by (applies.bad is).0) (λ e. never f Bad (sym (applies.bad is).0 ∙ e)) (λ stopped not. absurd (not is))
 
         stopped : cmd ≢ Bad → (state old).books.stopped ≡ true → TellsPoints f cmd reply begun (state old) (state new)
-        stopped not on = at_once f cmd reply old new (applies.stopped not on).1 (refusal_made f cmd because.Stopped reply (applies.stopped not on).0 refl) (ap promised_by (applies.stopped not on).0)
-            (calm_as because.Stopped reply (applies.stopped not on).0 refl) (λ is not_bad. (applies.stopped not on).0)
+        stopped not on = grind (arith, at_once, applies.stopped, refusal_made, calm_as)
 
         spent : cmd ≢ Bad → (state old).books.stopped ≡ false → is_spent (state old).books ≡ true → TellsPoints f cmd reply begun (state old) (state new)
-        spent not going on = at_once f cmd reply old new (applies.spent not going on).1 (refusal_made f cmd because.Spent reply (applies.spent not going on).0 refl) (ap promised_by (applies.spent not going on).0)
-            (calm_as because.Spent reply (applies.spent not going on).0 refl) (λ is not_bad. absurd (true≢false (sym is ∙ going)))
+        spent not going on = grind (arith, at_once, applies.spent, refusal_made, calm_as)
 
         began : cmd ≢ Bad → (state old).books.stopped ≡ false → is_spent (state old).books ≡ false → TellsPoints f cmd reply begun (state old) (state new)
         began not going left = of_began f cmd reply old new going h (applies.began not going left) (promised_of f cmd reply old new a (applies.began not going left))

@@ -1,15 +1,13 @@
 -- An image in which something is broken stands for no tree, and what is said of an image by one answer isn't said by another.
-use Rattle.std.proofs.Common.{◌≡◌, ⊎_elim, ℕ, ◌+◌, ◌*◌, ◌/◌, ◌%◌, ◌&&◌, ◌||◌, not, nat_le, nat_lt, ◌==◌, slice_index, ◌<◌, ◌≤◌, Bool, true, false, List, [], Some, refl, sym, ◌∙◌, ap, ap₂, subst, arith}
+use Rattle.std.proofs.Common.{◌≡◌, ⊎_elim, ℕ, ◌+◌, ◌*◌, ◌/◌, ◌%◌, ◌&&◌, ◌||◌, not, ◌==◌, ◌<◌, ◌≤◌, Bool, true, false, List, [], Some, sym, ◌∙◌, ap₂, subst, arith}
 use Rattle.std.proofs.lemmas.Bool.{and_from, cases_lt, cond-true, le-leb, le-ltb, lt-ltb}
-use Rattle.std.specs.Int.{bit_at}
 use mathlib.Core.Path.{fun_ext}
 use Rattle.base_types.specs.Seal.{Blocks}
 use Rattle.layout_geometry.specs.Geometry.{Geometry, IsGeometry, geometry_fits, bitmap_blocks, bitmap_start, data_start}
-use Rattle.layout_bytes.specs.Bitmap.{is_set}
-use Rattle.layout_bitmap.specs.Bits.{bit_in, is_bad_bit}
+use Rattle.layout_bitmap.specs.Bits.{is_bad_bit}
 use Rattle.layout_journal.specs.declared.header.Header.{Header}
 use Rattle.layout_journal.specs.Layout.{header_of, IsWithinDisk}
-use Rattle.layout_journal.specs.Run.{Newest, Record, HeldIs, IsRun, is_live, live_part, replayed}
+use Rattle.layout_journal.specs.Run.{Newest, Record, HeldIs, IsRun, live_part, replayed}
 use Rattle.engine_mount.specs.Mount.{FoundDisk, IsUsedUp}
 use Rattle.engine_store.specs.Refusal as store
 use Rattle.lang_tree.specs.Tree.{Tree}
@@ -45,8 +43,7 @@ in_bitmap n b low = omega (arith, low)
 
 -- a test on the bits of one block or the other, where the bit isn't looked at
 unlooked : (high : Bool) (p q : Bool) → ((false && not p) || (high && (false && p))) ≡ ((false && not q) || (high && (false && q)))
-unlooked true p q = refl
-unlooked false p q = refl
+unlooked high p q = grind arith
 
 -- which bits are wrong is said by the bitmap's blocks alone
 same_bad : (g : Geometry) (m q : Blocks) (b : ℕ) → data_start g ≤ g.n → ((k : ℕ) → k < bitmap_blocks g → m k ≡ q k) → is_bad_bit g m b ≡ is_bad_bit g q b

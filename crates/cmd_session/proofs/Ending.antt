@@ -1,5 +1,5 @@
 -- A run may end at once: each command more is refused, no event comes, and what was said of the run holds of the longer one.
-use Rattle.std.proofs.Common.{◌≡◌, ◌≢◌, inl, inr, ⊎_elim, ℕ, ◌≤◌, Bool, true, false, not, if◌then◌else◌, List, [], ◌∷◌, ◌++◌, length, take, take_all, slice_get, Some, refl, sym, ◌∙◌, ap, subst, arith, rules}
+use Rattle.std.proofs.Common.{◌≡◌, ◌≢◌, ⊎_elim, ℕ, ◌≤◌, Bool, true, false, not, if◌then◌else◌, List, [], ◌∷◌, ◌++◌, length, take_all, slice_get, Some, refl, sym, ◌∙◌, ap, subst, arith}
 use Rattle.std.proofs.Math.Logic.{∥∥₁_map}
 use Rattle.std.proofs.lemmas.List.{append-nil, append_assoc, length-append}
 use Rattle.std.proofs.lemmas.Bool.{true≢false, false≢true}
@@ -7,13 +7,13 @@ use Rattle.base_types.specs.Seal.{Blocks}
 use Rattle.disk_contract.specs.declared.event.Event.{Event}
 use Rattle.layout_geometry.specs.Geometry.{Geometry}
 use Rattle.lang_tree.specs.declared.command.Cmd.{Cmd}
-use Rattle.lang_tree.specs.declared.command.Cmd.TheVariants.{Mkdir, Create, Write, Fill, Read, Truncate, Link, Unlink, Rmdir, Rename, Stat, List as ListNames, Osync, Dsync, Durable, Poll, Bad}
+use Rattle.lang_tree.specs.declared.command.Cmd.TheVariants.{Bad}
 use Rattle.lang_tree.specs.declared.command.Refusal.TheVariants as because
 use Rattle.lang_tree.specs.declared.command.Reply.{Reply}
 use Rattle.lang_tree.specs.declared.command.Reply.TheVariants.{Bad as NotUnderstood, Refused}
 use Rattle.lang_tree.specs.Points.{Point, after_reply, made_by, points_after, points_of, begun_by, floor, top, promised_by}
 use Rattle.lang_tree.specs.Run.{Answers, Run, StopsAfterFault, is_of_disk}
-use Rattle.lang_tree.specs.Step.{Session, session_on, step}
+use Rattle.lang_tree.specs.Step.{Session, session_on}
 use Rattle.lang_tree.specs.Tree.{Tree}
 use Rattle.engine_blocks.specs.State.{State}
 use Rattle.cmd_session.specs.Budget.{budget_of, weight_by}
@@ -47,13 +47,11 @@ no_promise none over = grind arith
 
 -- the reasons are of the disk
 of_disk : (over : Bool) → is_of_disk (if over then because.Stopped else because.DiskFault) ≡ true
-of_disk true = refl
-of_disk false = refl
+of_disk over = grind arith
 
 -- so the command is answered, and the session is as it was
 answers_end : (f : Session) (cmd : Cmd) (over none : Bool) → is_none cmd ≡ none → Answers is_of_disk f cmd (if none then NotUnderstood else Refused (if over then because.Stopped else because.DiskFault)) f
-answers_end f cmd over true is = inl (subst (λ (c : Cmd). step f c ≡ (f, NotUnderstood)) (sym (none_is cmd is)) refl)
-answers_end f cmd over false is = inr (inl (if over then because.Stopped else because.DiskFault, of_disk over, refl, refl))
+answers_end f cmd over none h1 = grind (arith, none_is, of_disk)
 
 module _ (laws : EndLaws) (g : Geometry) (t : Tree) (base : Blocks) (log : List Event) (mounted : ℕ) (over : Bool) (cmds : List Cmd) (replies : List Reply) (marks : List ℕ) (cmd : Cmd) (may : MayEnd g t base log mounted over cmds replies marks) where
   abbrev s : Session
@@ -112,8 +110,7 @@ module _ (laws : EndLaws) (g : Geometry) (t : Tree) (base : Blocks) (log : List 
       here = grind (arith, may.is.issued.each, take_all, before, g.n, last_is, may.is.ascend, may.is.marked, may.is.answered)
 
       no_point : is_none cmd ≡ true → points_of s mounted cmds replies marks ≡ points_of s mounted all_cmds all_replies all_marks
-      no_point is = sym (append-nil (points_of s mounted cmds replies marks))
-          ∙ ap (λ (ps : List Point). points_of s mounted cmds replies marks ++ ps) (subst (λ (c : Cmd). [] ≡ made_by f c reply (last_mark mounted marks)) (sym (none_is cmd is)) refl) ∙ sym points_are
+      no_point is = grind (arith, append-nil, none_is, points_are)
 
       by : (b : Bool) → is_none cmd ≡ b → (o : Bool) → over ≡ o → ∥ StandsForLast g.n base log (points_of s mounted all_cmds all_replies all_marks) ∥₁
       by true is o is_over = subst (λ (ps : List Point). ∥ StandsForLast g.n base log ps ∥₁) (no_point is) here
@@ -137,12 +134,10 @@ module _ (laws : EndLaws) (g : Geometry) (t : Tree) (base : Blocks) (log : List 
   }
     where
       after : (b : Bool) → over ≡ true → (if b then over else true) ≡ true
-      after true is = is
-      after false is = refl
+      after b h1 = grind arith
 
       fails : (b o : Bool) → (if b then NotUnderstood else Refused (if o then because.Stopped else because.DiskFault)) ≡ Refused because.DiskFault → (if b then o else true) ≡ true
-      fails true o is = absurd (search rules)
-      fails false o is = refl
+      fails b o h1 = grind arith
 
       by : (b : Bool) → is_none cmd ≡ b → (o : Bool) → over ≡ o → over_after over cmd ≡ true → HasNoFault all_replies → ⊥
       by true is o is_over e none = may.fault (sym (ap (λ (b : Bool). if b then over else true) is) ∙ e) (λ i at. none i (get_before replies (reply ∷ []) i (Refused because.DiskFault) at))
@@ -173,5 +168,4 @@ pub budget_grows : (bitmap : ℕ) (s : Session) (w : ℕ) (cmds : List Cmd) (rep
     → budget_of bitmap s w cmds replies ≤ budget_of bitmap s w (cmds ++ more) (replies ++ later)
 budget_grows bitmap s w [] replies more later e = omega arith
 budget_grows bitmap s w (cmd ∷ cmds) [] more later e = absurd (omega (arith, e))
-budget_grows bitmap s w (cmd ∷ cmds) (reply ∷ replies) more later e =
-    omega (arith, budget_grows bitmap (after_reply s cmd reply) (weight_by bitmap s w cmd reply) cmds replies more later (omega (arith, e)))
+budget_grows bitmap s w (cmd ∷ cmds) (reply ∷ replies) more later e = grind (arith, budget_grows bitmap (after_reply s cmd reply) (weight_by bitmap s w cmd reply) cmds replies more later)

@@ -1,5 +1,5 @@
 -- One command more behind others: its points, the floor and the top, and the session after it.
-use Rattle.std.proofs.Common.{◌≡◌, ◌⊎◌, inl, inr, ⊎_elim, ℕ, zero, suc, ◌+◌, ◌≤◌, max, nat_le, Bool, true, false, ◌&&◌, if◌then◌else◌, List, [], ◌∷◌, ◌++◌, length, take, slice_get, Some, unwrap_or, refl, sym, ◌∙◌, ap, subst, arith}
+use Rattle.std.proofs.Common.{◌≡◌, ◌⊎◌, inl, inr, ⊎_elim, ℕ, zero, suc, ◌+◌, ◌≤◌, nat_le, Bool, ◌&&◌, if◌then◌else◌, List, [], ◌∷◌, ◌++◌, length, take, slice_get, Some, unwrap_or, refl, ◌∙◌, ap, subst, arith}
 use Rattle.std.proofs.Math.Nat.{max-le}
 use Rattle.std.proofs.lemmas.List.{append-nil, append_assoc}
 use Rattle.std.proofs.lemmas.Bool.{cases_lt, le-leb, lt-leb, cond-true, cond-false}
@@ -78,8 +78,7 @@ begun_append k (x ∷ xs) ys = omega (arith, begun_append k xs ys)
 
 -- a point, where there is one, and nothing else
 all_if : (P : Point → Type 0) (c : Bool) (p : Point) → P p → Each P (if c then p ∷ [] else [])
-all_if P true p is = (is, tt)
-all_if P false p is = tt
+all_if P c p h1 = grind arith
 
 pub all_append : (P : Point → Type 0) (xs ys : List Point) → Each P xs → Each P ys → Each P (xs ++ ys)
 all_append P [] ys left right = right
@@ -104,8 +103,7 @@ begun_all k (x ∷ xs) all = omega (arith, cond-true {A = ℕ} (nat_le x.begun k
 
 -- What stands in a list stands in a longer one, and behind it comes the next.
 pub none_is : {A : Type 0} (i : ℕ) (x : A) → slice_get [] i ≡ Some x → ⊥
-none_is zero x is = cc
-none_is (suc i) x is = cc
+none_is i x h1 = grind arith
 
 pub get_before : {A : Type 0} (xs ys : List A) (i : ℕ) (x : A) → slice_get xs i ≡ Some x → slice_get (xs ++ ys) i ≡ Some x
 get_before [] ys i x is = absurd (none_is i x is)

@@ -1,8 +1,7 @@
 -- The writes at each moment: a front of a log has at most those of the whole.
-use Rattle.std.proofs.Common.{◌≡◌, ℕ, zero, suc, ◌+◌, ◌≤◌, Bool, List, [], ◌∷◌, ◌++◌, length, take, take_all, drop, refl, sym, ap, ◌∙◌, subst, arith}
+use Rattle.std.proofs.Common.{◌≡◌, ℕ, zero, suc, ◌+◌, ◌≤◌, Bool, List, [], ◌∷◌, ◌++◌, length, take, take_all, drop, refl, sym, ◌∙◌, subst, arith}
 use Rattle.std.proofs.lemmas.List.{append-nil, append_assoc, length-append}
 use Rattle.disk_contract.specs.declared.event.Event.{Event}
-use Rattle.disk_contract.specs.declared.event.Event.TheVariants.{Wrote, Lost, Noticed}
 use Rattle.disk_contract.specs.Disk.{Grows, writes_in}
 use Rattle.layout_geometry.specs.Geometry.{Geometry, bitmap_blocks}
 use Rattle.crash_argument.specs.Counts.{AreAtMost}
@@ -14,7 +13,6 @@ use Rattle.engine_blocks.specs.State.{State}
 use Rattle.cmd_trace.specs.Trace.{Ascend}
 use Rattle.cmd_session.specs.Budget.{KeepsBudget, SpendsByMarks, budget_of}
 use Rattle.cmd_session.specs.Ending.{ending_marks, ending_replies, ending_reply, over_after}
-use Rattle.cmd_session.specs.Histories.{last_mark}
 use Rattle.cmd_session.proofs.Ending.{budget_grows}
 use Rattle.cmd_session.proofs.Histories.{ascend_more, last_is}
 use Rattle.cmd_session.proofs.Marks.{each_more}

@@ -12,7 +12,6 @@ use Rattle.disk_contract.specs.Cell.{has_lost}
 use Rattle.disk_contract.specs.Disk.{Grows, PollsFirst, PollsThenWrites, writes_in}
 use Rattle.disk_contract.specs.Manner.{Manner, HasFailedBy, LosesLast, Polled, after_polls}
 use Rattle.layout_journal.specs.declared.record.Commit.{Commit}
-use Rattle.layout_journal.specs.Run.{places_told}
 use Rattle.crash_argument.specs.Points.{MountedSession}
 use Rattle.cmd_trace.specs.Trace.{Ascend}
 use Rattle.lang_tree.specs.declared.command.Cmd.{Cmd}
@@ -96,8 +95,7 @@ within from [] events is = omega (arith, is)
 within from (mark ∷ marks) events is = omega (arith, is.0, within mark marks events is.1)
 
 or_cases : (a b : Bool) → (a || b) ≡ true → (a ≡ true) ⊎ (b ≡ true)
-or_cases true b is = inl refl
-or_cases false b is = inr is
+or_cases a b h1 = grind arith
 
 -- Whether a reply is a fault.
 
@@ -171,8 +169,7 @@ module _ (ses : MountedSession) (base : Blocks) (m : Manner) (log more : List Ev
   }
     where
       unlost_shorter : (m.waits_alone ≡ true) ⊎ (has_lost (take p.events (log ++ more)) ≡ false) → (m.waits_alone ≡ true) ⊎ (has_lost (take p.events log) ≡ false)
-      unlost_shorter (inl known) = inl known
-      unlost_shorter (inr none) = inr (ap has_lost (sym (front p.events low)) ∙ none)
+      unlost_shorter h1 = grind (arith, front, p.events)
 
   pub paces_longer : (cmd : Cmd) (reply : Reply) (mark : ℕ) (mid end : Pace) (p : Pace) (cmds : List Cmd) (replies : List Reply) (marks : List ℕ) → Ascend p.events marks (length log)
       → PacesBy ses base m log p cmds replies marks mid → end.events ≡ mark → StepsBy ses base m (log ++ more) cmd reply mid end → PacesBy ses base m (log ++ more) p (cmds ++ cmd ∷ []) (replies ++ reply ∷ []) (marks ++ mark ∷ []) end
@@ -203,8 +200,7 @@ module _ (cmd : Cmd) (reply : Reply) (old new : State) (s : StepsOn cmd reply ol
       by_reply run (inr calm) = going (none run calm) ∙ sym calm ∙ ap (λ (v : Bool). v || is_fault reply) (sym run)
 
       by : (old.books.stopped ≡ true) ⊎ (old.books.stopped ≡ false) → new.books.stopped ≡ (old.books.stopped || is_fault reply)
-      by (inl over) = (s.rests (inr over)).1.1 ∙ over ∙ ap (λ (v : Bool). v || is_fault reply) (sym over)
-      by (inr run) = by_reply run (cases_Bool (is_fault reply))
+      by h1 = grind (arith, cases_Bool (is_fault reply), s.rests, by_reply)
 
   -- What the command did behind its tick, by the log: with no reason it waited for nothing, and a dsync for the writes of records; and `durable` is answered by no earlier point than is known.
   pub record Waits (ses : MountedSession) (base : Blocks) (m : Manner) (t : Taken) (behind : List Event) (begun : ℕ) : Type 0 where

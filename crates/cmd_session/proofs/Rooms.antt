@@ -15,7 +15,7 @@ use Rattle.crash_argument.specs.Points.{MountedSession, commits_told}
 use Rattle.lang_tree.specs.declared.command.Cmd.{Cmd}
 use Rattle.lang_tree.specs.declared.command.Cmd.TheVariants as cmds
 use Rattle.lang_tree.specs.declared.command.Refusal.{Refusal}
-use Rattle.lang_tree.specs.declared.command.Refusal.TheVariants.{DiskFault, Spent}
+use Rattle.lang_tree.specs.declared.command.Refusal.TheVariants.{Spent}
 use Rattle.lang_tree.specs.declared.command.Reply.{Reply}
 use Rattle.lang_tree.specs.declared.command.Reply.TheVariants.{Refused}
 use Rattle.lang_tree.specs.Points.{after_reply, is_sync}
@@ -135,8 +135,7 @@ module _ {S : Type 0} (state : S → State) (f : Session) (cmd : Cmd) (reply : R
   }
 
   at_once : FitsAmong (state old) mid.books.free_places → OrdersAtOnce mid.books
-  at_once (inl fits) = inl (omega (arith, fits, same_places))
-  at_once (inr none) = inr (same_weight ∙ none)
+  at_once h1 = grind (arith, same_places, same_weight)
 
   syncs_in : SyncsBehind cmd reply mid (state new) → SyncsIn cmd reply (state old) mid.crash.log mid.books.free_places (state new)
   syncs_in s = record {
@@ -216,8 +215,7 @@ module _ (g : Geometry) (follow : (outside : Refusal → Bool) (was now : Sessio
           (subst (λ (es : List Event). AnswersAt g (moment_by ses base m a.behind (DoneInRing ses base m new.crash.log cmd reply (pace_of t old) (length a.behind) (length new.crash.log))) (moment_by ses base m es ⊥) f (room_on old) cmd reply next (room_on new)) (sym (take-length new.crash.log)) logged)
 
       told : AnswersAt g (moment_by ses base m (take (length a.behind) new.crash.log) (DoneInRing ses base m new.crash.log cmd reply (pace_of t old) (length a.behind) (length new.crash.log))) (moment_by ses base m (take (length new.crash.log) new.crash.log) ⊥) t.session (room_on old) cmd reply (after_reply t.session cmd reply) (room_on new)
-      told = subst (λ (s : Session). AnswersAt g (moment_by ses base m (take (length a.behind) new.crash.log) (DoneInRing ses base m new.crash.log cmd reply (pace_of t old) (length a.behind) (length new.crash.log))) (moment_by ses base m (take (length new.crash.log) new.crash.log) ⊥) s (room_on old) cmd reply (after_reply s cmd reply) (room_on new)) (sym session)
-          (subst (λ (s : Session). AnswersAt g (moment_by ses base m (take (length a.behind) new.crash.log) (DoneInRing ses base m new.crash.log cmd reply (pace_of t old) (length a.behind) (length new.crash.log))) (moment_by ses base m (take (length new.crash.log) new.crash.log) ⊥) f (room_on old) cmd reply s (room_on new)) follows cut)
+      told = grind (arith, a.behind, new.crash.log, follows, cut)
 
       room : AnswersBy ses base m new.crash.log cmd reply (pace_of t old) (pace_of (taken_by g t cmd reply own late) new)
       room = record {

@@ -30,8 +30,7 @@ use Rattle.cmd_session.proofs.Weights.{weighs, within_weight}
 -- The writes of one command.
 
 osync_begun : (f : Session) (b : Bool) → may_have_begun (osync f b).1 ≡ true
-osync_begun f true = refl
-osync_begun f false = refl
+osync_begun f b = grind arith
 
 and_true : (a b : Bool) → a ≡ true → b ≡ true → (a && b) ≡ true
 and_true a b one two = ap (λ c. c && b) one ∙ two
@@ -134,8 +133,7 @@ budget_more bitmap s w (c ∷ cmds) [] cmd reply e = absurd (some_none (length c
 budget_more bitmap s w (c ∷ cmds) (r ∷ replies) cmd reply e = omega (arith, budget_more bitmap (after_reply s c r) (weight_by bitmap s w c r) cmds replies cmd reply (one_less (length cmds) (length replies) e))
 
 if_at_most : (c : Bool) (m n : ℕ) → (c ≡ true → m ≤ n) → (if c then m else 0) ≤ (if c then n else 0)
-if_at_most true m n le = le refl
-if_at_most false m n le = omega arith
+if_at_most c m n h1 = grind arith
 
 module _ {S : Type 0} (tells : Bool) (state : S → State) (told : IsTrue tells) (g : Geometry) (t : Tree) (mounted begun : ℕ) (cmds : List Cmd) (replies : List Reply) (marks : List ℕ) (old new : S) (cmd : Cmd) (reply : Reply)
     (served : HasServed g t mounted cmds replies marks (state old)) (keeps : KeepsBudget g t begun cmds replies (state old)) (applies : Applies tells state cmd reply old new)

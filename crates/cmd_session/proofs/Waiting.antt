@@ -1,5 +1,5 @@
 -- What a run has taken of its disk after one command more, and what that command waited for.
-use Rattle.std.proofs.Common.{◌≡◌, ◌≢◌, ◌⊎◌, inl, inr, ⊎_elim, ℕ, zero, suc, ◌+◌, ◌-◌, ◌<◌, ◌≤◌, ◌==◌, ◌||◌, ◌&&◌, not, nat_le, nat_lt, if◌then◌else◌, Bool, true, false, List, [], ◌∷◌, ◌++◌, length, take, drop, Option, Some, None, is_some, refl, sym, ap, ap₂, ◌∙◌, subst, append_assoc, append-nil, arith}
+use Rattle.std.proofs.Common.{◌≡◌, ◌≢◌, ◌⊎◌, inl, inr, ⊎_elim, ℕ, zero, suc, ◌+◌, ◌-◌, ◌<◌, ◌≤◌, ◌==◌, ◌||◌, ◌&&◌, not, nat_le, nat_lt, if◌then◌else◌, Bool, true, false, List, [], ◌∷◌, ◌++◌, length, take, drop, Option, Some, refl, sym, ap, ap₂, ◌∙◌, subst, append_assoc, append-nil, arith}
 use Rattle.std.proofs.Props.{props}
 use Rattle.std.proofs.Math.Logic.{∥∥₁_elim, ∥∥₁_map, ∥∥₁_prop}
 use Rattle.std.proofs.Math.Seq.{take-append_seam, take-length, drop-append_seam, drop-length}
@@ -111,8 +111,7 @@ abbrev one_if : Bool → ℕ
 one_if b = if b then 1 else 0
 
 length_if : {A : Type 0} (b : Bool) (x : A) → length (if b then x ∷ [] else []) ≡ one_if b
-length_if true x = refl
-length_if false x = refl
+length_if b x = grind arith
 
 made_one : (s : Session) (cmd : Cmd) (reply : Reply) (mark : ℕ) → length (made_by s cmd reply mark) ≡ one_if (makes_point s cmd reply)
 made_one s cmd reply mark = length_if (makes_point s cmd reply) (record { tree = s.tree; begun = mark })
@@ -195,31 +194,25 @@ one_place c = omega (arith, ap (λ (b : Bool). if b then places_told c else 0) (
 
 -- A transaction that weighs something changed something.
 weighs_some : (n : ℕ) → nat_lt 0 n ≡ true → 0 < n
-weighs_some zero is = absurd (false≢true is)
-weighs_some (suc n) is = omega arith
+weighs_some n h1 = grind (arith, false≢true)
 
 some_weighs : (n : ℕ) → 0 < n → nat_lt 0 n ≡ true
 some_weighs n some = grind (arith, nat_tests, some)
 
 zero_or_some : (n : ℕ) → (n ≡ 0) ⊎ (0 < n)
-zero_or_some zero = inl refl
-zero_or_some (suc n) = inr (omega arith)
+zero_or_some n = grind arith
 
 both : (a b : Bool) → a ≡ true → b ≡ true → (a && b) ≡ true
-both true b is other = other
-both false b is other = is
+both a b h1 h2 = grind arith
 
 parts_of : (a b : Bool) → (a && b) ≡ true → (a ≡ true) × (b ≡ true)
-parts_of true b is = (refl, is)
-parts_of false b is = absurd (false≢true is)
+parts_of a b h1 = grind (arith, false≢true)
 
 not_is : (a : Bool) → not a ≡ true → a ≡ false
-not_is true is = absurd (false≢true is)
-not_is false is = refl
+not_is a h1 = grind (arith, false≢true)
 
 is_not : (a : Bool) → a ≡ false → not a ≡ true
-is_not true is = absurd (false≢true (sym is))
-is_not false is = refl
+is_not a h1 = grind (arith, false≢true)
 
 -- a sync that may have written and that no fault ended is done
 why_not : (why : Refusal) → may_have_written (Refused why) ≡ true → is_fault (Refused why) ≡ false → ⊥
@@ -408,16 +401,13 @@ module _ (cmd : Cmd) (reply : Reply) (old new : State) (w : WaitsOn cmd reply ol
           fits_by x finds (inr all) = absurd (true≢false (sym (ap is_refusal all.1) ∙ well))
 
       by_weight : is_sync cmd ≡ true → is_refusal reply ≡ false → old.books.stopped ≡ false → (t.weight ≡ 0) ⊎ (0 < t.weight) → (begun : ℕ) × Own begun
-      by_weight sync well going (inl zero_is) = none (λ done still more. omega (arith, zero_is, more))
-      by_weight sync well going (inr more) = some sync well going more
+      by_weight h1 h2 h3 h4 = grind (arith, none, some)
 
       by_going : is_sync cmd ≡ true → is_refusal reply ≡ false → (old.books.stopped ≡ true) ⊎ (old.books.stopped ≡ false) → (begun : ℕ) × Own begun
-      by_going sync well (inl stopped) = none (λ done still more. true≢false (sym stopped ∙ still))
-      by_going sync well (inr going) = by_weight sync well going (zero_or_some t.weight)
+      by_going h1 h2 h3 = grind (arith, zero_or_some t.weight, none, by_weight, zero_or_some, t.weight)
 
       by_done : (is_done_sync cmd reply ≡ true) ⊎ (is_done_sync cmd reply ≡ false) → (begun : ℕ) × Own begun
-      by_done (inr not_done) = none (λ done still more. true≢false (sym done ∙ not_done))
-      by_done (inl done) = let both_of = parts_of (is_sync cmd) (not (is_refusal reply)) done in by_going both_of.0 (not_is (is_refusal reply) both_of.1) (cases_Bool old.books.stopped)
+      by_done h1 = grind (arith, cases_Bool old.books.stopped, none, parts_of, by_going, not_is, old.books.stopped)
 
   -- there is one point more where the command makes one
   points_on : new.books.stopped ≡ false → new.books.point ≡ old.books.point + one_if (makes_point t.session cmd reply)

@@ -1,8 +1,7 @@
 -- What one command adds to the weight of the running transaction, and that the writes of a record are within what its weight stands for.
-use Rattle.std.proofs.Common.{◌≡◌, ◌⊎◌, ◌≢◌, inl, inr, ⊎_elim, ℕ, ◌+◌, ◌≤◌, ◌==◌, Bool, true, false, IsTrue, if◌then◌else◌, length, replicate, Option, None, Some, Result, Ok, Err, refl, sym, ◌∙◌, ap, arith}
+use Rattle.std.proofs.Common.{◌≡◌, ◌⊎◌, ◌≢◌, inl, inr, ⊎_elim, ℕ, ◌+◌, ◌≤◌, ◌==◌, Bool, true, false, IsTrue, if◌then◌else◌, Option, Result, Ok, Err, refl, sym, ◌∙◌, ap, arith}
 use Rattle.std.proofs.lemmas.Bool.{cases_Bool, cases_eq, eq-eqb, ne_eqb, cond-true, cond-false, true≢false, false≢true}
 use Rattle.layout_geometry.specs.Geometry.{Geometry, bitmap_blocks}
-use Rattle.layout_journal.specs.Layout.{descriptor_count}
 use Rattle.lang_tree.specs.declared.command.Cmd.{Cmd}
 use Rattle.lang_tree.specs.declared.command.Cmd.TheVariants.{Mkdir, Create, Write, Fill, Read, Truncate, Link, Unlink, Rmdir, Rename, Stat, List as ListNames, Osync, Dsync, Durable, Poll, Bad}
 use Rattle.lang_tree.specs.declared.command.Refusal.{Refusal}
@@ -13,8 +12,7 @@ use Rattle.lang_tree.specs.Conditions.{refusal}
 use Rattle.lang_tree.specs.Figures.{figures, figures_by}
 use Rattle.lang_tree.specs.Points.{is_refusal, is_sync}
 use Rattle.lang_tree.specs.Step.{Session, step, answered, osync}
-use Rattle.lang_tree.specs.Walk.{content, is_same_node}
-use Rattle.engine_blocks.specs.Running.{Running, payloads, fresh_blocks, record_writes, nothing_running}
+use Rattle.engine_blocks.specs.Running.{Running, payloads, fresh_blocks, nothing_running}
 use Rattle.engine_blocks.specs.Calls.{MaySync, commit_places, commit_writes, if_changed}
 use Rattle.engine_blocks.specs.State.{Bookkeeping, State}
 use Rattle.fs_session.specs.Applying.{Ticks, Runs, Began, Applies, reply_for, is_spent}
@@ -31,8 +29,7 @@ abbrev done_in : Bool → Session → Session → Session × Reply
 done_in c s t = if c then (s, Done) else (t, Done)
 
 done_calm : (c : Bool) (s t : Session) → is_refusal (done_in c s t).1 ≡ true → ⊥
-done_calm true s t is = false≢true is
-done_calm false s t is = false≢true is
+done_calm c s t h1 = grind (arith, false≢true)
 
 free_by : (bitmap : ℕ) (f : Session) (cmd : Cmd) (o : Option Refusal) → is_refusal (answered f cmd o).1 ≡ true → (figures_by bitmap f.tree cmd o).cost ≡ 0
 free_by bitmap f cmd o h1 = grind (arith, false≢true, done_calm, f.tree)
@@ -42,8 +39,7 @@ refused_is_free bitmap f cmd is = free_by bitmap f cmd (refusal f.limit f.tree c
 
 -- A sync's own reply is no refusal.
 osync_done : (f : Session) (b : Bool) → is_refusal (osync f b).1 ≡ false
-osync_done f true = refl
-osync_done f false = refl
+osync_done f b = grind arith
 
 -- The weight after one command.
 
@@ -124,15 +120,13 @@ module _ {S : Type 0} (tells : Bool) (state : S → State) (told : IsTrue tells)
   weighs cmd reply old new geom h applies going = ⊎_elim bad other (is_bad cmd)
     where
       bad : cmd ≡ Bad → (state new).books.running.weight ≡ weight_by (bitmap_blocks g) f (state old).books.running.weight cmd reply
-      bad is = of_nothing cmd reply old new (applies.bad is).1
-          (ap (λ (c : Cmd). weight_by (bitmap_blocks g) f (state old).books.running.weight c reply) is ∙ weight_done (bitmap_blocks g) f (state old).books.running.weight Bad reply (ap is_refusal (applies.bad is).0) refl ∙ omega arith) going
+      bad is = grind (arith, of_nothing, applies.bad, weight_done)
 
       stopped : cmd ≢ Bad → (state old).books.stopped ≡ true → (state new).books.running.weight ≡ weight_by (bitmap_blocks g) f (state old).books.running.weight cmd reply
       stopped not on = absurd (true≢false (sym on ∙ sym (ap (λ (s : S). (state s).books.stopped) (applies.stopped not on).1) ∙ going))
 
       spent : cmd ≢ Bad → (state old).books.stopped ≡ false → is_spent (state old).books ≡ true → (state new).books.running.weight ≡ weight_by (bitmap_blocks g) f (state old).books.running.weight cmd reply
-      spent not on low = of_nothing cmd reply old new (applies.spent not on low).1
-          (weight_refused (bitmap_blocks g) f (state old).books.running.weight cmd reply (ap is_refusal (applies.spent not on low).0)) going
+      spent not on low = grind (arith, of_nothing, applies.spent, weight_refused)
 
       other : cmd ≢ Bad → (state new).books.running.weight ≡ weight_by (bitmap_blocks g) f (state old).books.running.weight cmd reply
       other not = ⊎_elim (stopped not)

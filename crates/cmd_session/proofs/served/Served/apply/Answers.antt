@@ -1,8 +1,7 @@
 use Rattle.std.proofs.Common.{subst, sym, arith}
 use Rattle.lang_tree.specs.Run.{is_of_disk}
-use Rattle.engine_blocks.specs.Crashes.{WritesAtMost}
 use Rattle.fs_commands.specs.Opened.{blocks_in}
-use Rattle.cmd_session.specs.Budget.{KeepsBudget, writes_of}
+use Rattle.cmd_session.specs.Budget.{KeepsBudget}
 use Rattle.cmd_session.specs.Serving.{HasServed}
 use Rattle.cmd_session.proofs.Serving.{KeepsKnown, never_faults, serves_more}
 use Rattle.cmd_session.proofs.Spending.{keeps_more, writes_more}

@@ -1,7 +1,5 @@
-use Rattle.std.proofs.Common.{◌≤◌, subst, arith}
-use Rattle.engine_blocks.specs.Calls.{commit_places, commit_writes}
+use Rattle.std.proofs.Common.{◌≤◌, arith}
 use Rattle.fs_commands.specs.Opened.{blocks_in}
-use Rattle.cmd_session.specs.Budget.{sync_budget, sync_places}
 use Rattle.cmd_session.proofs.Weights.{places_within_weight, within_weight}
 use Rattle.cmd_session.proofs.served.Served.lawful.Goals as goal
 
