@@ -2,7 +2,7 @@
 use Rattle.std.proofs.Common.{◌≡◌, ℕ, List, [], ◌∷◌, ◌++◌, Option, Some, None, option_and_then, sym, ap, ◌∙◌, ◌⊎◌, inl, inr, append_assoc, append-nil, arith}
 use Rattle.std.proofs.lemmas.Option.{none-some}
 use Rattle.crash_stands.specs.Walks.{Entries}
-use Rattle.fs_inodes.proofs.basics.Paths.{Path, which, which_entry, which_side, last_same, no_end, longer, from_end}
+use Rattle.fs_inodes.proofs.basics.Paths.{Path, which, which_entry, which_side, last_same, no_end, from_end}
 use Rattle.fs_inodes.proofs.agreement.Agree.{GoesOn}
 
 -- Entry `name` of directory d became x, and no other entry changed.
@@ -25,12 +25,12 @@ module _ (e f : Entries) (old new : Path → Option ℕ) (goes : GoesOn e old) (
     (here : new (up ++ name ∷ []) ≡ x) (look : (q : Path) → (q ≡ up ++ name ∷ []) ⊎ (new q ≡ old q)) where
   -- the way on from an old path to node k
   turn_on : (at : Path) (b : List ℕ) (k : ℕ) → old at ≡ Some k → (at ++ b ∷ [] ≡ up ++ name ∷ []) ⊎ (new (at ++ b ∷ []) ≡ old (at ++ b ∷ [])) → new (at ++ b ∷ []) ≡ f k b
-  turn_on at b k is side = grind (arith, which_entry k d b name, entry.here, last_same, step_at, entry.others)
+  turn_on at b k is side = grind (arith, which_entry k d b name, entry.here, last_same, entry.others)
 
   -- one step from any path
   turn_step : (at : Path) (b : List ℕ) → (at ≡ up ++ name ∷ []) ⊎ (new at ≡ old at) → (at ++ b ∷ [] ≡ up ++ name ∷ []) ⊎ (new (at ++ b ∷ []) ≡ old (at ++ b ∷ []))
       → new (at ++ b ∷ []) ≡ option_and_then (λ k. f k b) (new at)
-  turn_step at b h1 h2 = grind (arith, which (old at), longer, which, none-some, last_same, no_step, turn_on)
+  turn_step at b h1 h2 = grind (arith, none-some, last_same, turn_on)
 
   -- so the new paths go on by the new entries
   pub turn_goes : GoesOn f new

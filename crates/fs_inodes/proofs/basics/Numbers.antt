@@ -12,14 +12,10 @@ use Rattle.fs_inodes.specs.Lookups.{least_free}
 pub everywhere : {A B : Type 0} (f h : A → B) → ((k : A) → f k ≡ h k) → f ≡ h
 everywhere f h same i k = same k i
 
--- what is made of nothing is nothing
-mapped : {A B : Type 0} (f : A → B) (o : Option A) → is_none (option_map f o) ≡ is_none o
-mapped f o = grind arith
-
 -- the least unused number of the tree is the least free one of the map
 pub unused_is_free : (limit : ℕ) (m : Inodes) (nodes : Nodes) → ((k : ℕ) → get nodes k ≡ option_map thing_of (m k)) → least_unused limit nodes ≡ least_free limit m
 unfolding least_unused
-unused_is_free limit m nodes same = grind (arith, everywhere, mapped)
+unused_is_free limit m nodes same = grind arith
 
 -- what is found in a range passes the test and lies there
 found_in : (test : ℕ → Bool) (a n m : ℕ) → find test (range_with_len a n) ≡ Some m → (test m ≡ true) × (a ≤ m) × (m < a + n)

@@ -33,7 +33,7 @@ other_name a b off = grind (arith, cases_Bool (bytes_eq a b), bytes_eq-Decides)
 
 -- a number with a name is another one, or not
 pub which_entry : (k d : ℕ) (a b : List ℕ) → ((k ≡ d) × (a ≡ b)) ⊎ ((k ≡ d) × (a ≡ b) → ⊥)
-which_entry k d a b = grind (arith, cases_eq k d, which_name a b, which_name)
+which_entry k d a b = grind (arith, cases_eq k d, which_name a b)
 
 -- two paths with a last name each are equal in both parts
 pub last_same : (p q : Path) (a b : List ℕ) → p ++ a ∷ [] ≡ q ++ b ∷ [] → (p ≡ q) × (a ≡ b)
@@ -43,10 +43,6 @@ last_same p q a b e = let both = same_from_push p q a b e in (both.0, both.1)
 pub no_end : (p : Path) (a : List ℕ) → p ++ a ∷ [] ≡ [] → ⊥
 no_end [] a e = cc
 no_end (x ∷ p) a e = cc
-
--- nor is it the path before that name
-pub longer : (p : Path) (a : List ℕ) → p ++ a ∷ [] ≡ p → ⊥
-longer p a e = omega (arith, length-append p (a ∷ []), ap length e)
 
 -- the parent of a path with a last name is the path before it
 pub parent_end : (up : Path) (name : List ℕ) → parent (up ++ name ∷ []) ≡ up
@@ -81,7 +77,7 @@ within_at p q r e = ap is_some (ap (strip p) e ∙ strip_join p r)
 
 -- a path lies at or below another one, or not
 pub which_side : (p q : Path) → ((r : Path) × (q ≡ p ++ r)) ⊎ ((r : Path) → q ≡ p ++ r → ⊥)
-which_side p q = grind (arith, which (strip p q), which, none-some, strip_join, strip_is)
+which_side p q = grind (arith, which (strip p q), none-some, strip_join, strip_is)
 
 -- a path that doesn't begin with another one doesn't lie there
 pub away : (p q : Path) → ((r : Path) → q ≡ p ++ r → ⊥) → is_within p q ≡ false

@@ -94,7 +94,7 @@ module _ (laws : TreeLaws) (limit : ℕ) (m new : Inodes) (t : Tree) (a : Agrees
 
   -- the slots of each directory have names of their own
   pub added_slots_distinct : ((slots : List Slot) → x ≡ ADir slots → AreDistinct slots) → (k : ℕ) (slots : List Slot) → new k ≡ Some (ADir slots) → AreDistinct slots
-  added_slots_distinct own k slots is = grind (arith, cases_eq k d, cases_eq k n, ch.under.after, ch.under.distinct, one_dir, ch.under.now, same_Some, ch.named, a.distinct, ch.others)
+  added_slots_distinct own k slots is = grind (arith, cases_eq k d, cases_eq k n, ch.under.after, ch.under.distinct, ch.under.now, same_Some, ch.named, a.distinct, ch.others)
 
   -- a number that no node has has no path
   no_paths : m n ≡ None → path_count t.names n ≡ 0
@@ -112,11 +112,11 @@ module _ (laws : TreeLaws) (limit : ℕ) (m new : Inodes) (t : Tree) (a : Agrees
 
     -- it has no slots
     new_distinct : (y : Thing) (slots : List Slot) → new_inode y ≡ ADir slots → AreDistinct slots
-    new_distinct y slots h1 = grind (arith, none-some, dir_file)
+    new_distinct y slots h1 = grind (arith, none-some)
 
     -- if it is a file, it has one link
     one_link : (y : Thing) (links : ℕ) (bytes : List ℕ) → new_inode y ≡ AFile links bytes → links ≡ 1
-    one_link y links bytes h1 = grind (arith, dir_file, one_file)
+    one_link y links bytes h1 = grind arith
 
     -- the nodes with the new one are those of the new map
     new_nodes : (k : ℕ) → get (insert t.nodes n thing) k ≡ option_map thing_of (new k)

@@ -167,11 +167,11 @@ module _ (laws : TreeLaws) (s : Session) (m new : Inodes) (is : IsMapOf s.limit 
 
   -- the reasons of a new node leave its path free
   free_to_make : (p : Path) → make_refusal s.limit s.tree p ≡ None → get s.tree.names p ≡ None
-  free_to_make p accepts = grind (arith, no_reason, s.tree, s.limit, s.tree.nodes, lacks, s.tree.names, not_so)
+  free_to_make p accepts = grind (arith, s.tree, s.limit, s.tree.nodes, s.tree.names)
 
   -- and so do those of another path
   free_to_link : (path p : Path) → refusal s.limit s.tree (Link path p) ≡ None → get s.tree.names p ≡ None
-  free_to_link path p accepts = grind (arith, s.tree, no_reason, lacks, s.tree.names, not_so)
+  free_to_link path p accepts = grind (arith, s.tree, s.tree.names)
 
   -- a mkdir or a create
   pub made_shown : (cmd : Cmd) (up : Path) (name : List ℕ) (d n : ℕ) (thing : Thing) → Makes s cmd (up ++ name ∷ []) thing → refusal s.limit s.tree cmd ≡ None → LeadsTo m up d → least_free s.limit m ≡ Some n

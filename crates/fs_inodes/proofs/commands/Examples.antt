@@ -29,7 +29,7 @@ record Has (s : Session) (m : Inodes) : Type 0 where
 
 -- numbers that differ by test differ
 differ : (i j : ℕ) → (i == j) ≡ false → i ≢ j
-differ i j e = grind (arith, e)
+differ i j e = grind arith
 
 -- and so do options that hold them
 differ_in : (i j : ℕ) → (i == j) ≡ false → Some i ≢ Some j

@@ -13,7 +13,7 @@ use Rattle.fs_inodes.specs.Changes.{one_link_less}
 use Rattle.fs_inodes.specs.TreeLaws.{TreeLaws}
 use Rattle.fs_inodes.proofs.basics.Paths.{Path}
 use Rattle.fs_inodes.proofs.basics.FinMaps.{node_gone, node_stays}
-use Rattle.fs_inodes.proofs.commands.Adding.{one_if, counts_one, dir_file, one_file}
+use Rattle.fs_inodes.proofs.commands.Adding.{one_if, counts_one}
 use Rattle.fs_inodes.proofs.agreement.Agree.{Agrees}
 
 -- nothing is in what is left
@@ -22,12 +22,7 @@ left_empty o b = grind arith
 
 -- what is left isn't a directory
 pub left_no_dir : (o : Option Inode) (slots : List Slot) → option_and_then one_link_less o ≡ Some (ADir slots) → ⊥
-left_no_dir o slots h1 = grind (arith, none-some, dir_file)
-
--- a file that is left had one link more
-pub left_links : (o : Option Inode) (links : ℕ) (bytes : List ℕ) → option_and_then one_link_less o ≡ Some (AFile links bytes)
-    → (old : ℕ) × (o ≡ Some (AFile old bytes)) × (links ≡ old - 1)
-left_links o links bytes h1 = grind (arith, none-some, one_file)
+left_no_dir o slots h1 = grind (arith, none-some)
 
 module _ (laws : TreeLaws) (limit : ℕ) (m : Inodes) (t : Tree) (a : Agrees limit m t) (path : Path) (n : ℕ) (there : get t.names path ≡ Some n) where
   -- the number that the path leads to has one path less
@@ -79,4 +74,4 @@ module _ (laws : TreeLaws) (limit : ℕ) (m : Inodes) (t : Tree) (a : Agrees lim
 
   -- its links are the paths that are left
   pub lost_links : (links : ℕ) (bytes : List ℕ) → option_and_then one_link_less (m n) ≡ Some (AFile links bytes) → path_count (remove t.names path) n ≡ links
-  lost_links links bytes e = grind (arith, left_links, one_less_here, a.links)
+  lost_links links bytes e = grind (arith, one_less_here, a.links)

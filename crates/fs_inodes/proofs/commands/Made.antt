@@ -21,37 +21,21 @@ set_other m k x l off = ap (λ b. if b then x else m l) (ne_eqb l k off)
 pub sets : (m : Inodes) (k : ℕ) (x : Option Inode) → Sets m (with_inode m k x) k x
 sets m k x = record { here = set_here m k x k refl; others = set_other m k x }
 
--- two inodes set
-abbrev set_two : Inodes → ℕ → Option Inode → ℕ → Option Inode → Inodes
-set_two m a x b y = with_inode (with_inode m a x) b y
-
--- the second one is there
-second_here : (m : Inodes) (a : ℕ) (x : Option Inode) (b : ℕ) (y : Option Inode) → set_two m a x b y b ≡ y
-second_here m a x b y = set_here (with_inode m a x) b y b refl
-
--- and so does the first one, under another number
-first_here : (m : Inodes) (a : ℕ) (x : Option Inode) (b : ℕ) (y : Option Inode) → a ≢ b → set_two m a x b y a ≡ x
-first_here m a x b y off = set_other (with_inode m a x) b y a off ∙ set_here m a x a refl
-
--- nothing else changed
-neither : (m : Inodes) (a : ℕ) (x : Option Inode) (b : ℕ) (y : Option Inode) (k : ℕ) → k ≢ a → k ≢ b → set_two m a x b y k ≡ m k
-neither m a x b y k off away = set_other (with_inode m a x) b y k away ∙ set_other m a x k off
-
 -- a node set, and then the directory with the new slot
 pub adds : (m : Inodes) (up node : ℕ) (name : List ℕ) (x : Inode) (slots : List Slot) → m up ≡ Some (ADir slots) → up ≢ node
     → AddsSlot m (with_inode (with_inode m node (Some x)) up (Some (ADir (slots ++ slot_of node name ∷ [])))) up node name x
-adds m up node name x slots dir apart = grind (arith, second_here, first_here, neither)
+adds m up node name x slots dir apart = grind arith
 
 -- the directory without the slot, and then the node with one link less
 pub takes : (m : Inodes) (up node place : ℕ) (name : List ℕ) (slots : List Slot) → m up ≡ Some (ADir slots) → slice_get slots place ≡ Some (slot_of node name) → up ≢ node
     → TakesSlot m (with_inode (with_inode m up (Some (ADir (without_at place slots)))) node (option_and_then one_link_less (m node))) up node name
-takes m up node place name slots dir slot apart = grind (arith, first_here, second_here, neither)
+takes m up node place name slots dir slot apart = grind arith
 
 -- Of a move.
 
 -- with one link less, another node is as it was
 less_other : (m : Inodes) (o : Option ℕ) (k : ℕ) → (o ≡ Some k → ⊥) → with_less m o k ≡ m k
-less_other m o k h1 = grind (arith, set_other)
+less_other m o k h1 = grind arith
 
 -- and the node itself has one link less
 less_here : (m : Inodes) (o : Option ℕ) (k : ℕ) → o ≡ Some k → with_less m o k ≡ option_and_then one_link_less (m k)

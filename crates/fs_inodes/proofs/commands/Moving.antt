@@ -63,7 +63,7 @@ module _ (laws : TreeLaws) (s : Session) (m new : Inodes) (a : Agrees s.limit m 
 
   -- each number has as many paths as without the one that went
   moved_count : (k : ℕ) → path_count (step s (Rename (up ++ name ∷ []) (to ++ other ∷ []))).0.tree.names k ≡ path_count (removed s.tree (to ++ other ∷ [])).names k
-  moved_count k = grind (arith, moved_tree, removed_names, s.tree, laws.count_moved, s.tree.names, free)
+  moved_count k = grind (arith, removed_names, s.tree, laws.count_moved, s.tree.names, free)
 
   -- the new map is that of the tree after the move
   pub moved_agrees : Agrees s.limit new (step s (Rename (up ++ name ∷ []) (to ++ other ∷ []))).0.tree

@@ -20,7 +20,7 @@ use Rattle.fs_inodes.proofs.slots.Slots.{finds, taken_distinct, taken_here, take
 use Rattle.fs_inodes.proofs.slots.NamePlaces.{Puts, puts}
 use Rattle.fs_inodes.proofs.agreement.Steps.{step_at}
 use Rattle.fs_inodes.proofs.agreement.Agree.{Agrees}
-use Rattle.fs_inodes.proofs.commands.Adding.{one_dir, dir_file, counts_none}
+use Rattle.fs_inodes.proofs.commands.Adding.{one_dir, counts_none}
 use Rattle.fs_inodes.proofs.commands.Losing.{left_empty, left_no_dir, one_less_path, used_other, lost_here, lost_links}
 use Rattle.fs_inodes.proofs.commands.Taking.{distinct_as}
 use Rattle.fs_inodes.proofs.commands.Moving.{empty_at, moved_agrees}
@@ -215,11 +215,11 @@ module _ (laws : TreeLaws) (s : Session) (m new : Inodes) (a : Agrees s.limit m 
 
     -- every number but what goes stands for the same
     alike : (node_in ch.target other ≡ Some k → ⊥) → option_map thing_of (m k) ≡ option_map thing_of (new k)
-    alike far = grind (arith, option_map thing_of, which_side, dir_before, dir_after, ch.others)
+    alike far = grind (arith, option_map thing_of, which_side, ch.others)
 
     -- and every file but what goes is the same
     file_same : (links : ℕ) (bytes : List ℕ) → (node_in ch.target other ≡ Some k → ⊥) → new k ≡ Some (AFile links bytes) → m k ≡ Some (AFile links bytes)
-    file_same links bytes far is = grind (arith, which_side, dir_file, dir_after, ch.others)
+    file_same links bytes far is = grind (arith, which_side, ch.others)
 
     -- no directory has a name twice
     slots_distinct : (slots : List Slot) → new k ≡ Some (ADir slots) → AreDistinct slots

@@ -16,8 +16,8 @@ use Rattle.fs_inodes.proofs.basics.FinMaps.{name_gone, name_left}
 use Rattle.fs_inodes.proofs.slots.Slots.{finds, taken_distinct, taken_here, taken_other}
 use Rattle.fs_inodes.proofs.agreement.Steps.{EntryIs, step_at, turn_goes}
 use Rattle.fs_inodes.proofs.agreement.Agree.{Agrees, GoesOn}
-use Rattle.fs_inodes.proofs.commands.Adding.{one_dir, dir_file, counts_none}
-use Rattle.fs_inodes.proofs.commands.Losing.{left_empty, left_no_dir, one_less_path, used_other, lost_here, lost_links}
+use Rattle.fs_inodes.proofs.commands.Adding.{dir_file, counts_none}
+use Rattle.fs_inodes.proofs.commands.Losing.{left_empty, one_less_path, used_other, lost_here, lost_links}
 
 -- distinct slots, by another word for the list
 pub distinct_as : {slots others : List Slot} → slots ≡ others → AreDistinct others → AreDistinct slots
@@ -91,7 +91,7 @@ module _ (laws : TreeLaws) (limit : ℕ) (m new : Inodes) (t : Tree) (a : Agrees
 
   -- no directory has a name twice
   taken_slots_distinct : (k : ℕ) (slots : List Slot) → new k ≡ Some (ADir slots) → AreDistinct slots
-  taken_slots_distinct k slots is = grind (arith, cases_eq k d, cases_eq k n, distinct_as, one_dir, ch.under.after, ch.under.now, ch.under.distinct, left_no_dir, ch.left, a.distinct, ch.others)
+  taken_slots_distinct k slots is = grind (arith, cases_eq k d, cases_eq k n, ch.under.after, ch.under.now, ch.under.distinct, ch.left, a.distinct, ch.others)
 
   -- the new map is that of the tree without the path
   pub taken_agrees : IsSound limit (with_used (remove t.names (up ++ name ∷ [])) t.nodes n) → Agrees limit new (with_used (remove t.names (up ++ name ∷ [])) t.nodes n)

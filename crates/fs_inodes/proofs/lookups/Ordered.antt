@@ -192,11 +192,11 @@ module _ (slots : List Slot) (distinct : AreDistinct slots) (names : List (List 
 
   -- what is found is a zero
   zero_of : (q : List ℕ) (l : List (List ℕ)) → is_some (find name_cmp q (zeros l)) ≡ true → find name_cmp q (zeros l) ≡ Some 0
-  zero_of q l e = grind (arith, which, name_cmp, zero_there)
+  zero_of q l e = grind (arith, name_cmp, zero_there)
 
   -- what isn't found is none
   none_if : (q : List ℕ) (l : List (List ℕ)) → is_some (find name_cmp q (zeros l)) ≡ false → find name_cmp q (zeros l) ≡ None
-  none_if q l e = grind (arith, which, name_cmp)
+  none_if q l e = grind (arith, name_cmp)
 
   -- so the same names are found in both lists
   same_found : (q : List ℕ) → find name_cmp q (zeros (keys (row_in slots))) ≡ find name_cmp q (zeros names)

@@ -83,4 +83,4 @@ module _ (laws : TreeLaws) (limit : ℕ) (m : Inodes) (t : Tree) (a : Agrees lim
 
   -- each command
   pub reason_given : (cmd : Cmd) → refusal limit t cmd ≡ reason limit m cmd
-  reason_given cmd = grind (arith, make_given, write_given, file_given, truncate_given, link_given, rmdir_given, rename_given, walk_given, list_given)
+  reason_given cmd = grind (arith, make_given, file_given, link_given, rmdir_given, rename_given, walk_given, list_given, reasons, first, is_dir_where)

@@ -42,7 +42,7 @@ module _ (limit : ℕ) (m : Inodes) (t : Tree) (a : Agrees limit m t) where
 
   -- and at a path
   pub stat_given : (path : Path) → stat t path ≡ stat_in m path
-  stat_given path = grind (arith, get t.names path, stat_at m, number_given limit m t a path, t.names, number_given, a.nodes, stat_inode)
+  stat_given path = grind (arith, get t.names path, stat_at m, number_given limit m t a path, t.names, a.nodes, stat_inode)
 
 -- done, whether something changed or not
 either_done : (s : Session) (t : Tree) (b : Bool) → (if b then (s, Done) else changed_to s t).1 ≡ Done

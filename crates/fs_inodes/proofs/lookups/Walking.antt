@@ -121,7 +121,7 @@ module _ (limit : ℕ) (m : Inodes) (t : Tree) (a : Agrees limit m t) where
 
     -- and only there
     slot_by_held : (path : Path) → holds_names t.names path ≡ true → has_slots (inode_at m path) ≡ true
-    slot_by_held path e = grind (arith, laws.holds limit t path a.sound e, laws.holds, a.sound, a.sound.parents, step_at, t.names, a.goes, none-some, number_given)
+    slot_by_held path e = grind (arith, laws.holds limit t path a.sound e, laws.holds, a.sound, a.sound.parents, t.names, a.goes, none-some, number_given)
 
     -- whether it holds names
     pub holds_given : (path : Path) → holds_names t.names path ≡ has_slots (inode_at m path)

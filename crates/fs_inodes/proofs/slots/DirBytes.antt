@@ -1,10 +1,9 @@
 -- Slots written into the bytes of a directory, and cut off them.
-use Rattle.std.proofs.Common.{◌≡◌, ℕ, ◌+◌, ◌-◌, ◌*◌, ◌/◌, ◌%◌, ◌<◌, ◌≤◌, ◌==◌, Bool, List, [], ◌∷◌, ◌++◌, length, take, drop, replicate, set, get_or, slice_get, Option, Some, option_map, refl, ap, ◌∙◌, arith, append-nil, take_all, sym}
+use Rattle.std.proofs.Common.{◌≡◌, ℕ, ◌+◌, ◌-◌, ◌*◌, ◌/◌, ◌%◌, ◌<◌, ◌≤◌, ◌==◌, List, [], ◌∷◌, ◌++◌, length, take, drop, replicate, set, get_or, slice_get, Some, option_map, refl, ap, ◌∙◌, arith, append-nil, take_all, sym}
 use Rattle.std.proofs.lemmas.List.{length-take-le, length-drop, length-append, take-append-le, drop_all, take-append-drop}
 use Rattle.std.proofs.lemmas.Option.{slice_get-get_or, none-some}
 use Rattle.layout_bytes.specs.declared.node.NodeKind.{NodeKind}
 use Rattle.layout_bytes.specs.declared.slot.Slot.{Slot}
-use Rattle.layout_bytes.specs.Bytes.{when}
 use Rattle.layout_bytes.specs.Slot.{slot_of, slots_in, slot_spelling}
 use Rattle.layout_directory.specs.Slots.{IsLawful}
 use Rattle.layout_directory.specs.Directory.{overwrite, without_at}
@@ -12,7 +11,6 @@ use Rattle.lang_tree.specs.Step.{written, resized}
 use Rattle.crash_stands.specs.Files.{FileNode}
 use Rattle.crash_stands.specs.Inodes.{ADir, AFile, inode_by, inode_of}
 use Rattle.fs_inodes.specs.SlotLaws.{SlotLaws}
-use Rattle.fs_inodes.proofs.commands.Adding.{dir_file, one_file}
 
 -- so many slots read from a front of the bytes that is long enough
 taken_by : SlotLaws → (n k : ℕ) (b : List ℕ) (slots : List Slot) → k ≡ 64 * n → k ≤ length b → slots_in n b ≡ Some slots → slots_in n (take k b) ≡ Some slots
@@ -40,13 +38,9 @@ record IsDir (kind : NodeKind) (links : ℕ) (bytes : List ℕ) (slots : List Sl
   own : slots_in (length bytes / 64) bytes ≡ Some slots
   others : (b : List ℕ) (list : List Slot) → slots_in (length b / 64) b ≡ Some list → inode_by kind links b ≡ Some (ADir list)
 
--- the slots of a directory are those that are read
-slots_same : (o : Option (List Slot)) (slots : List Slot) → option_map ADir o ≡ Some (ADir slots) → o ≡ Some slots
-slots_same o slots h1 = grind (arith, none-some)
-
 -- what reads as a directory is of that kind, and with other bytes it reads as their slots
 dir_is : (kind : NodeKind) (links : ℕ) (bytes : List ℕ) (slots : List Slot) → inode_by kind links bytes ≡ Some (ADir slots) → IsDir kind links bytes slots
-dir_is kind links bytes slots h1 = grind (arith, links == 1, option_map ADir, none-some, dir_file, slots_same)
+dir_is kind links bytes slots h1 = grind (arith, links == 1, option_map ADir, none-some)
 
 module _ (laws : SlotLaws) (file : FileNode) (slots : List Slot) (is : inode_of file ≡ Some (ADir slots)) where
   -- the file is a directory
@@ -76,7 +70,7 @@ module _ (laws : SlotLaws) (file : FileNode) (slots : List Slot) (is : inode_of 
 
     -- a slot's bytes written over a place put it there
     put_over : (place : ℕ) (new : List ℕ) (s : Slot) → place < length slots → length new ≡ 64 → slot_of new ≡ Some s → slots_in (length slots) (written (64 * place) new file.bytes) ≡ Some (set slots place s)
-    put_over place new s low size reads = grind (arith, written_within, file.bytes, bytes_count, laws.over, reads_all)
+    put_over place new s low size reads = grind (arith, written_within, file.bytes, laws.over)
 
     -- and leave as many bytes
     over_long : (place : ℕ) (new : List ℕ) → place < length slots → length new ≡ 64 → length (written (64 * place) new file.bytes) ≡ 64 * length slots
@@ -119,13 +113,9 @@ module _ (laws : SlotLaws) (file : FileNode) (slots : List Slot) (is : inode_of 
 
 -- Files.
 
--- what reads as slots is no file
-no_file : (l : ℕ) (b : List ℕ) (t : Bool) (o : Option (List Slot)) → when t (option_map ADir o) ≡ Some (AFile l b) → ⊥
-no_file l b t o h1 = grind (arith, none-some, dir_file)
-
 -- a file has its links and bytes
 file_parts : (kind : NodeKind) (links l : ℕ) (bytes b : List ℕ) → inode_by kind links bytes ≡ Some (AFile l b) → (links ≡ l) × (bytes ≡ b)
-file_parts kind links l bytes b h1 = grind (arith, none-some, no_file, one_file)
+file_parts kind links l bytes b h1 = grind (arith, none-some)
 
 -- of a node in use
 pub parts_of : (file : FileNode) (links : ℕ) (bytes : List ℕ) → inode_of file ≡ Some (AFile links bytes) → (file.links ≡ links) × (file.bytes ≡ bytes)
@@ -133,7 +123,7 @@ parts_of file links bytes e = file_parts file.kind file.links links file.bytes b
 
 -- and with others it is a file too
 with_others : (kind : NodeKind) (links l more : ℕ) (bytes b new : List ℕ) → inode_by kind links bytes ≡ Some (AFile l b) → inode_by kind more new ≡ Some (AFile more new)
-with_others kind links l more bytes b new h1 = grind (arith, none-some, no_file)
+with_others kind links l more bytes b new h1 = grind (arith, none-some)
 
 -- of a node in use
 pub others_of : (file : FileNode) (links more : ℕ) (bytes new : List ℕ) → inode_of file ≡ Some (AFile links bytes) → inode_of (record { kind = file.kind; links = more; bytes = new }) ≡ Some (AFile more new)

@@ -83,11 +83,11 @@ module _ (e : ℕ × Thing) (es : List (ℕ × Thing)) (h : T (is_sorted nat_cmp
 
   -- under another number a later one is
   found_later : (j : ℕ) → (j ≡ e.0 → ⊥) → find nat_cmp j (e ∷ es) ≡ find nat_cmp j es
-  found_later j off = grind (arith, which_key nat_cmp_total nat_cmp-IsAntisymmetric j e.0, which_key)
+  found_later j off = grind arith
 
   -- the blocks under a number are those of the first entry or of a later one
   split : (j : ℕ) → thing_blocks (find nat_cmp j (e ∷ es)) ≡ (if j == e.0 then content_blocks e.1 else 0) + thing_blocks (find nat_cmp j es)
-  split j = grind (arith, cases_eq j e.0, eq-eqb, first_found, first_gone, ne_eqb, found_later)
+  split j = grind (arith, cases_eq j e.0, eq-eqb, first_gone, ne_eqb)
 
 -- the blocks of all files, by their numbers
 files_summed : (es : List (ℕ × Thing)) (k n : ℕ) → T (is_sorted nat_cmp es) → AreWithin es k n → file_blocks es ≡ sum_from (λ j. thing_blocks (find nat_cmp j es)) k n
@@ -196,7 +196,7 @@ module _ (laws : TreeLaws) (limit : ℕ) (m : Inodes) (t : Tree) (a : Agrees lim
 
   -- the blocks of an inode are those of a file and of a directory
   two_parts : (o : Option Inode) → thing_blocks (option_map thing_of o) + dir_blocks o ≡ inode_blocks o
-  two_parts o = grind (arith, zero_first)
+  two_parts o = grind arith
 
   -- the blocks of the tree are those of the inodes
   pub blocks_given : blocks t ≡ blocks_of limit m
