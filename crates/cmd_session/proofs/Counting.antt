@@ -1,9 +1,6 @@
 -- What a command's reply tells of points: how many it made, what it promised, and whether the session has ended.
 use Rattle.std.proofs.Common.{◌≡◌, ◌≢◌, ◌⊎◌, inl, inr, ⊎_elim, ℕ, ◌+◌, ◌<◌, ◌≤◌, ◌==◌, nat_lt, Bool, true, false, IsTrue, ◌&&◌, if◌then◌else◌, List, [], ◌∷◌, length, Result, Ok, Err, refl, sym, ◌∙◌, ap, subst, arith}
 use Rattle.std.proofs.lemmas.Bool.{cases_Bool, cases_eq, cases_lt, cond-true, cond-false, eq-eqb, ne_eqb, lt-ltb, le-ltb, true≢false, false≢true}
-use Rattle.base_types.specs.Seal.{Blocks}
-use Rattle.layout_geometry.specs.Geometry.{Geometry}
-use Rattle.crash_stands.specs.Stands.{IsTreeOf}
 use Rattle.lang_tree.specs.declared.command.Cmd.{Cmd}
 use Rattle.lang_tree.specs.declared.command.Cmd.TheVariants.{Mkdir, Create, Write, Fill, Read, Truncate, Link, Unlink, Rmdir, Rename, Stat, List as ListNames, Osync, Dsync, Durable, Poll, Bad}
 use Rattle.lang_tree.specs.declared.command.Refusal.{Refusal}
@@ -34,9 +31,7 @@ is_done (Ok x) = true
 is_done (Err e) = false
 
 fault_is : (result : Result Reply Refusal) → is_disk_fault result ≡ true → reply_for result ≡ Refused because.DiskFault
-fault_is (Ok reply) e = absurd (false≢true e)
-fault_is (Err because.DiskFault) e = refl
-fault_is (Err why) e = absurd (false≢true e)
+fault_is result h1 = grind (arith, false≢true)
 
 -- So many points.
 
@@ -48,35 +43,23 @@ abbrev point_where : Session → ℕ → Bool → List Point
 point_where f begun c = if c then record { tree = f.tree; begun = begun } ∷ [] else []
 
 one_if : (c : Bool) (p : Point) → length (if c then p ∷ [] else []) ≡ one_where c
-one_if true p = refl
-one_if false p = refl
+one_if c p = grind arith
 
 one_list : (c : Bool) (p : Point) → 0 < length (if c then p ∷ [] else []) → (if c then p ∷ [] else []) ≡ p ∷ []
-one_list true p some = refl
-one_list false p some = absurd (omega (arith, some))
+one_list c p h1 = grind arith
 
 -- one more where anything was weighed
 weighed : (r : Running) → if_changed r 1 0 ≡ one_where (nat_lt 0 r.weight)
-weighed r = by (cases_eq r.weight 0)
-  where
-    by : (r.weight ≡ 0) ⊎ (r.weight ≢ 0) → if_changed r 1 0 ≡ one_where (nat_lt 0 r.weight)
-    by (inl none) = cond-true {A = ℕ} (r.weight == 0) 0 1 (eq-eqb r.weight 0 none) ∙ sym (cond-false {A = ℕ} (nat_lt 0 r.weight) 1 0 (le-ltb 0 r.weight (omega (arith, none))))
-    by (inr some) = cond-false {A = ℕ} (r.weight == 0) 0 1 (ne_eqb r.weight 0 some) ∙ sym (cond-true {A = ℕ} (nat_lt 0 r.weight) 1 0 (lt-ltb 0 r.weight (positive r.weight some)))
-      where
-        positive : (w : ℕ) → w ≢ 0 → 0 < w
-        positive w not = ⊎_elim (λ is. is) (λ none. absurd (not (omega (arith, none)))) (cases_lt 0 w)
+weighed r = grind (arith, cases_eq r.weight 0, r.weight == 0, r.weight, cond-true, eq-eqb, cond-false, le-ltb, ne_eqb, lt-ltb, cases_lt)
 
 and_true : (c : Bool) → (true && (c && true)) ≡ c
-and_true true = refl
-and_true false = refl
+and_true c = grind arith
 
 and_false : (c : Bool) → (true && (c && false)) ≡ false
-and_false true = refl
-and_false false = refl
+and_false c = grind arith
 
 pub osync_written : (f : Session) (b : Bool) → may_have_written (osync f b).1 ≡ true
-osync_written f true = refl
-osync_written f false = refl
+osync_written f b = grind arith
 
 -- What a reply tells of the points: how many there are by then, that a new one has the session's tree, that what was promised is on the disk, and that a fault ends the session.
 pub record TellsPoints (f : Session) (cmd : Cmd) (reply : Reply) (begun : ℕ) (old new : State) : Type 0 where
@@ -100,39 +83,12 @@ record CountsMade (f : Session) (cmd : Cmd) (reply : Reply) (begun : ℕ) (old n
 none_made : (f : Session) (cmd : Cmd) (reply : Reply) (begun : ℕ) → is_sync cmd ≡ false → made_by f cmd reply begun ≡ []
 none_made f cmd reply begun is = ap (λ c. point_where f begun (c && (f.changed && may_have_written reply))) is
 
--- whether the line was none
-abbrev is_bad_one : Cmd → Bool
-is_bad_one Bad = true
-is_bad_one _ = false
-
 pub is_bad : (cmd : Cmd) → (cmd ≡ Bad) ⊎ (cmd ≢ Bad)
-is_bad Bad = inl refl
-is_bad (Mkdir path) = inr (λ e. false≢true (ap is_bad_one e))
-is_bad (Create path) = inr (λ e. false≢true (ap is_bad_one e))
-is_bad (Write path offset bytes) = inr (λ e. false≢true (ap is_bad_one e))
-is_bad (Fill path offset count byte) = inr (λ e. false≢true (ap is_bad_one e))
-is_bad (Read path offset count) = inr (λ e. false≢true (ap is_bad_one e))
-is_bad (Truncate path size) = inr (λ e. false≢true (ap is_bad_one e))
-is_bad (Link path other) = inr (λ e. false≢true (ap is_bad_one e))
-is_bad (Unlink path) = inr (λ e. false≢true (ap is_bad_one e))
-is_bad (Rmdir path) = inr (λ e. false≢true (ap is_bad_one e))
-is_bad (Rename from to) = inr (λ e. false≢true (ap is_bad_one e))
-is_bad (Stat path) = inr (λ e. false≢true (ap is_bad_one e))
-is_bad (ListNames path) = inr (λ e. false≢true (ap is_bad_one e))
-is_bad Osync = inr (λ e. false≢true (ap is_bad_one e))
-is_bad Dsync = inr (λ e. false≢true (ap is_bad_one e))
-is_bad Durable = inr (λ e. false≢true (ap is_bad_one e))
-is_bad Poll = inr (λ e. false≢true (ap is_bad_one e))
+is_bad cmd = grind (arith, false≢true)
 
 -- the session is one of the blocks after a tick too
 pub session_ticks : (tells failed : Bool) → IsTrue tells → (s t : State) (f : Session) → s.books.stopped ≡ false → Ticks tells failed s t → IsSession s f → IsSession t f
-session_ticks tells failed told s t f going h is = record {
-  tree = subst (λ (g : Geometry). IsTreeOf g t.map f.tree) (sym h.moves.pipeline.geom) (subst (λ (m : Blocks). IsTreeOf s.books.geom m f.tree) (sym (h.moves.map told)) is.tree);
-  limit = is.limit ∙ ap (λ (g : Geometry). g.i) (sym h.moves.pipeline.geom);
-  points = λ stopped. is.points going ∙ sym h.moves.pipeline.point;
-  changed = λ stopped. is.changed going ∙ ap (λ (r : Running). nat_lt 0 r.weight) (sym h.moves.pipeline.running);
-  durable = omega (arith, is.durable, h.moves.pipeline.floor);
-}
+session_ticks tells failed told s t f going h is = grind (arith, t.map, f.tree, h.moves.pipeline.geom, s.books.geom, h.moves.map, is.tree, is.limit, is.points, h.moves.pipeline.point, is.changed, h.moves.pipeline.running, is.durable, h.moves.pipeline.floor)
 
 module _ {S : Type 0} (tells : Bool) (state : S → State) (told : IsTrue tells) (never : (f : Session) (cmd : Cmd) → (step f cmd).1 ≡ Refused because.DiskFault → ⊥) (begun : ℕ) where
   none : (f : Session) (cmd : Cmd) (reply : Reply) (old new : State) → is_sync cmd ≡ false → new.books.point ≡ old.books.point → (reply ≡ Refused because.DiskFault → new.books.stopped ≡ true) → (new.books.stopped ≡ true → reply ≡ Refused because.DiskFault) → CountsMade f cmd reply begun old new
@@ -145,22 +101,10 @@ module _ {S : Type 0} (tells : Bool) (state : S → State) (told : IsTrue tells)
   -- a sync whose reply says that it may have written, and one that was out of memory
   written : (f : Session) (cmd : Cmd) (reply : Reply) (mid new : State) → is_sync cmd ≡ true → mid.books.stopped ≡ false → IsSession mid f → may_have_written reply ≡ true → new.books.point ≡ mid.books.point + if_changed mid.books.running 1 0
       → new.books.point ≡ mid.books.point + length (made_by f cmd reply begun)
-  written f cmd reply mid new is going h wrote point = omega (
-    arith,
-    point,
-    weighed mid.books.running,
-    ap one_where (h.changed going),
-    one_if (is_sync cmd && (f.changed && may_have_written reply)) (record { tree = f.tree; begun = begun }),
-    ap one_where (ap (λ c. c && (f.changed && may_have_written reply)) is ∙ ap (λ c. true && (f.changed && c)) wrote ∙ and_true f.changed),
-  )
+  written f cmd reply mid new is going h wrote point = grind (arith, weighed, mid.books.running, h.changed, one_if, f.changed, f.tree, and_true)
 
   unwritten : (f : Session) (cmd : Cmd) (reply : Reply) (mid new : State) → is_sync cmd ≡ true → may_have_written reply ≡ false → new.books.point ≡ mid.books.point → new.books.point ≡ mid.books.point + length (made_by f cmd reply begun)
-  unwritten f cmd reply mid new is wrote same = omega (
-    arith,
-    same,
-    one_if (is_sync cmd && (f.changed && may_have_written reply)) (record { tree = f.tree; begun = begun }),
-    ap one_where (ap (λ c. c && (f.changed && may_have_written reply)) is ∙ ap (λ c. true && (f.changed && c)) wrote ∙ and_false f.changed),
-  )
+  unwritten f cmd reply mid new is wrote same = grind (arith, one_if, f.changed, f.tree, and_false)
 
   of_synced : (orders : Bool) (f : Session) (cmd : Cmd) (result : Result Reply Refusal) (mid new : S) → is_sync cmd ≡ true → may_have_written (step f cmd).1 ≡ true → (state mid).books.stopped ≡ false → IsSession (state mid) f → SyncsSession tells orders cmd result (state mid) (state new)
       → CountsMade f cmd (reply_for result) begun (state mid) (state new)
@@ -185,8 +129,7 @@ module _ {S : Type 0} (tells : Bool) (state : S → State) (told : IsTrue tells)
 
   -- what is done with no call of the disk
   of_nothing : (f : Session) (cmd : Cmd) (reply : Reply) (mid new : S) → is_sync cmd ≡ false → (state mid).books.stopped ≡ false → new ≡ mid → (reply ≡ Refused because.DiskFault → ⊥) → CountsMade f cmd reply begun (state mid) (state new)
-  of_nothing f cmd reply mid new is going same calm = none f cmd reply (state mid) (state new) is (ap (λ (s : S). (state s).books.point) same) (λ e. absurd (calm e))
-      (λ on. absurd (true≢false (sym on ∙ ap (λ (s : S). (state s).books.stopped) same ∙ going)))
+  of_nothing f cmd reply mid new is going same calm = grind (arith, none)
 
   known_calm : (n : ℕ) → Known n ≡ Refused because.DiskFault → ⊥
   known_calm n e = false≢true (ap is_refusal e)
@@ -211,25 +154,10 @@ module _ {S : Type 0} (tells : Bool) (state : S → State) (told : IsTrue tells)
   of_run f Bad result mid new going h runs = of_carried f Bad result mid new refl h runs
 
   at_once : (f : Session) (cmd : Cmd) (reply : Reply) (old new : S) → new ≡ old → length (made_by f cmd reply begun) ≡ 0 → promised_by reply ≡ 0 → (reply ≡ Refused because.DiskFault → ⊥) → ((state old).books.stopped ≡ true → cmd ≢ Bad → reply ≡ Refused because.Stopped) → TellsPoints f cmd reply begun (state old) (state new)
-  at_once f cmd reply old new same zero low calm ended = record {
-    upto = omega (arith, ap (λ (s : S). (state s).books.point) same);
-    going = λ going. omega (arith, ap (λ (s : S). (state s).books.point) same, zero);
-    made = λ more. absurd (omega (arith, more, ap (λ (s : S). (state s).books.point) same));
-    promised = omega (arith, low);
-    fault = λ e. absurd (calm e);
-    stays = λ stopped. ap (λ (s : S). (state s).books.stopped) same ∙ stopped;
-    calm = λ off on. absurd (true≢false (sym on ∙ ap (λ (s : S). (state s).books.stopped) same ∙ off));
-    ended = ended;
-    awake = λ more. absurd (omega (arith, more, ap (λ (s : S). (state s).books.point) same));
-  }
+  at_once f cmd reply old new h1 h2 h3 h4 h5 = grind arith
 
   refusal_made : (f : Session) (cmd : Cmd) (why : Refusal) (reply : Reply) → reply ≡ Refused why → may_have_written (Refused why) ≡ false → length (made_by f cmd reply begun) ≡ 0
-  refusal_made f cmd why reply e wrote = ap (λ (ps : List Point). length ps) (ap (λ c. point_where f begun (is_sync cmd && (f.changed && c))) (ap may_have_written e ∙ wrote) ∙ nothing (is_sync cmd) f.changed)
-    where
-      nothing : (c d : Bool) → point_where f begun (c && (d && false)) ≡ []
-      nothing true true = refl
-      nothing true false = refl
-      nothing false d = refl
+  refusal_made f cmd why reply e wrote = grind (arith, is_sync cmd, f.changed)
 
   calm_as : (why : Refusal) (reply : Reply) → reply ≡ Refused why → is_disk_fault (Err why) ≡ false → reply ≡ Refused because.DiskFault → ⊥
   calm_as why reply e other fault = false≢true (sym other ∙ is_fault why (sym e ∙ fault))
@@ -271,17 +199,11 @@ module _ {S : Type 0} (tells : Bool) (state : S → State) (told : IsTrue tells)
   is_dsync _ = false
 
   dsync_promises : (f : Session) (reply : Reply) (next : Session) (new : State) → Answers is_of_disk f Dsync reply next → IsSession new next → promised_by reply ≤ new.books.floor
-  dsync_promises f reply next new (inl is) h = omega (arith, sym (ap (λ (x : Session × Reply). promised_by x.1) is) ∙ ap (λ (x : Session × Reply). x.0.durable) is, h.durable)
-  dsync_promises f reply next new (inr (inl refused)) h = omega (arith, ap promised_by refused.2)
-  dsync_promises f reply next new (inr (inr known)) h = absurd (true≢false (ap is_dsync known.1.asked))
+  dsync_promises f reply next new h1 h2 = grind arith
 
   module _ (unasked : (f next : Session) (cmd : Cmd) (reply : Reply) → Answers is_of_disk f cmd reply next → asks_for_durability cmd ≡ false → promised_by reply ≡ 0) where
     durable_promises : (reply : Reply) (old new : S) → Began tells state Durable reply old new → promised_by reply ≤ (state new).books.floor
-    durable_promises reply old new began = by began.ran
-      where
-        by : (Ticks tells true (state old) (state new) × (began.result ≡ Err because.DiskFault)) ⊎ (Ticks tells false (state old) (state began.mid) × Runs tells state Durable began.result began.mid new) → promised_by reply ≤ (state new).books.floor
-        by (inl failed) = omega (arith, ap promised_by (began.is ∙ ap reply_for failed.1))
-        by (inr ran) = omega (arith, ap promised_by (began.is ∙ ap reply_for ran.1.0), ap (λ (s : S). (state s).books.floor) ran.1.1)
+    durable_promises reply old new began = grind (arith, began.ran, began.result, began.mid, began.is)
 
     promised_of : (f : Session) (cmd : Cmd) (reply : Reply) (old new : S) → AnswersSession tells state f cmd reply new → Began tells state cmd reply old new → promised_by reply ≤ (state new).books.floor
     promised_of f Dsync reply old new a began = dsync_promises f reply a.next (state new) a.answers a.session
@@ -309,12 +231,10 @@ module _ {S : Type 0} (tells : Bool) (state : S → State) (told : IsTrue tells)
         bad is = at_once f cmd reply old new (applies.bad is).1 (ap (λ (ps : List Point). length ps) (none_made f cmd reply begun (ap is_sync is))) (ap promised_by (applies.bad is).0) (λ e. never f Bad (sym (applies.bad is).0 ∙ e)) (λ stopped not. absurd (not is))
 
         stopped : cmd ≢ Bad → (state old).books.stopped ≡ true → TellsPoints f cmd reply begun (state old) (state new)
-        stopped not on = at_once f cmd reply old new (applies.stopped not on).1 (refusal_made f cmd because.Stopped reply (applies.stopped not on).0 refl) (ap promised_by (applies.stopped not on).0)
-            (calm_as because.Stopped reply (applies.stopped not on).0 refl) (λ is not_bad. (applies.stopped not on).0)
+        stopped not on = grind (arith, at_once, applies.stopped, refusal_made, calm_as)
 
         spent : cmd ≢ Bad → (state old).books.stopped ≡ false → is_spent (state old).books ≡ true → TellsPoints f cmd reply begun (state old) (state new)
-        spent not going on = at_once f cmd reply old new (applies.spent not going on).1 (refusal_made f cmd because.Spent reply (applies.spent not going on).0 refl) (ap promised_by (applies.spent not going on).0)
-            (calm_as because.Spent reply (applies.spent not going on).0 refl) (λ is not_bad. absurd (true≢false (sym is ∙ going)))
+        spent not going on = grind (arith, at_once, applies.spent, refusal_made, calm_as)
 
         began : cmd ≢ Bad → (state old).books.stopped ≡ false → is_spent (state old).books ≡ false → TellsPoints f cmd reply begun (state old) (state new)
         began not going left = of_began f cmd reply old new going h (applies.began not going left) (promised_of f cmd reply old new a (applies.began not going left))

@@ -1,15 +1,13 @@
 -- An image in which something is broken stands for no tree, and what is said of an image by one answer isn't said by another.
-use Rattle.std.proofs.Common.{◌≡◌, ⊎_elim, ℕ, ◌+◌, ◌*◌, ◌/◌, ◌%◌, ◌&&◌, ◌||◌, not, nat_le, nat_lt, ◌==◌, slice_index, ◌<◌, ◌≤◌, Bool, true, false, List, [], Some, refl, sym, ◌∙◌, ap, ap₂, subst, arith}
+use Rattle.std.proofs.Common.{◌≡◌, ⊎_elim, ℕ, ◌+◌, ◌*◌, ◌/◌, ◌%◌, ◌&&◌, ◌||◌, not, ◌==◌, ◌<◌, ◌≤◌, Bool, true, false, List, [], Some, sym, ◌∙◌, ap₂, subst, arith}
 use Rattle.std.proofs.lemmas.Bool.{and_from, cases_lt, cond-true, le-leb, le-ltb, lt-ltb}
-use Rattle.std.specs.Int.{bit_at}
 use mathlib.Core.Path.{fun_ext}
 use Rattle.base_types.specs.Seal.{Blocks}
 use Rattle.layout_geometry.specs.Geometry.{Geometry, IsGeometry, geometry_fits, bitmap_blocks, bitmap_start, data_start}
-use Rattle.layout_bytes.specs.Bitmap.{is_set}
-use Rattle.layout_bitmap.specs.Bits.{bit_in, is_bad_bit}
+use Rattle.layout_bitmap.specs.Bits.{is_bad_bit}
 use Rattle.layout_journal.specs.declared.header.Header.{Header}
 use Rattle.layout_journal.specs.Layout.{header_of, IsWithinDisk}
-use Rattle.layout_journal.specs.Run.{Newest, Record, HeldIs, IsRun, is_live, live_part, replayed}
+use Rattle.layout_journal.specs.Run.{Newest, Record, HeldIs, IsRun, live_part, replayed}
 use Rattle.engine_mount.specs.Mount.{FoundDisk, IsUsedUp}
 use Rattle.engine_store.specs.Refusal as store
 use Rattle.lang_tree.specs.Tree.{Tree}
@@ -45,27 +43,15 @@ in_bitmap n b low = omega (arith, low)
 
 -- a test on the bits of one block or the other, where the bit isn't looked at
 unlooked : (high : Bool) (p q : Bool) → ((false && not p) || (high && (false && p))) ≡ ((false && not q) || (high && (false && q)))
-unlooked true p q = refl
-unlooked false p q = refl
+unlooked high p q = grind arith
 
 -- which bits are wrong is said by the bitmap's blocks alone
 same_bad : (g : Geometry) (m q : Blocks) (b : ℕ) → data_start g ≤ g.n → ((k : ℕ) → k < bitmap_blocks g → m k ≡ q k) → is_bad_bit g m b ≡ is_bad_bit g q b
-same_bad g m q b room same = ⊎_elim
-    (λ low. ap (λ (x : List ℕ). (nat_lt b (data_start g) && not (bit_at (slice_index x (b % 8192 / 8)) (b % 8) == 1)) || (nat_le g.n b && (nat_lt b (8192 * bitmap_blocks g) && (bit_at (slice_index x (b % 8192 / 8)) (b % 8) == 1)))) (same (b / 8192) (in_bitmap g.n b low)))
-    (λ high.
-    ap₂ (λ (t u : Bool). (t && not (bit_in m b)) || (nat_le g.n b && (u && bit_in m b))) (le-ltb b (data_start g) (omega (arith, room, high, past g.n b high))) (le-ltb b (8192 * bitmap_blocks g) high)
-    ∙ unlooked (nat_le g.n b) (bit_in m b) (bit_in q b)
-    ∙ sym (ap₂ (λ (t u : Bool). (t && not (bit_in q b)) || (nat_le g.n b && (u && bit_in q b))) (le-ltb b (data_start g) (omega (arith, room, high, past g.n b high))) (le-ltb b (8192 * bitmap_blocks g) high)))
-    (cases_lt b (8192 * bitmap_blocks g))
-  where
-    past : (n b : ℕ) → 8192 * ((n + 8191) / 8192) ≤ b → n ≤ b
-    past n b high = omega (arith, high)
+same_bad g m q b room same = grind (arith, cases_lt b (8192 * bitmap_blocks g), g.n, in_bitmap, le-ltb, unlooked, cases_lt)
 
 -- the blocks of the bitmap are live
 bitmap_live : (g : Geometry) (m : Blocks) (k : ℕ) → IsGeometry g → k < bitmap_blocks g → live_part g m (bitmap_start g + k) ≡ m (bitmap_start g + k)
-bitmap_live g m k limits low =
-    cond-true (is_live g m (bitmap_start g + k)) (m (bitmap_start g + k)) []
-    (and_from _ _ (le-leb _ _ (omega arith)) (and_from _ _ (lt-ltb (bitmap_start g + k) g.n (omega (arith, low, limits.data_room))) (ap (λ t. t || is_set g m (bitmap_start g + k)) (lt-ltb (bitmap_start g + k) (data_start g) (omega (arith, low))))))
+bitmap_live g m k limits low = grind (arith, cond-true, and_from, le-leb, lt-ltb, g.n, limits.data_room)
 
 module _ (laws : ImageLaws) (n : ℕ) (at : Blocks) where
   -- an image that holds a map has the bitmap that its run leaves
@@ -105,6 +91,4 @@ module _ (numbers : (n : ℕ) (at : Blocks) (f : FoundDisk) → store.HasNumbers
   not_mounted n at used is = numbers n at is.found is.left used
 
   pub not_damaged : (n : ℕ) (at : Blocks) → IsUsedUp n at → ¬ IsDamaged n at
-  not_damaged n at used (NoHeader, none) = none used.found.slot used.found.header used.is_found.newest
-  not_damaged n at used (BadBit b, bad) = numbers n at bad.found bad.left used
-  not_damaged n at used (Broken what, is) = numbers n at is.mountable.found is.mountable.left used
+  not_damaged n at h1 = grind arith

@@ -1,5 +1,5 @@
 -- A run may end at once: each command more is refused, no event comes, and what was said of the run holds of the longer one.
-use Rattle.std.proofs.Common.{◌≡◌, ◌≢◌, inl, inr, ⊎_elim, ℕ, ◌≤◌, Bool, true, false, not, if◌then◌else◌, List, [], ◌∷◌, ◌++◌, length, take, take_all, slice_get, Some, refl, sym, ◌∙◌, ap, subst, arith, rules}
+use Rattle.std.proofs.Common.{◌≡◌, ◌≢◌, ⊎_elim, ℕ, ◌≤◌, Bool, true, false, not, if◌then◌else◌, List, [], ◌∷◌, ◌++◌, length, take_all, slice_get, Some, refl, sym, ◌∙◌, ap, subst, arith}
 use Rattle.std.proofs.Math.Logic.{∥∥₁_map}
 use Rattle.std.proofs.lemmas.List.{append-nil, append_assoc, length-append}
 use Rattle.std.proofs.lemmas.Bool.{true≢false, false≢true}
@@ -7,13 +7,13 @@ use Rattle.base_types.specs.Seal.{Blocks}
 use Rattle.disk_contract.specs.declared.event.Event.{Event}
 use Rattle.layout_geometry.specs.Geometry.{Geometry}
 use Rattle.lang_tree.specs.declared.command.Cmd.{Cmd}
-use Rattle.lang_tree.specs.declared.command.Cmd.TheVariants.{Mkdir, Create, Write, Fill, Read, Truncate, Link, Unlink, Rmdir, Rename, Stat, List as ListNames, Osync, Dsync, Durable, Poll, Bad}
+use Rattle.lang_tree.specs.declared.command.Cmd.TheVariants.{Bad}
 use Rattle.lang_tree.specs.declared.command.Refusal.TheVariants as because
 use Rattle.lang_tree.specs.declared.command.Reply.{Reply}
 use Rattle.lang_tree.specs.declared.command.Reply.TheVariants.{Bad as NotUnderstood, Refused}
 use Rattle.lang_tree.specs.Points.{Point, after_reply, made_by, points_after, points_of, begun_by, floor, top, promised_by}
 use Rattle.lang_tree.specs.Run.{Answers, Run, StopsAfterFault, is_of_disk}
-use Rattle.lang_tree.specs.Step.{Session, session_on, step}
+use Rattle.lang_tree.specs.Step.{Session, session_on}
 use Rattle.lang_tree.specs.Tree.{Tree}
 use Rattle.engine_blocks.specs.State.{State}
 use Rattle.cmd_session.specs.Budget.{budget_of, weight_by}
@@ -27,23 +27,7 @@ use Rattle.cmd_session.proofs.Issuing.{issues_more}
 
 -- a line that is no command is the one that there is
 none_is : (cmd : Cmd) → is_none cmd ≡ true → cmd ≡ Bad
-none_is (Mkdir path) is = absurd (false≢true is)
-none_is (Create path) is = absurd (false≢true is)
-none_is (Write path offset bytes) is = absurd (false≢true is)
-none_is (Fill path offset count byte) is = absurd (false≢true is)
-none_is (Read path offset count) is = absurd (false≢true is)
-none_is (Truncate path size) is = absurd (false≢true is)
-none_is (Link path other) is = absurd (false≢true is)
-none_is (Unlink path) is = absurd (false≢true is)
-none_is (Rmdir path) is = absurd (false≢true is)
-none_is (Rename from to) is = absurd (false≢true is)
-none_is (Stat path) is = absurd (false≢true is)
-none_is (ListNames path) is = absurd (false≢true is)
-none_is Osync is = absurd (false≢true is)
-none_is Dsync is = absurd (false≢true is)
-none_is Durable is = absurd (false≢true is)
-none_is Poll is = absurd (false≢true is)
-none_is Bad is = refl
+none_is cmd h1 = grind (arith, false≢true)
 
 -- What is known of a run that may end: whether it is over is told by a fault among its replies.
 pub record MayEnd (g : Geometry) (t : Tree) (base : Blocks) (log : List Event) (mounted : ℕ) (over : Bool) (cmds : List Cmd) (replies : List Reply) (marks : List ℕ) : Type 0 where
@@ -59,19 +43,15 @@ pub record EndLaws : Type 0 where
 
 -- no such reply promises a point
 no_promise : (none over : Bool) → promised_by (if none then NotUnderstood else Refused (if over then because.Stopped else because.DiskFault)) ≡ 0
-no_promise true over = refl
-no_promise false true = refl
-no_promise false false = refl
+no_promise none over = grind arith
 
 -- the reasons are of the disk
 of_disk : (over : Bool) → is_of_disk (if over then because.Stopped else because.DiskFault) ≡ true
-of_disk true = refl
-of_disk false = refl
+of_disk over = grind arith
 
 -- so the command is answered, and the session is as it was
 answers_end : (f : Session) (cmd : Cmd) (over none : Bool) → is_none cmd ≡ none → Answers is_of_disk f cmd (if none then NotUnderstood else Refused (if over then because.Stopped else because.DiskFault)) f
-answers_end f cmd over true is = inl (subst (λ (c : Cmd). step f c ≡ (f, NotUnderstood)) (sym (none_is cmd is)) refl)
-answers_end f cmd over false is = inr (inl (if over then because.Stopped else because.DiskFault, of_disk over, refl, refl))
+answers_end f cmd over none h1 = grind (arith, none_is, of_disk)
 
 module _ (laws : EndLaws) (g : Geometry) (t : Tree) (base : Blocks) (log : List Event) (mounted : ℕ) (over : Bool) (cmds : List Cmd) (replies : List Reply) (marks : List ℕ) (cmd : Cmd) (may : MayEnd g t base log mounted over cmds replies marks) where
   abbrev s : Session
@@ -102,12 +82,7 @@ module _ (laws : EndLaws) (g : Geometry) (t : Tree) (base : Blocks) (log : List 
   points_are = ap (λ (ps : List Point). record { tree = s.tree; begun = 0 } ∷ ps) (points_more s mounted cmds replies marks cmd reply (length log) may.is.answered may.is.marked)
 
   stopped : (i : ℕ) → slice_get replies i ≡ Some (Refused because.DiskFault) → cmd ≢ Bad → reply ≡ Refused because.Stopped
-  stopped i is not = by (is_none cmd) refl over (may.ended i is)
-    where
-      by : (none : Bool) → is_none cmd ≡ none → (o : Bool) → o ≡ true → (if none then NotUnderstood else Refused (if o then because.Stopped else because.DiskFault)) ≡ Refused because.Stopped
-      by true none o is_over = absurd (not (none_is cmd none))
-      by false none true is_over = refl
-      by false none false is_over = absurd (false≢true is_over)
+  stopped i is not = grind (arith, is_none cmd, may.ended i is, may.ended, none_is, false≢true)
 
   -- the image stands for what it stood for
   one_more : (k : ℕ) (img : Blocks) → StandsForOne g.n img (points_of s mounted cmds replies marks) (floor k replies marks) (top k s mounted cmds replies marks)
@@ -132,16 +107,10 @@ module _ (laws : EndLaws) (g : Geometry) (t : Tree) (base : Blocks) (log : List 
       before i is = none i (get_before replies (reply ∷ []) i (Refused because.DiskFault) is)
 
       here : ∥ StandsForLast g.n base log (points_of s mounted cmds replies marks) ∥₁
-      here =
-          let all = may.is.issued.each (length replies) (omega arith) (subst HasNoFault (sym (take_all (length replies) replies (omega arith))) before) in
-          subst (λ (es : List Event). ∥ StandsForLast g.n base es (points_of s mounted cmds replies marks) ∥₁) (take_all (last_mark mounted marks) log (omega (arith, last_is mounted marks (length log) may.is.ascend)))
-          (subst (λ (ms : List ℕ). ∥ StandsForLast g.n base (take (last_mark mounted ms) log) (points_of s mounted cmds replies ms) ∥₁) (take_all (length replies) marks (omega (arith, may.is.marked)))
-          (subst (λ (rs : List Reply). ∥ StandsForLast g.n base (take (last_mark mounted (take (length replies) marks)) log) (points_of s mounted cmds rs (take (length replies) marks)) ∥₁) (take_all (length replies) replies (omega arith))
-          (subst (λ (cs : List Cmd). ∥ StandsForLast g.n base (take (last_mark mounted (take (length replies) marks)) log) (points_of s mounted cs (take (length replies) replies) (take (length replies) marks)) ∥₁) (take_all (length replies) cmds (omega (arith, may.is.answered))) all)))
+      here = grind (arith, may.is.issued.each, take_all, before, g.n, last_is, may.is.ascend, may.is.marked, may.is.answered)
 
       no_point : is_none cmd ≡ true → points_of s mounted cmds replies marks ≡ points_of s mounted all_cmds all_replies all_marks
-      no_point is = sym (append-nil (points_of s mounted cmds replies marks))
-          ∙ ap (λ (ps : List Point). points_of s mounted cmds replies marks ++ ps) (subst (λ (c : Cmd). [] ≡ made_by f c reply (last_mark mounted marks)) (sym (none_is cmd is)) refl) ∙ sym points_are
+      no_point is = grind (arith, append-nil, none_is, points_are)
 
       by : (b : Bool) → is_none cmd ≡ b → (o : Bool) → over ≡ o → ∥ StandsForLast g.n base log (points_of s mounted all_cmds all_replies all_marks) ∥₁
       by true is o is_over = subst (λ (ps : List Point). ∥ StandsForLast g.n base log ps ∥₁) (no_point is) here
@@ -165,12 +134,10 @@ module _ (laws : EndLaws) (g : Geometry) (t : Tree) (base : Blocks) (log : List 
   }
     where
       after : (b : Bool) → over ≡ true → (if b then over else true) ≡ true
-      after true is = is
-      after false is = refl
+      after b h1 = grind arith
 
       fails : (b o : Bool) → (if b then NotUnderstood else Refused (if o then because.Stopped else because.DiskFault)) ≡ Refused because.DiskFault → (if b then o else true) ≡ true
-      fails true o is = absurd (search rules)
-      fails false o is = refl
+      fails b o h1 = grind arith
 
       by : (b : Bool) → is_none cmd ≡ b → (o : Bool) → over ≡ o → over_after over cmd ≡ true → HasNoFault all_replies → ⊥
       by true is o is_over e none = may.fault (sym (ap (λ (b : Bool). if b then over else true) is) ∙ e) (λ i at. none i (get_before replies (reply ∷ []) i (Refused because.DiskFault) at))
@@ -181,15 +148,8 @@ module _ (laws : EndLaws) (g : Geometry) (t : Tree) (base : Blocks) (log : List 
 -- any number of commands more
 ends_all : EndLaws → (g : Geometry) (t : Tree) (base : Blocks) (log : List Event) (mounted : ℕ) (over : Bool) (cmds : List Cmd) (replies : List Reply) (marks : List ℕ) (more : List Cmd) → MayEnd g t base log mounted over cmds replies marks
     → HasRun g t base log mounted (cmds ++ more) (replies ++ ending_replies over more) (marks ++ ending_marks (length log) more)
-ends_all laws g t base log mounted over cmds replies marks [] may =
-    subst (λ (cs : List Cmd). HasRun g t base log mounted cs (replies ++ []) (marks ++ [])) (sym (append-nil cmds))
-    (subst (λ (rs : List Reply). HasRun g t base log mounted cmds rs (marks ++ [])) (sym (append-nil replies))
-    (subst (λ (ms : List ℕ). HasRun g t base log mounted cmds replies ms) (sym (append-nil marks)) may.is))
-ends_all laws g t base log mounted over cmds replies marks (cmd ∷ more) may =
-    subst (λ (cs : List Cmd). HasRun g t base log mounted cs (replies ++ ending_replies over (cmd ∷ more)) (marks ++ ending_marks (length log) (cmd ∷ more))) (append_assoc cmds (cmd ∷ []) more)
-    (subst (λ (rs : List Reply). HasRun g t base log mounted ((cmds ++ cmd ∷ []) ++ more) rs (marks ++ ending_marks (length log) (cmd ∷ more))) (append_assoc replies (ending_reply over cmd ∷ []) (ending_replies (over_after over cmd) more))
-    (subst (λ (ms : List ℕ). HasRun g t base log mounted ((cmds ++ cmd ∷ []) ++ more) ((replies ++ ending_reply over cmd ∷ []) ++ ending_replies (over_after over cmd) more) ms) (append_assoc marks (length log ∷ []) (ending_marks (length log) more))
-    (ends_all laws g t base log mounted (over_after over cmd) (cmds ++ cmd ∷ []) (replies ++ ending_reply over cmd ∷ []) (marks ++ length log ∷ []) more (ends_one laws g t base log mounted over cmds replies marks cmd may))))
+ends_all laws g t base log mounted over cmds replies marks [] may = grind (arith, append-nil, may.is)
+ends_all laws g t base log mounted over cmds replies marks (cmd ∷ more) may = grind (arith, ends_all laws g t base log mounted (over_after over cmd) (cmds ++ cmd ∷ []) (replies ++ ending_reply over cmd ∷ []) (marks ++ length log ∷ []) more (ends_one laws g t base log mounted over cmds replies marks cmd may), append_assoc, ends_one)
 
 -- what is served has run
 pub has_run : (g : Geometry) (t : Tree) (mounted : ℕ) (cmds : List Cmd) (replies : List Reply) (marks : List ℕ) (s : State) → HasServed g t mounted cmds replies marks s → HasRun g t s.crash.base s.crash.log mounted cmds replies marks
@@ -208,5 +168,4 @@ pub budget_grows : (bitmap : ℕ) (s : Session) (w : ℕ) (cmds : List Cmd) (rep
     → budget_of bitmap s w cmds replies ≤ budget_of bitmap s w (cmds ++ more) (replies ++ later)
 budget_grows bitmap s w [] replies more later e = omega arith
 budget_grows bitmap s w (cmd ∷ cmds) [] more later e = absurd (omega (arith, e))
-budget_grows bitmap s w (cmd ∷ cmds) (reply ∷ replies) more later e =
-    omega (arith, budget_grows bitmap (after_reply s cmd reply) (weight_by bitmap s w cmd reply) cmds replies more later (omega (arith, e)))
+budget_grows bitmap s w (cmd ∷ cmds) (reply ∷ replies) more later e = grind (arith, budget_grows bitmap (after_reply s cmd reply) (weight_by bitmap s w cmd reply) cmds replies more later)

@@ -1,5 +1,5 @@
 -- One command more behind others: its points, the floor and the top, and the session after it.
-use Rattle.std.proofs.Common.{◌≡◌, ◌⊎◌, inl, inr, ⊎_elim, ℕ, zero, suc, ◌+◌, ◌≤◌, max, nat_le, Bool, true, false, ◌&&◌, if◌then◌else◌, List, [], ◌∷◌, ◌++◌, length, take, slice_get, Some, unwrap_or, refl, sym, ◌∙◌, ap, subst, arith}
+use Rattle.std.proofs.Common.{◌≡◌, ◌⊎◌, inl, inr, ⊎_elim, ℕ, zero, suc, ◌+◌, ◌≤◌, nat_le, Bool, ◌&&◌, if◌then◌else◌, List, [], ◌∷◌, ◌++◌, length, take, slice_get, Some, unwrap_or, refl, ◌∙◌, ap, subst, arith}
 use Rattle.std.proofs.Math.Nat.{max-le}
 use Rattle.std.proofs.lemmas.List.{append-nil, append_assoc}
 use Rattle.std.proofs.lemmas.Bool.{cases_lt, le-leb, lt-leb, cond-true, cond-false}
@@ -31,9 +31,7 @@ points_more s begun [] [] (m ∷ marks) cmd reply mark one two = absurd (some_no
 points_more s begun [] (r ∷ replies) marks cmd reply mark one two = absurd (none_some (length replies) one)
 points_more s begun (c ∷ cmds) [] marks cmd reply mark one two = absurd (some_none (length cmds) one)
 points_more s begun (c ∷ cmds) (r ∷ replies) [] cmd reply mark one two = absurd (none_some (length replies) two)
-points_more s begun (c ∷ cmds) (r ∷ replies) (m ∷ marks) cmd reply mark one two =
-    ap (λ (ps : List Point). made_by s c r begun ++ ps) (points_more (after_reply s c r) m cmds replies marks cmd reply mark (one_less (length cmds) (length replies) one) (one_less (length marks) (length replies) two))
-    ∙ sym (append_assoc (made_by s c r begun) (points_after (after_reply s c r) m cmds replies marks) (made_by (session_after (after_reply s c r) cmds replies) cmd reply (last_mark m marks)))
+points_more s begun (c ∷ cmds) (r ∷ replies) (m ∷ marks) cmd reply mark one two = grind (arith, points_more (after_reply s c r) m cmds replies marks cmd reply mark (one_less (length cmds) (length replies) one) (one_less (length marks) (length replies) two), one_less, append_assoc)
 
 pub session_more : (s : Session) (cmds : List Cmd) (replies : List Reply) (cmd : Cmd) (reply : Reply) → length cmds ≡ length replies
     → session_after s (cmds ++ cmd ∷ []) (replies ++ reply ∷ []) ≡ after_reply (session_after s cmds replies) cmd reply
@@ -50,24 +48,14 @@ run_more outside s t u (c ∷ cmds) (r ∷ replies) cmd reply run answers = (run
 
 -- what a reply promises by a moment is no more than what is known once its mark has come
 promised_upto : (k m n : ℕ) (reply : Reply) → (m ≤ k → promised_by reply ≤ n) → (if nat_le m k then promised_by reply else 0) ≤ n
-promised_upto k m n reply known = ⊎_elim
-    (λ early. subst (λ (x : ℕ). x ≤ n) (sym (cond-false (nat_le m k) (promised_by reply) 0 (lt-leb m k early))) (omega arith))
-    (λ late. subst (λ (x : ℕ). x ≤ n) (sym (cond-true (nat_le m k) (promised_by reply) 0 (le-leb m k late))) (known late))
-    (cases_lt k m)
+promised_upto k m n reply known = grind (arith, cases_lt k m, cond-false, lt-leb, cond-true, le-leb, cases_lt)
 
 -- the floor of one command more
 pub floor_more : (k n : ℕ) (replies : List Reply) (marks : List ℕ) (reply : Reply) (mark : ℕ) → length marks ≡ length replies → floor k replies marks ≤ n → (mark ≤ k → promised_by reply ≤ n) → floor k (replies ++ reply ∷ []) (marks ++ mark ∷ []) ≤ n
 floor_more k n [] [] reply mark e low known = max-le (promised_upto k mark n reply known) (omega arith)
 floor_more k n [] (m ∷ marks) reply mark e low known = absurd (some_none (length marks) e)
 floor_more k n (r ∷ replies) [] reply mark e low known = absurd (none_some (length replies) e)
-floor_more k n (r ∷ replies) (m ∷ marks) reply mark e low known =
-    max-le (omega (arith, low, left (if nat_le m k then promised_by r else 0) (floor k replies marks))) (floor_more k n replies marks reply mark (one_less (length marks) (length replies) e) (omega (arith, low, right (if nat_le m k then promised_by r else 0) (floor k replies marks))) known)
-  where
-    left : (a b : ℕ) → a ≤ max a b
-    left a b = omega arith
-
-    right : (a b : ℕ) → b ≤ max a b
-    right a b = omega arith
+floor_more k n (r ∷ replies) (m ∷ marks) reply mark e low known = grind (arith, floor_more k n replies marks reply mark (one_less (length marks) (length replies) e), length marks, length replies, max-le, one_less)
 
 -- The last mark is the number of events, and so it is with one more.
 pub last_is : (from : ℕ) (marks : List ℕ) (events : ℕ) → Ascend from marks events → last_mark from marks ≡ events
@@ -90,8 +78,7 @@ begun_append k (x ∷ xs) ys = omega (arith, begun_append k xs ys)
 
 -- a point, where there is one, and nothing else
 all_if : (P : Point → Type 0) (c : Bool) (p : Point) → P p → Each P (if c then p ∷ [] else [])
-all_if P true p is = (is, tt)
-all_if P false p is = tt
+all_if P c p h1 = grind arith
 
 pub all_append : (P : Point → Type 0) (xs ys : List Point) → Each P xs → Each P ys → Each P (xs ++ ys)
 all_append P [] ys left right = right
@@ -116,8 +103,7 @@ begun_all k (x ∷ xs) all = omega (arith, cond-true {A = ℕ} (nat_le x.begun k
 
 -- What stands in a list stands in a longer one, and behind it comes the next.
 pub none_is : {A : Type 0} (i : ℕ) (x : A) → slice_get [] i ≡ Some x → ⊥
-none_is zero x is = cc
-none_is (suc i) x is = cc
+none_is i x h1 = grind arith
 
 pub get_before : {A : Type 0} (xs ys : List A) (i : ℕ) (x : A) → slice_get xs i ≡ Some x → slice_get (xs ++ ys) i ≡ Some x
 get_before [] ys i x is = absurd (none_is i x is)

@@ -18,8 +18,7 @@ not_lost_from b lost [] calm none = calm
 not_lost_from b lost (Wrote ticket block bytes ∷ xs) calm none = not_lost_from b (if block == b then false else lost) xs (by (block == b)) none
   where
     by : (v : Bool) → (if v then false else lost) ≡ false
-    by true = refl
-    by false = calm
+    by v = grind arith
 not_lost_from b lost (Lost block bytes ∷ xs) calm none = absurd (false≢true (sym none))
 not_lost_from b lost (Noticed ticket ∷ xs) calm none = not_lost_from b lost xs calm none
 

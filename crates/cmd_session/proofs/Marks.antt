@@ -30,21 +30,14 @@ module _ (P : List Event → List Cmd → List Reply → List ℕ → Type 0) (o
   same_events i = ap (take (last_mark mounted (take i marks))) grows.log ∙ take-append-le (last_mark mounted (take i marks)) old grows.more (front_mark mounted i marks (length old) up)
 
   early : ((i : ℕ) → i ≤ length replies → P (take (last_mark mounted (take i marks)) old) (take i cmds) (take i replies) (take i marks)) → (i : ℕ) → i ≤ length replies → SaysOf (take i all_cmds) (take i all_replies) (take i all_marks)
-  early before i le =
-      subst (λ (cs : List Cmd). SaysOf cs (take i all_replies) (take i all_marks)) (sym (take-append-le i cmds (cmd ∷ []) (omega (arith, le, answered))))
-      (subst (λ (rs : List Reply). SaysOf (take i cmds) rs (take i all_marks)) (sym (take-append-le i replies (reply ∷ []) le))
-      (subst (λ (ms : List ℕ). SaysOf (take i cmds) (take i replies) ms) (sym (take-append-le i marks (length new ∷ []) (omega (arith, le, marked))))
-      (subst (λ (es : List Event). P es (take i cmds) (take i replies) (take i marks)) (sym (same_events i)) (before i le))))
+  early before i le = grind (arith, take-append-le, same_events)
 
   -- of all of them
   whole : P new all_cmds all_replies all_marks → SaysOf all_cmds all_replies all_marks
   whole now = subst (λ (es : List Event). P es all_cmds all_replies all_marks) (sym (take_all (last_mark mounted all_marks) new (omega (arith, mark_behind mounted marks (length new))))) now
 
   late : P new all_cmds all_replies all_marks → (i : ℕ) → length replies < i → SaysOf (take i all_cmds) (take i all_replies) (take i all_marks)
-  late now i past =
-      subst (λ (cs : List Cmd). SaysOf cs (take i all_replies) (take i all_marks)) (sym (take_all i all_cmds (omega (arith, past, answered, length-append cmds (cmd ∷ [])))))
-      (subst (λ (rs : List Reply). SaysOf all_cmds rs (take i all_marks)) (sym (take_all i all_replies (omega (arith, past, length-append replies (reply ∷ [])))))
-      (subst (λ (ms : List ℕ). SaysOf all_cmds all_replies ms) (sym (take_all i all_marks (omega (arith, past, marked, length-append marks (length new ∷ []))))) (whole now)))
+  late now i past = grind (arith, take_all, length-append, whole)
 
   pub each_more : P new all_cmds all_replies all_marks → ((i : ℕ) → i ≤ length replies → P (take (last_mark mounted (take i marks)) old) (take i cmds) (take i replies) (take i marks)) → (i : ℕ) → SaysOf (take i all_cmds) (take i all_replies) (take i all_marks)
   each_more now before i = ⊎_elim (λ past. late now i past) (λ low. early before i low) (cases_lt (length replies) i)

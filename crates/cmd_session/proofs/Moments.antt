@@ -1,8 +1,7 @@
 -- The writes at each moment: a front of a log has at most those of the whole.
-use Rattle.std.proofs.Common.{◌≡◌, ℕ, zero, suc, ◌+◌, ◌≤◌, Bool, List, [], ◌∷◌, ◌++◌, length, take, take_all, drop, refl, sym, ap, ◌∙◌, subst, arith}
+use Rattle.std.proofs.Common.{◌≡◌, ℕ, zero, suc, ◌+◌, ◌≤◌, Bool, List, [], ◌∷◌, ◌++◌, length, take, take_all, drop, refl, sym, ◌∙◌, subst, arith}
 use Rattle.std.proofs.lemmas.List.{append-nil, append_assoc, length-append}
 use Rattle.disk_contract.specs.declared.event.Event.{Event}
-use Rattle.disk_contract.specs.declared.event.Event.TheVariants.{Wrote, Lost, Noticed}
 use Rattle.disk_contract.specs.Disk.{Grows, writes_in}
 use Rattle.layout_geometry.specs.Geometry.{Geometry, bitmap_blocks}
 use Rattle.crash_argument.specs.Counts.{AreAtMost}
@@ -14,16 +13,13 @@ use Rattle.engine_blocks.specs.State.{State}
 use Rattle.cmd_trace.specs.Trace.{Ascend}
 use Rattle.cmd_session.specs.Budget.{KeepsBudget, SpendsByMarks, budget_of}
 use Rattle.cmd_session.specs.Ending.{ending_marks, ending_replies, ending_reply, over_after}
-use Rattle.cmd_session.specs.Histories.{last_mark}
 use Rattle.cmd_session.proofs.Ending.{budget_grows}
 use Rattle.cmd_session.proofs.Histories.{ascend_more, last_is}
 use Rattle.cmd_session.proofs.Marks.{each_more}
 
 -- one event more in front
 more_each : (e : Event) (xs ys : List Event) → writes_in xs ≤ writes_in ys → writes_in (e ∷ xs) ≤ writes_in (e ∷ ys)
-more_each (Wrote ticket block bytes) xs ys le = omega (arith, le)
-more_each (Lost block bytes) xs ys le = omega (arith, le)
-more_each (Noticed ticket) xs ys le = le
+more_each e xs ys h1 = grind arith
 
 front_within : (k : ℕ) (log : List Event) → writes_in (take k log) ≤ writes_in log
 front_within zero log = omega arith
@@ -38,9 +34,7 @@ late_within (suc m) (suc k) (e ∷ log) = late_within m k log
 
 -- a log has the writes of its two parts
 parts_each : (e : Event) (xs ys log : List Event) → writes_in xs + writes_in ys ≡ writes_in log → writes_in (e ∷ xs) + writes_in ys ≡ writes_in (e ∷ log)
-parts_each (Wrote ticket block bytes) xs ys log is = omega (arith, is)
-parts_each (Lost block bytes) xs ys log is = omega (arith, is)
-parts_each (Noticed ticket) xs ys log is = is
+parts_each e xs ys log h1 = grind arith
 
 parts : (m : ℕ) (log : List Event) → writes_in (take m log) + writes_in (drop m log) ≡ writes_in log
 parts zero log = omega arith
@@ -59,9 +53,7 @@ none_since (e ∷ es) = none_since es
 
 -- as the mount ends
 pub spends_first : (g : Geometry) (s : Session) (log : List Event) → SpendsByMarks g s (length log) log [] [] []
-spends_first g s log = record {
-  each = λ i low. let mark = last_mark (length log) (take i []) in record { each = λ k from upto. omega (arith, late_within (length log) k (take mark log), late_within (length log) mark log, none_since log) };
-}
+spends_first g s log = grind (arith, late_within, none_since)
 
 module _ (g : Geometry) (s : Session) (mounted : ℕ) where
   abbrev Within : List Event → List Cmd → List Reply → List ℕ → Type 0
@@ -76,18 +68,12 @@ module _ (g : Geometry) (s : Session) (mounted : ℕ) where
   -- the whole is what is said at the last mark
   whole_within : (log : List Event) (cmds : List Cmd) (replies : List Reply) (marks : List ℕ) → length cmds ≡ length replies → length marks ≡ length replies → Ascend mounted marks (length log) → SpendsByMarks g s mounted log cmds replies marks
       → AreAtMost mounted log (budget_of (bitmap_blocks g) s 0 cmds replies)
-  whole_within log cmds replies marks answered marked up before =
-      subst (λ (es : List Event). Within es cmds replies marks) (ap (λ (ms : List ℕ). take (last_mark mounted ms) log) (take_all (length replies) marks (omega (arith, marked))) ∙ take_all (last_mark mounted marks) log (omega (arith, last_is mounted marks (length log) up)))
-      (subst (λ (rs : List Reply). Within (take (last_mark mounted (take (length replies) marks)) log) cmds rs marks) (take_all (length replies) replies (omega arith))
-      (subst (λ (cs : List Cmd). Within (take (last_mark mounted (take (length replies) marks)) log) cs (take (length replies) replies) marks) (take_all (length replies) cmds (omega (arith, answered))) (before.each (length replies) (omega arith))))
+  whole_within log cmds replies marks answered marked up before = grind (arith, take_all, last_is, before.each)
 
   -- any number of commands more, with which no event comes
   pub spends_ending : (log : List Event) (over : Bool) (cmds : List Cmd) (replies : List Reply) (marks : List ℕ) (more : List Cmd) → length cmds ≡ length replies → length marks ≡ length replies → Ascend mounted marks (length log) → SpendsByMarks g s mounted log cmds replies marks
       → SpendsByMarks g s mounted log (cmds ++ more) (replies ++ ending_replies over more) (marks ++ ending_marks (length log) more)
-  spends_ending log over cmds replies marks [] answered marked up before =
-      subst (λ (cs : List Cmd). SpendsByMarks g s mounted log cs (replies ++ []) (marks ++ [])) (sym (append-nil cmds))
-      (subst (λ (rs : List Reply). SpendsByMarks g s mounted log cmds rs (marks ++ [])) (sym (append-nil replies))
-      (subst (λ (ms : List ℕ). SpendsByMarks g s mounted log cmds replies ms) (sym (append-nil marks)) before))
+  spends_ending log over cmds replies marks [] answered marked up before = grind (arith, append-nil)
   spends_ending log over cmds replies marks (cmd ∷ more) answered marked up before =
       let reply = ending_reply over cmd in
       let all = whole_within log cmds replies marks answered marked up before in

@@ -1,5 +1,5 @@
 -- A run of no commands: what is known of blocks that were just mounted, once their file system is open.
-use Rattle.std.proofs.Common.{◌≡◌, ℕ, zero, suc, ◌+◌, ◌≤◌, Bool, false, IsTrue, List, [], ◌∷◌, length, take, refl, sym, ◌∙◌, ap, subst, arith}
+use Rattle.std.proofs.Common.{◌≡◌, ℕ, ◌+◌, ◌≤◌, Bool, false, IsTrue, List, [], ◌∷◌, length, take, refl, sym, ◌∙◌, ap, subst, arith}
 use Rattle.std.proofs.lemmas.List.{take_all}
 use Rattle.base_types.specs.Seal.{Blocks}
 use Rattle.disk_contract.specs.declared.event.Event.{Event}
@@ -11,7 +11,7 @@ use Rattle.crash_stands.specs.Stands.{IsTreeOf, StandsFor}
 use Rattle.lang_tree.specs.Points.{Point, points_of, floor, top}
 use Rattle.lang_tree.specs.Step.{Session, session_on}
 use Rattle.lang_tree.specs.Tree.{Tree}
-use Rattle.engine_blocks.specs.Crashes.{HasLiveBlocks, HasMapOfPoint, IsBegun}
+use Rattle.engine_blocks.specs.Crashes.{HasMapOfPoint, IsBegun}
 use Rattle.engine_blocks.specs.State.{Bookkeeping, State}
 use Rattle.fs_files.specs.Effects.{LooksOnly}
 use Rattle.fs_session.specs.Points.{KnowsPoints}
@@ -72,13 +72,11 @@ module _ {S : Type 0} (tells : Bool) (state : S → State) (told : IsTrue tells)
   tree = subst (λ (k : Geometry). IsTreeOf k (state new).map t) (sym geom) (subst (λ (x : Blocks). IsTreeOf g x t) (sym map) is)
 
   session : IsSession (state new) first
-  session = subst (λ (u : Tree). IsSession (state new) (session_on g.i u)) (sym (laws.one (state new).books.geom (state new).map t some.0 tree some.1.tree))
-      (subst (λ (k : Geometry). IsSession (state new) (session_on k.i some.0)) mounted.geom some.1)
+  session = grind (arith, g.i, laws.one, tree, mounted.geom)
 
   -- the map now has the live blocks of each map of point 0
   only : HasMapOfPoint (state new) 0
-  only map_of_it has = subst (λ (k : Geometry). HasLiveBlocks k (state new).map map_of_it) (sym (ap (λ (k : Bookkeeping). k.geom) looks.books))
-      (subst (λ (x : Blocks). HasLiveBlocks (state old).books.geom x map_of_it) (sym (looks.map told)) (mounted.only map_of_it (((looks.crash told).point 0 map_of_it).0 has)))
+  only map_of_it has = grind (arith, looks.books, looks.map, mounted.only, looks.crash)
 
   knows : KnowsPoints (state new) (λ p. t)
   knows = laws.begins (λ p. t) point only tree
@@ -123,28 +121,14 @@ module _ {S : Type 0} (tells : Bool) (state : S → State) (told : IsTrue tells)
 
       each : (i : ℕ) → i ≤ 0 → HasNoFault (take i [])
           → ∥ StandsForLast g.n base (take (last_mark (length (state old).crash.log) (take i [])) log) (points_of first (length (state old).crash.log) (take i []) (take i []) (take i [])) ∥₁
-      each zero le none = subst (λ (es : List Event). ∥ StandsForLast g.n base es (start ∷ []) ∥₁) (sym (take_all (length (state old).crash.log) log (omega (arith, ap (λ (es : List Event). length es) same_log)))) last
-      each (suc i) le none = absurd (omega (arith, le))
+      each i h1 h2 = grind (arith, g.n, take_all, same_log, last)
 
   pub begins : HasServed g t (length (state old).crash.log) [] [] [] (state new)
-  begins = record {
-    geom = geom;
-    run = refl;
-    stops = record { each = λ i k cmd before none. absurd (none_is i _ none) };
-    answered = refl;
-    marked = refl;
-    ascend = sym (ap (λ (es : List Event). length es) same_log);
-    crashes = crashes;
-    issued = issued;
-    goes_on = goes_on;
-  }
+  begins = grind (arith, geom, none_is, same_log, crashes, issued, goes_on)
 
 -- nothing was weighed yet, and nothing written
 pub begins_budget : (tells : Bool) → IsTrue tells → (old new : State) (g : Geometry) (t : Tree) → IsBegun old → LooksOnly tells false old new → KeepsBudget g t (writes_in old.crash.log + old.books.owed) [] [] new
-begins_budget tells told old new g t begun looks = record {
-  weight = λ going. ap (λ (k : Bookkeeping). k.running.weight) looks.books ∙ begun.weight;
-  writes = omega (arith, ap (λ (k : Bookkeeping). k.owed) looks.books, ap writes_in (looks.crash told).log);
-}
+begins_budget tells told old new g t begun looks = grind (arith, looks.books, begun.weight, looks.crash)
 
 -- what stands in the blocks that were opened stood in them before
 pub stood : (tells : Bool) → IsTrue tells → (old new : State) → LooksOnly tells false old new → Stands new → (t : Tree) × IsTreeOf old.books.geom old.map t

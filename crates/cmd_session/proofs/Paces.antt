@@ -12,7 +12,6 @@ use Rattle.disk_contract.specs.Cell.{has_lost}
 use Rattle.disk_contract.specs.Disk.{Grows, PollsFirst, PollsThenWrites, writes_in}
 use Rattle.disk_contract.specs.Manner.{Manner, HasFailedBy, LosesLast, Polled, after_polls}
 use Rattle.layout_journal.specs.declared.record.Commit.{Commit}
-use Rattle.layout_journal.specs.Run.{places_told}
 use Rattle.crash_argument.specs.Points.{MountedSession}
 use Rattle.cmd_trace.specs.Trace.{Ascend}
 use Rattle.lang_tree.specs.declared.command.Cmd.{Cmd}
@@ -85,11 +84,7 @@ get_split_at : {A : Type 0} (xs : List A) (x y : A) (i : ℕ) → slice_get (xs 
 get_split_at [] x y zero is = inr (ap (λ o. unwrap_or o x) is, refl)
 get_split_at [] x y (suc i) is = inl is
 get_split_at (z ∷ xs) x y zero is = inl is
-get_split_at (z ∷ xs) x y (suc i) is = by (get_split_at xs x y i is)
-  where
-    by : (slice_get xs i ≡ Some y) ⊎ ((x ≡ y) × (i ≡ length xs)) → (slice_get (z ∷ xs) (suc i) ≡ Some y) ⊎ ((x ≡ y) × (suc i ≡ length (z ∷ xs)))
-    by (inl earlier) = inl earlier
-    by (inr last) = inr (last.0, ap suc last.1)
+get_split_at (z ∷ xs) x y (suc i) is = grind (arith, get_split_at xs x y i is)
 
 pub get_split : {A : Type 0} (xs : List A) (x y : A) (i : ℕ) → slice_get (xs ++ x ∷ []) i ≡ Some y → (slice_get xs i ≡ Some y) ⊎ (x ≡ y)
 get_split xs x y i is = ⊎_elim (λ earlier. inl earlier) (λ last. inr last.0) (get_split_at xs x y i is)
@@ -100,40 +95,15 @@ within from [] events is = omega (arith, is)
 within from (mark ∷ marks) events is = omega (arith, is.0, within mark marks events is.1)
 
 or_cases : (a b : Bool) → (a || b) ≡ true → (a ≡ true) ⊎ (b ≡ true)
-or_cases true b is = inl refl
-or_cases false b is = inr is
+or_cases a b h1 = grind arith
 
 -- Whether a reply is a fault.
 
 fault_why : (why : Refusal) → is_fault (Refused why) ≡ true → why ≡ because.DiskFault
-fault_why because.NotFound is = absurd (false≢true is)
-fault_why because.Exists is = absurd (false≢true is)
-fault_why because.NotDir is = absurd (false≢true is)
-fault_why because.IsDir is = absurd (false≢true is)
-fault_why because.NotEmpty is = absurd (false≢true is)
-fault_why because.BelowItself is = absurd (false≢true is)
-fault_why because.TooLarge is = absurd (false≢true is)
-fault_why because.TooManyLinks is = absurd (false≢true is)
-fault_why because.NoNode is = absurd (false≢true is)
-fault_why (because.Full need left) is = absurd (false≢true is)
-fault_why (because.TooBig weight cost room) is = absurd (false≢true is)
-fault_why (because.Scattered runs) is = absurd (false≢true is)
-fault_why because.ReadFault is = absurd (false≢true is)
-fault_why because.DiskFault is = refl
-fault_why because.Stopped is = absurd (false≢true is)
-fault_why because.Spent is = absurd (false≢true is)
-fault_why because.NoMemory is = absurd (false≢true is)
+fault_why why h1 = grind (arith, false≢true)
 
 fault_is : (reply : Reply) → is_fault reply ≡ true → reply ≡ Refused because.DiskFault
-fault_is replied.Ok is = absurd (false≢true is)
-fault_is (replied.Bytes bytes) is = absurd (false≢true is)
-fault_is (replied.Stat stat) is = absurd (false≢true is)
-fault_is (replied.Names names) is = absurd (false≢true is)
-fault_is (replied.Synced point) is = absurd (false≢true is)
-fault_is (replied.DurableAt point) is = absurd (false≢true is)
-fault_is (replied.Known point) is = absurd (false≢true is)
-fault_is replied.Bad is = absurd (false≢true is)
-fault_is (Refused why) is = ap Refused (fault_why why is)
+fault_is reply h1 = grind (arith, false≢true, fault_why)
 
 -- What was said of a shorter log holds of a longer one.
 
@@ -151,14 +121,7 @@ module _ (ses : MountedSession) (base : Blocks) (m : Manner) (log more : List Ev
   orders_shorter behind wanted t low = subst (λ (es : List Event). OrdersAtOnce ses base es t wanted) (front behind low)
 
   writes_longer : (weight behind begun mark : ℕ) → behind ≤ begun → mark ≤ length log → WritesRecordBy ses base m log weight behind begun mark → WritesRecordBy ses base m (log ++ more) weight behind begun mark
-  writes_longer weight behind begun mark from low w = record {
-    commit = w.commit;
-    own = same_own behind mark low ∙ w.own;
-    size = w.size;
-    upto = w.upto;
-    writes = omega (arith, w.writes, ap writes_in (front mark low), ap writes_in (front begun (omega (arith, w.upto, low))));
-    fits = λ alone finds. w.fits alone (finds_shorter behind (places_told w.commit) (omega (arith, from, w.upto, low)) finds);
-  }
+  writes_longer weight behind begun mark from low w = grind (arith, w.commit, same_own, w.own, w.size, w.upto, w.writes, front, w.fits, finds_shorter)
 
   does_longer : (cmd : Cmd) (reply : Reply) (p q : Pace) (behind : ℕ) → p.events ≤ length log → q.events ≤ length log → behind ≤ q.events → DoesBehind ses base m log cmd reply p q behind → DoesBehind ses base m (log ++ more) cmd reply p q behind
   does_longer cmd reply p q behind low low_next upto does =
@@ -206,8 +169,7 @@ module _ (ses : MountedSession) (base : Blocks) (m : Manner) (log more : List Ev
   }
     where
       unlost_shorter : (m.waits_alone ≡ true) ⊎ (has_lost (take p.events (log ++ more)) ≡ false) → (m.waits_alone ≡ true) ⊎ (has_lost (take p.events log) ≡ false)
-      unlost_shorter (inl known) = inl known
-      unlost_shorter (inr none) = inr (ap has_lost (sym (front p.events low)) ∙ none)
+      unlost_shorter h1 = grind (arith, front, p.events)
 
   pub paces_longer : (cmd : Cmd) (reply : Reply) (mark : ℕ) (mid end : Pace) (p : Pace) (cmds : List Cmd) (replies : List Reply) (marks : List ℕ) → Ascend p.events marks (length log)
       → PacesBy ses base m log p cmds replies marks mid → end.events ≡ mark → StepsBy ses base m (log ++ more) cmd reply mid end → PacesBy ses base m (log ++ more) p (cmds ++ cmd ∷ []) (replies ++ reply ∷ []) (marks ++ mark ∷ []) end
@@ -231,19 +193,14 @@ module _ (cmd : Cmd) (reply : Reply) (old new : State) (s : StepsOn cmd reply ol
   over_now = by (cases_Bool old.books.stopped)
     where
       none : old.books.stopped ≡ false → is_fault reply ≡ false → HasNoFault (replies ++ reply ∷ [])
-      none run calm i at = no (get_split replies reply (Refused because.DiskFault) i at)
-        where
-          no : (slice_get replies i ≡ Some (Refused because.DiskFault)) ⊎ (reply ≡ Refused because.DiskFault) → ⊥
-          no (inl earlier) = false≢true (sym run ∙ before i earlier)
-          no (inr now) = false≢true (sym calm ∙ ap is_fault now)
+      none run calm i at = grind (arith, get_split, false≢true)
 
       by_reply : old.books.stopped ≡ false → (is_fault reply ≡ true) ⊎ (is_fault reply ≡ false) → new.books.stopped ≡ (old.books.stopped || is_fault reply)
       by_reply run (inl fault) = ended (length replies) (get_behind replies reply ∙ ap Some (fault_is reply fault)) ∙ sym fault ∙ ap (λ (v : Bool). v || is_fault reply) (sym run)
       by_reply run (inr calm) = going (none run calm) ∙ sym calm ∙ ap (λ (v : Bool). v || is_fault reply) (sym run)
 
       by : (old.books.stopped ≡ true) ⊎ (old.books.stopped ≡ false) → new.books.stopped ≡ (old.books.stopped || is_fault reply)
-      by (inl over) = (s.rests (inr over)).1.1 ∙ over ∙ ap (λ (v : Bool). v || is_fault reply) (sym over)
-      by (inr run) = by_reply run (cases_Bool (is_fault reply))
+      by h1 = grind (arith, cases_Bool (is_fault reply), s.rests, by_reply)
 
   -- What the command did behind its tick, by the log: with no reason it waited for nothing, and a dsync for the writes of records; and `durable` is answered by no earlier point than is known.
   pub record Waits (ses : MountedSession) (base : Blocks) (m : Manner) (t : Taken) (behind : List Event) (begun : ℕ) : Type 0 where
@@ -268,15 +225,7 @@ module _ (cmd : Cmd) (reply : Reply) (old new : State) (s : StepsOn cmd reply ol
   fails_now m fault none failed = fails_since m old.crash.log new.crash.log grows none failed
 
   loses_now : (new.books.stopped ≡ false → has_lost new.crash.log ≡ false) → has_lost (drop (length old.crash.log) new.crash.log) ≡ true → reply ≡ Refused because.DiskFault
-  loses_now unlost_now lost = by (cases_Bool new.books.stopped)
-    where
-      by_old : (old.books.stopped ≡ true) ⊎ (is_fault reply ≡ true) → reply ≡ Refused because.DiskFault
-      by_old (inl over) = absurd (false≢true (sym (ap (λ (es : List Event). has_lost (drop (length old.crash.log) es)) (s.rests (inr over)).1.0 ∙ none_behind old.crash.log) ∙ lost))
-      by_old (inr fault) = fault_is reply fault
-
-      by : (new.books.stopped ≡ true) ⊎ (new.books.stopped ≡ false) → reply ≡ Refused because.DiskFault
-      by (inl over) = by_old (or_cases old.books.stopped (is_fault reply) (sym over_now ∙ over))
-      by (inr going) = absurd (false≢true (sym (unlost_now going) ∙ lost_behind (length old.crash.log) new.crash.log lost))
+  loses_now unlost_now lost = grind (arith, cases_Bool new.books.stopped, new.books.stopped, old.books.stopped, false≢true, old.crash.log, s.rests, none_behind, fault_is, or_cases, over_now, lost_behind, new.crash.log)
 
   module _ (ses : MountedSession) (base : Blocks) (m : Manner) (t : Taken) (behind : List Event) (begun : ℕ) (goes_on : Grows behind new.crash.log) (waits : Waits ses base m t behind begun) (is : old.counts.ticks.manner ≡ m) where
     abbrev own : List Commit

@@ -1,17 +1,16 @@
 -- Where each node's blocks lie while nothing changed since the last point: in that point's map as in the room, and so in the image that has all that was issued.
-use Rattle.std.proofs.Common.{◌≡◌, ◌⊎◌, inl, inr, ⊎_elim, ℕ, ◌+◌, ◌-◌, ◌*◌, ◌/◌, ◌%◌, ◌<◌, ◌≤◌, ◌==◌, ◌&&◌, ◌||◌, nat_le, Bool, true, false, if◌then◌else◌, List, [], ◌∷◌, ◌++◌, drop, length, take, Option, Some, None, refl, sym, ap, ◌∙◌, subst, arith}
+use Rattle.std.proofs.Common.{◌≡◌, ◌⊎◌, inl, inr, ⊎_elim, ℕ, ◌+◌, ◌-◌, ◌*◌, ◌/◌, ◌%◌, ◌<◌, ◌≤◌, ◌==◌, ◌&&◌, ◌||◌, nat_le, Bool, true, false, if◌then◌else◌, List, [], ◌∷◌, ◌++◌, length, take, Option, Some, None, refl, sym, ap, ◌∙◌, subst, arith}
 use Rattle.std.proofs.Math.Logic.{∥∥₁_map}
 use Rattle.std.proofs.Math.Seq.{take-append_seam}
 use Rattle.std.proofs.lemmas.List.{length-append}
 use Rattle.std.proofs.lemmas.Bool.{and_from, and_parts, cases_Bool, cases_lt, leb-true, le-leb, lt-ltb, true≢false}
 use Rattle.std.specs.FinMap.{get}
 use Rattle.base_types.specs.Seal.{Blocks}
-use Rattle.layout_geometry.specs.Geometry.{Geometry, IsGeometry, bitmap_start, data_start, nodes_in_block, table_start}
+use Rattle.layout_geometry.specs.Geometry.{Geometry, IsGeometry, bitmap_start, data_start}
 use Rattle.layout_bytes.specs.Bitmap.{is_set}
 use Rattle.layout_bytes.specs.Bytes.{when}
-use Rattle.layout_bytes.specs.Node.{node_at, node_of, node_size}
+use Rattle.layout_bytes.specs.Node.{node_at}
 use Rattle.layout_journal.specs.declared.header.Header.{Header}
-use Rattle.layout_journal.specs.Layout.{header_of}
 use Rattle.layout_journal.specs.Run.{Newest}
 use Rattle.lang_tree.specs.declared.command.Cmd.{Cmd}
 use Rattle.lang_tree.specs.declared.command.Cmd.TheVariants as cmds
@@ -19,7 +18,7 @@ use Rattle.lang_tree.specs.declared.command.Refusal.{Refusal}
 use Rattle.lang_tree.specs.declared.command.Reply.{Reply}
 use Rattle.lang_tree.specs.Conditions.{refusal}
 use Rattle.lang_tree.specs.Points.{after_reply, is_sync, may_have_written}
-use Rattle.lang_tree.specs.Step.{Session, answered, dsync, osync, step}
+use Rattle.lang_tree.specs.Step.{Session, dsync, osync, step}
 use Rattle.lang_tree.specs.Tree.{Dir, File, IsSound, Thing, Tree}
 use Rattle.crash_argument.specs.Ledger.{HoldsUnder, issued}
 use Rattle.engine_blocks.specs.Crashes.{HasLiveBlocks, HasMapOfPoint, StandsForLast}
@@ -38,8 +37,7 @@ use Rattle.cmd_session.proofs.Rooms.{said}
 -- A map that has the live blocks of another one: each node has the same blocks in both.
 
 when_same : {A : Type 0} (t : Bool) (x y : Option A) → (t ≡ true → x ≡ y) → when t x ≡ when t y
-when_same true x y e = e refl
-when_same false x y e = refl
+when_same t x y h1 = grind arith
 
 module _ (g : Geometry) (limits : IsGeometry g) (map m : Blocks) (same : HasLiveBlocks g map m) where
   -- a block of the node table
@@ -47,8 +45,7 @@ module _ (g : Geometry) (limits : IsGeometry g) (map m : Blocks) (same : HasLive
   table_same b from below = same b (and_from _ _ (le-leb _ _ from) (and_from _ _ (lt-ltb b g.n (omega (arith, below, limits.data_room))) (ap (λ t. t || is_set g map b) (lt-ltb _ _ below))))
 
   node_same : (k : ℕ) → 1 ≤ k → k ≤ g.i → node_at g m k ≡ node_at g map k
-  node_same k from upto = ap (λ (xs : List ℕ). node_of g (take node_size (drop (node_size * ((k - 1) % nodes_in_block)) xs)))
-      (table_same (table_start g + (k - 1) / nodes_in_block) (omega arith) (omega (arith, from, upto, limits.whole_blocks)))
+  node_same k from upto = grind (arith, table_same, limits.whole_blocks)
 
   pub places_same : (k : ℕ) → places_of g m k ≡ places_of g map k
   places_same k = ap places_or_none (when_same (nat_le 1 k && nat_le k g.i) (node_at g m k) (node_at g map k) (λ is.
@@ -58,11 +55,7 @@ module _ (g : Geometry) (limits : IsGeometry g) (map m : Blocks) (same : HasLive
 -- An image that is alike below n holds the same map under the same geometry.
 module _ (g : Geometry) (laws : PlaceLaws g) (img other m : Blocks) (same : (b : ℕ) → b < g.n → img b ≡ other b) where
   newest_same : (slot : ℕ) (h : Header) → Newest g.n img slot h → Newest g.n other slot h
-  newest_same slot h x = record {
-    is_slot = x.is_slot;
-    stands = ap (header_of g.n) (sym (same slot (omega (arith, x.is_slot, laws.limits.least_blocks)))) ∙ x.stands;
-    other = λ k is. x.other k (ap (header_of g.n) (same (1 - slot) (omega (arith, laws.limits.least_blocks))) ∙ is);
-  }
+  newest_same slot h x = grind (arith, x.is_slot, g.n, laws.limits.least_blocks, x.stands, x.other)
 
   pub held_alike : HoldsUnder g.n g img m → HoldsUnder g.n g other m
   held_alike h =
@@ -73,43 +66,17 @@ module _ (g : Geometry) (laws : PlaceLaws g) (img other m : Blocks) (same : (b :
 -- A command that leaves nothing changed since the last point leaves the session as it was, but for a sync.
 
 if_same : (f : Session) (c : Bool) (done : Reply) (x : Session × Reply) → x.0.changed ≡ true → (if c then (f, done) else x).0.changed ≡ false → (if c then (f, done) else x).0 ≡ f
-if_same f true done x changed clean = refl
-if_same f false done x changed clean = absurd (true≢false (sym changed ∙ clean))
+if_same f c done x h1 h2 = grind arith
 
 same_session : (f : Session) (cmd : Cmd) → is_sync cmd ≡ false → (step f cmd).0.changed ≡ false → (step f cmd).0 ≡ f
-same_session f cmd other clean = by (refusal f.limit f.tree cmd) clean
-  where
-    done : (c : Cmd) → is_sync c ≡ false → (answered f c None).0.changed ≡ false → (answered f c None).0 ≡ f
-    done (cmds.Mkdir path) other is = absurd (true≢false is)
-    done (cmds.Create path) other is = absurd (true≢false is)
-    done (cmds.Write path offset bytes) other is = if_same f (length bytes == 0) _ _ refl is
-    done (cmds.Fill path offset count byte) other is = if_same f _ _ _ refl is
-    done (cmds.Read path offset count) other is = refl
-    done (cmds.Truncate path size) other is = if_same f _ _ _ refl is
-    done (cmds.Link path to) other is = absurd (true≢false is)
-    done (cmds.Unlink path) other is = absurd (true≢false is)
-    done (cmds.Rmdir path) other is = absurd (true≢false is)
-    done (cmds.Rename from to) other is = if_same f _ _ _ refl is
-    done (cmds.Stat path) other is = refl
-    done (cmds.List path) other is = refl
-    done cmds.Osync other is = absurd (true≢false other)
-    done cmds.Dsync other is = absurd (true≢false other)
-    done cmds.Durable other is = refl
-    done cmds.Poll other is = refl
-    done cmds.Bad other is = refl
-
-    by : (why : Option Refusal) → (answered f cmd why).0.changed ≡ false → (answered f cmd why).0 ≡ f
-    by (Some why) is = refl
-    by None is = done cmd other is
+same_session f cmd other clean = grind (arith, refusal f.limit f.tree cmd, f.limit, f.tree, if_same)
 
 -- a sync that is done and makes no point had nothing to commit
 clean_osync : (f : Session) (c : Bool) → (c && may_have_written (osync f c).1) ≡ false → c ≡ false
-clean_osync f true none = absurd (true≢false none)
-clean_osync f false none = refl
+clean_osync f c h1 = grind arith
 
 clean_dsync : (f : Session) (c : Bool) → (c && may_have_written (dsync f c).1) ≡ false → c ≡ false
-clean_dsync f true none = absurd (true≢false none)
-clean_dsync f false none = refl
+clean_dsync f c h1 = grind arith
 
 -- Rooms that hold the same tree have as many blocks of each node.
 
@@ -153,14 +120,10 @@ module _ (g : Geometry) (f : Session) (reply : Reply) (next : Session) (clean : 
           (subst (λ (at : ℕ → List ℕ). room.places k ≡ take (length (room.places k)) (at k ++ take (figures_in g f cmd).need back.takeable)) places (d.spends.placed k))
 
   synced : (cmd : Cmd) (back : Room) → back.places ≡ r.places → (step f cmd ≡ (next, reply) → f.changed ≡ false) → SyncsOver f back cmd reply next room → Keeps
-  synced cmd back places before (inl x) = (before x.0, λ k. ap (λ (at : ℕ → List ℕ). at k) (x.1.keeps.places ∙ places))
-  synced cmd back places before (inr (inl x)) = refused _ back places x
-  synced cmd back places before (inr (inr x)) = rests x.1 (x.2.places ∙ places)
+  synced cmd back h1 h2 h3 = grind (arith, refused, rests)
 
   on_tree : (P Q : Refusal → Type 0) (cmd : Cmd) (back : Room) → is_sync cmd ≡ false → back.places ≡ r.places → (IsDoneIn g f back cmd reply next room ⊎ RefusesIn P f back reply next room) ⊎ RefusesIn Q f back reply next room → Keeps
-  on_tree P Q cmd back other places (inl (inl x)) = done cmd back other places x
-  on_tree P Q cmd back other places (inl (inr x)) = refused P back places x
-  on_tree P Q cmd back other places (inr x) = refused Q back places x
+  on_tree P Q cmd back h1 h2 h3 = grind (arith, done, refused)
 
   over : (cmd : Cmd) (back : Room) → makes_point f cmd reply ≡ false → back.places ≡ r.places → AnswersOver g f back cmd reply next room → Keeps
   over cmds.Bad back none places (inl x) = rests (ap (λ (y : Session × Reply). y.0) (sym x.0)) (ap (λ (q : Room). q.places) x.1 ∙ places)
@@ -185,8 +148,7 @@ module _ (g : Geometry) (f : Session) (reply : Reply) (next : Session) (clean : 
   over (cmds.List path) back none places x = on_tree _ _ (cmds.List path) back refl places x
 
   began : (P : Refusal → Type 0) (cmd : Cmd) → makes_point f cmd reply ≡ false → RefusesIn P f r reply next room ⊎ BeginsOver g f r cmd reply next room → Keeps
-  began P cmd none (inl x) = refused P r refl x
-  began P cmd none (inr b) = over cmd b.back none b.comes_back.keeps.places b.answers
+  began P cmd h1 h2 = grind (arith, refused, over)
 
   keeps : (cmd : Cmd) → makes_point f cmd reply ≡ false → AnswersOn g f r cmd reply next room → Keeps
   keeps cmds.Bad none x = rests (ap (λ (y : Session × Reply). y.0) (sym x.0)) (ap (λ (q : Room). q.places) x.1)
@@ -279,11 +241,8 @@ placed_in g laws base f made cmd reply old new p geom session room given before 
 
 -- how many spans there are with one more, where a command made a point
 pub one_more : {A : Type 0} (xs : List A) (x : A) (c : Bool) → length (xs ++ (if c then x ∷ [] else [])) ≡ length xs + (if c then 1 else 0)
-one_more xs x true = length-append xs (x ∷ [])
-one_more xs x false = length-append xs []
+one_more xs x c = grind (arith, length-append)
 
 -- As the mount ends, point 0 has the map.
 pub placed_first : (g : Geometry) → IsGeometry g → (f : Session) (s : State) → s.books.geom ≡ g → s.books.point ≡ 0 → HasMapOfPoint s 0 → KeepsPlaces g f s
-placed_first g limits f s geom first only going clean m is k =
-    places_same g limits s.map m (subst (λ (x : Geometry). HasLiveBlocks x s.map m) geom (only m (subst (λ (n : ℕ). s.crash.is_point n m) first is))) k
-    ∙ ap (λ (x : Geometry). places_of x s.map k) (sym geom)
+placed_first g limits f s geom first only going clean m is k = grind (arith, places_same, s.map, s.crash.is_point)

@@ -15,7 +15,7 @@ use Rattle.crash_argument.specs.Points.{MountedSession, commits_told}
 use Rattle.lang_tree.specs.declared.command.Cmd.{Cmd}
 use Rattle.lang_tree.specs.declared.command.Cmd.TheVariants as cmds
 use Rattle.lang_tree.specs.declared.command.Refusal.{Refusal}
-use Rattle.lang_tree.specs.declared.command.Refusal.TheVariants.{DiskFault, Spent}
+use Rattle.lang_tree.specs.declared.command.Refusal.TheVariants.{Spent}
 use Rattle.lang_tree.specs.declared.command.Reply.{Reply}
 use Rattle.lang_tree.specs.declared.command.Reply.TheVariants.{Refused}
 use Rattle.lang_tree.specs.Points.{after_reply, is_sync}
@@ -49,14 +49,10 @@ module _ (g : Geometry) (f : Session) (reply : Reply) (next : Session) where
   refused P r cmd room x = inr (inl (x.0, refl, x.2, x.3))
 
   synced : (r : Room) (cmd : Cmd) (room : Room) → SyncsOver f r cmd reply next room → Said cmd
-  synced r cmd room (inl done) = inl done.0
-  synced r cmd room (inr (inl out)) = refused _ r cmd room out
-  synced r cmd room (inr (inr fault)) = inr (inl (DiskFault, refl, fault.0, fault.1))
+  synced r cmd room h1 = grind (arith, refused)
 
   on_tree : (P Q : Refusal → Type 0) (r : Room) (cmd : Cmd) (room : Room) → (IsDoneIn g f r cmd reply next room ⊎ RefusesIn P f r reply next room) ⊎ RefusesIn Q f r reply next room → Said cmd
-  on_tree P Q r cmd room (inl (inl done)) = inl done.answer
-  on_tree P Q r cmd room (inl (inr why)) = refused P r cmd room why
-  on_tree P Q r cmd room (inr why) = refused Q r cmd room why
+  on_tree P Q r cmd room h1 = grind (arith, refused)
 
   over : (r : Room) (cmd : Cmd) (room : Room) → AnswersOver g f r cmd reply next room → Said cmd
   over r cmds.Bad room (inl x) = inl x.0
@@ -122,12 +118,7 @@ module _ {S : Type 0} (state : S → State) (f : Session) (cmd : Cmd) (reply : R
   same_weight = ap (λ (r : Running). r.weight) served.running
 
   says_behind : SaysNoMore (moment_of mid) (moment_over (state old) mid.crash.log (commit_places (state old).books ≤ mid.books.free_places))
-  says_behind = record {
-    alone = ap (λ (m : Manner). m.waits_alone) (sym served.manner);
-    sure = λ p. let same = served.begins.sure mid.crash.log p in (same.1, same.0);
-    rests = λ b. let same = rests_alike mid.crash.base (state old).crash.base mid.crash.log b in (λ none. same ∙ none, λ none. sym same ∙ none);
-    fits = λ fits. omega (arith, fits, same_places);
-  }
+  says_behind = grind (arith, served.manner, served.begins.sure, rests_alike, same_places)
 
   -- what the log told of records before, it tells behind the tick and at the end
   told_behind : (before : List Commit) → (state old).crash.records.told mid.crash.log ≡ Some before → mid.crash.records.told mid.crash.log ≡ Some before
@@ -144,8 +135,7 @@ module _ {S : Type 0} (state : S → State) (f : Session) (cmd : Cmd) (reply : R
   }
 
   at_once : FitsAmong (state old) mid.books.free_places → OrdersAtOnce mid.books
-  at_once (inl fits) = inl (omega (arith, fits, same_places))
-  at_once (inr none) = inr (same_weight ∙ none)
+  at_once h1 = grind (arith, same_places, same_weight)
 
   syncs_in : SyncsBehind cmd reply mid (state new) → SyncsIn cmd reply (state old) mid.crash.log mid.books.free_places (state new)
   syncs_in s = record {
@@ -176,12 +166,7 @@ module _ {S : Type 0} (state : S → State) (f : Session) (cmd : Cmd) (reply : R
       heard t (inr (inr late)) = inr (inr late)
 
   says_end : SaysNoMore (moment_of (state new)) (moment_over (state old) (state new).crash.log ⊥)
-  says_end = record {
-    alone = ap (λ (m : Manner). m.waits_alone) (sym manner);
-    sure = λ p. let one = served.begins.sure (state new).crash.log p in let two = served.goes_on.sure (state new).crash.log p in (λ is. two.1 (one.1 is), λ is. one.0 (two.0 is));
-    rests = λ b. let same = rests_alike (state new).crash.base (state old).crash.base (state new).crash.log b in (λ none. same ∙ none, λ none. sym same ∙ none);
-    fits = λ none. absurd none;
-  }
+  says_end = grind (arith, served.begins.sure, served.goes_on.sure, rests_alike)
 
   pub answered_in : AnsweredIn f cmd reply next (state old) (state new)
   answered_in = record {
@@ -203,12 +188,7 @@ module _ {S : Type 0} (state : S → State) (f : Session) (cmd : Cmd) (reply : R
 module _ (g : Geometry) (follow : (outside : Refusal → Bool) (was now : Session) (cmd : Cmd) (reply : Reply) → Answers outside was cmd reply now → now ≡ after_reply was cmd reply) (m : Manner) (ses : MountedSession) (of : ses.geom ≡ g) (base : Blocks) (t : Taken) (old : State) (is : old.counts.ticks.manner ≡ m)
     (sure : (front : List Event) (p : ℕ) → old.crash.sure front p ↔ ∥ IsSure ses base front p ∥₁) where
   says_by : (front : List Event) (fits found : Type 0) → (found → fits) → SaysNoMore (moment_over old front fits) (moment_by ses base m front found)
-  says_by front fits found more = record {
-    alone = ap (λ (x : Manner). x.waits_alone) (sym is);
-    sure = λ p. let same = sure front p in (same.1, same.0);
-    rests = λ b. let same = rests_alike old.crash.base base front b in (λ none. same ∙ none, λ none. sym same ∙ none);
-    fits = more;
-  }
+  says_by front fits found more = grind (arith, rests_alike, old.crash.base)
 
   pub answered_by : (cmd : Cmd) (reply : Reply) (new : State) (f next : Session) (a : AnsweredIn f cmd reply next old new) (own : List Commit) (late : Span) → Grows old.crash.log new.crash.log → old.books.geom ≡ g → t.session ≡ f → (DoneInRing ses base m new.crash.log cmd reply (pace_of t old) (length a.behind) (length new.crash.log) → commit_places old.books ≤ a.free)
       → (room : AnswersBy ses base m new.crash.log cmd reply (pace_of t old) (pace_of (taken_by g t cmd reply own late) new)) × (room.behind ≡ length a.behind)
@@ -235,8 +215,7 @@ module _ (g : Geometry) (follow : (outside : Refusal → Bool) (was now : Sessio
           (subst (λ (es : List Event). AnswersAt g (moment_by ses base m a.behind (DoneInRing ses base m new.crash.log cmd reply (pace_of t old) (length a.behind) (length new.crash.log))) (moment_by ses base m es ⊥) f (room_on old) cmd reply next (room_on new)) (sym (take-length new.crash.log)) logged)
 
       told : AnswersAt g (moment_by ses base m (take (length a.behind) new.crash.log) (DoneInRing ses base m new.crash.log cmd reply (pace_of t old) (length a.behind) (length new.crash.log))) (moment_by ses base m (take (length new.crash.log) new.crash.log) ⊥) t.session (room_on old) cmd reply (after_reply t.session cmd reply) (room_on new)
-      told = subst (λ (s : Session). AnswersAt g (moment_by ses base m (take (length a.behind) new.crash.log) (DoneInRing ses base m new.crash.log cmd reply (pace_of t old) (length a.behind) (length new.crash.log))) (moment_by ses base m (take (length new.crash.log) new.crash.log) ⊥) s (room_on old) cmd reply (after_reply s cmd reply) (room_on new)) (sym session)
-          (subst (λ (s : Session). AnswersAt g (moment_by ses base m (take (length a.behind) new.crash.log) (DoneInRing ses base m new.crash.log cmd reply (pace_of t old) (length a.behind) (length new.crash.log))) (moment_by ses base m (take (length new.crash.log) new.crash.log) ⊥) f (room_on old) cmd reply s (room_on new)) follows cut)
+      told = grind (arith, a.behind, new.crash.log, follows, cut)
 
       room : AnswersBy ses base m new.crash.log cmd reply (pace_of t old) (pace_of (taken_by g t cmd reply own late) new)
       room = record {

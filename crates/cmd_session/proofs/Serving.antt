@@ -1,5 +1,5 @@
 -- One command more: the run goes on, and so does what is known of its points.
-use Rattle.std.proofs.Common.{◌≡◌, ◌≢◌, ◌⊎◌, inl, ⊎_elim, ℕ, ◌+◌, ◌<◌, ◌≤◌, Bool, true, false, IsTrue, if◌then◌else◌, List, [], ◌∷◌, ◌++◌, length, take, slice_get, Some, ◌&&◌, Err, refl, sym, ◌∙◌, ap, subst, arith}
+use Rattle.std.proofs.Common.{◌≡◌, ◌≢◌, ◌⊎◌, inl, ⊎_elim, ℕ, ◌+◌, ◌<◌, ◌≤◌, Bool, true, false, IsTrue, if◌then◌else◌, List, [], ◌∷◌, ◌++◌, length, take, slice_get, Some, ◌&&◌, Err, sym, ◌∙◌, ap, subst, arith}
 use Rattle.std.proofs.Math.Logic.{∥∥₁_map}
 use Rattle.std.proofs.lemmas.Bool.{cases_lt, cases_eq, cases_Bool, eq-eqb, ne_eqb, lt-ltb, le-ltb, true≢false, false≢true}
 use Rattle.std.proofs.lemmas.List.{length-append}
@@ -10,7 +10,7 @@ use Rattle.disk_contract.specs.Crash.{IsHonest}
 use Rattle.layout_geometry.specs.Geometry.{Geometry}
 use Rattle.crash_stands.specs.Stands.{IsTreeOf}
 use Rattle.lang_tree.specs.declared.command.Cmd.{Cmd}
-use Rattle.lang_tree.specs.declared.command.Cmd.TheVariants.{Mkdir, Create, Write, Fill, Read, Truncate, Link, Unlink, Rmdir, Rename, Stat, List as ListNames, Osync, Dsync, Durable, Poll, Bad}
+use Rattle.lang_tree.specs.declared.command.Cmd.TheVariants.{Bad}
 use Rattle.lang_tree.specs.declared.command.Refusal.{Refusal}
 use Rattle.lang_tree.specs.declared.command.Refusal.TheVariants as because
 use Rattle.lang_tree.specs.declared.command.Reply.{Reply}
@@ -67,39 +67,17 @@ stands_for s trees low high img view left =
 
 -- A sync leaves the tree.
 osync_tree : (f : Session) (b : Bool) → (osync f b).0.tree ≡ f.tree
-osync_tree f true = refl
-osync_tree f false = refl
+osync_tree f b = grind arith
 
 sync_tree : (f : Session) (cmd : Cmd) → is_sync cmd ≡ true → (step f cmd).0.tree ≡ f.tree
-sync_tree f Osync is = osync_tree f f.changed
-sync_tree f Dsync is = osync_tree f f.changed
-sync_tree f (Mkdir path) is = absurd (false≢true is)
-sync_tree f (Create path) is = absurd (false≢true is)
-sync_tree f (Write path offset bytes) is = absurd (false≢true is)
-sync_tree f (Fill path offset count byte) is = absurd (false≢true is)
-sync_tree f (Read path offset count) is = absurd (false≢true is)
-sync_tree f (Truncate path size) is = absurd (false≢true is)
-sync_tree f (Link path other) is = absurd (false≢true is)
-sync_tree f (Unlink path) is = absurd (false≢true is)
-sync_tree f (Rmdir path) is = absurd (false≢true is)
-sync_tree f (Rename from to) is = absurd (false≢true is)
-sync_tree f (Stat path) is = absurd (false≢true is)
-sync_tree f (ListNames path) is = absurd (false≢true is)
-sync_tree f Durable is = absurd (false≢true is)
-sync_tree f Poll is = absurd (false≢true is)
-sync_tree f Bad is = absurd (false≢true is)
+sync_tree f cmd h1 = grind (arith, osync_tree, f.changed, false≢true)
 
 reply_tree : (f : Session) (cmd : Cmd) (reply : Reply) → is_sync cmd ≡ true → (after_reply f cmd reply).tree ≡ f.tree
-reply_tree f cmd reply is = by (is_refusal reply)
-  where
-    by : (c : Bool) → (if c then f else (step f cmd).0).tree ≡ f.tree
-    by true = refl
-    by false = sync_tree f cmd is
+reply_tree f cmd reply is = grind (arith, is_refusal reply, f.tree, sync_tree)
 
 -- what makes a point is a sync
 makes_sync : (c d : Bool) (p : Point) (ps : List Point) → (if c && d then p ∷ [] else []) ≡ p ∷ ps → c ≡ true
-makes_sync true d p ps e = refl
-makes_sync false d p ps e = absurd (none_some (length ps) (ap (λ (qs : List Point). length qs) e))
+makes_sync c d p ps h1 = grind (arith, none_some)
 
 module _ {S : Type 0} (tells : Bool) (state : S → State) (told : IsTrue tells) (laws : ServingLaws tells state) (g : Geometry) (t : Tree) (mounted : ℕ) (cmds : List Cmd) (replies : List Reply) (marks : List ℕ) (old new : S) (cmd : Cmd) (reply : Reply)
     (served : HasServed g t mounted cmds replies marks (state old)) (drawn : (s : S) → IsDrawn (state s)) (applies : Applies tells state cmd reply old new)
@@ -252,8 +230,7 @@ module _ {S : Type 0} (tells : Bool) (state : S → State) (told : IsTrue tells)
       issued_now (state new) g (points_of first mounted all_cmds all_replies all_marks) (trees (state new).books.point) geom (drawn new) (exact (calm none)) (numbered (state new).books.point (omega arith)) law.0 law.1
 
   issues : IssuesLast g.n base first log mounted all_cmds all_replies all_marks
-  issues = issues_more g.n base first before log mounted cmds replies marks cmd reply served.answered served.marked served.ascend time.advances.grows issued_last
-      (subst (λ (b : Blocks). IssuesLast g.n b first before mounted cmds replies marks) (sym time.advances.base) served.issued)
+  issues = grind (arith, issues_more, g.n, served.answered, served.marked, served.ascend, time.advances.grows, issued_last, time.advances.base, served.issued)
 
   pub serves_more : HasServed g t mounted all_cmds all_replies all_marks (state new)
   serves_more = record {

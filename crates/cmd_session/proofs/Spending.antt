@@ -30,8 +30,7 @@ use Rattle.cmd_session.proofs.Weights.{weighs, within_weight}
 -- The writes of one command.
 
 osync_begun : (f : Session) (b : Bool) → may_have_begun (osync f b).1 ≡ true
-osync_begun f true = refl
-osync_begun f false = refl
+osync_begun f b = grind arith
 
 and_true : (a b : Bool) → a ≡ true → b ≡ true → (a && b) ≡ true
 and_true a b one two = ap (λ c. c && b) one ∙ two
@@ -107,23 +106,11 @@ module _ {S : Type 0} (tells : Bool) (state : S → State) (told : IsTrue tells)
       began not on left = of_began (session_in (state old) stands) cmd reply old new on (is_session_in (state old) stands) (applies.began not on left)
 
       other : cmd ≢ Bad → WritesAtMost (writes_of cmd reply (state old).books) (state old) (state new)
-      other not = ⊎_elim (λ off. same_writes (writes_of cmd reply (state old).books) old new (applies.stopped not off).1)
-          (λ on. ⊎_elim (λ low. same_writes (writes_of cmd reply (state old).books) old new (applies.spent not on low).1) (began not on) (cases_Bool (is_spent (state old).books)))
-          (cases_Bool (state old).books.stopped)
+      other not = grind (arith, cases_Bool (is_spent (state old).books), cases_Bool (state old).books.stopped, same_writes, applies.stopped, applies.spent, began)
 
   -- a sync that may have begun did so while no call of the disk had failed
   commits_going : (cmd : Cmd) (reply : Reply) (old new : S) → Applies tells state cmd reply old new → commits cmd reply ≡ true → (state old).books.stopped ≡ false
-  commits_going cmd reply old new applies is = ⊎_elim (λ off. absurd (⊎_elim bad (stopped off) (is_bad cmd))) (λ on. on) (cases_Bool (state old).books.stopped)
-    where
-      bad : cmd ≡ Bad → ⊥
-      bad none = false≢true (sym (ap (λ (c : Cmd). commits c reply) none) ∙ is)
-
-      never : (c : Bool) → (c && false) ≡ true → ⊥
-      never true e = false≢true e
-      never false e = false≢true e
-
-      stopped : (state old).books.stopped ≡ true → cmd ≢ Bad → ⊥
-      stopped off not = never (is_sync cmd) (sym (ap (λ (r : Reply). commits cmd r) (applies.stopped not off).0) ∙ is)
+  commits_going cmd reply old new applies is = grind (arith, is_sync cmd, cases_Bool (state old).books.stopped, is_bad, false≢true, applies.stopped)
 
 -- once a call of the disk failed, it has
 stays_stopped : {S : Type 0} (tells : Bool) (state : S → State) (cmd : Cmd) (reply : Reply) (old new : S) → Applies tells state cmd reply old new → (state old).books.stopped ≡ true → (state new).books.stopped ≡ true
@@ -146,8 +133,7 @@ budget_more bitmap s w (c ∷ cmds) [] cmd reply e = absurd (some_none (length c
 budget_more bitmap s w (c ∷ cmds) (r ∷ replies) cmd reply e = omega (arith, budget_more bitmap (after_reply s c r) (weight_by bitmap s w c r) cmds replies cmd reply (one_less (length cmds) (length replies) e))
 
 if_at_most : (c : Bool) (m n : ℕ) → (c ≡ true → m ≤ n) → (if c then m else 0) ≤ (if c then n else 0)
-if_at_most true m n le = le refl
-if_at_most false m n le = omega arith
+if_at_most c m n h1 = grind arith
 
 module _ {S : Type 0} (tells : Bool) (state : S → State) (told : IsTrue tells) (g : Geometry) (t : Tree) (mounted begun : ℕ) (cmds : List Cmd) (replies : List Reply) (marks : List ℕ) (old new : S) (cmd : Cmd) (reply : Reply)
     (served : HasServed g t mounted cmds replies marks (state old)) (keeps : KeepsBudget g t begun cmds replies (state old)) (applies : Applies tells state cmd reply old new)
@@ -165,16 +151,4 @@ module _ {S : Type 0} (tells : Bool) (state : S → State) (told : IsTrue tells)
   within is = omega (arith, within_weight (state old).books may, ap sync_budget (keeps.weight (commits_going tells state told cmd reply old new applies is)))
 
   pub keeps_more : KeepsBudget g t begun (cmds ++ cmd ∷ []) (replies ++ reply ∷ []) (state new)
-  keeps_more = record {
-    weight = λ on.
-        weighs tells state told g (session_after first cmds replies) cmd reply old new served.geom served.goes_on.session applies on
-        ∙ ap (λ (w : ℕ). weight_by (bitmap_blocks g) (session_after first cmds replies) w cmd reply) (keeps.weight (awake on))
-        ∙ sym (weight_more (bitmap_blocks g) first 0 cmds replies cmd reply served.answered);
-    writes = omega (
-      arith,
-      writes_more tells state told cmd reply old new stands applies,
-      keeps.writes,
-      budget_more (bitmap_blocks g) first 0 cmds replies cmd reply served.answered,
-      if_at_most (commits cmd reply) (commit_writes (state old).books) (sync_budget weight) within,
-    );
-  }
+  keeps_more = grind (arith, weighs, served.geom, served.goes_on.session, keeps.weight, awake, weight_more, served.answered, writes_more, keeps.writes, budget_more, if_at_most, within)

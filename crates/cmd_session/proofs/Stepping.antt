@@ -168,9 +168,7 @@ module _ {S : Type 0} (tells : Bool) (state : S → State) (told : IsTrue tells)
   up = subst (λ (n : ℕ). Ascend n marks (length s.crash.log)) (sym h.begins) x.before.ascend
 
   paces : PacesBy mount base m u.crash.log first (cmds ++ cmd ∷ []) (replies ++ reply ∷ []) (marks ++ length u.crash.log ∷ []) end
-  paces = subst (λ (es : List Event). PacesBy mount base m es first (cmds ++ cmd ∷ []) (replies ++ reply ∷ []) (marks ++ length u.crash.log ∷ []) end) (sym grows.log)
-      (paces_longer mount base m s.crash.log grows.more h.of_mount.late cmd reply (length u.crash.log) (pace_of h.taken s) end first cmds replies marks up h.paces refl
-      (subst (λ (es : List Event). StepsBy mount base m es cmd reply (pace_of h.taken s) end) grows.log step))
+  paces = grind (arith, paces_longer, h.of_mount.late, h.taken, up, h.paces, step)
 
   pub goes_more : GoesByLog mount base m first tree (cmds ++ cmd ∷ []) (replies ++ reply ∷ []) (marks ++ length u.crash.log ∷ []) u
   goes_more = record {

@@ -1,5 +1,5 @@
 -- What a run has taken of its disk after one command more, and what that command waited for.
-use Rattle.std.proofs.Common.{◌≡◌, ◌≢◌, ◌⊎◌, inl, inr, ⊎_elim, ℕ, zero, suc, ◌+◌, ◌-◌, ◌<◌, ◌≤◌, ◌==◌, ◌||◌, ◌&&◌, not, nat_le, nat_lt, if◌then◌else◌, Bool, true, false, List, [], ◌∷◌, ◌++◌, length, take, drop, Option, Some, None, is_some, refl, sym, ap, ap₂, ◌∙◌, subst, append_assoc, append-nil, arith}
+use Rattle.std.proofs.Common.{◌≡◌, ◌≢◌, ◌⊎◌, inl, inr, ⊎_elim, ℕ, zero, suc, ◌+◌, ◌-◌, ◌<◌, ◌≤◌, ◌==◌, ◌||◌, ◌&&◌, not, nat_le, nat_lt, if◌then◌else◌, Bool, true, false, List, [], ◌∷◌, ◌++◌, length, take, drop, Option, Some, refl, sym, ap, ap₂, ◌∙◌, subst, append_assoc, append-nil, arith}
 use Rattle.std.proofs.Props.{props}
 use Rattle.std.proofs.Math.Logic.{∥∥₁_elim, ∥∥₁_map, ∥∥₁_prop}
 use Rattle.std.proofs.Math.Seq.{take-append_seam, take-length, drop-append_seam, drop-length}
@@ -56,20 +56,14 @@ use Rattle.cmd_session.proofs.Rooms.{sync_is_meant}
 
 pub accepted_on : (t : ℕ) (xs ys : List Event) → is_accepted t xs ≡ true → is_accepted t (xs ++ ys) ≡ true
 accepted_on t [] ys is = absurd (false≢true is)
-accepted_on t (Wrote ticket block bytes ∷ xs) ys is =
-    ⊎_elim (λ here. or_left (ticket == t) (is_accepted t (xs ++ ys)) here)
-    (λ not. or_right (ticket == t) (is_accepted t (xs ++ ys)) (accepted_on t xs ys (sym (ap (λ (b : Bool). b || is_accepted t xs) not) ∙ is)))
-    (cases_Bool (ticket == t))
+accepted_on t (Wrote ticket block bytes ∷ xs) ys is = grind (arith, accepted_on t xs ys, cases_Bool (ticket == t), or_left, or_right)
 accepted_on t (Lost block bytes ∷ xs) ys is = accepted_on t xs ys is
 accepted_on t (Noticed ticket ∷ xs) ys is = accepted_on t xs ys is
 
 accepted_front : (t n : ℕ) (xs ys : List Event) → is_accepted t (take n xs) ≡ true → is_accepted t (take n (xs ++ ys)) ≡ true
 accepted_front t zero xs ys is = absurd (false≢true is)
 accepted_front t (suc n) [] ys is = absurd (false≢true is)
-accepted_front t (suc n) (Wrote ticket block bytes ∷ xs) ys is =
-    ⊎_elim (λ here. or_left (ticket == t) (is_accepted t (take n (xs ++ ys))) here)
-    (λ not. or_right (ticket == t) (is_accepted t (take n (xs ++ ys))) (accepted_front t n xs ys (sym (ap (λ (b : Bool). b || is_accepted t (take n xs)) not) ∙ is)))
-    (cases_Bool (ticket == t))
+accepted_front t (suc n) (Wrote ticket block bytes ∷ xs) ys is = grind (arith, accepted_front t n xs ys, cases_Bool (ticket == t), or_left, or_right)
 accepted_front t (suc n) (Lost block bytes ∷ xs) ys is = accepted_front t n xs ys is
 accepted_front t (suc n) (Noticed ticket ∷ xs) ys is = accepted_front t n xs ys is
 
@@ -78,29 +72,17 @@ noticed_given : (t : ℕ) (before es : List Event) → AreLawfulAfter before es 
 noticed_given t before [] lawful is = absurd (false≢true is)
 noticed_given t before (Wrote ticket block bytes ∷ es) lawful is = ap (is_accepted t) (sym (append_assoc before (Wrote ticket block bytes ∷ []) es)) ∙ noticed_given t (before ++ Wrote ticket block bytes ∷ []) es lawful.1 is
 noticed_given t before (Lost block bytes ∷ es) lawful is = ap (is_accepted t) (sym (append_assoc before (Lost block bytes ∷ []) es)) ∙ noticed_given t (before ++ Lost block bytes ∷ []) es lawful.1 is
-noticed_given t before (Noticed ticket ∷ es) lawful is =
-    ⊎_elim (λ here. accepted_on t before (Noticed ticket ∷ es) (subst (λ (n : ℕ). is_accepted n before ≡ true) (eqb-true ticket t here) lawful.0.0))
-    (λ not. ap (is_accepted t) (sym (append_assoc before (Noticed ticket ∷ []) es)) ∙ noticed_given t (before ++ Noticed ticket ∷ []) es lawful.1 (sym (ap (λ (b : Bool). b || is_noticed t es) not) ∙ is))
-    (cases_Bool (ticket == t))
+noticed_given t before (Noticed ticket ∷ es) lawful is = grind (arith, noticed_given t (before ++ Noticed ticket ∷ []) es lawful.1, cases_Bool (ticket == t), accepted_on, eqb-true, append_assoc)
 
 -- A write that came in a span came in it still when the log is longer.
 came_longer : (log more : List Event) (span : Span) (t : ℕ) → span.begun ≤ length log → CameIn log span t → CameIn (log ++ more) span t
-came_longer log more span t low came = record {
-  not_before = ap (is_accepted t) (take-append-le span.begun log more low) ∙ came.not_before;
-  by_then = accepted_front t span.mark log more came.by_then;
-}
+came_longer log more span t low came = grind (arith, take-append-le, span.begun, came.not_before, accepted_front, span.mark, came.by_then)
 
 -- Spans, and one more.
 
 at_front : {A : Type 0} (xs ys : List A) (x : A) (i : ℕ) → slice_get xs i ≡ Some x → slice_get (xs ++ ys) i ≡ Some x
-at_front [] ys x zero is = none_some is
-  where
-    none_some : {A : Type 0} {x : A} {y : Option A} → None ≡ Some x → y ≡ Some x
-    none_some e = absurd (false≢true (ap is_some e))
-at_front [] ys x (suc i) is = none_some is
-  where
-    none_some : {A : Type 0} {x : A} {y : Option A} → None ≡ Some x → y ≡ Some x
-    none_some e = absurd (false≢true (ap is_some e))
+at_front [] ys x zero is = grind (arith, false≢true)
+at_front [] ys x (suc i) is = grind (arith, false≢true)
 at_front (y ∷ xs) ys x zero is = is
 at_front (y ∷ xs) ys x (suc i) is = at_front xs ys x i is
 
@@ -129,8 +111,7 @@ abbrev one_if : Bool → ℕ
 one_if b = if b then 1 else 0
 
 length_if : {A : Type 0} (b : Bool) (x : A) → length (if b then x ∷ [] else []) ≡ one_if b
-length_if true x = refl
-length_if false x = refl
+length_if b x = grind arith
 
 made_one : (s : Session) (cmd : Cmd) (reply : Reply) (mark : ℕ) → length (made_by s cmd reply mark) ≡ one_if (makes_point s cmd reply)
 made_one s cmd reply mark = length_if (makes_point s cmd reply) (record { tree = s.tree; begun = mark })
@@ -142,13 +123,7 @@ points_more s begun [] [] (k ∷ marks) cmd reply mark same marked = absurd (ome
 points_more s begun [] (r ∷ replies) marks cmd reply mark same marked = absurd (omega (arith, same))
 points_more s begun (c ∷ cmds) [] marks cmd reply mark same marked = absurd (omega (arith, same))
 points_more s begun (c ∷ cmds) (r ∷ replies) [] cmd reply mark same marked = absurd (omega (arith, marked))
-points_more s begun (c ∷ cmds) (r ∷ replies) (k ∷ marks) cmd reply mark same marked =
-    omega (
-      arith,
-      length-append (made_by s c r begun) (points_after (after_reply s c r) k (cmds ++ cmd ∷ []) (replies ++ reply ∷ []) (marks ++ mark ∷ [])),
-      length-append (made_by s c r begun) (points_after (after_reply s c r) k cmds replies marks),
-      points_more (after_reply s c r) k cmds replies marks cmd reply mark (omega (arith, same)) (omega (arith, marked)),
-    )
+points_more s begun (c ∷ cmds) (r ∷ replies) (k ∷ marks) cmd reply mark same marked = grind (arith, points_more (after_reply s c r) k cmds replies marks cmd reply mark, length-append)
 
 -- What the log tells of records.
 
@@ -219,73 +194,35 @@ one_place c = omega (arith, ap (λ (b : Bool). if b then places_told c else 0) (
 
 -- A transaction that weighs something changed something.
 weighs_some : (n : ℕ) → nat_lt 0 n ≡ true → 0 < n
-weighs_some zero is = absurd (false≢true is)
-weighs_some (suc n) is = omega arith
+weighs_some n h1 = grind (arith, false≢true)
 
 some_weighs : (n : ℕ) → 0 < n → nat_lt 0 n ≡ true
 some_weighs n some = grind (arith, nat_tests, some)
 
 zero_or_some : (n : ℕ) → (n ≡ 0) ⊎ (0 < n)
-zero_or_some zero = inl refl
-zero_or_some (suc n) = inr (omega arith)
+zero_or_some n = grind arith
 
 both : (a b : Bool) → a ≡ true → b ≡ true → (a && b) ≡ true
-both true b is other = other
-both false b is other = is
+both a b h1 h2 = grind arith
 
 parts_of : (a b : Bool) → (a && b) ≡ true → (a ≡ true) × (b ≡ true)
-parts_of true b is = (refl, is)
-parts_of false b is = absurd (false≢true is)
+parts_of a b h1 = grind (arith, false≢true)
 
 not_is : (a : Bool) → not a ≡ true → a ≡ false
-not_is true is = absurd (false≢true is)
-not_is false is = refl
+not_is a h1 = grind (arith, false≢true)
 
 is_not : (a : Bool) → a ≡ false → not a ≡ true
-is_not true is = absurd (false≢true (sym is))
-is_not false is = refl
+is_not a h1 = grind (arith, false≢true)
 
 -- a sync that may have written and that no fault ended is done
 why_not : (why : Refusal) → may_have_written (Refused why) ≡ true → is_fault (Refused why) ≡ false → ⊥
-why_not because.NotFound may calm = false≢true may
-why_not because.Exists may calm = false≢true may
-why_not because.NotDir may calm = false≢true may
-why_not because.IsDir may calm = false≢true may
-why_not because.NotEmpty may calm = false≢true may
-why_not because.BelowItself may calm = false≢true may
-why_not because.TooLarge may calm = false≢true may
-why_not because.TooManyLinks may calm = false≢true may
-why_not because.NoNode may calm = false≢true may
-why_not (because.Full need left) may calm = false≢true may
-why_not (because.TooBig weight cost room) may calm = false≢true may
-why_not (because.Scattered runs) may calm = false≢true may
-why_not because.ReadFault may calm = false≢true may
-why_not because.DiskFault may calm = true≢false calm
-why_not because.Stopped may calm = false≢true may
-why_not because.Spent may calm = false≢true may
-why_not because.NoMemory may calm = false≢true may
+why_not why h1 h2 = grind (arith, false≢true)
 
 not_refused : (reply : Reply) → may_have_written reply ≡ true → is_fault reply ≡ false → is_refusal reply ≡ false
-not_refused replied.Ok may calm = refl
-not_refused (replied.Bytes bytes) may calm = refl
-not_refused (replied.Stat stat) may calm = refl
-not_refused (replied.Names names) may calm = refl
-not_refused (replied.Synced n) may calm = refl
-not_refused (replied.DurableAt n) may calm = refl
-not_refused (replied.Known n) may calm = refl
-not_refused replied.Bad may calm = refl
-not_refused (replied.Refused why) may calm = absurd (why_not why may calm)
+not_refused reply h1 h2 = grind (arith, why_not)
 
 done_writes : (reply : Reply) → is_refusal reply ≡ false → may_have_written reply ≡ true
-done_writes replied.Ok well = refl
-done_writes (replied.Bytes bytes) well = refl
-done_writes (replied.Stat stat) well = refl
-done_writes (replied.Names names) well = refl
-done_writes (replied.Synced n) well = refl
-done_writes (replied.DurableAt n) well = refl
-done_writes (replied.Known n) well = refl
-done_writes replied.Bad well = refl
-done_writes (replied.Refused why) well = absurd (true≢false well)
+done_writes reply h1 = grind arith
 
 some_is : (cs ds : List Commit) → Some cs ≡ Some ds → cs ≡ ds
 some_is cs ds e = search
@@ -340,9 +277,7 @@ module _ (cmd : Cmd) (reply : Reply) (old new : State) (w : WaitsOn cmd reply ol
   own = own_records ses new.crash.log (length a.behind) (length new.crash.log)
 
   own_is : own ≡ commits_told g ses.epoch a.goes_on.more
-  own_is =
-      ap (λ (es : List Event). commits_told g ses.epoch (drop (length behind) es)) (take-length new.crash.log ∙ a.goes_on.log)
-      ∙ ap (commits_told g ses.epoch) (drop-append_seam behind a.goes_on.more)
+  own_is = grind (arith, ses.epoch, take-length, new.crash.log, a.goes_on.log, drop-append_seam, a.goes_on.more)
 
   told_now : records_told ses new.crash.log ≡ records_told ses behind ++ own
   told_now = ap (records_told ses) a.goes_on.log ∙ records_on ses behind a.goes_on.more (omega (arith, within, behind_low)) ∙ ap (λ (cs : List Commit). records_told ses behind ++ cs) (sym own_is)
@@ -466,16 +401,13 @@ module _ (cmd : Cmd) (reply : Reply) (old new : State) (w : WaitsOn cmd reply ol
           fits_by x finds (inr all) = absurd (true≢false (sym (ap is_refusal all.1) ∙ well))
 
       by_weight : is_sync cmd ≡ true → is_refusal reply ≡ false → old.books.stopped ≡ false → (t.weight ≡ 0) ⊎ (0 < t.weight) → (begun : ℕ) × Own begun
-      by_weight sync well going (inl zero_is) = none (λ done still more. omega (arith, zero_is, more))
-      by_weight sync well going (inr more) = some sync well going more
+      by_weight h1 h2 h3 h4 = grind (arith, none, some)
 
       by_going : is_sync cmd ≡ true → is_refusal reply ≡ false → (old.books.stopped ≡ true) ⊎ (old.books.stopped ≡ false) → (begun : ℕ) × Own begun
-      by_going sync well (inl stopped) = none (λ done still more. true≢false (sym stopped ∙ still))
-      by_going sync well (inr going) = by_weight sync well going (zero_or_some t.weight)
+      by_going h1 h2 h3 = grind (arith, zero_or_some t.weight, none, by_weight, zero_or_some, t.weight)
 
       by_done : (is_done_sync cmd reply ≡ true) ⊎ (is_done_sync cmd reply ≡ false) → (begun : ℕ) × Own begun
-      by_done (inr not_done) = none (λ done still more. true≢false (sym done ∙ not_done))
-      by_done (inl done) = let both_of = parts_of (is_sync cmd) (not (is_refusal reply)) done in by_going both_of.0 (not_is (is_refusal reply) both_of.1) (cases_Bool old.books.stopped)
+      by_done h1 = grind (arith, cases_Bool old.books.stopped, none, parts_of, by_going, not_is, old.books.stopped)
 
   -- there is one point more where the command makes one
   points_on : new.books.stopped ≡ false → new.books.point ≡ old.books.point + one_if (makes_point t.session cmd reply)
@@ -590,11 +522,7 @@ module _ (cmd : Cmd) (reply : Reply) (old new : State) (w : WaitsOn cmd reply ol
     mount_same = ap (take ses.mounted) grows.log ∙ take-append-le ses.mounted old.crash.log grows.more within
 
     writes_now : (old.books.stopped ≡ true → new.crash.log ≡ old.crash.log) → writes_in new.crash.log + new.books.owed ≤ writes_in (take ses.mounted new.crash.log) + now_taken.budget
-    writes_now rests = by (cases_Bool old.books.stopped)
-      where
-        by : (old.books.stopped ≡ true) ⊎ (old.books.stopped ≡ false) → writes_in new.crash.log + new.books.owed ≤ writes_in (take ses.mounted new.crash.log) + now_taken.budget
-        by (inl stopped) = omega (arith, keeps.writes, ap writes_in (rests stopped), w.rests stopped, ap writes_in mount_same)
-        by (inr going) = omega (arith, keeps.writes, w.writes, stands going, ap writes_in mount_same)
+    writes_now rests = grind (arith, cases_Bool old.books.stopped, old.books.stopped, new.crash.log, new.books.owed, ses.mounted, keeps.writes, w.rests, mount_same, w.writes, stands)
 
     -- The records of the syncs that are done, with its own where it is one.
     records_now : m.waits_alone ≡ true → new.books.stopped ≡ false → (length now_taken.records ≡ new.books.point) × ((more : List Commit) × (records_told ses new.crash.log ≡ now_taken.records ++ more))
@@ -725,14 +653,7 @@ module _ (cmd : Cmd) (reply : Reply) (old new : State) (w : WaitsOn cmd reply ol
         by_ring (inr all) = inl (noticed_before ticket p.log behind ticked (subst (IsNoticed ticket) all.0 noticed))
 
   pub unwritten_on : is_sync cmd ≡ true → old.books.stopped ≡ false → reply ≡ Refused because.NoMemory → length new.crash.log ≡ length behind
-  unwritten_on sync going memory = ap (λ (es : List Event). length es) ((a.sync sync going unspent).unwritten memory)
-    where
-      is_spent_reply : Reply → Bool
-      is_spent_reply (Refused because.Spent) = true
-      is_spent_reply _ = false
-
-      unspent : reply ≢ Refused because.Spent
-      unspent spent = false≢true (ap is_spent_reply (sym memory ∙ spent))
+  unwritten_on sync going memory = grind (arith, a.sync, false≢true)
 
   -- a sync that is done finds free places where the log says so
   pub done_fits : DoneInRing ses base m new.crash.log cmd reply (pace_of t old) (length behind) (length new.crash.log) → commit_places old.books ≤ a.free
@@ -813,11 +734,4 @@ module _ (cmd : Cmd) (reply : Reply) (old new : State) (w : WaitsOn cmd reply ol
 
 -- Of a run of no commands nothing is taken.
 pub keeps_at_first : (ses : MountedSession) (m : Manner) (tree : Tree) (s : State) → ses.mounted ≡ length s.crash.log → s.books.owed ≡ 0 → s.books.point ≡ 0 → ((p ticket : ℕ) → s.crash.awaits p ticket → MayAwait s p ticket) → KeepsTaken ses m tree [] [] s (nothing_taken (session_at ses tree))
-keeps_at_first ses m tree s ended owed none may = record {
-  session = refl;
-  weight = refl;
-  writes = omega (arith, owed, ap (λ (n : ℕ). writes_in (take n s.crash.log)) ended, ap writes_in (take-length s.crash.log));
-  records = λ alone going. (sym none, ([], ap (λ (n : ℕ). commits_told ses.geom ses.epoch (drop n s.crash.log)) ended ∙ ap (commits_told ses.geom ses.epoch) (drop-length s.crash.log)));
-  spans = λ going. sym none;
-  awaits = λ going p ticket waits. absurd (omega (arith, (may p ticket waits).behind, (may p ticket waits).upto, none));
-}
+keeps_at_first ses m tree s ended owed none may = grind (arith, s.crash.log, take-length, ses.geom, ses.epoch, drop-length)

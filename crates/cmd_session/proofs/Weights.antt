@@ -1,8 +1,7 @@
 -- What one command adds to the weight of the running transaction, and that the writes of a record are within what its weight stands for.
-use Rattle.std.proofs.Common.{◌≡◌, ◌⊎◌, ◌≢◌, inl, inr, ⊎_elim, ℕ, ◌+◌, ◌≤◌, ◌==◌, Bool, true, false, IsTrue, if◌then◌else◌, length, replicate, Option, None, Some, Result, Ok, Err, refl, sym, ◌∙◌, ap, arith}
+use Rattle.std.proofs.Common.{◌≡◌, ◌⊎◌, ◌≢◌, inl, inr, ⊎_elim, ℕ, ◌+◌, ◌≤◌, ◌==◌, Bool, true, false, IsTrue, if◌then◌else◌, Option, Result, Ok, Err, refl, sym, ◌∙◌, ap, arith}
 use Rattle.std.proofs.lemmas.Bool.{cases_Bool, cases_eq, eq-eqb, ne_eqb, cond-true, cond-false, true≢false, false≢true}
 use Rattle.layout_geometry.specs.Geometry.{Geometry, bitmap_blocks}
-use Rattle.layout_journal.specs.Layout.{descriptor_count}
 use Rattle.lang_tree.specs.declared.command.Cmd.{Cmd}
 use Rattle.lang_tree.specs.declared.command.Cmd.TheVariants.{Mkdir, Create, Write, Fill, Read, Truncate, Link, Unlink, Rmdir, Rename, Stat, List as ListNames, Osync, Dsync, Durable, Poll, Bad}
 use Rattle.lang_tree.specs.declared.command.Refusal.{Refusal}
@@ -13,8 +12,7 @@ use Rattle.lang_tree.specs.Conditions.{refusal}
 use Rattle.lang_tree.specs.Figures.{figures, figures_by}
 use Rattle.lang_tree.specs.Points.{is_refusal, is_sync}
 use Rattle.lang_tree.specs.Step.{Session, step, answered, osync}
-use Rattle.lang_tree.specs.Walk.{content, is_same_node}
-use Rattle.engine_blocks.specs.Running.{Running, payloads, fresh_blocks, record_writes, nothing_running}
+use Rattle.engine_blocks.specs.Running.{Running, payloads, fresh_blocks, nothing_running}
 use Rattle.engine_blocks.specs.Calls.{MaySync, commit_places, commit_writes, if_changed}
 use Rattle.engine_blocks.specs.State.{Bookkeeping, State}
 use Rattle.fs_session.specs.Applying.{Ticks, Runs, Began, Applies, reply_for, is_spent}
@@ -31,36 +29,17 @@ abbrev done_in : Bool → Session → Session → Session × Reply
 done_in c s t = if c then (s, Done) else (t, Done)
 
 done_calm : (c : Bool) (s t : Session) → is_refusal (done_in c s t).1 ≡ true → ⊥
-done_calm true s t is = false≢true is
-done_calm false s t is = false≢true is
+done_calm c s t h1 = grind (arith, false≢true)
 
 free_by : (bitmap : ℕ) (f : Session) (cmd : Cmd) (o : Option Refusal) → is_refusal (answered f cmd o).1 ≡ true → (figures_by bitmap f.tree cmd o).cost ≡ 0
-free_by bitmap f cmd (Some why) is = refl
-free_by bitmap f (Mkdir path) None is = absurd (false≢true is)
-free_by bitmap f (Create path) None is = absurd (false≢true is)
-free_by bitmap f (Write path offset bytes) None is = absurd (done_calm (length bytes == 0) f _ is)
-free_by bitmap f (Fill path offset count byte) None is = absurd (done_calm (length (replicate count byte) == 0) f _ is)
-free_by bitmap f (Read path offset count) None is = refl
-free_by bitmap f (Truncate path size) None is = absurd (done_calm (size == length (content f.tree path)) f _ is)
-free_by bitmap f (Link path other) None is = absurd (false≢true is)
-free_by bitmap f (Unlink path) None is = absurd (false≢true is)
-free_by bitmap f (Rmdir path) None is = absurd (false≢true is)
-free_by bitmap f (Rename from to) None is = absurd (done_calm (is_same_node f.tree from to) f _ is)
-free_by bitmap f (Stat path) None is = refl
-free_by bitmap f (ListNames path) None is = refl
-free_by bitmap f Osync None is = refl
-free_by bitmap f Dsync None is = refl
-free_by bitmap f Durable None is = refl
-free_by bitmap f Poll None is = refl
-free_by bitmap f Bad None is = refl
+free_by bitmap f cmd o h1 = grind (arith, false≢true, done_calm, f.tree)
 
 refused_is_free : (bitmap : ℕ) (f : Session) (cmd : Cmd) → is_refusal (step f cmd).1 ≡ true → (figures bitmap f cmd).cost ≡ 0
 refused_is_free bitmap f cmd is = free_by bitmap f cmd (refusal f.limit f.tree cmd) is
 
 -- A sync's own reply is no refusal.
 osync_done : (f : Session) (b : Bool) → is_refusal (osync f b).1 ≡ false
-osync_done f true = refl
-osync_done f false = refl
+osync_done f b = grind arith
 
 -- The weight after one command.
 
@@ -76,18 +55,11 @@ module _ (bitmap : ℕ) (f : Session) (w : ℕ) (cmd : Cmd) where
 
   -- answered as the tree answers it
   weight_answered : (reply : Reply) → reply ≡ (step f cmd).1 → is_sync cmd ≡ false → weight_by bitmap f w cmd reply ≡ w + (figures bitmap f cmd).cost
-  weight_answered reply answer none = ⊎_elim
-      (λ refused. omega (arith, weight_refused reply refused, refused_is_free bitmap f cmd (sym (ap is_refusal answer) ∙ refused)))
-      (λ done. weight_done reply done none)
-      (cases_Bool (is_refusal reply))
+  weight_answered reply answer none = grind (arith, cases_Bool (is_refusal reply), weight_refused, refused_is_free, weight_done)
 
 -- the weight behind a sync that is done
 emptied : (r : Running) → (if_changed r nothing_running r).weight ≡ 0
-emptied r = by (cases_eq r.weight 0)
-  where
-    by : (r.weight ≡ 0) ⊎ (r.weight ≢ 0) → (if_changed r nothing_running r).weight ≡ 0
-    by (inl none) = ap (λ (x : Running). x.weight) (cond-true {A = Running} (r.weight == 0) r nothing_running (eq-eqb r.weight 0 none)) ∙ none
-    by (inr some) = ap (λ (x : Running). x.weight) (cond-false {A = Running} (r.weight == 0) r nothing_running (ne_eqb r.weight 0 some))
+emptied r = grind (arith, cases_eq r.weight 0, r.weight, cond-true, eq-eqb, cond-false, ne_eqb)
 
 module _ {S : Type 0} (tells : Bool) (state : S → State) (told : IsTrue tells) (g : Geometry) (f : Session) where
   -- what the weight comes to, where no call of the disk failed
@@ -148,15 +120,13 @@ module _ {S : Type 0} (tells : Bool) (state : S → State) (told : IsTrue tells)
   weighs cmd reply old new geom h applies going = ⊎_elim bad other (is_bad cmd)
     where
       bad : cmd ≡ Bad → (state new).books.running.weight ≡ weight_by (bitmap_blocks g) f (state old).books.running.weight cmd reply
-      bad is = of_nothing cmd reply old new (applies.bad is).1
-          (ap (λ (c : Cmd). weight_by (bitmap_blocks g) f (state old).books.running.weight c reply) is ∙ weight_done (bitmap_blocks g) f (state old).books.running.weight Bad reply (ap is_refusal (applies.bad is).0) refl ∙ omega arith) going
+      bad is = grind (arith, of_nothing, applies.bad, weight_done)
 
       stopped : cmd ≢ Bad → (state old).books.stopped ≡ true → (state new).books.running.weight ≡ weight_by (bitmap_blocks g) f (state old).books.running.weight cmd reply
       stopped not on = absurd (true≢false (sym on ∙ sym (ap (λ (s : S). (state s).books.stopped) (applies.stopped not on).1) ∙ going))
 
       spent : cmd ≢ Bad → (state old).books.stopped ≡ false → is_spent (state old).books ≡ true → (state new).books.running.weight ≡ weight_by (bitmap_blocks g) f (state old).books.running.weight cmd reply
-      spent not on low = of_nothing cmd reply old new (applies.spent not on low).1
-          (weight_refused (bitmap_blocks g) f (state old).books.running.weight cmd reply (ap is_refusal (applies.spent not on low).0)) going
+      spent not on low = grind (arith, of_nothing, applies.spent, weight_refused)
 
       other : cmd ≢ Bad → (state new).books.running.weight ≡ weight_by (bitmap_blocks g) f (state old).books.running.weight cmd reply
       other not = ⊎_elim (stopped not)
@@ -165,17 +135,7 @@ module _ {S : Type 0} (tells : Bool) (state : S → State) (told : IsTrue tells)
 
 -- What a commit stands for is within what its weight does.
 pub within_weight : (k : Bookkeeping) → MaySync k → commit_writes k ≤ sync_budget k.running.weight
-within_weight k may = by (cases_Bool (k.running.weight == 0))
-  where
-    writes : ℕ
-    writes = record_writes (payloads k.geom k.running) (fresh_blocks k.geom k.running)
-
-    budget : ℕ
-    budget = k.running.weight + descriptor_count k.running.weight + 3
-
-    by : ((k.running.weight == 0) ≡ true) ⊎ ((k.running.weight == 0) ≡ false) → commit_writes k ≤ sync_budget k.running.weight
-    by (inl none) = omega (arith, cond-true {A = ℕ} (k.running.weight == 0) 0 writes none)
-    by (inr some) = omega (arith, cond-false {A = ℕ} (k.running.weight == 0) 0 writes some, cond-false {A = ℕ} (k.running.weight == 0) 0 budget some, may.fits)
+within_weight k may = grind (arith, cases_Bool (k.running.weight == 0), payloads k.geom k.running, fresh_blocks k.geom k.running, k.running.weight == 0, k.running.weight, k.geom, k.running, cond-true, cond-false, may.fits)
 
 -- A record takes no more ring places than its weight does.
 pub places_within_weight : (k : Bookkeeping) → MaySync k → commit_places k ≤ sync_places k.running.weight

@@ -1,33 +1,26 @@
 //! Laws of runs, which program code cites. The functions do nothing; their clauses are the laws.
 
-ghost use Rattle.std.specs.Prelude.{◌≡◌, ◌≢◌, ◌<◌, ◌≤◌, ◌+◌, ◌++◌, ◌∷◌, [], ℕ, false, true, IsTrue, List, length, take};
+ghost use Rattle.std.specs.Prelude.{◌≡◌, ◌<◌, ◌≤◌, ◌+◌, ◌++◌, ◌∷◌, [], ℕ, false, true, IsTrue, List, length, take};
 ghost use Rattle.base_types.specs.Seal.{Blocks as BlockMap};
 ghost use Rattle.disk_contract.specs.declared.event.Event.{Event};
 ghost use Rattle.disk_contract.specs.Cell.{has_lost};
-ghost use Rattle.disk_contract.specs.Disk.{Grows, PollsThenWrites, writes_in};
+ghost use Rattle.disk_contract.specs.Disk.{Grows, writes_in};
 ghost use Rattle.disk_contract.specs.Manner.{Manner};
 ghost use Rattle.layout_geometry.specs.Geometry.{Geometry, bitmap_blocks};
 ghost use Rattle.lang_tree.specs.declared.command.Cmd.{Cmd};
-ghost use Rattle.lang_tree.specs.declared.command.Cmd.TheVariants.{Bad};
-ghost use Rattle.lang_tree.specs.declared.command.Refusal.TheVariants.{Spent};
 ghost use Rattle.lang_tree.specs.declared.command.Reply.{Reply};
-ghost use Rattle.lang_tree.specs.declared.command.Reply.TheVariants.{Refused};
-ghost use Rattle.lang_tree.specs.Points.{is_refusal, is_sync};
 ghost use Rattle.lang_tree.specs.Step.{Session, session_on};
 ghost use Rattle.lang_tree.specs.Tree.{Tree};
 ghost use Rattle.crash_stands.specs.Stands.{StandsFor};
-ghost use Rattle.layout_journal.specs.Run.{places_from};
-ghost use Rattle.engine_store.specs.SessionView.{Starts};
 ghost use Rattle.crash_argument.specs.Counts.{AreAtMost};
-ghost use Rattle.crash_argument.specs.Points.{MountedSession, records_told};
+ghost use Rattle.crash_argument.specs.Points.{MountedSession};
 ghost use Rattle.cmd_session.specs.Accepted.{AcceptsLast};
 ghost use Rattle.cmd_session.specs.Budget.{KeepsBudget, SpendsByMarks, budget_of};
 ghost use Rattle.cmd_session.specs.Crashes.{IsCrashConsistent};
 ghost use Rattle.cmd_session.specs.Ending.{HasRun, ending_marks, ending_replies};
 ghost use Rattle.cmd_session.specs.Going.{AnswersOnDisk, BeginsByLog, GoesByLog, pace_of, session_at};
 ghost use Rattle.cmd_session.specs.Issued.{IssuesLast};
-ghost use Rattle.cmd_session.specs.Pacing.{DoneInRing, Pace, PacesBy, StepsBy};
-ghost use Rattle.cmd_session.specs.Records.{own_records};
+ghost use Rattle.cmd_session.specs.Pacing.{Pace, PacesBy};
 ghost use Rattle.cmd_session.specs.Serving.{HasServed};
 ghost use Rattle.cmd_session.specs.Taking.{nothing_taken};
 
@@ -134,17 +127,3 @@ pub fn what_was_issued_was_accepted()
     a_read_gives_what_was_written_last();
     images_alike_below_n_stand_for_the_same();
 }
-
-/// Behind the notices of its tick come writes alone. And a sync that is done, of something that weighs in the room, finds
-/// its ring places where those of its own record fit beside the records from that one on with which the newest header at
-/// rest starts.
-pub fn a_step_tells_where_its_record_fits()
-    ensures ticks { (s : MountedSession) (base : BlockMap) (m : Manner) (log : List Event) (cmd : Cmd) (reply : Reply)
-        (old new : Pace) → (step : StepsBy s base m log cmd reply old new) → cmd ≢ Bad → old.over ≡ false → reply ≢ Refused Spent
-        → PollsThenWrites m 64 old.polls (take old.events log) new.polls (take step.room.behind log) }
-    ensures fits { (s : MountedSession) (base : BlockMap) (m : Manner) (log : List Event) (cmd : Cmd) (reply : Reply) (old new : Pace)
-        → (step : StepsBy s base m log cmd reply old new) → is_sync cmd ≡ true → is_refusal reply ≡ false → 0 < old.room.room.weight
-        → m.waits_alone ≡ true → (number : ℕ) → ∥ Starts s base (take step.room.behind log) number ∥₁
-        → places_from number (records_told s (take step.room.behind log)) + places_from 0 (own_records s log step.room.behind new.events) ≤ s.geom.j
-        → DoneInRing s base m log cmd reply old step.room.behind new.events }
-{}

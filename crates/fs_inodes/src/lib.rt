@@ -5,7 +5,6 @@
 #![tactic(auto)]
 
 mod bytes;
-mod changes;
 mod dir_bytes;
 mod figures;
 mod listing;
@@ -22,7 +21,6 @@ mod tree;
 mod walks;
 
 pub use bytes::{new_bytes_are_mapped, what_changes_nothing_keeps_the_map};
-pub use changes::{each_change_can_be_made, one_inode_is_set};
 pub use dir_bytes::{a_file_reads_as_itself, slots_follow_the_bytes};
 pub use figures::the_map_gives_the_figures;
 pub use listing::a_listing_goes_down;
@@ -33,8 +31,6 @@ pub use places::a_name_stands_at_its_place;
 pub use refusals::the_map_gives_the_refusal;
 pub use remove::a_lost_path_is_mapped;
 pub use rename::a_move_is_mapped;
-pub use scan::{
-    a_scan_begins, a_scan_ends, a_scan_goes_on, no_tree_stands_for_damage, the_rules_make_a_tree,
-};
+pub use scan::{no_tree_stands_for_damage, the_rules_make_a_tree};
 pub use short_run::short_runs_are_mapped;
-pub use walks::{links_are_slots, paths_lead_to_inodes, walks_are_the_same};
+pub use walks::{paths_lead_to_inodes, walks_are_the_same};

@@ -1,18 +1,16 @@
 //! Walks in the inode map, and what stands where they lead. The functions do nothing but
 //! call laws.
 
-ghost use Rattle.std.specs.Prelude.{◌≡◌, ◌≢◌, ◌==◌, ℕ, ◌++◌, List, [], ◌∷◌, Ok, Some, option_map};
+ghost use Rattle.std.specs.Prelude.{◌≡◌, ◌==◌, ℕ, ◌++◌, List, [], ◌∷◌, Ok, Some, option_map};
 ghost use Rattle.layout_bytes.specs.declared.slot.Slot.{Slot};
 ghost use Rattle.lang_tree.specs.Tree.{Tree};
-ghost use Rattle.lang_tree.specs.Names.{path_count};
 ghost use Rattle.lang_tree.specs.Walk.{walk, walk_from, parent_refusal, thing_at, content};
 ghost use Rattle.lang_tree.specs.Figures.{are_in_one};
-ghost use Rattle.crash_stands.specs.Inodes.{Inodes, ADir, AFile, thing_of};
+ghost use Rattle.crash_stands.specs.Inodes.{Inodes, ADir, thing_of};
 ghost use Rattle.crash_stands.specs.Walks.{node_in, LeadsTo};
 ghost use Rattle.crash_stands.specs.Maps.{IsMapOf};
 ghost use Rattle.fs_inodes.specs.Lookups.{bytes_of, walk_on, number_at, inode_at};
 ghost use Rattle.fs_inodes.specs.Refusals.{parent_reason};
-ghost use Rattle.fs_inodes.specs.Links.{slots_naming};
 
 use crate::tree::the_tree_is_lawful;
 
@@ -40,16 +38,6 @@ pub fn paths_lead_to_inodes()
     ensures in_one { (limit : ℕ) (m : Inodes) (t : Tree) (up to : List (List ℕ)) (name other : List ℕ) (dir into : ℕ) (slots : List Slot)
         → IsMapOf limit m t → LeadsTo m up dir → LeadsTo m to into → m dir ≡ Some (ADir slots)
         → are_in_one (up ++ name ∷ []) (to ++ other ∷ []) ≡ (dir == into) }
-{
-    the_tree_is_lawful();
-}
-
-/// The links of a file are the slots that name it, in all directories together; so are the paths of every
-/// node but the root.
-pub fn links_are_slots()
-    ensures paths { (limit : ℕ) (m : Inodes) (t : Tree) (node : ℕ) → IsMapOf limit m t → node ≢ 1 → path_count t.names node ≡ slots_naming limit m node }
-    ensures links { (limit : ℕ) (m : Inodes) (t : Tree) (node links : ℕ) (bytes : List ℕ) → IsMapOf limit m t → m node ≡ Some (AFile links bytes)
-        → links ≡ slots_naming limit m node }
 {
     the_tree_is_lawful();
 }

@@ -1,11 +1,10 @@
 -- An inode map and its tree, in the form in which each change is proved: the tree is sound, its paths go on as the map's entries do, and nodes and links are those of the map.
-use Rattle.std.proofs.Common.{◌≡◌, ℕ, true≢false, List, [], ◌∷◌, ◌++◌, Option, Some, None, option_map, option_and_then, sym, refl, ap, ◌∙◌, append_assoc, append-nil}
+use Rattle.std.proofs.Common.{◌≡◌, ℕ, true≢false, List, [], ◌∷◌, ◌++◌, Option, Some, None, option_map, option_and_then, sym, ap, ◌∙◌, append_assoc, append-nil, arith}
 use Rattle.std.specs.FinMap.{get}
 use Rattle.std.proofs.lemmas.Option.{none-some}
 use Rattle.layout_bytes.specs.declared.slot.Slot.{Slot}
 use Rattle.lang_tree.specs.Tree.{Tree, Thing, IsSound, Dir}
 use Rattle.lang_tree.specs.Names.{path_count}
-use Rattle.lang_tree.specs.Walk.{is_dir}
 use Rattle.crash_stands.specs.Inodes.{Inode, Inodes, ADir, AFile, AreDistinct, thing_of}
 use Rattle.crash_stands.specs.Walks.{Entries, entries_of, entry_in, walk}
 use Rattle.crash_stands.specs.Maps.{IsMapOf}
@@ -27,9 +26,7 @@ pub record Agrees (limit : ℕ) (m : Inodes) (t : Tree) : Type 0 where
 -- behind a path that isn't there, none is
 pub nowhere : (e : Entries) (names : Path → Option ℕ) → GoesOn e names → (here rest : Path) → names here ≡ None → names (here ++ rest) ≡ None
 nowhere e names goes here [] none = ap names (append-nil here) ∙ none
-nowhere e names goes here (x ∷ rest) none =
-    ap names (sym (append_assoc here (x ∷ []) rest))
-    ∙ nowhere e names goes (here ++ x ∷ []) rest (goes here x ∙ ap (option_and_then (λ k. e k x)) none)
+nowhere e names goes here (x ∷ rest) none = grind (arith, nowhere e names goes (here ++ x ∷ []) rest, append_assoc)
 
 -- behind a path that leads to k, paths lead where the walks from k do
 pub onward : (e : Entries) (names : Path → Option ℕ) → GoesOn e names → (here rest : Path) (k : ℕ) → names here ≡ Some k → names (here ++ rest) ≡ walk e k rest
@@ -43,20 +40,15 @@ onward e names goes here (x ∷ rest) k at = by (e k x) (goes here x ∙ ap (opt
 
 -- what has an entry is a directory
 pub dir_with : (o : Option Inode) (name : List ℕ) (n : ℕ) → entry_in o name ≡ Some n → (slots : List Slot) × (o ≡ Some (ADir slots))
-dir_with None name n e = absurd (none-some n e)
-dir_with (Some (ADir slots)) name n e = (slots, refl)
-dir_with (Some (AFile links bytes)) name n e = absurd (none-some n e)
+dir_with o name n h1 = grind (arith, none-some)
 
 -- a thing of the tree is an inode's
 pub inode_with : (o : Option Inode) (x : Thing) → option_map thing_of o ≡ Some x → (y : Inode) × (o ≡ Some y)
-inode_with None x e = absurd (none-some x e)
-inode_with (Some y) x e = (y, refl)
+inode_with o x h1 = grind (arith, none-some)
 
 -- a directory of the tree is a directory's
 pub dir_in : (o : Option Inode) → option_map thing_of o ≡ Some Dir → (slots : List Slot) × (o ≡ Some (ADir slots))
-dir_in None e = absurd (none-some Dir e)
-dir_in (Some (ADir slots)) e = (slots, refl)
-dir_in (Some (AFile links bytes)) e = absurd (true≢false (ap is_dir (sym e)))
+dir_in o h1 = grind (arith, none-some)
 
 module _ (limit : ℕ) (m : Inodes) (t : Tree) (a : Agrees limit m t) where
   -- each path leads where its walk does

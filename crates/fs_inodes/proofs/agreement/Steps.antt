@@ -1,8 +1,8 @@
 -- Where paths lead after entries change: the new paths go on by the new entries. It knows no slots, nodes or trees.
-use Rattle.std.proofs.Common.{◌≡◌, ℕ, List, [], ◌∷◌, ◌++◌, Option, Some, None, option_and_then, sym, ap, ◌∙◌, ◌⊎◌, inl, inr, append_assoc, append-nil}
+use Rattle.std.proofs.Common.{◌≡◌, ℕ, List, [], ◌∷◌, ◌++◌, Option, Some, None, option_and_then, sym, ap, ◌∙◌, ◌⊎◌, inl, inr, append_assoc, append-nil, arith}
 use Rattle.std.proofs.lemmas.Option.{none-some}
 use Rattle.crash_stands.specs.Walks.{Entries}
-use Rattle.fs_inodes.proofs.basics.Paths.{Path, which, which_entry, which_side, last_same, no_end, longer, from_end}
+use Rattle.fs_inodes.proofs.basics.Paths.{Path, which, which_entry, which_side, last_same, no_end, from_end}
 use Rattle.fs_inodes.proofs.agreement.Agree.{GoesOn}
 
 -- Entry `name` of directory d became x, and no other entry changed.
@@ -18,87 +18,23 @@ step_at e names goes up b k at = goes up b ∙ ap (option_and_then (λ j. e j b)
 pub no_step : (e : Entries) (names : Path → Option ℕ) → GoesOn e names → (up : Path) (b : List ℕ) → names up ≡ None → names (up ++ b ∷ []) ≡ None
 no_step e names goes up b none = goes up b ∙ ap (option_and_then (λ j. e j b)) none
 
--- A path more, which leads to n. Nothing stands below n.
-module _ (e f : Entries) (old new : Path → Option ℕ) (goes : GoesOn e old) (up : Path) (name : List ℕ) (d n : ℕ)
-    (at_up : old up ≡ Some d) (only : (q : Path) → old q ≡ Some d → q ≡ up) (free : old (up ++ name ∷ []) ≡ None)
-    (entry : EntryIs e f d name (Some n)) (empty : (b : List ℕ) → f n b ≡ None)
-    (here : new (up ++ name ∷ []) ≡ Some n) (look : (q : Path) → (q ≡ up ++ name ∷ []) ⊎ (new q ≡ old q)) where
+-- One path leads elsewhere, or nowhere. Nothing stood below where it led, and nothing stands below where it leads.
+module _ (e f : Entries) (old new : Path → Option ℕ) (goes : GoesOn e old) (up : Path) (name : List ℕ) (d : ℕ) (x : Option ℕ)
+    (at_up : old up ≡ Some d) (only : (q : Path) → old q ≡ Some d → q ≡ up) (entry : EntryIs e f d name x)
+    (bare : (b : List ℕ) → option_and_then (λ k. e k b) (old (up ++ name ∷ [])) ≡ None) (empty : (b : List ℕ) → option_and_then (λ k. f k b) x ≡ None)
+    (here : new (up ++ name ∷ []) ≡ x) (look : (q : Path) → (q ≡ up ++ name ∷ []) ⊎ (new q ≡ old q)) where
   -- the way on from an old path to node k
-  put_on : (at : Path) (b : List ℕ) (k : ℕ) → old at ≡ Some k → (at ++ b ∷ [] ≡ up ++ name ∷ []) ⊎ (new (at ++ b ∷ []) ≡ old (at ++ b ∷ [])) → new (at ++ b ∷ []) ≡ f k b
-  put_on at b k is side = by (which_entry k d b name) side
-    where
-      by : ((k ≡ d) × (b ≡ name)) ⊎ ((k ≡ d) × (b ≡ name) → ⊥) → (at ++ b ∷ [] ≡ up ++ name ∷ []) ⊎ (new (at ++ b ∷ []) ≡ old (at ++ b ∷ [])) → new (at ++ b ∷ []) ≡ f k b
-      by (inl both) side =
-          let same : at ≡ up = only at (is ∙ ap Some both.0) in
-          ap new (ap (λ p. p ++ b ∷ []) same ∙ ap (λ x. up ++ x ∷ []) both.1) ∙ here ∙ sym (ap (λ j. f j b) both.0 ∙ ap (f d) both.1 ∙ entry.here)
-      by (inr off) (inl same) =
-          let parts = last_same at up b name same in
-          absurd (off (option_same k d (sym is ∙ ap old parts.0 ∙ at_up), parts.1))
-        where
-          option_same : (x y : ℕ) → Some x ≡ Some y → x ≡ y
-          option_same x y e = cc
-      by (inr off) (inr stays) = stays ∙ step_at e old goes at b k is ∙ sym (entry.others k b off)
+  turn_on : (at : Path) (b : List ℕ) (k : ℕ) → old at ≡ Some k → (at ++ b ∷ [] ≡ up ++ name ∷ []) ⊎ (new (at ++ b ∷ []) ≡ old (at ++ b ∷ [])) → new (at ++ b ∷ []) ≡ f k b
+  turn_on at b k is side = grind (arith, which_entry k d b name, entry.here, last_same, entry.others)
 
   -- one step from any path
-  put_step : (at : Path) (b : List ℕ) → (at ≡ up ++ name ∷ []) ⊎ (new at ≡ old at) → (at ++ b ∷ [] ≡ up ++ name ∷ []) ⊎ (new (at ++ b ∷ []) ≡ old (at ++ b ∷ []))
+  turn_step : (at : Path) (b : List ℕ) → (at ≡ up ++ name ∷ []) ⊎ (new at ≡ old at) → (at ++ b ∷ [] ≡ up ++ name ∷ []) ⊎ (new (at ++ b ∷ []) ≡ old (at ++ b ∷ []))
       → new (at ++ b ∷ []) ≡ option_and_then (λ k. f k b) (new at)
-  put_step at b (inl same) (inl twice) = absurd (longer at b (twice ∙ sym same))
-  put_step at b (inl same) (inr stays) = stays ∙ no_step e old goes at b (ap old same ∙ free) ∙ sym (ap (option_and_then (λ k. f k b)) (ap new same ∙ here) ∙ empty b)
-  put_step at b (inr stays) side = by (which (old at))
-    where
-      by_none : old at ≡ None → (at ++ b ∷ [] ≡ up ++ name ∷ []) ⊎ (new (at ++ b ∷ []) ≡ old (at ++ b ∷ [])) → new (at ++ b ∷ []) ≡ None
-      by_none none (inl same) = absurd (none-some d (sym (ap old (sym (last_same at up b name same).0) ∙ none) ∙ at_up))
-      by_none none (inr as_old) = as_old ∙ no_step e old goes at b none
-
-      by : (old at ≡ None) ⊎ ((k : ℕ) × (old at ≡ Some k)) → new (at ++ b ∷ []) ≡ option_and_then (λ k. f k b) (new at)
-      by (inl none) = by_none none side ∙ sym (ap (option_and_then (λ k. f k b)) (stays ∙ none))
-      by (inr some) = put_on at b some.0 some.1 side ∙ sym (ap (option_and_then (λ k. f k b)) (stays ∙ some.1))
+  turn_step at b h1 h2 = grind (arith, none-some, last_same, turn_on)
 
   -- so the new paths go on by the new entries
-  pub put_goes : GoesOn f new
-  put_goes at b = put_step at b (look at) (look (at ++ b ∷ []))
-
--- A path less, which led to n. Nothing stood below n.
-module _ (e f : Entries) (old new : Path → Option ℕ) (goes : GoesOn e old) (up : Path) (name : List ℕ) (d n : ℕ)
-    (only : (q : Path) → old q ≡ Some d → q ≡ up) (there : old (up ++ name ∷ []) ≡ Some n)
-    (at_up : old up ≡ Some d) (entry : EntryIs e f d name None) (empty : (b : List ℕ) → e n b ≡ None)
-    (gone : new (up ++ name ∷ []) ≡ None) (look : (q : Path) → (q ≡ up ++ name ∷ []) ⊎ (new q ≡ old q)) where
-  -- something is one number
-  same_number : (x y : ℕ) → Some x ≡ Some y → x ≡ y
-  same_number x y e = cc
-
-  -- the way on from an old path to node k
-  take_on : (at : Path) (b : List ℕ) (k : ℕ) → old at ≡ Some k → (at ++ b ∷ [] ≡ up ++ name ∷ []) ⊎ (new (at ++ b ∷ []) ≡ old (at ++ b ∷ [])) → new (at ++ b ∷ []) ≡ f k b
-  take_on at b k is side = by (which_entry k d b name) side
-    where
-      by : ((k ≡ d) × (b ≡ name)) ⊎ ((k ≡ d) × (b ≡ name) → ⊥) → (at ++ b ∷ [] ≡ up ++ name ∷ []) ⊎ (new (at ++ b ∷ []) ≡ old (at ++ b ∷ [])) → new (at ++ b ∷ []) ≡ f k b
-      by (inl both) side =
-          let same : at ≡ up = only at (is ∙ ap Some both.0) in
-          ap new (ap (λ p. p ++ b ∷ []) same ∙ ap (λ x. up ++ x ∷ []) both.1) ∙ gone ∙ sym (ap (λ j. f j b) both.0 ∙ ap (f d) both.1 ∙ entry.here)
-      by (inr off) (inl same) =
-          let parts = last_same at up b name same in
-          absurd (off (same_number k d (sym is ∙ ap old parts.0 ∙ at_up), parts.1))
-      by (inr off) (inr stays) = stays ∙ step_at e old goes at b k is ∙ sym (entry.others k b off)
-
-  -- one step from any path
-  take_step : (at : Path) (b : List ℕ) → (at ≡ up ++ name ∷ []) ⊎ (new at ≡ old at) → (at ++ b ∷ [] ≡ up ++ name ∷ []) ⊎ (new (at ++ b ∷ []) ≡ old (at ++ b ∷ []))
-      → new (at ++ b ∷ []) ≡ option_and_then (λ k. f k b) (new at)
-  take_step at b (inl same) (inl twice) = absurd (longer at b (twice ∙ sym same))
-  take_step at b (inl same) (inr stays) =
-      stays ∙ step_at e old goes at b n (ap old same ∙ there) ∙ empty b ∙ sym (ap (option_and_then (λ k. f k b)) (ap new same ∙ gone))
-  take_step at b (inr stays) side = by (which (old at))
-    where
-      by_none : old at ≡ None → (at ++ b ∷ [] ≡ up ++ name ∷ []) ⊎ (new (at ++ b ∷ []) ≡ old (at ++ b ∷ [])) → new (at ++ b ∷ []) ≡ None
-      by_none none (inl same) = ap new same ∙ gone
-      by_none none (inr as_old) = as_old ∙ no_step e old goes at b none
-
-      by : (old at ≡ None) ⊎ ((k : ℕ) × (old at ≡ Some k)) → new (at ++ b ∷ []) ≡ option_and_then (λ k. f k b) (new at)
-      by (inl none) = by_none none side ∙ sym (ap (option_and_then (λ k. f k b)) (stays ∙ none))
-      by (inr some) = take_on at b some.0 some.1 side ∙ sym (ap (option_and_then (λ k. f k b)) (stays ∙ some.1))
-
-  -- so the new paths go on by the new entries
-  pub take_goes : GoesOn f new
-  take_goes at b = take_step at b (look at) (look (at ++ b ∷ []))
+  pub turn_goes : GoesOn f new
+  turn_goes at b = turn_step at b (look at) (look (at ++ b ∷ []))
 
 -- What is at or below one path comes to another one, which isn't at or below the first. Nothing stands below what was there.
 module _ (e f : Entries) (old new : Path → Option ℕ) (goes : GoesOn e old) (up to : Path) (name other : List ℕ) (d c n : ℕ)
@@ -111,10 +47,6 @@ module _ (e f : Entries) (old new : Path → Option ℕ) (goes : GoesOn e old) (
     (second : (r : Path) → new ((to ++ other ∷ []) ++ r) ≡ old ((up ++ name ∷ []) ++ r))
     (first : (r : Path) → new ((up ++ name ∷ []) ++ r) ≡ None)
     (elsewhere : (q : Path) → ((r : Path) → q ≡ (up ++ name ∷ []) ++ r → ⊥) → ((r : Path) → q ≡ (to ++ other ∷ []) ++ r → ⊥) → new q ≡ old q) where
-  -- something is one number
-  number_same : (x y : ℕ) → Some x ≡ Some y → x ≡ y
-  number_same x y e = cc
-
   -- below the new place the entries are the old ones
   moved_entry : (r : Path) (b : List ℕ) (k : ℕ) → old ((up ++ name ∷ []) ++ r) ≡ Some k → f k b ≡ e k b
   moved_entry r b k is = others k b
@@ -157,12 +89,10 @@ module _ (e f : Entries) (old new : Path → Option ℕ) (goes : GoesOn e old) (
         ∙ step_at e old goes at b k is ∙ sym (others k b no_first no_second)
       where
         out_up : ((at ≡ up) × (b ≡ name)) ⊎ ((s : Path) × (at ≡ (up ++ name ∷ []) ++ s)) → ⊥
-        out_up (inl both) = no_first (number_same k d (sym is ∙ ap old both.0 ∙ at_up), both.1)
-        out_up (inr s) = off_up s.0 s.1
+        out_up h1 = grind arith
 
         out_to : ((at ≡ to) × (b ≡ other)) ⊎ ((s : Path) × (at ≡ (to ++ other ∷ []) ++ s)) → ⊥
-        out_to (inl both) = no_second (number_same k c (sym is ∙ ap old both.0 ∙ at_to), both.1)
-        out_to (inr s) = off_to s.0 s.1
+        out_to h1 = grind arith
 
     -- one step from a path outside both that is there
     from_there : (k : ℕ) → old at ≡ Some k → ((k ≡ c) × (b ≡ other)) ⊎ ((k ≡ c) × (b ≡ other) → ⊥) → ((k ≡ d) × (b ≡ name)) ⊎ ((k ≡ d) × (b ≡ name) → ⊥) → new (at ++ b ∷ []) ≡ f k b
@@ -181,8 +111,7 @@ module _ (e f : Entries) (old new : Path → Option ℕ) (goes : GoesOn e old) (
     from_nowhere none = by (which_side (up ++ name ∷ []) (at ++ b ∷ [])) (which_side (to ++ other ∷ []) (at ++ b ∷ []))
       where
         out_to : ((at ≡ to) × (b ≡ other)) ⊎ ((s : Path) × (at ≡ (to ++ other ∷ []) ++ s)) → ⊥
-        out_to (inl both) = none-some c (sym (ap old (sym both.0) ∙ none) ∙ at_to)
-        out_to (inr s) = off_to s.0 s.1
+        out_to h1 = grind (arith, none-some)
 
         by : ((r : Path) × (at ++ b ∷ [] ≡ (up ++ name ∷ []) ++ r)) ⊎ ((r : Path) → at ++ b ∷ [] ≡ (up ++ name ∷ []) ++ r → ⊥)
             → ((r : Path) × (at ++ b ∷ [] ≡ (to ++ other ∷ []) ++ r)) ⊎ ((r : Path) → at ++ b ∷ [] ≡ (to ++ other ∷ []) ++ r → ⊥) → new (at ++ b ∷ []) ≡ None

@@ -1,10 +1,9 @@
 -- What a finite map has at a key after a change.
-use Rattle.std.proofs.Common.{◌≡◌, ℕ, true, false, cond, Some, None, refl, sym, ap, ◌∙◌, ◌⊎◌, inl, inr}
+use Rattle.std.proofs.Common.{◌≡◌, ℕ, true, false, cond, Some, None, refl, ap, ◌∙◌, ◌⊎◌, inl, inr, arith}
 use Rattle.std.proofs.lemmas.Bool.{cases_Bool}
 use Rattle.std.specs.Ordering.{eq_by_cmp, is_eq}
 use Rattle.std.specs.declared.cmp.Ordering.{Ordering}
-use Rattle.std.specs.declared.cmp.Ordering.TheVariants.{Less, Equal, Greater}
-use Rattle.std.specs.Cmp.{IsTotalOrder, nat_cmp_total, tied_itself}
+use Rattle.std.specs.Cmp.{Equal-is, IsTotalOrder, nat_cmp_total, tied_itself}
 use Rattle.std.specs.Cmp.Lexicographic.{lists_total}
 use Rattle.std.specs.FinMap.{FinMap, IsAntisymmetric, nat_cmp-IsAntisymmetric, slice_cmp-IsAntisymmetric, get, insert, remove, get-insert, get-remove, same_map}
 use Rattle.lang_tree.specs.Tree.{Nodes, Names, Thing, path_cmp}
@@ -18,12 +17,6 @@ path_total = lists_total (lists_total nat_cmp_total)
 pub path_same : IsAntisymmetric path_cmp
 path_same = slice_cmp-IsAntisymmetric (slice_cmp-IsAntisymmetric nat_cmp-IsAntisymmetric)
 
--- a tie is a tie
-equal_of : (o : Ordering) → is_eq o ≡ true → o ≡ Equal
-equal_of Less e = absurd cc
-equal_of Equal e = refl
-equal_of Greater e = absurd cc
-
 module _ {K : Type 0} {R : K → K → Ordering} (o : IsTotalOrder R) (same : IsAntisymmetric R) where
   -- equal keys tie
   pub tied : (x y : K) → x ≡ y → eq_by_cmp R x y ≡ true
@@ -31,11 +24,7 @@ module _ {K : Type 0} {R : K → K → Ordering} (o : IsTotalOrder R) (same : Is
 
   -- keys are equal, or their test fails
   pub which_key : (x y : K) → (x ≡ y) ⊎ (eq_by_cmp R x y ≡ false)
-  which_key x y = by (cases_Bool (eq_by_cmp R x y))
-    where
-      by : (eq_by_cmp R x y ≡ true) ⊎ (eq_by_cmp R x y ≡ false) → (x ≡ y) ⊎ (eq_by_cmp R x y ≡ false)
-      by (inl e) = inl (same x y (equal_of (R x y) e))
-      by (inr e) = inr e
+  which_key x y = grind (arith, cases_Bool (eq_by_cmp R x y), (Equal-is (R x y)).0)
 
   module _ {X : Type 0} (m : FinMap R X) (k : K) where
     -- a key that was put in has its value
@@ -52,11 +41,7 @@ module _ {K : Type 0} {R : K → K → Ordering} (o : IsTotalOrder R) (same : Is
 
     -- the same, for a key that is known to be another
     pub put_other : (v : X) (q : K) → (q ≡ k → ⊥) → get (insert m k v) q ≡ get m q
-    put_other v q off = by (look v q)
-      where
-        by : (q ≡ k) ⊎ (get (insert m k v) q ≡ get m q) → get (insert m k v) q ≡ get m q
-        by (inl e) = absurd (off e)
-        by (inr e) = e
+    put_other v q off = grind (arith, look v q, look)
 
     -- a key that was taken out has nothing
     pub gone_here : (q : K) → q ≡ k → get (remove m k) q ≡ None
@@ -72,19 +57,14 @@ module _ {K : Type 0} {R : K → K → Ordering} (o : IsTotalOrder R) (same : Is
 
     -- the same, for a key that is known to be another
     pub gone_other : (q : K) → (q ≡ k → ⊥) → get (remove m k) q ≡ get m q
-    gone_other q off = by (look_left q)
-      where
-        by : (q ≡ k) ⊎ (get (remove m k) q ≡ get m q) → get (remove m k) q ≡ get m q
-        by (inl e) = absurd (off e)
-        by (inr e) = e
+    gone_other q off = grind (arith, look_left q, look_left)
 
     -- to take out what isn't there changes nothing
     pub remove_absent : get m k ≡ None → remove m k ≡ m
     remove_absent none = same_map o same (remove m k) m (λ q. by q (look_left q))
       where
         by : (q : K) → (q ≡ k) ⊎ (get (remove m k) q ≡ get m q) → get (remove m k) q ≡ get m q
-        by q (inl e) = gone_here q e ∙ sym (ap (get m) e ∙ none)
-        by q (inr e) = e
+        by q h1 = grind (arith, gone_here)
 
 -- The two maps of a tree.
 

@@ -1,5 +1,5 @@
 -- The least unused number of the tree is the least free one of the inode map.
-use Rattle.std.proofs.Common.{◌≡◌, ℕ, zero, suc, ◌+◌, ◌≤◌, ◌<◌, Bool, true, false, cond, Option, Some, None, option_map, is_none, find, sym, refl, ap, ◌∙◌, arith}
+use Rattle.std.proofs.Common.{◌≡◌, ℕ, zero, suc, ◌+◌, ◌≤◌, ◌<◌, Bool, true, Option, Some, None, option_map, is_none, find, ◌∙◌, arith}
 use Rattle.std.specs.List.{range_with_len}
 use Rattle.std.specs.FinMap.{get}
 use Rattle.std.proofs.lemmas.Option.{same_Some, none-some}
@@ -12,31 +12,19 @@ use Rattle.fs_inodes.specs.Lookups.{least_free}
 pub everywhere : {A B : Type 0} (f h : A → B) → ((k : A) → f k ≡ h k) → f ≡ h
 everywhere f h same i k = same k i
 
--- what is made of nothing is nothing
-mapped : {A B : Type 0} (f : A → B) (o : Option A) → is_none (option_map f o) ≡ is_none o
-mapped f None = refl
-mapped f (Some x) = refl
-
 -- the least unused number of the tree is the least free one of the map
 pub unused_is_free : (limit : ℕ) (m : Inodes) (nodes : Nodes) → ((k : ℕ) → get nodes k ≡ option_map thing_of (m k)) → least_unused limit nodes ≡ least_free limit m
 unfolding least_unused
-unused_is_free limit m nodes same =
-    ap (λ (f : ℕ → Bool). find f (range_with_len 1 limit)) (everywhere (λ n. is_none (get nodes n)) (λ n. is_none (m n)) (λ n. ap is_none (same n) ∙ mapped thing_of (m n)))
+unused_is_free limit m nodes same = grind arith
 
 -- what is found in a range passes the test and lies there
 found_in : (test : ℕ → Bool) (a n m : ℕ) → find test (range_with_len a n) ≡ Some m → (test m ≡ true) × (a ≤ m) × (m < a + n)
 found_in test a zero m e = absurd (none-some m e)
-found_in test a (suc n) m e = by (test a) refl (found_in test (a + 1) n m) e
-  where
-    by : (b : Bool) → test a ≡ b → (find test (range_with_len (a + 1) n) ≡ Some m → (test m ≡ true) × (a + 1 ≤ m) × (m < a + 1 + n))
-        → cond b (Some a) (find test (range_with_len (a + 1) n)) ≡ Some m → (test m ≡ true) × (a ≤ m) × (m < a + suc n)
-    by true is go e = let same : a ≡ m = same_Some a m e in (ap test (sym same) ∙ is, omega (arith, same), omega (arith, same))
-    by false is go e = let r = go e in (r.0, omega (arith, r.1), omega (arith, r.2))
+found_in test a (suc n) m e = grind (arith, found_in test (a + 1) n m, test a, same_Some)
 
 -- what is none is none
 none_of : {A : Type 0} (o : Option A) → is_none o ≡ true → o ≡ None
-none_of None e = refl
-none_of (Some x) e = absurd cc
+none_of o h1 = grind arith
 
 -- it is unused and within the limit
 pub free_is : (limit n : ℕ) (m : Inodes) → least_free limit m ≡ Some n → (m n ≡ None) × (1 ≤ n) × (n ≤ limit)

@@ -1,5 +1,5 @@
 -- Options, and paths by their last name.
-use Rattle.std.proofs.Common.{◌≡◌, ℕ, Bool, true, false, List, [], ◌∷◌, ◌++◌, ◌-◌, length, bytes_eq, Option, Some, None, is_some, if◌then◌else◌, refl, sym, ap, ◌∙◌, ◌⊎◌, inl, inr, length-append, arith, true≢false, take_at}
+use Rattle.std.proofs.Common.{◌≡◌, ℕ, Bool, true, false, List, [], ◌∷◌, ◌++◌, ◌-◌, length, bytes_eq, Option, Some, None, is_some, if◌then◌else◌, refl, ap, ◌∙◌, ◌⊎◌, inl, inr, length-append, arith, true≢false, take_at}
 use Rattle.std.proofs.lemmas.Bool.{cases_Bool, cases_eq}
 use Rattle.std.proofs.lemmas.List.{same_from_push}
 use Rattle.std.proofs.lemmas.Slice.Eq.{bytes_eq-Decides}
@@ -12,8 +12,7 @@ Path = List (List ℕ)
 
 -- what isn't something is nothing
 pub lacks : {A : Type 0} (o : Option A) → is_some o ≡ false → o ≡ None
-lacks None e = refl
-lacks (Some x) e = absurd cc
+lacks o h1 = grind arith
 
 -- an option is nothing or something
 pub which : {A : Type 0} (o : Option A) → (o ≡ None) ⊎ ((x : A) × (o ≡ Some x))
@@ -22,11 +21,7 @@ which (Some x) = inr (x, refl)
 
 -- one name is another one, or not
 pub which_name : (a b : List ℕ) → (a ≡ b) ⊎ (a ≡ b → ⊥)
-which_name a b = by (cases_Bool (bytes_eq a b))
-  where
-    by : (bytes_eq a b ≡ true) ⊎ (bytes_eq a b ≡ false) → (a ≡ b) ⊎ (a ≡ b → ⊥)
-    by (inl e) = inl ((bytes_eq-Decides a b).0 e)
-    by (inr e) = inr (λ same. true≢false (sym ((bytes_eq-Decides a b).1 same) ∙ e))
+which_name a b = grind (arith, cases_Bool (bytes_eq a b), bytes_eq-Decides)
 
 -- a name is itself
 pub same_name : (a : List ℕ) → bytes_eq a a ≡ true
@@ -34,20 +29,11 @@ same_name a = (bytes_eq-Decides a a).1 refl
 
 -- names that differ fail the test
 pub other_name : (a b : List ℕ) → (a ≡ b → ⊥) → bytes_eq a b ≡ false
-other_name a b off = by (cases_Bool (bytes_eq a b))
-  where
-    by : (bytes_eq a b ≡ true) ⊎ (bytes_eq a b ≡ false) → bytes_eq a b ≡ false
-    by (inl e) = absurd (off ((bytes_eq-Decides a b).0 e))
-    by (inr e) = e
+other_name a b off = grind (arith, cases_Bool (bytes_eq a b), bytes_eq-Decides)
 
 -- a number with a name is another one, or not
 pub which_entry : (k d : ℕ) (a b : List ℕ) → ((k ≡ d) × (a ≡ b)) ⊎ ((k ≡ d) × (a ≡ b) → ⊥)
-which_entry k d a b = by (cases_eq k d) (which_name a b)
-  where
-    by : (k ≡ d) ⊎ (k ≡ d → ⊥) → (a ≡ b) ⊎ (a ≡ b → ⊥) → ((k ≡ d) × (a ≡ b)) ⊎ ((k ≡ d) × (a ≡ b) → ⊥)
-    by (inl e) (inl f) = inl (e, f)
-    by (inl e) (inr n) = inr (λ both. n both.1)
-    by (inr n) f = inr (λ both. n both.0)
+which_entry k d a b = grind (arith, cases_eq k d, which_name a b)
 
 -- two paths with a last name each are equal in both parts
 pub last_same : (p q : Path) (a b : List ℕ) → p ++ a ∷ [] ≡ q ++ b ∷ [] → (p ≡ q) × (a ≡ b)
@@ -57,10 +43,6 @@ last_same p q a b e = let both = same_from_push p q a b e in (both.0, both.1)
 pub no_end : (p : Path) (a : List ℕ) → p ++ a ∷ [] ≡ [] → ⊥
 no_end [] a e = cc
 no_end (x ∷ p) a e = cc
-
--- nor is it the path before that name
-pub longer : (p : Path) (a : List ℕ) → p ++ a ∷ [] ≡ p → ⊥
-longer p a e = omega (arith, length-append p (a ∷ []), ap length e)
 
 -- the parent of a path with a last name is the path before it
 pub parent_end : (up : Path) (name : List ℕ) → parent (up ++ name ∷ []) ≡ up
@@ -82,8 +64,7 @@ strip_is (a ∷ p) [] r e = absurd (none-some r e)
 strip_is (a ∷ p) (b ∷ q) r e = by (bytes_eq a b) refl (strip_is p q r) e
   where
     by : (t : Bool) → bytes_eq a b ≡ t → (strip p q ≡ Some r → q ≡ p ++ r) → (if t then strip p q else None) ≡ Some r → b ∷ q ≡ (a ∷ p) ++ r
-    by true is go e = let same : a ≡ b = (bytes_eq-Decides a b).0 is in let rest = go e in cc
-    by false is go e = absurd (none-some r e)
+    by t h1 h2 h3 = grind (arith, bytes_eq-Decides, none-some)
 
 -- a path behind its front is what is left
 pub strip_join : (p r : Path) → strip p (p ++ r) ≡ Some r
@@ -96,11 +77,7 @@ within_at p q r e = ap is_some (ap (strip p) e ∙ strip_join p r)
 
 -- a path lies at or below another one, or not
 pub which_side : (p q : Path) → ((r : Path) × (q ≡ p ++ r)) ⊎ ((r : Path) → q ≡ p ++ r → ⊥)
-which_side p q = by (which (strip p q))
-  where
-    by : (strip p q ≡ None) ⊎ ((r : Path) × (strip p q ≡ Some r)) → ((r : Path) × (q ≡ p ++ r)) ⊎ ((r : Path) → q ≡ p ++ r → ⊥)
-    by (inl none) = inr (λ r e. none-some r (sym none ∙ ap (strip p) e ∙ strip_join p r))
-    by (inr some) = inl (some.0, strip_is p q some.0 some.1)
+which_side p q = grind (arith, which (strip p q), none-some, strip_join, strip_is)
 
 -- a path that doesn't begin with another one doesn't lie there
 pub away : (p q : Path) → ((r : Path) → q ≡ p ++ r → ⊥) → is_within p q ≡ false

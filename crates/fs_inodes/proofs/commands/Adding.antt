@@ -1,10 +1,10 @@
 -- A name comes to a directory: of a new node, or of a file that is there already. A slot behind the last one is such a name.
-use Rattle.std.proofs.Common.{◌≡◌, ℕ, zero, suc, ◌+◌, ◌≤◌, ◌==◌, if◌then◌else◌, List, [], ◌∷◌, ◌++◌, slice_get, Option, Some, None, option_map, sym, refl, ap, ◌∙◌, ◌⊎◌, inl, inr, arith, eq-eqb, ne_eqb}
+use Rattle.std.proofs.Common.{◌≡◌, ℕ, ◌+◌, ◌≤◌, ◌==◌, if◌then◌else◌, List, [], ◌∷◌, ◌++◌, Option, Some, None, option_map, option_and_then, sym, ap, ◌∙◌, ◌⊎◌, inl, inr, arith, eq-eqb, ne_eqb}
 use Rattle.std.proofs.lemmas.Bool.{cases_eq}
 use Rattle.std.specs.FinMap.{get, insert}
 use Rattle.std.proofs.lemmas.Option.{same_Some, none-some}
 use Rattle.layout_bytes.specs.declared.slot.Slot.{Slot}
-use Rattle.lang_tree.specs.Tree.{Tree, Thing, Dir, File}
+use Rattle.lang_tree.specs.Tree.{Tree, Thing, Dir}
 use Rattle.lang_tree.specs.Paths.{parent}
 use Rattle.lang_tree.specs.Names.{path_count}
 use Rattle.crash_stands.specs.Inodes.{Inode, Inodes, ADir, AFile, AreDistinct, thing_of}
@@ -14,7 +14,7 @@ use Rattle.fs_inodes.specs.TreeLaws.{TreeLaws}
 use Rattle.fs_inodes.proofs.basics.Paths.{Path, parent_end}
 use Rattle.fs_inodes.proofs.basics.FinMaps.{name_here, name_look, node_here, node_other}
 use Rattle.fs_inodes.proofs.slots.Slots.{added_distinct, added_here, added_other}
-use Rattle.fs_inodes.proofs.agreement.Steps.{EntryIs, step_at, put_goes}
+use Rattle.fs_inodes.proofs.agreement.Steps.{EntryIs, step_at, turn_goes}
 use Rattle.fs_inodes.proofs.agreement.Agree.{Agrees, GoesOn}
 
 -- the slots of a directory are one list
@@ -85,72 +85,38 @@ module _ (laws : TreeLaws) (limit : ℕ) (m new : Inodes) (t : Tree) (a : Agrees
   module _ (empty_new : (b : List ℕ) → entry_in (Some x) b ≡ None) (empty_old : (b : List ℕ) → entry_in (m n) b ≡ None) where
     -- the entry under the new name is the new one, and no other changed
     entry : EntryIs (entries_of m) (entries_of new) d name (Some n)
-    entry = record {
-      here = ap (λ o. entry_in o name) ch.under.now ∙ ch.under.here;
-      others = λ k b off. by k b off (cases_eq k d) (cases_eq k n);
-    }
-      where
-        by : (k : ℕ) (b : List ℕ) → ((k ≡ d) × (b ≡ name) → ⊥) → (k ≡ d) ⊎ (k ≡ d → ⊥) → (k ≡ n) ⊎ (k ≡ n → ⊥) → entries_of new k b ≡ entries_of m k b
-        by k b off (inl e) side =
-            ap (λ k. entry_in (new k) b) e ∙ ap (λ o. entry_in o b) ch.under.now
-            ∙ ch.under.others b (λ f. off (e, f))
-            ∙ sym (ap (λ k. entry_in (m k) b) e ∙ ap (λ o. entry_in o b) ch.under.dir)
-        by k b off (inr away) (inl e) = ap (λ k. entry_in (new k) b) e ∙ ap (λ o. entry_in o b) ch.named ∙ empty_new b ∙ sym (ap (λ k. entry_in (m k) b) e ∙ empty_old b)
-        by k b off (inr away) (inr far) = ap (λ o. entry_in o b) (ch.others k away far)
+    entry = grind (arith, ch.under.now, ch.under.here, ch.under.others, ch.under.dir, ch.named, ch.others)
 
     -- the paths with the new one go on as the new entries do
     pub added_goes : GoesOn (entries_of new) (get (insert t.names (up ++ name ∷ []) n))
-    added_goes = put_goes (entries_of m) (entries_of new) (get t.names) (get (insert t.names (up ++ name ∷ []) n)) a.goes up name d n at_up up_only free entry
-        (λ b. ap (λ o. entry_in o b) ch.named ∙ empty_new b) (name_here t.names (up ++ name ∷ []) n) (name_look t.names (up ++ name ∷ []) n)
+    added_goes = turn_goes (entries_of m) (entries_of new) (get t.names) (get (insert t.names (up ++ name ∷ []) n)) a.goes up name d (Some n) at_up up_only entry
+        (λ b. ap (option_and_then (λ k. entries_of m k b)) free) (λ b. ap (λ o. entry_in o b) ch.named ∙ empty_new b) (name_here t.names (up ++ name ∷ []) n) (name_look t.names (up ++ name ∷ []) n)
 
   -- the slots of each directory have names of their own
   pub added_slots_distinct : ((slots : List Slot) → x ≡ ADir slots → AreDistinct slots) → (k : ℕ) (slots : List Slot) → new k ≡ Some (ADir slots) → AreDistinct slots
-  added_slots_distinct own k slots is = by (cases_eq k d) (cases_eq k n)
-    where
-      as_added : (others : List Slot) → others ≡ ch.under.after → AreDistinct others
-      as_added others e i j s u at_i at_j same = ch.under.distinct i j s u
-          (ap (λ l. slice_get l i) (sym e) ∙ at_i) (ap (λ l. slice_get l j) (sym e) ∙ at_j) same
-
-      by : (k ≡ d) ⊎ (k ≡ d → ⊥) → (k ≡ n) ⊎ (k ≡ n → ⊥) → AreDistinct slots
-      by (inl e) side = as_added slots (one_dir slots ch.under.after (ap new (sym e) ∙ is) ch.under.now)
-      by (inr away) (inl e) = own slots (same_Some x (ADir slots) (sym ch.named ∙ ap new (sym e) ∙ is))
-      by (inr away) (inr far) = a.distinct k slots (sym (ch.others k away far) ∙ is)
+  added_slots_distinct own k slots is = grind (arith, cases_eq k d, cases_eq k n, ch.under.after, ch.under.distinct, ch.under.now, same_Some, ch.named, a.distinct, ch.others)
 
   -- a number that no node has has no path
   no_paths : m n ≡ None → path_count t.names n ≡ 0
-  no_paths none = by (path_count t.names n) refl
-    where
-      by : (c : ℕ) → path_count t.names n ≡ c → c ≡ 0
-      by zero is = refl
-      by (suc c) is =
-          let p = laws.count_found t.names n (omega (arith, is)) in
-          let y = a.sound.named p.0 n p.1 in
-          absurd (none-some y.0 (sym (a.nodes n ∙ ap (option_map thing_of) none) ∙ y.1))
+  no_paths none = grind (arith, path_count t.names n, t.names, laws.count_found, a.sound.named, none-some, a.nodes)
 
   -- A new node.
   module _ (thing : Thing) (is_new : x ≡ new_inode thing) (unused : m n ≡ None) (low : 1 ≤ n) (high : n ≤ limit) where
     -- a node that is new has no entry
     nothing_in : (y : Thing) (b : List ℕ) → entry_in (Some (new_inode y)) b ≡ None
-    nothing_in Dir b = refl
-    nothing_in (File bytes) b = refl
+    nothing_in y b = grind arith
 
     -- it is what it was made for
     thing_is : (y : Thing) → thing_of (new_inode y) ≡ y
-    thing_is Dir = refl
-    thing_is (File bytes) = refl
+    thing_is y = grind arith
 
     -- it has no slots
     new_distinct : (y : Thing) (slots : List Slot) → new_inode y ≡ ADir slots → AreDistinct slots
-    new_distinct Dir slots e = λ i j s u at_i at_j same. absurd (none-some s (ap (λ l. slice_get l i) (none_in slots e) ∙ at_i))
-      where
-        none_in : (slots : List Slot) → ADir [] ≡ ADir slots → [] ≡ slots
-        none_in slots e = cc
-    new_distinct (File bytes) slots e = absurd (dir_file slots 1 bytes (ap Some e) refl)
+    new_distinct y slots h1 = grind (arith, none-some)
 
     -- if it is a file, it has one link
     one_link : (y : Thing) (links : ℕ) (bytes : List ℕ) → new_inode y ≡ AFile links bytes → links ≡ 1
-    one_link Dir links bytes e = absurd (dir_file [] links bytes refl (ap Some e))
-    one_link (File old) links bytes e = one_file links 1 bytes old (ap Some e) refl
+    one_link y links bytes h1 = grind arith
 
     -- the nodes with the new one are those of the new map
     new_nodes : (k : ℕ) → get (insert t.nodes n thing) k ≡ option_map thing_of (new k)
@@ -163,18 +129,7 @@ module _ (laws : TreeLaws) (limit : ℕ) (m new : Inodes) (t : Tree) (a : Agrees
 
     -- each file has as many paths as links: the new one has one
     new_links : (k links : ℕ) (bytes : List ℕ) → new k ≡ Some (AFile links bytes) → path_count (insert t.names (up ++ name ∷ []) n) k ≡ links
-    new_links k links bytes is = by (cases_eq k d) (cases_eq k n)
-      where
-        count : path_count (insert t.names (up ++ name ∷ []) n) k ≡ one_if n k + path_count t.names k
-        count = laws.count_put t.names (up ++ name ∷ []) n k free
-
-        by : (k ≡ d) ⊎ (k ≡ d → ⊥) → (k ≡ n) ⊎ (k ≡ n → ⊥) → path_count (insert t.names (up ++ name ∷ []) n) k ≡ links
-        by (inl e) side = absurd (dir_file ch.under.after links bytes (ap new e ∙ ch.under.now) is)
-        by (inr away) (inl e) =
-            let one = one_link thing links bytes (same_Some _ (AFile links bytes) (sym (ch.named ∙ ap Some is_new) ∙ ap new (sym e) ∙ is)) in
-            let none : path_count t.names k ≡ 0 = ap (path_count t.names) e ∙ no_paths unused in
-            omega (arith, count, counts_one n k (sym e), none, one)
-        by (inr away) (inr off) = omega (arith, count, counts_none n k (λ e. off (sym e)), a.links k links bytes (sym (ch.others k away off) ∙ is))
+    new_links k links bytes is = grind (arith, up ++ name ∷ [], cases_eq k d, cases_eq k n, t.names, laws.count_put, dir_file, ch.under.after, ch.under.now, one_link, same_Some, ch.named, no_paths, counts_one, counts_none, a.links, ch.others)
 
     -- the new map is that of the tree with the new node
     pub node_agrees : Agrees limit new (record { names = insert t.names (up ++ name ∷ []) n; nodes = insert t.nodes n thing })
@@ -190,12 +145,7 @@ module _ (laws : TreeLaws) (limit : ℕ) (m new : Inodes) (t : Tree) (a : Agrees
   module _ (links : ℕ) (bytes : List ℕ) (old : m n ≡ Some (AFile links bytes)) (more : x ≡ AFile (links + 1) bytes) where
     -- the nodes are those of the new map, as before
     link_nodes : (k : ℕ) → get t.nodes k ≡ option_map thing_of (new k)
-    link_nodes k = a.nodes k ∙ by (cases_eq k d) (cases_eq k n)
-      where
-        by : (k ≡ d) ⊎ (k ≡ d → ⊥) → (k ≡ n) ⊎ (k ≡ n → ⊥) → option_map thing_of (m k) ≡ option_map thing_of (new k)
-        by (inl e) side = ap (λ k. option_map thing_of (m k)) e ∙ ap (option_map thing_of) ch.under.dir ∙ sym (ap (λ k. option_map thing_of (new k)) e ∙ ap (option_map thing_of) ch.under.now)
-        by (inr away) (inl e) = ap (λ k. option_map thing_of (m k)) e ∙ ap (option_map thing_of) old ∙ sym (ap (λ k. option_map thing_of (new k)) e ∙ ap (option_map thing_of) (ch.named ∙ ap Some more))
-        by (inr away) (inr off) = ap (option_map thing_of) (sym (ch.others k away off))
+    link_nodes k = grind (arith, cases_eq k d, cases_eq k n, option_map thing_of, a.nodes, ch.under.dir, ch.under.now, ch.named, ch.others)
 
     -- each file has as many paths as links: this one has one more
     link_links : (k l : ℕ) (b : List ℕ) → new k ≡ Some (AFile l b) → path_count (insert t.names (up ++ name ∷ []) n) k ≡ l

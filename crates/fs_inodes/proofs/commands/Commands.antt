@@ -1,13 +1,13 @@
 -- Each command's tree is that of the inode map which the code makes: the changes of slots and nodes, put to the steps of trees.
-use Rattle.std.proofs.Common.{◌≡◌, ◌≢◌, ◌<◌, ℕ, ◌+◌, ◌==◌, Bool, false, if◌then◌else◌, List, [], ◌∷◌, ◌++◌, length, replicate, Option, Some, None, is_none, option_map, option_and_then, sym, refl, ap, subst, ◌∙◌, arith, ne_eqb, true}
+use Rattle.std.proofs.Common.{◌≡◌, ◌≢◌, ◌<◌, ℕ, ◌+◌, ◌==◌, Bool, false, if◌then◌else◌, List, [], ◌∷◌, ◌++◌, length, replicate, Option, Some, None, is_none, option_map, option_and_then, sym, refl, ap, subst, ◌∙◌, arith, ne_eqb}
 use Rattle.std.proofs.lemmas.List.{length-replicate}
 use Rattle.std.specs.FinMap.{get, insert}
 use Rattle.lang_tree.specs.declared.command.Cmd.{Cmd}
-use Rattle.lang_tree.specs.declared.command.Cmd.TheVariants.{Mkdir, Create, Write, Fill, Truncate, Link, Unlink, Rmdir, Rename}
+use Rattle.lang_tree.specs.declared.command.Cmd.TheVariants.{Write, Fill, Truncate, Link, Unlink, Rmdir, Rename}
 use Rattle.lang_tree.specs.declared.command.Reply.TheVariants.{Ok as Done}
 use Rattle.lang_tree.specs.declared.command.Refusal.{Refusal}
 use Rattle.lang_tree.specs.declared.command.Refusal.TheVariants.{Exists, NoNode, IsDir}
-use Rattle.lang_tree.specs.Tree.{Tree, Thing, Dir, File, IsSound}
+use Rattle.lang_tree.specs.Tree.{Tree, Thing, File, IsSound}
 use Rattle.lang_tree.specs.Names.{holds_names}
 use Rattle.lang_tree.specs.Walk.{parent_refusal, walk_refusal, is_there, is_dir, thing_at, links, bytes_in, content}
 use Rattle.lang_tree.specs.Conditions.{when, refusal, least_unused, make_refusal, first_reason}
@@ -29,13 +29,11 @@ use Rattle.fs_inodes.proofs.commands.Renaming.{under, moves_name, renamed_agrees
 
 -- where no reason comes first, the first one is none, and none of the later ones is
 no_reason : (r : Option Refusal) (rest : List (Option Refusal)) → first_reason (r ∷ rest) ≡ None → (r ≡ None) × (first_reason rest ≡ None)
-no_reason None rest e = (refl, e)
-no_reason (Some why) rest e = absurd cc
+no_reason r rest h1 = grind arith
 
 -- a condition that gives no reason doesn't hold
 not_so : (b : Bool) (why : Refusal) → when b why ≡ None → b ≡ false
-not_so true why e = absurd cc
-not_so false why e = refl
+not_so b why h1 = grind arith
 
 -- where nothing refuses it, a command leaves what it does when it is accepted
 done : (s : Session) (cmd : Cmd) → refusal s.limit s.tree cmd ≡ None → (step s cmd).0.tree ≡ (accepted s cmd).0.tree
@@ -44,6 +42,10 @@ done s cmd e = ap (λ r. (answered s cmd r).0.tree) e
 -- the map of the tree that the command leaves
 by_tree : (s : Session) (cmd : Cmd) (new : Inodes) (u : Tree) → (step s cmd).0.tree ≡ u → Agrees s.limit new u → IsMapOf s.limit new (step s cmd).0.tree
 by_tree s cmd new u is a = subst (IsMapOf s.limit new) (sym is) (is_map s.limit new u a)
+
+-- the command makes a thing at the path, where that isn't refused
+abbrev pub Makes : Session → Cmd → Path → Thing → Type 0
+Makes s cmd p thing = (refusal s.limit s.tree cmd ≡ make_refusal s.limit s.tree p) × ((accepted s cmd).0.tree ≡ added s.limit s.tree p thing)
 
 module _ (laws : TreeLaws) (s : Session) (m new : Inodes) (is : IsMapOf s.limit m s.tree) where
   -- the map and the tree agree
@@ -74,17 +76,11 @@ module _ (laws : TreeLaws) (s : Session) (m new : Inodes) (is : IsMapOf s.limit 
         node_agrees laws s.limit m new s.tree a up name d n (new_inode thing) (at up d leads) (lacks (get s.tree.names (up ++ name ∷ [])) (not_so (is_there s.tree (up ++ name ∷ [])) Exists two.0)) ch
         thing refl number.0 number.1 number.2
 
-  -- a mkdir
-  pub mkdir_named : (up : Path) (name : List ℕ) (d n : ℕ) → refusal s.limit s.tree (Mkdir (up ++ name ∷ [])) ≡ None → LeadsTo m up d → least_free s.limit m ≡ Some n → AddsName m new d n name (new_inode Dir)
-      → IsMapOf s.limit new (step s (Mkdir (up ++ name ∷ []))).0.tree
-  mkdir_named up name d n accepts leads free ch =
-      by_tree s (Mkdir (up ++ name ∷ [])) new _ (done s (Mkdir (up ++ name ∷ [])) accepts ∙ made_tree up name d n leads free Dir ch accepts) (made_agrees up name d n leads free Dir ch accepts)
-
-  -- a create
-  pub create_named : (up : Path) (name : List ℕ) (d n : ℕ) → refusal s.limit s.tree (Create (up ++ name ∷ [])) ≡ None → LeadsTo m up d → least_free s.limit m ≡ Some n → AddsName m new d n name (new_inode (File []))
-      → IsMapOf s.limit new (step s (Create (up ++ name ∷ []))).0.tree
-  create_named up name d n accepts leads free ch =
-      by_tree s (Create (up ++ name ∷ [])) new _ (done s (Create (up ++ name ∷ [])) accepts ∙ made_tree up name d n leads free (File []) ch accepts) (made_agrees up name d n leads free (File []) ch accepts)
+  -- a mkdir or a create
+  pub made_named : (cmd : Cmd) (up : Path) (name : List ℕ) (d n : ℕ) (thing : Thing) → Makes s cmd (up ++ name ∷ []) thing → refusal s.limit s.tree cmd ≡ None → LeadsTo m up d → least_free s.limit m ≡ Some n
+      → AddsName m new d n name (new_inode thing) → IsMapOf s.limit new (step s cmd).0.tree
+  made_named cmd up name d n thing makes accepts leads free ch =
+      by_tree s cmd new _ (done s cmd accepts ∙ makes.1 ∙ made_tree up name d n leads free thing ch (sym makes.0 ∙ accepts)) (made_agrees up name d n leads free thing ch (sym makes.0 ∙ accepts))
 
   -- Another path.
   pub link_named : (path up : Path) (name : List ℕ) (d n links : ℕ) (bytes : List ℕ) → refusal s.limit s.tree (Link path (up ++ name ∷ [])) ≡ None → LeadsTo m path n → m n ≡ Some (AFile links bytes)
@@ -171,31 +167,17 @@ module _ (laws : TreeLaws) (s : Session) (m new : Inodes) (is : IsMapOf s.limit 
 
   -- the reasons of a new node leave its path free
   free_to_make : (p : Path) → make_refusal s.limit s.tree p ≡ None → get s.tree.names p ≡ None
-  free_to_make p accepts =
-      let one = no_reason (parent_refusal s.tree p) (when (is_there s.tree p) Exists ∷ when (is_none (least_unused s.limit s.tree.nodes)) NoNode ∷ []) accepts in
-      let two = no_reason (when (is_there s.tree p) Exists) (when (is_none (least_unused s.limit s.tree.nodes)) NoNode ∷ []) one.1 in
-      lacks (get s.tree.names p) (not_so (is_there s.tree p) Exists two.0)
+  free_to_make p accepts = grind (arith, s.tree, s.limit, s.tree.nodes, s.tree.names)
 
   -- and so do those of another path
   free_to_link : (path p : Path) → refusal s.limit s.tree (Link path p) ≡ None → get s.tree.names p ≡ None
-  free_to_link path p accepts =
-      let there : Option Refusal = when (is_there s.tree p) Exists in
-      let rest : List (Option Refusal) = when (is_dir (thing_at s.tree path)) IsDir ∷ _ in
-      let one = no_reason (walk_refusal s.tree path) (parent_refusal s.tree p ∷ there ∷ rest) accepts in
-      let two = no_reason (parent_refusal s.tree p) (there ∷ rest) one.1 in
-      lacks (get s.tree.names p) (not_so (is_there s.tree p) Exists (no_reason there rest two.1).0)
+  free_to_link path p accepts = grind (arith, s.tree, s.tree.names)
 
-  -- a mkdir
-  pub mkdir_shown : (up : Path) (name : List ℕ) (d n : ℕ) → refusal s.limit s.tree (Mkdir (up ++ name ∷ [])) ≡ None → LeadsTo m up d → least_free s.limit m ≡ Some n → AddsSlot m new d n name (new_inode Dir)
-      → IsMapOf s.limit new (step s (Mkdir (up ++ name ∷ []))).0.tree
-  mkdir_shown up name d n accepts leads free ch =
-      mkdir_named up name d n accepts leads free (adds_name s.limit m new s.tree a up name d n (new_inode Dir) (at up d leads) (free_to_make (up ++ name ∷ []) accepts) ch)
-
-  -- a create
-  pub create_shown : (up : Path) (name : List ℕ) (d n : ℕ) → refusal s.limit s.tree (Create (up ++ name ∷ [])) ≡ None → LeadsTo m up d → least_free s.limit m ≡ Some n → AddsSlot m new d n name (new_inode (File []))
-      → IsMapOf s.limit new (step s (Create (up ++ name ∷ []))).0.tree
-  create_shown up name d n accepts leads free ch =
-      create_named up name d n accepts leads free (adds_name s.limit m new s.tree a up name d n (new_inode (File [])) (at up d leads) (free_to_make (up ++ name ∷ []) accepts) ch)
+  -- a mkdir or a create
+  pub made_shown : (cmd : Cmd) (up : Path) (name : List ℕ) (d n : ℕ) (thing : Thing) → Makes s cmd (up ++ name ∷ []) thing → refusal s.limit s.tree cmd ≡ None → LeadsTo m up d → least_free s.limit m ≡ Some n
+      → AddsSlot m new d n name (new_inode thing) → IsMapOf s.limit new (step s cmd).0.tree
+  made_shown cmd up name d n thing makes accepts leads free ch =
+      made_named cmd up name d n thing makes accepts leads free (adds_name s.limit m new s.tree a up name d n (new_inode thing) (at up d leads) (free_to_make (up ++ name ∷ []) (sym makes.0 ∙ accepts)) ch)
 
   -- another path
   pub link_shown : (path up : Path) (name : List ℕ) (d n links : ℕ) (bytes : List ℕ) → refusal s.limit s.tree (Link path (up ++ name ∷ [])) ≡ None → LeadsTo m path n → m n ≡ Some (AFile links bytes)

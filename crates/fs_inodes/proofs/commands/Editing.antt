@@ -1,65 +1,33 @@
 -- A file has other bytes.
-use Rattle.std.proofs.Common.{◌≡◌, ℕ, List, Option, Some, None, option_map, option_and_then, sym, refl, ap, ◌∙◌, ◌⊎◌, inl, inr}
+use Rattle.std.proofs.Common.{◌≡◌, ℕ, List, Some, option_map, ◌∙◌, ◌⊎◌, arith}
 use Rattle.std.proofs.lemmas.Bool.{cases_eq}
 use Rattle.std.specs.FinMap.{get, insert}
 use Rattle.layout_bytes.specs.declared.slot.Slot.{Slot}
 use Rattle.lang_tree.specs.Tree.{Tree, File, IsSound}
 use Rattle.lang_tree.specs.Names.{path_count}
 use Rattle.crash_stands.specs.Inodes.{Inodes, ADir, AFile, AreDistinct, thing_of}
-use Rattle.crash_stands.specs.Walks.{Entries, entries_of, entry_in}
+use Rattle.crash_stands.specs.Walks.{entries_of}
 use Rattle.fs_inodes.specs.Changes.{Sets}
-use Rattle.fs_inodes.proofs.basics.Paths.{Path}
 use Rattle.fs_inodes.proofs.basics.FinMaps.{node_here, node_other}
-use Rattle.fs_inodes.proofs.commands.Adding.{dir_file, one_file}
-use Rattle.fs_inodes.proofs.agreement.Agree.{Agrees, GoesOn}
-
--- paths go on by entries that are the same
-pub same_goes : (e f : Entries) (names : Path → Option ℕ) → ((k : ℕ) (b : List ℕ) → f k b ≡ e k b) → GoesOn e names → GoesOn f names
-same_goes e f names same goes up b = goes up b ∙ by (names up)
-  where
-    by : (o : Option ℕ) → option_and_then (λ k. e k b) o ≡ option_and_then (λ k. f k b) o
-    by None = refl
-    by (Some k) = sym (same k b)
+use Rattle.fs_inodes.proofs.agreement.Agree.{Agrees}
 
 module _ (limit : ℕ) (m new : Inodes) (t : Tree) (a : Agrees limit m t) (k links : ℕ) (old bytes : List ℕ) (there : m k ≡ Some (AFile links old)) (ch : Sets m new k (Some (AFile links bytes))) where
   -- no entry changed
   same_entries : (j : ℕ) (b : List ℕ) → entries_of new j b ≡ entries_of m j b
-  same_entries j b = by (cases_eq j k)
-    where
-      by : (j ≡ k) ⊎ (j ≡ k → ⊥) → entries_of new j b ≡ entries_of m j b
-      by (inl e) = ap (λ j. entry_in (new j) b) e ∙ ap (λ o. entry_in o b) ch.here ∙ sym (ap (λ j. entry_in (m j) b) e ∙ ap (λ o. entry_in o b) there)
-      by (inr off) = ap (λ o. entry_in o b) (ch.others j off)
+  same_entries j b = grind (arith, cases_eq j k, ch.here, ch.others)
 
   -- the nodes with the new bytes are those of the new map
   edited_nodes : (j : ℕ) → get (insert t.nodes k (File bytes)) j ≡ option_map thing_of (new j)
-  edited_nodes j = by (cases_eq j k)
-    where
-      by : (j ≡ k) ⊎ (j ≡ k → ⊥) → get (insert t.nodes k (File bytes)) j ≡ option_map thing_of (new j)
-      by (inl e) = node_here t.nodes k (File bytes) j e ∙ sym (ap (λ j. option_map thing_of (new j)) e ∙ ap (option_map thing_of) ch.here)
-      by (inr off) = node_other t.nodes k (File bytes) j off ∙ a.nodes j ∙ ap (option_map thing_of) (sym (ch.others j off))
+  edited_nodes j = grind (arith, cases_eq j k, node_here, node_other, a.nodes, ch.here, ch.others)
 
   -- each file has as many paths as links, as before
   edited_links : (j l : ℕ) (b : List ℕ) → new j ≡ Some (AFile l b) → path_count t.names j ≡ l
-  edited_links j l b is = by (cases_eq j k)
-    where
-      by : (j ≡ k) ⊎ (j ≡ k → ⊥) → path_count t.names j ≡ l
-      by (inl e) = a.links j links old (ap m e ∙ there) ∙ sym (one_file l links b bytes is (ap new e ∙ ch.here))
-      by (inr off) = a.links j l b (sym (ch.others j off) ∙ is)
+  edited_links j l b is = grind (arith, cases_eq j k, a.links, ch.here, ch.others)
 
   -- no directory changed
   edited_distinct : (j : ℕ) (slots : List Slot) → new j ≡ Some (ADir slots) → AreDistinct slots
-  edited_distinct j slots is = by (cases_eq j k)
-    where
-      by : (j ≡ k) ⊎ (j ≡ k → ⊥) → AreDistinct slots
-      by (inl e) = absurd (dir_file slots links bytes is (ap new e ∙ ch.here))
-      by (inr off) = a.distinct j slots (sym (ch.others j off) ∙ is)
+  edited_distinct j slots is = grind (arith, cases_eq j k, a.distinct, ch.here, ch.others)
 
   -- the new map is that of the tree with the new bytes
   pub edited_agrees : IsSound limit (record { names = t.names; nodes = insert t.nodes k (File bytes) }) → Agrees limit new (record { names = t.names; nodes = insert t.nodes k (File bytes) })
-  edited_agrees sound = record {
-    sound = sound;
-    goes = same_goes (entries_of m) (entries_of new) (get t.names) same_entries a.goes;
-    nodes = edited_nodes;
-    links = edited_links;
-    distinct = edited_distinct;
-  }
+  edited_agrees sound = grind (arith, t.names, same_entries, a.goes, edited_nodes)

@@ -1,5 +1,5 @@
 -- What is left of a node where one slot less names it, and of the tree's nodes where a path is gone.
-use Rattle.std.proofs.Common.{◌≡◌, ℕ, ◌+◌, ◌-◌, ◌==◌, Bool, true, false, if◌then◌else◌, List, Option, Some, None, option_map, option_and_then, sym, refl, ap, ◌∙◌, ◌⊎◌, inl, inr, arith, eq-eqb, ne_eqb}
+use Rattle.std.proofs.Common.{◌≡◌, ℕ, ◌+◌, ◌-◌, ◌==◌, Bool, true, false, if◌then◌else◌, List, Option, Some, None, option_map, option_and_then, sym, refl, ap, ◌∙◌, ◌⊎◌, arith, eq-eqb, ne_eqb}
 use Rattle.std.proofs.lemmas.Bool.{cases_eq}
 use Rattle.std.specs.FinMap.{get, remove}
 use Rattle.std.proofs.lemmas.Option.{none-some}
@@ -13,42 +13,16 @@ use Rattle.fs_inodes.specs.Changes.{one_link_less}
 use Rattle.fs_inodes.specs.TreeLaws.{TreeLaws}
 use Rattle.fs_inodes.proofs.basics.Paths.{Path}
 use Rattle.fs_inodes.proofs.basics.FinMaps.{node_gone, node_stays}
-use Rattle.fs_inodes.proofs.commands.Adding.{one_if, counts_one, dir_file, one_file}
+use Rattle.fs_inodes.proofs.commands.Adding.{one_if, counts_one}
 use Rattle.fs_inodes.proofs.agreement.Agree.{Agrees}
 
 -- nothing is in what is left
 pub left_empty : (o : Option Inode) (b : List ℕ) → entry_in (option_and_then one_link_less o) b ≡ None
-left_empty None b = refl
-left_empty (Some (ADir slots)) b = refl
-left_empty (Some (AFile links bytes)) b = by (links == 1) _
-  where
-    by : (t : Bool) (less : ℕ) → entry_in (if t then None else Some (AFile less bytes)) b ≡ None
-    by true less = refl
-    by false less = refl
+left_empty o b = grind arith
 
 -- what is left isn't a directory
 pub left_no_dir : (o : Option Inode) (slots : List Slot) → option_and_then one_link_less o ≡ Some (ADir slots) → ⊥
-left_no_dir None slots e = none-some (ADir slots) e
-left_no_dir (Some (ADir others)) slots e = none-some (ADir slots) e
-left_no_dir (Some (AFile links bytes)) slots e = by (links == 1) _ e
-  where
-    by : (t : Bool) (less : ℕ) → (if t then None else Some (AFile less bytes)) ≡ Some (ADir slots) → ⊥
-    by true less e = none-some (ADir slots) e
-    by false less e = dir_file slots less bytes refl (sym e)
-
--- a file that is left had one link more
-pub left_links : (o : Option Inode) (links : ℕ) (bytes : List ℕ) → option_and_then one_link_less o ≡ Some (AFile links bytes)
-    → (old : ℕ) × (o ≡ Some (AFile old bytes)) × (links ≡ old - 1)
-left_links None links bytes e = absurd (none-some (AFile links bytes) e)
-left_links (Some (ADir slots)) links bytes e = absurd (none-some (AFile links bytes) e)
-left_links (Some (AFile old more)) links bytes e = by (old == 1) e
-  where
-    by : (t : Bool) → (if t then None else Some (AFile (old - 1) more)) ≡ Some (AFile links bytes) → (before : ℕ) × (Some (AFile old more) ≡ Some (AFile before bytes)) × (links ≡ before - 1)
-    by true e = absurd (none-some (AFile links bytes) e)
-    by false e = (old, ap (λ b. Some (AFile old b)) (bytes_same e), one_file links (old - 1) bytes more refl (sym e))
-      where
-        bytes_same : Some (AFile (old - 1) more) ≡ Some (AFile links bytes) → more ≡ bytes
-        bytes_same e = cc
+left_no_dir o slots h1 = grind (arith, none-some)
 
 module _ (laws : TreeLaws) (limit : ℕ) (m : Inodes) (t : Tree) (a : Agrees limit m t) (path : Path) (n : ℕ) (there : get t.names path ≡ Some n) where
   -- the number that the path leads to has one path less
@@ -89,12 +63,7 @@ module _ (laws : TreeLaws) (limit : ℕ) (m : Inodes) (t : Tree) (a : Agrees lim
 
       file_left : (links : ℕ) (bytes : List ℕ) → path_count t.names n ≡ links → get t.nodes n ≡ Some (File bytes) → (links ≡ 1) ⊎ (links ≡ 1 → ⊥)
           → nodes_left (get t.nodes n) (path_count (remove t.names path) n == 0) ≡ option_map thing_of (if links == 1 then None else Some (AFile (links - 1) bytes))
-      file_left links bytes count is (inl one) =
-          ap (nodes_left (get t.nodes n)) (zero_left (path_count (remove t.names path) n) (omega (arith, one_less_here, count, one)))
-          ∙ sym (ap (λ b. option_map thing_of (if b then None else Some (AFile (links - 1) bytes))) (eq-eqb links 1 one))
-      file_left links bytes count is (inr more) =
-          ap (nodes_left (get t.nodes n)) (ne_eqb (path_count (remove t.names path) n) 0 (λ none. more (omega (arith, one_less_here, count, none)))) ∙ is
-          ∙ sym (ap (λ b. option_map thing_of (if b then None else Some (AFile (links - 1) bytes))) (ne_eqb links 1 more))
+      file_left links bytes h1 h2 h3 = grind (arith, t.nodes, zero_left, t.names, one_less_here, eq-eqb, ne_eqb)
 
       by : (o : Option Inode) → m n ≡ o → nodes_left (get t.nodes n) (path_count (remove t.names path) n == 0) ≡ option_map thing_of (option_and_then one_link_less o)
       by None is = let x = a.sound.named path n there in absurd (none-some x.0 (sym (a.nodes n ∙ ap (option_map thing_of) is) ∙ x.1))
@@ -105,6 +74,4 @@ module _ (laws : TreeLaws) (limit : ℕ) (m : Inodes) (t : Tree) (a : Agrees lim
 
   -- its links are the paths that are left
   pub lost_links : (links : ℕ) (bytes : List ℕ) → option_and_then one_link_less (m n) ≡ Some (AFile links bytes) → path_count (remove t.names path) n ≡ links
-  lost_links links bytes e =
-      let old = left_links (m n) links bytes e in
-      omega (arith, one_less_here, a.links n old.0 bytes old.1, old.2)
+  lost_links links bytes e = grind (arith, one_less_here, a.links)

@@ -1,14 +1,11 @@
 -- One inode set, and each change as some inodes set one after the other: the map with them in place of the old ones is one that a command makes.
-use Rattle.std.proofs.Common.{◌≡◌, ◌≢◌, ℕ, if◌then◌else◌, List, [], ◌∷◌, ◌++◌, slice_get, Option, Some, None, option_and_then, sym, refl, subst, ap, ◌∙◌, ◌⊎◌, inl, inr, eq-eqb, ne_eqb}
-use Rattle.std.proofs.lemmas.Bool.{cases_eq}
+use Rattle.std.proofs.Common.{◌≡◌, ◌≢◌, ℕ, if◌then◌else◌, List, [], ◌∷◌, ◌++◌, slice_get, Option, Some, option_and_then, sym, refl, ap, ◌∙◌, ◌⊎◌, eq-eqb, ne_eqb, arith}
 use Rattle.layout_bytes.specs.declared.slot.Slot.{Slot}
 use Rattle.layout_directory.specs.Directory.{without_at}
-use Rattle.crash_stands.specs.Files.{FileNode, Files}
-use Rattle.crash_stands.specs.Inodes.{Inode, Inodes, ADir, IsInodeOf, AreInodesOf}
+use Rattle.crash_stands.specs.Inodes.{Inode, Inodes, ADir}
 use Rattle.crash_stands.specs.Walks.{node_in}
 use Rattle.fs_inodes.specs.Changes.{slot_of, with_slot, one_link_less, with_inode, with_less, with_slot_in, without_slot_in, with_move, Sets, AddsSlot, TakesSlot, MovesSlot}
 use Rattle.fs_inodes.specs.Lookups.{slots_of}
-use Rattle.fs_inodes.proofs.basics.Numbers.{everywhere}
 
 -- One inode set.
 
@@ -24,78 +21,21 @@ set_other m k x l off = ap (λ b. if b then x else m l) (ne_eqb l k off)
 pub sets : (m : Inodes) (k : ℕ) (x : Option Inode) → Sets m (with_inode m k x) k x
 sets m k x = record { here = set_here m k x k refl; others = set_other m k x }
 
--- where one node changes and reads as that inode, the files read as the map with it
-pub still_read : (old new : Files) (m : Inodes) (k : ℕ) (x : Option Inode) → AreInodesOf old m → IsInodeOf (new k) x → ((l : ℕ) → (l ≡ k → ⊥) → new l ≡ old l) → AreInodesOf new (with_inode m k x)
-still_read old new m k x read here others l = by (cases_eq l k)
-  where
-    by : (l ≡ k) ⊎ (l ≡ k → ⊥) → IsInodeOf (new l) (with_inode m k x l)
-    by (inl e) = subst (λ (i : Option Inode). IsInodeOf (new l) i) (sym (set_here m k x l e)) (subst (λ j. IsInodeOf (new j) x) (sym e) here)
-    by (inr off) = subst (λ (i : Option Inode). IsInodeOf (new l) i) (sym (set_other m k x l off)) (subst (λ (f : Option FileNode). IsInodeOf f (m l)) (sym (others l off)) (read l))
-
--- two inodes set
-abbrev set_two : Inodes → ℕ → Option Inode → ℕ → Option Inode → Inodes
-set_two m a x b y = with_inode (with_inode m a x) b y
-
--- the second one is there
-second_here : (m : Inodes) (a : ℕ) (x : Option Inode) (b : ℕ) (y : Option Inode) → set_two m a x b y b ≡ y
-second_here m a x b y = set_here (with_inode m a x) b y b refl
-
--- and so does the first one, under another number
-first_here : (m : Inodes) (a : ℕ) (x : Option Inode) (b : ℕ) (y : Option Inode) → a ≢ b → set_two m a x b y a ≡ x
-first_here m a x b y off = set_other (with_inode m a x) b y a off ∙ set_here m a x a refl
-
--- nothing else changed
-neither : (m : Inodes) (a : ℕ) (x : Option Inode) (b : ℕ) (y : Option Inode) (k : ℕ) → k ≢ a → k ≢ b → set_two m a x b y k ≡ m k
-neither m a x b y k off away = set_other (with_inode m a x) b y k away ∙ set_other m a x k off
-
--- what is set twice is as if set once
-pub twice : (m : Inodes) (k : ℕ) (x y : Option Inode) → with_inode (with_inode m k x) k y ≡ with_inode m k y
-twice m k x y = everywhere (with_inode (with_inode m k x) k y) (with_inode m k y) (λ l. by l (cases_eq l k))
-  where
-    by : (l : ℕ) → (l ≡ k) ⊎ (l ≡ k → ⊥) → with_inode (with_inode m k x) k y l ≡ with_inode m k y l
-    by l (inl e) = set_here (with_inode m k x) k y l e ∙ sym (set_here m k y l e)
-    by l (inr off) = set_other (with_inode m k x) k y l off ∙ set_other m k x l off ∙ sym (set_other m k y l off)
-
--- inodes under two numbers may be set in any order
-pub in_any_order : (m : Inodes) (a b : ℕ) (x y : Option Inode) → a ≢ b → with_inode (with_inode m a x) b y ≡ with_inode (with_inode m b y) a x
-in_any_order m a b x y apart = everywhere (set_two m a x b y) (set_two m b y a x) (λ l. by l (cases_eq l a) (cases_eq l b))
-  where
-    by : (l : ℕ) → (l ≡ a) ⊎ (l ≡ a → ⊥) → (l ≡ b) ⊎ (l ≡ b → ⊥) → set_two m a x b y l ≡ set_two m b y a x l
-    by l (inl e) (inl f) = absurd (apart (sym e ∙ f))
-    by l (inl e) (inr off) = set_other (with_inode m a x) b y l off ∙ set_here m a x l e ∙ sym (set_here (with_inode m b y) a x l e)
-    by l (inr off) (inl f) = set_here (with_inode m a x) b y l f ∙ sym (set_other (with_inode m b y) a x l off ∙ set_here m b y l f)
-    by l (inr off) (inr away) = neither m a x b y l off away ∙ sym (neither m b y a x l away off)
-
 -- a node set, and then the directory with the new slot
 pub adds : (m : Inodes) (up node : ℕ) (name : List ℕ) (x : Inode) (slots : List Slot) → m up ≡ Some (ADir slots) → up ≢ node
     → AddsSlot m (with_inode (with_inode m node (Some x)) up (Some (ADir (slots ++ slot_of node name ∷ [])))) up node name x
-adds m up node name x slots dir apart = record {
-  slots = slots;
-  dir = dir;
-  added = second_here m node (Some x) up (Some (ADir (slots ++ slot_of node name ∷ [])));
-  named = first_here m node (Some x) up (Some (ADir (slots ++ slot_of node name ∷ []))) (λ e. apart (sym e));
-  others = λ k off away. neither m node (Some x) up (Some (ADir (slots ++ slot_of node name ∷ []))) k away off;
-}
+adds m up node name x slots dir apart = grind arith
 
 -- the directory without the slot, and then the node with one link less
 pub takes : (m : Inodes) (up node place : ℕ) (name : List ℕ) (slots : List Slot) → m up ≡ Some (ADir slots) → slice_get slots place ≡ Some (slot_of node name) → up ≢ node
     → TakesSlot m (with_inode (with_inode m up (Some (ADir (without_at place slots)))) node (option_and_then one_link_less (m node))) up node name
-takes m up node place name slots dir slot apart = record {
-  slots = slots;
-  place = place;
-  dir = dir;
-  slot = slot;
-  taken = first_here m up (Some (ADir (without_at place slots))) node (option_and_then one_link_less (m node)) apart;
-  left = second_here m up (Some (ADir (without_at place slots))) node (option_and_then one_link_less (m node));
-  others = neither m up (Some (ADir (without_at place slots))) node (option_and_then one_link_less (m node));
-}
+takes m up node place name slots dir slot apart = grind arith
 
 -- Of a move.
 
 -- with one link less, another node is as it was
 less_other : (m : Inodes) (o : Option ℕ) (k : ℕ) → (o ≡ Some k → ⊥) → with_less m o k ≡ m k
-less_other m None k off = refl
-less_other m (Some w) k off = set_other m w (option_and_then one_link_less (m w)) k (λ e. off (ap Some (sym e)))
+less_other m o k h1 = grind arith
 
 -- and the node itself has one link less
 less_here : (m : Inodes) (o : Option ℕ) (k : ℕ) → o ≡ Some k → with_less m o k ≡ option_and_then one_link_less (m k)

@@ -1,15 +1,14 @@
 -- What is at a path moves, whatever slots of which directories that changed: what these give of entries, nodes, links and names is a premise here.
-use Rattle.std.proofs.Common.{◌≡◌, ℕ, false, true≢false, List, [], ◌∷◌, ◌++◌, Option, Some, None, if◌then◌else◌, option_map, sym, refl, ap, ◌∙◌, ◌⊎◌, inl, inr}
+use Rattle.std.proofs.Common.{◌≡◌, ℕ, false, true≢false, List, [], ◌∷◌, ◌++◌, Some, None, if◌then◌else◌, option_map, sym, ap, ◌∙◌, ◌⊎◌, inl, inr, arith}
 use Rattle.std.specs.FinMap.{get, remove}
 use Rattle.layout_bytes.specs.declared.slot.Slot.{Slot}
 use Rattle.lang_tree.specs.declared.command.Cmd.TheVariants.{Rename}
-use Rattle.lang_tree.specs.declared.command.Reply.TheVariants.{Ok as Done}
 use Rattle.lang_tree.specs.Tree.{Tree, Dir}
 use Rattle.lang_tree.specs.Paths.{is_within}
-use Rattle.lang_tree.specs.Names.{path_count, holds_names, renamed}
+use Rattle.lang_tree.specs.Names.{path_count, holds_names}
 use Rattle.lang_tree.specs.Walk.{is_same_node}
 use Rattle.lang_tree.specs.Conditions.{refusal}
-use Rattle.lang_tree.specs.Step.{Session, step, answered, changed_to, moved, removed, removed_by}
+use Rattle.lang_tree.specs.Step.{Session, step, moved, removed}
 use Rattle.crash_stands.specs.Inodes.{Inodes, ADir, AFile, AreDistinct, thing_of}
 use Rattle.crash_stands.specs.Walks.{entries_of, entry_in}
 use Rattle.fs_inodes.specs.TreeLaws.{TreeLaws}
@@ -29,11 +28,7 @@ empty_at laws limit m t a p n at free b = by (which (entry_in (m n) b))
 
 -- the names that are left without a path
 pub removed_names : (t : Tree) (path : Path) → (removed t path).names ≡ remove t.names path
-removed_names t path = by (get t.names path) refl
-  where
-    by : (o : Option ℕ) → get t.names path ≡ o → (removed_by t path o).names ≡ remove t.names path
-    by None is = sym (no_name t.names path is)
-    by (Some n) is = refl
+removed_names t path = grind (arith, get t.names path, t.names, no_name)
 
 module _ (laws : TreeLaws) (s : Session) (m new : Inodes) (a : Agrees s.limit m s.tree) (up to : Path) (name other : List ℕ) (d c n : ℕ)
     (at_up : get s.tree.names up ≡ Some d) (up_dir : get s.tree.nodes d ≡ Some Dir) (at_to : get s.tree.names to ≡ Some c) (to_dir : get s.tree.nodes c ≡ Some Dir)
@@ -54,8 +49,7 @@ module _ (laws : TreeLaws) (s : Session) (m new : Inodes) (a : Agrees s.limit m 
 
   -- the tree after the step
   moved_tree : (step s (Rename (up ++ name ∷ []) (to ++ other ∷ []))).0.tree ≡ moved (removed s.tree (to ++ other ∷ [])) (up ++ name ∷ []) (to ++ other ∷ [])
-  moved_tree = ap (λ r. (answered s (Rename (up ++ name ∷ []) (to ++ other ∷ [])) r).0.tree) accepted
-      ∙ ap (λ b. (if b then (s, Done) else changed_to s (moved (removed s.tree (to ++ other ∷ [])) (up ++ name ∷ []) (to ++ other ∷ []))).0.tree) differ
+  moved_tree = grind (arith, s.tree)
 
   -- the paths after the move go on as the new entries do
   moved_goes : GoesOn (entries_of new) (get (step s (Rename (up ++ name ∷ []) (to ++ other ∷ []))).0.tree.names)
@@ -69,10 +63,7 @@ module _ (laws : TreeLaws) (s : Session) (m new : Inodes) (a : Agrees s.limit m 
 
   -- each number has as many paths as without the one that went
   moved_count : (k : ℕ) → path_count (step s (Rename (up ++ name ∷ []) (to ++ other ∷ []))).0.tree.names k ≡ path_count (removed s.tree (to ++ other ∷ [])).names k
-  moved_count k = ap (λ t. path_count t.names k) moved_tree
-      ∙ ap (λ names. path_count (renamed names (up ++ name ∷ []) (to ++ other ∷ [])) k) (removed_names s.tree (to ++ other ∷ []))
-      ∙ laws.count_moved s.tree.names (up ++ name ∷ []) (to ++ other ∷ []) k free
-      ∙ ap (λ names. path_count names k) (sym (removed_names s.tree (to ++ other ∷ [])))
+  moved_count k = grind (arith, removed_names, s.tree, laws.count_moved, s.tree.names, free)
 
   -- the new map is that of the tree after the move
   pub moved_agrees : Agrees s.limit new (step s (Rename (up ++ name ∷ []) (to ++ other ∷ []))).0.tree

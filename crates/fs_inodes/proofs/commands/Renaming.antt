@@ -20,7 +20,7 @@ use Rattle.fs_inodes.proofs.slots.Slots.{finds, taken_distinct, taken_here, take
 use Rattle.fs_inodes.proofs.slots.NamePlaces.{Puts, puts}
 use Rattle.fs_inodes.proofs.agreement.Steps.{step_at}
 use Rattle.fs_inodes.proofs.agreement.Agree.{Agrees}
-use Rattle.fs_inodes.proofs.commands.Adding.{one_dir, dir_file, counts_none}
+use Rattle.fs_inodes.proofs.commands.Adding.{one_dir, counts_none}
 use Rattle.fs_inodes.proofs.commands.Losing.{left_empty, left_no_dir, one_less_path, used_other, lost_here, lost_links}
 use Rattle.fs_inodes.proofs.commands.Taking.{distinct_as}
 use Rattle.fs_inodes.proofs.commands.Moving.{empty_at, moved_agrees}
@@ -36,17 +36,11 @@ module _ (limit : ℕ) (m : Inodes) (t : Tree) (a : Agrees limit m t) where
 
 -- what isn't node n isn't the same node
 not_same : (n : ℕ) (o : Option ℕ) → (o ≡ Some n → ⊥) → are_same (Some n) o ≡ false
-not_same n None off = refl
-not_same n (Some w) off = ne_eqb n w (λ e. off (ap Some (sym e)))
+not_same n o h1 = grind (arith, ne_eqb)
 
 -- an option holds a number, or not
 holds_number : (o : Option ℕ) (k : ℕ) → (o ≡ Some k) ⊎ (o ≡ Some k → ⊥)
-holds_number None k = inr (λ e. none-some k e)
-holds_number (Some w) k = by (cases_eq w k)
-  where
-    by : (w ≡ k) ⊎ (w ≡ k → ⊥) → (Some w ≡ Some k) ⊎ (Some w ≡ Some k → ⊥)
-    by (inl e) = inl (ap Some e)
-    by (inr off) = inr (λ e. off (same_Some w k e))
+holds_number o k = grind (arith, none-some, same_Some)
 
 -- What holds of all numbers but w holds of w too, which loses a path.
 module _ (laws : TreeLaws) (limit : ℕ) (m new : Inodes) (t : Tree) (a : Agrees limit m t) (target : Path) (w : ℕ) (there : get t.names target ≡ Some w)
@@ -156,8 +150,7 @@ module _ (limit : ℕ) (m new : Inodes) (t : Tree) (a : Agrees limit m t) (name 
 
   -- the second directory stays one
   into_stays : (d ≡ c) ⊎ (d ≡ c → ⊥) → (after : List Slot) × (new c ≡ Some (ADir after))
-  into_stays (inl e) = (_, ap new (sym e) ∙ source.taken)
-  into_stays (inr apart) = (_, (ch.across apart).1)
+  into_stays h1 = grind (arith, ch.across)
 
   -- so the name moves
   pub moves_name : MovesName m new d c n name other
@@ -201,17 +194,11 @@ module _ (laws : TreeLaws) (s : Session) (m new : Inodes) (a : Agrees s.limit m 
   module _ (k : ℕ) where
     -- it is one of the two directories, or none
     which_side : ((k ≡ d) ⊎ (k ≡ c)) ⊎ ((k ≡ d → ⊥) × (k ≡ c → ⊥))
-    which_side = by (cases_eq k d) (cases_eq k c)
-      where
-        by : (k ≡ d) ⊎ (k ≡ d → ⊥) → (k ≡ c) ⊎ (k ≡ c → ⊥) → ((k ≡ d) ⊎ (k ≡ c)) ⊎ ((k ≡ d → ⊥) × (k ≡ c → ⊥))
-        by (inl e) two = inl (inl e)
-        by (inr off) (inl e) = inl (inr e)
-        by (inr off) (inr away) = inr (off, away)
+    which_side = grind (arith, cases_eq k d, cases_eq k c)
 
     -- a directory before and after
     dir_before : (k ≡ d) ⊎ (k ≡ c) → (slots : List Slot) × (m k ≡ Some (ADir slots))
-    dir_before (inl e) = (ch.slots, ap m e ∙ ch.from_dir)
-    dir_before (inr e) = (ch.target, ap m e ∙ ch.into_dir)
+    dir_before h1 = grind (arith, ch.slots, ch.from_dir, ch.target, ch.into_dir)
 
     dir_after : (k ≡ d) ⊎ (k ≡ c) → (slots : List Slot) × (new k ≡ Some (ADir slots))
     dir_after (inl e) = (ch.from_stays.0, ap new e ∙ ch.from_stays.1)
@@ -228,19 +215,11 @@ module _ (laws : TreeLaws) (s : Session) (m new : Inodes) (a : Agrees s.limit m 
 
     -- every number but what goes stands for the same
     alike : (node_in ch.target other ≡ Some k → ⊥) → option_map thing_of (m k) ≡ option_map thing_of (new k)
-    alike far = by which_side
-      where
-        by : ((k ≡ d) ⊎ (k ≡ c)) ⊎ ((k ≡ d → ⊥) × (k ≡ c → ⊥)) → option_map thing_of (m k) ≡ option_map thing_of (new k)
-        by (inl side) = ap (option_map thing_of) (dir_before side).1 ∙ sym (ap (option_map thing_of) (dir_after side).1)
-        by (inr off) = ap (option_map thing_of) (sym (ch.others k off.0 off.1 far))
+    alike far = grind (arith, option_map thing_of, which_side, ch.others)
 
     -- and every file but what goes is the same
     file_same : (links : ℕ) (bytes : List ℕ) → (node_in ch.target other ≡ Some k → ⊥) → new k ≡ Some (AFile links bytes) → m k ≡ Some (AFile links bytes)
-    file_same links bytes far is = by which_side
-      where
-        by : ((k ≡ d) ⊎ (k ≡ c)) ⊎ ((k ≡ d → ⊥) × (k ≡ c → ⊥)) → m k ≡ Some (AFile links bytes)
-        by (inl side) = absurd (dir_file _ links bytes (dir_after side).1 is)
-        by (inr off) = sym (ch.others k off.0 off.1 far) ∙ is
+    file_same links bytes far is = grind (arith, which_side, ch.others)
 
     -- no directory has a name twice
     slots_distinct : (slots : List Slot) → new k ≡ Some (ADir slots) → AreDistinct slots

@@ -1,5 +1,5 @@
 -- A name goes from a directory, and the node that it named has one link less or goes.
-use Rattle.std.proofs.Common.{◌≡◌, ℕ, List, [], ◌∷◌, ◌++◌, slice_get, Some, None, option_map, sym, ap, ◌∙◌, ◌⊎◌, inl, inr, arith}
+use Rattle.std.proofs.Common.{◌≡◌, ℕ, List, [], ◌∷◌, ◌++◌, slice_get, Some, None, option_map, option_and_then, sym, refl, ap, ◌∙◌, ◌⊎◌, inl, inr, arith}
 use Rattle.std.proofs.lemmas.Bool.{cases_eq}
 use Rattle.std.specs.FinMap.{get, remove}
 use Rattle.layout_bytes.specs.declared.slot.Slot.{Slot}
@@ -14,10 +14,10 @@ use Rattle.fs_inodes.specs.TreeLaws.{TreeLaws}
 use Rattle.fs_inodes.proofs.basics.Paths.{Path}
 use Rattle.fs_inodes.proofs.basics.FinMaps.{name_gone, name_left}
 use Rattle.fs_inodes.proofs.slots.Slots.{finds, taken_distinct, taken_here, taken_other}
-use Rattle.fs_inodes.proofs.agreement.Steps.{EntryIs, step_at, take_goes}
+use Rattle.fs_inodes.proofs.agreement.Steps.{EntryIs, step_at, turn_goes}
 use Rattle.fs_inodes.proofs.agreement.Agree.{Agrees, GoesOn}
-use Rattle.fs_inodes.proofs.commands.Adding.{one_dir, dir_file, counts_none}
-use Rattle.fs_inodes.proofs.commands.Losing.{left_empty, left_no_dir, one_less_path, used_other, lost_here, lost_links}
+use Rattle.fs_inodes.proofs.commands.Adding.{dir_file, counts_none}
+use Rattle.fs_inodes.proofs.commands.Losing.{left_empty, one_less_path, used_other, lost_here, lost_links}
 
 -- distinct slots, by another word for the list
 pub distinct_as : {slots others : List Slot} → slots ≡ others → AreDistinct others → AreDistinct slots
@@ -56,17 +56,12 @@ module _ (laws : TreeLaws) (limit : ℕ) (m new : Inodes) (t : Tree) (a : Agrees
   }
     where
       by : (k : ℕ) (b : List ℕ) → ((k ≡ d) × (b ≡ name) → ⊥) → (k ≡ d) ⊎ (k ≡ d → ⊥) → (k ≡ n) ⊎ (k ≡ n → ⊥) → entries_of new k b ≡ entries_of m k b
-      by k b off (inl e) side =
-          ap (λ k. entry_in (new k) b) e ∙ ap (λ o. entry_in o b) ch.under.now
-          ∙ ch.under.others b (λ f. off (e, f))
-          ∙ sym (ap (λ k. entry_in (m k) b) e ∙ ap (λ o. entry_in o b) ch.under.dir)
-      by k b off (inr away) (inl e) = ap (λ k. entry_in (new k) b) e ∙ ap (λ o. entry_in o b) ch.left ∙ left_empty (m n) b ∙ sym (ap (λ k. entry_in (m k) b) e ∙ empty b)
-      by k b off (inr away) (inr far) = ap (λ o. entry_in o b) (ch.others k away far)
+      by k b h1 h2 h3 = grind (arith, ch.left, left_empty, ch.others, ch.under.now, ch.under.others, ch.under.dir)
 
   -- the paths without this one go on as the new entries do
   taken_goes : GoesOn (entries_of new) (get (remove t.names (up ++ name ∷ [])))
-  taken_goes = take_goes (entries_of m) (entries_of new) (get t.names) (get (remove t.names (up ++ name ∷ []))) a.goes up name d n
-      (λ q at. a.sound.one_path d q up (a.nodes d ∙ ap (option_map thing_of) ch.under.dir) at at_up) there at_up entry empty
+  taken_goes = turn_goes (entries_of m) (entries_of new) (get t.names) (get (remove t.names (up ++ name ∷ []))) a.goes up name d None at_up
+      (λ q at. a.sound.one_path d q up (a.nodes d ∙ ap (option_map thing_of) ch.under.dir) at at_up) entry (λ b. ap (option_and_then (λ k. entries_of m k b)) there ∙ empty b) (λ b. refl)
       (name_gone t.names (up ++ name ∷ [])) (name_left t.names (up ++ name ∷ []))
 
   -- the nodes that are left are those of the new map
@@ -96,12 +91,7 @@ module _ (laws : TreeLaws) (limit : ℕ) (m new : Inodes) (t : Tree) (a : Agrees
 
   -- no directory has a name twice
   taken_slots_distinct : (k : ℕ) (slots : List Slot) → new k ≡ Some (ADir slots) → AreDistinct slots
-  taken_slots_distinct k slots is = by (cases_eq k d) (cases_eq k n)
-    where
-      by : (k ≡ d) ⊎ (k ≡ d → ⊥) → (k ≡ n) ⊎ (k ≡ n → ⊥) → AreDistinct slots
-      by (inl e) side = distinct_as (one_dir slots ch.under.after (ap new (sym e) ∙ is) ch.under.now) ch.under.distinct
-      by (inr away) (inl e) = absurd (left_no_dir (m n) slots (sym ch.left ∙ ap new (sym e) ∙ is))
-      by (inr away) (inr off) = a.distinct k slots (sym (ch.others k away off) ∙ is)
+  taken_slots_distinct k slots is = grind (arith, cases_eq k d, cases_eq k n, ch.under.after, ch.under.now, ch.under.distinct, ch.left, a.distinct, ch.others)
 
   -- the new map is that of the tree without the path
   pub taken_agrees : IsSound limit (with_used (remove t.names (up ++ name ∷ [])) t.nodes n) → Agrees limit new (with_used (remove t.names (up ++ name ∷ [])) t.nodes n)

@@ -1,11 +1,11 @@
 -- What lies at and below a path is the path itself, and then what lies at and below each name there, in the names' order.
-use Rattle.std.proofs.Common.{◌≡◌, ℕ, Bool, true, false, true≢false, cond, ◌&&◌, ◌||◌, T, List, [], ◌∷◌, ◌++◌, filter, Option, Some, None, is_some, refl, sym, ap, ap₂, subst, ◌∙◌, ◌⊎◌, inl, inr, append_assoc, append-nil}
+use Rattle.std.proofs.Common.{◌≡◌, ℕ, Bool, false, true≢false, cond, ◌&&◌, ◌||◌, T, List, [], ◌∷◌, ◌++◌, filter, Option, Some, None, is_some, refl, sym, ap, ap₂, subst, ◌∙◌, ◌⊎◌, inl, inr, append_assoc, append-nil, arith}
 use Rattle.std.proofs.lemmas.List.{append_cancel_left}
 use Rattle.std.specs.List.{flat_map, list_any}
 use Rattle.std.specs.Option.{option_or}
 use Rattle.std.specs.Ordering.{eq_by_cmp, is_lt, ordering_then}
 use Rattle.std.specs.declared.cmp.Ordering.{Ordering}
-use Rattle.std.specs.declared.cmp.Ordering.TheVariants.{Less, Equal, Greater}
+use Rattle.std.specs.declared.cmp.Ordering.TheVariants.{Less}
 use Rattle.std.specs.Cmp.{tied_itself}
 use Rattle.std.specs.FinMap.{get, entries, find, is_sorted, entries_sorted, get-entries}
 use Rattle.std.specs.FinMap.Entries.{below_all, find-where_key, is_sorted-where_key, same_entries}
@@ -38,9 +38,7 @@ lt_of o e = subst (λ o. T (is_lt o)) (sym e) tt
 
 -- and back
 less_of : (o : Ordering) → T (is_lt o) → o ≡ Less
-less_of Less h = refl
-less_of Equal h = absurd h
-less_of Greater h = absurd h
+less_of o h1 = grind arith
 
 -- what is before two lists is before both in a row
 below_both : (x : Path) (xs ys : List (Path × ℕ)) → T (below_all path_cmp x xs) → T (below_all path_cmp x ys) → T (below_all path_cmp x (xs ++ ys))
@@ -61,19 +59,11 @@ found_under names p q = find-where_key path_cmp (is_within p) q (λ x t. ap (is_
 -- a path is found in one list or else in the other
 found_both : (q : Path) (xs ys : List (Path × ℕ)) → find path_cmp q (xs ++ ys) ≡ option_or (find path_cmp q xs) (find path_cmp q ys)
 found_both q [] ys = refl
-found_both q (e ∷ xs) ys = by (eq_by_cmp path_cmp q e.0) (found_both q xs ys)
-  where
-    by : (b : Bool) → find path_cmp q (xs ++ ys) ≡ option_or (find path_cmp q xs) (find path_cmp q ys)
-        → cond b (Some e.1) (find path_cmp q (xs ++ ys)) ≡ option_or (cond b (Some e.1) (find path_cmp q xs)) (find path_cmp q ys)
-    by true rest = refl
-    by false rest = rest
+found_both q (e ∷ xs) ys = grind (arith, found_both q xs ys, eq_by_cmp path_cmp q e.0)
 
 -- what is found in one of two parts is found where it lies in either
 either : (a b : Bool) (o : Option ℕ) → option_or (cond a o None) (cond b o None) ≡ cond (a || b) o None
-either true true None = refl
-either true false None = refl
-either true b (Some n) = refl
-either false b o = refl
+either a b o = grind arith
 
 module _ (names : Names) (p : Path) where
   -- the parts of the list, one for each of some names
@@ -83,10 +73,7 @@ module _ (names : Names) (p : Path) where
   -- a path is found in the parts where it lies in one of them
   found_parts : (q : Path) (bs : List (List ℕ)) → find path_cmp q (parts bs) ≡ cond (list_any (λ b. is_within (p ++ b ∷ []) q) bs) (get names q) None
   found_parts q [] = refl
-  found_parts q (b ∷ bs) =
-      found_both q (under names (p ++ b ∷ [])) (parts bs)
-      ∙ ap₂ option_or (found_under names (p ++ b ∷ []) q) (found_parts q bs)
-      ∙ either (is_within (p ++ b ∷ []) q) (list_any (λ b. is_within (p ++ b ∷ []) q) bs) (get names q)
+  found_parts q (b ∷ bs) = grind (arith, found_parts q bs, found_both, found_under, either)
 
   -- what is behind x, where x is before all that lies below a name
   behind_part : (x : Path) (b : List ℕ) → ((r : Path) → path_cmp x (p ++ b ∷ r) ≡ Less) → (es : List (Path × ℕ)) → T (below_all path_cmp x (filter (λ e. is_within (p ++ b ∷ []) e.0) es))
@@ -155,11 +142,7 @@ module _ (names : Names) (p : Path) where
   -- a path below a name lies in the part of that name
   any_within : (c : List ℕ) (r : Path) (bs : List (List ℕ)) → list_any (λ b. is_within (p ++ b ∷ []) (p ++ c ∷ r)) bs ≡ is_some (find name_cmp c (zeros bs))
   any_within c r [] = refl
-  any_within c r (b ∷ bs) = ap₂ ◌||◌ (one_within b c r) (any_within c r bs) ∙ by (eq_by_cmp name_cmp c b)
-    where
-      by : (t : Bool) → (t || is_some (find name_cmp c (zeros bs))) ≡ is_some (cond t (Some 0) (find name_cmp c (zeros bs)))
-      by true = refl
-      by false = refl
+  any_within c r (b ∷ bs) = grind (arith, any_within c r bs, eq_by_cmp name_cmp c b, one_within, name_cmp, zeros)
 
   -- what isn't at or below the path lies in no part
   none_within : (q : Path) (bs : List (List ℕ)) → ((r : Path) → q ≡ p ++ r → ⊥) → list_any (λ b. is_within (p ++ b ∷ []) q) bs ≡ false
@@ -193,10 +176,7 @@ module _ (names : Names) (p : Path) where
 
         by : ((r : Path) × (q ≡ p ++ r)) ⊎ ((r : Path) → q ≡ p ++ r → ⊥) → (q ≡ p) ⊎ (eq_by_cmp path_cmp q p ≡ false)
             → cond (is_within p q) (get names q) None ≡ cond (eq_by_cmp path_cmp q p) (Some k) (cond (list_any (λ b. is_within (p ++ b ∷ []) q) bs) (get names q) None)
-        by side (inl same) = at_self same
-        by (inl r) (inr off) = below_self r.0 r.1 off
-        by (inr out) (inr off) = ap (λ t. cond t (get names q) None) (away p q out)
-            ∙ sym (ap₂ (λ t u. cond t (Some k) (cond u (get names q) None)) off (none_within q bs out))
+        by h1 h2 = grind (arith, at_self, below_self, away, none_within)
 
     -- the paths at and below p are p and those of its names, in the names' order
     pub goes_down : under names p ≡ (p, k) ∷ parts bs

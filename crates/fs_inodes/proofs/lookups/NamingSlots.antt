@@ -1,11 +1,6 @@
 -- The paths of a node other than the root are the slots that name it: each path has one parent, and each slot of a directory gives one path.
-use Rattle.std.proofs.Common.{◌≡◌, ◌≢◌, ℕ, zero, suc, ◌+◌, ◌*◌, ◌==◌, Bool, true, false, true≢false, cond, T, List, [], ◌∷◌, ◌++◌, length, if◌then◌else◌, Option, Some, None, is_some, option_map, option_and_then, refl, sym, ap, ap₂, ◌∙◌, ◌⊎◌, inl, inr, arith, eqb-true}
-use Rattle.std.specs.List.{cons_option}
-use Rattle.std.specs.Ordering.{eq_by_cmp, is_eq}
-use Rattle.std.specs.declared.cmp.Ordering.{Ordering}
-use Rattle.std.specs.declared.cmp.Ordering.TheVariants.{Less, Equal, Greater}
+use Rattle.std.proofs.Common.{◌≡◌, ◌≢◌, ℕ, zero, suc, ◌+◌, ◌*◌, ◌==◌, Bool, true, false, true≢false, T, List, [], ◌∷◌, ◌++◌, length, if◌then◌else◌, Option, Some, None, is_some, option_map, option_and_then, refl, sym, ap, ap₂, ◌∙◌, ◌⊎◌, inl, inr, arith, eqb-true}
 use Rattle.std.specs.FinMap.{get, entries, find, put, is_sorted, entries_sorted, get-entries, entries-insert, len-empty, len-entries, empty}
-use Rattle.std.specs.FinMap.Entries.{by_order}
 use Rattle.std.proofs.lemmas.Option.{same_Some, none-some}
 use Rattle.layout_bytes.specs.declared.slot.Slot.{Slot}
 use Rattle.lang_tree.specs.Tree.{Tree, Dir, path_cmp}
@@ -40,13 +35,7 @@ swap_ones a b c = omega arith
 -- a name put into a row counts once
 put_in_row : (n : ℕ) (b : List ℕ) (v : ℕ) (es : List (List ℕ × ℕ)) → find name_cmp b es ≡ None → in_row n (put name_cmp b v es) ≡ (if v == n then 1 else 0) + in_row n es
 put_in_row n b v [] none = refl
-put_in_row n b v (e ∷ es) none = by (name_cmp b e.0) none (put_in_row n b v es)
-  where
-    by : (o : Ordering) → cond (is_eq o) (Some e.1) (find name_cmp b es) ≡ None → (find name_cmp b es ≡ None → in_row n (put name_cmp b v es) ≡ (if v == n then 1 else 0) + in_row n es)
-        → in_row n (by_order o ((b, v) ∷ e ∷ es) ((e.0, v) ∷ es) (e ∷ put name_cmp b v es)) ≡ (if v == n then 1 else 0) + in_row n (e ∷ es)
-    by Less none go = refl
-    by Equal none go = absurd (none-some e.1 (sym none))
-    by Greater none go = ap (λ k. (if e.1 == n then 1 else 0) + k) (go none) ∙ swap_ones (if e.1 == n then 1 else 0) (if v == n then 1 else 0) (in_row n es)
+put_in_row n b v (e ∷ es) none = grind (arith, put_in_row n b v es, name_cmp b e.0, name_cmp, none-some, swap_ones)
 
 -- an empty row has no entries
 no_entries : entries (empty {X = ℕ} {R = name_cmp}) ≡ []
@@ -100,26 +89,16 @@ where_is n f e = if e.1 == n then f e else 0
 
 -- nothing, either way
 zero_else : (b : Bool) → ◌≡◌ {A = ℕ} (if b then 0 else 0) 0
-zero_else true = refl
-zero_else false = refl
+zero_else b = grind arith
 
 -- a row has what lies in its directory
 row_lies : (n : ℕ) (up : Path) (es : List (Path × ℕ)) → in_row n (row_of up es) ≡ total (where_is n (lies_in up)) es
 row_lies n up [] = refl
-row_lies n up (e ∷ es) = by (name_in up e.0) (row_lies n up es)
-  where
-    by : (o : Option (List ℕ)) → in_row n (row_of up es) ≡ total (where_is n (lies_in up)) es
-        → in_row n (cons_option (option_map (λ b. (b, e.1)) o) (row_of up es)) ≡ (if e.1 == n then (if is_some o then 1 else 0) else 0) + total (where_is n (lies_in up)) es
-    by None rest = omega (arith, rest, zero_else (e.1 == n))
-    by (Some b) rest = ap (λ k. (if e.1 == n then 1 else 0) + k) rest
+row_lies n up (e ∷ es) = grind (arith, row_lies n up es, name_in up e.0, row_of, zero_else)
 
 -- of two things
 both_where : (n : ℕ) (f h : Path × ℕ → ℕ) (e : Path × ℕ) → where_is n f e + where_is n h e ≡ where_is n (λ e. f e + h e) e
-both_where n f h e = by (e.1 == n)
-  where
-    by : (b : Bool) → (if b then f e else 0) + (if b then h e else 0) ≡ (if b then f e + h e else 0)
-    by true = refl
-    by false = refl
+both_where n f h e = grind (arith, e.1 == n)
 
 -- all rows together have each path as often as it has a parent
 rows_lie : (n : ℕ) (ps es : List (Path × ℕ)) → total (λ p. in_row n (row_of p.0 es)) ps ≡ total (where_is n (parents_of ps)) es
@@ -148,29 +127,12 @@ module _ (e : Path × ℕ) (up : Path) (name : List ℕ) (is : e.0 ≡ up ++ nam
   -- so it has no parent where that isn't among the paths
   no_parent : (ps : List (Path × ℕ)) → find path_cmp up ps ≡ None → parents_of ps e ≡ 0
   no_parent [] none = refl
-  no_parent (p ∷ ps) none = by (which_key path_total path_same up p.0) none (no_parent ps)
-    where
-      by : (up ≡ p.0) ⊎ (eq_by_cmp path_cmp up p.0 ≡ false) → cond (eq_by_cmp path_cmp up p.0) (Some p.1) (find path_cmp up ps) ≡ None → (find path_cmp up ps ≡ None → parents_of ps e ≡ 0) → parents_of (p ∷ ps) e ≡ 0
-      by (inl same) none go = absurd (none-some p.1 (sym none ∙ ap (λ b. cond b (Some p.1) (find path_cmp up ps)) (tied path_total path_same up p.0 same)))
-      by (inr off) none go =
-          let rest = go (sym (ap (λ b. cond b (Some p.1) (find path_cmp up ps)) off) ∙ none) in
-          let here = in_no_other p.0 (λ same. true≢false (sym (tied path_total path_same up p.0 (sym same)) ∙ off)) in
-          omega (arith, here, rest)
+  no_parent (p ∷ ps) none = grind (arith, no_parent ps, which_key path_total path_same up p.0, which_key, path_total, path_same, none-some, tied, in_no_other)
 
   -- and one where it is
   one_parent : (ps : List (Path × ℕ)) (k : ℕ) → T (is_sorted path_cmp ps) → find path_cmp up ps ≡ Some k → parents_of ps e ≡ 1
   one_parent [] k h at = absurd (none-some k at)
-  one_parent (p ∷ ps) k h at = by (which_key path_total path_same up p.0) at (one_parent ps k (both_of _ _ h).1)
-    where
-      by : (up ≡ p.0) ⊎ (eq_by_cmp path_cmp up p.0 ≡ false) → cond (eq_by_cmp path_cmp up p.0) (Some p.1) (find path_cmp up ps) ≡ Some k → (find path_cmp up ps ≡ Some k → parents_of ps e ≡ 1) → parents_of (p ∷ ps) e ≡ 1
-      by (inl same) at go =
-          let here = in_its_own p.0 (sym same) in
-          let rest = no_parent ps (ap (λ x. find path_cmp x ps) same ∙ gone_in_front p.0 ps (both_of _ _ h).0) in
-          omega (arith, here, rest)
-      by (inr off) at go =
-          let rest = go (sym (ap (λ b. cond b (Some p.1) (find path_cmp up ps)) off) ∙ at) in
-          let here = in_no_other p.0 (λ same. true≢false (sym (tied path_total path_same up p.0 (sym same)) ∙ off)) in
-          omega (arith, here, rest)
+  one_parent (p ∷ ps) k h at = grind (arith, one_parent ps k, which_key path_total path_same up p.0, which_key, path_total, path_same, both_of, in_its_own, no_parent, gone_in_front, in_no_other, tied)
 
 module _ (laws : TreeLaws) (limit : ℕ) (m : Inodes) (t : Tree) (a : Agrees limit m t) (n : ℕ) (not_root : n ≢ 1) where
   -- each path of n has one parent

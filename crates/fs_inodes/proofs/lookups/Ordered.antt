@@ -7,7 +7,7 @@ use Rattle.std.specs.List.{All, swap}
 use Rattle.std.specs.List.Sorted.{IsPermutation, IsSorted}
 use Rattle.std.specs.Ordering.{eq_by_cmp, is_lt, ordering_reverse}
 use Rattle.std.specs.declared.cmp.Ordering.{Ordering}
-use Rattle.std.specs.declared.cmp.Ordering.TheVariants.{Less, Equal, Greater}
+use Rattle.std.specs.declared.cmp.Ordering.TheVariants.{Equal}
 use Rattle.std.specs.FinMap.{entries, keys, from_sorted, find, is_sorted, entries_sorted, get-entries, get-from_sorted, entries-from_sorted, same_map}
 use Rattle.std.specs.FinMap.Entries.{below_all}
 use Rattle.layout_bytes.specs.declared.slot.Slot.{Slot}
@@ -47,15 +47,7 @@ came (d ∷ ys) a b k x low_a low_b e = by (cases_eq k b) (cases_eq k a)
 
     by : (k ≡ b) ⊎ (k ≡ b → ⊥) → (k ≡ a) ⊎ (k ≡ a → ⊥)
         → ((k ≡ b) × (slice_get (d ∷ ys) a ≡ Some x)) ⊎ (((k ≡ b → ⊥) × (k ≡ a) × (slice_get (d ∷ ys) b ≡ Some x)) ⊎ ((k ≡ b → ⊥) × (k ≡ a → ⊥) × (slice_get (d ∷ ys) k ≡ Some x)))
-    by (inl same) side = inl (same, at_a ∙ sym (set_here (set (d ∷ ys) a (get_or (d ∷ ys) b d)) b there.0 _ there.1) ∙ ap (slice_get (swap (d ∷ ys) a b)) (sym same) ∙ e)
-    by (inr off) (inl same) =
-        inr (inl (
-          off,
-          same,
-          at_b ∙ sym (set_here (d ∷ ys) a _ _ at_a) ∙ ap (slice_get (set (d ∷ ys) a (get_or (d ∷ ys) b d))) (sym same)
-              ∙ sym (set_other (set (d ∷ ys) a (get_or (d ∷ ys) b d)) b k _ off) ∙ e,
-        ))
-    by (inr off) (inr away) = inr (inr (off, away, sym (set_other (d ∷ ys) a k _ away) ∙ sym (set_other (set (d ∷ ys) a (get_or (d ∷ ys) b d)) b k _ off) ∙ e))
+    by h1 h2 = grind (arith, at_a, set_here, set_other, at_b)
 
 -- where what is in a list after an exchange stood before it, in a word
 abbrev Came : List (List ℕ) → ℕ → ℕ → List ℕ → ℕ → Type 0
@@ -88,9 +80,7 @@ zeros l = map (λ b. (b, 0)) l
 
 -- what isn't greater and isn't equal is less
 is_less : (o : Ordering) → is_lt (ordering_reverse o) ≡ false → (o ≡ Equal → ⊥) → T (is_lt o)
-is_less Less e off = tt
-is_less Equal e off = absurd (off refl)
-is_less Greater e off = absurd (true≢false e)
+is_less o h1 h2 = grind arith
 
 -- a name is before a list where it is before each
 all_behind : (x : List ℕ) (xs : List (List ℕ)) → ((i : ℕ) (y : List ℕ) → slice_get xs i ≡ Some y → T (is_lt (name_cmp x y))) → T (below_all name_cmp x (zeros xs))
@@ -118,8 +108,7 @@ zero_there q [] n e = absurd (none-some n e)
 zero_there q (x ∷ xs) n e = by (eq_by_cmp name_cmp q x) e (zero_there q xs n)
   where
     by : (b : Bool) → cond b (Some 0) (find name_cmp q (zeros xs)) ≡ Some n → (find name_cmp q (zeros xs) ≡ Some n → n ≡ 0) → n ≡ 0
-    by true e go = sym (same_Some 0 n e)
-    by false e go = go e
+    by b h1 h2 = grind (arith, same_Some)
 
 -- a name that no one has isn't found
 not_in : (q : List ℕ) (xs : List (List ℕ)) → All (λ x. x ≡ q → ⊥) xs → find name_cmp q (zeros xs) ≡ None
@@ -127,19 +116,13 @@ not_in q [] all = refl
 not_in q (x ∷ xs) all = by (which_key name_total name_same q x) (not_in q xs (λ k d low. all (suc k) d (omega (arith, low))))
   where
     by : (q ≡ x) ⊎ (eq_by_cmp name_cmp q x ≡ false) → find name_cmp q (zeros xs) ≡ None → cond (eq_by_cmp name_cmp q x) (Some 0) (find name_cmp q (zeros xs)) ≡ None
-    by (inl same) rest = absurd (all 0 x (omega arith) (sym same))
-    by (inr off) rest = ap (λ b. cond b (Some 0) (find name_cmp q (zeros xs))) off ∙ rest
+    by h1 h2 = grind (arith, name_cmp)
 
 -- a name that isn't found is at no place
 none_in : (q : List ℕ) (xs : List (List ℕ)) → find name_cmp q (zeros xs) ≡ None → (i : ℕ) (x : List ℕ) → slice_get xs i ≡ Some x → x ≡ q → ⊥
 none_in q [] none i x at same = none-some x at
-none_in q (y ∷ xs) none zero x at same =
-    none-some 0 (sym none ∙ ap (λ b. cond b (Some 0) (find name_cmp q (zeros xs))) (tied name_total name_same q y (sym same ∙ sym (same_Some y x at))))
-none_in q (y ∷ xs) none (suc i) x at same = by (which_key name_total name_same q y) (none_in q xs)
-  where
-    by : (q ≡ y) ⊎ (eq_by_cmp name_cmp q y ≡ false) → (find name_cmp q (zeros xs) ≡ None → (i : ℕ) (x : List ℕ) → slice_get xs i ≡ Some x → x ≡ q → ⊥) → ⊥
-    by (inl here) go = none-some 0 (sym none ∙ ap (λ b. cond b (Some 0) (find name_cmp q (zeros xs))) (tied name_total name_same q y here))
-    by (inr off) go = go (sym (ap (λ b. cond b (Some 0) (find name_cmp q (zeros xs))) off) ∙ none) i x at same
+none_in q (y ∷ xs) none zero x at same = grind (arith, none-some, name_cmp, tied, name_total, name_same, same_Some)
+none_in q (y ∷ xs) none (suc i) x at same = grind (arith, none_in q xs, which_key name_total name_same q y, which_key, name_total, name_same, name_cmp, none-some, tied)
 
 -- so no one has it
 none_of : (q : List ℕ) (xs : List (List ℕ)) → find name_cmp q (zeros xs) ≡ None → All (λ x. x ≡ q → ⊥) xs
@@ -160,12 +143,7 @@ keys_rise (e ∷ es) h = join_of _ _ (keys_below e.0 es (both_of _ _ h).0) (keys
 -- a key is found among the keys where it has a value
 pub key_found : (q : List ℕ) (es : List (List ℕ × ℕ)) → is_some (find name_cmp q (zeros (map (λ e. e.0) es))) ≡ is_some (find name_cmp q es)
 key_found q [] = refl
-key_found q (e ∷ es) = by (eq_by_cmp name_cmp q e.0) (key_found q es)
-  where
-    by : (b : Bool) → is_some (find name_cmp q (zeros (map (λ e. e.0) es))) ≡ is_some (find name_cmp q es)
-        → is_some (cond b (Some 0) (find name_cmp q (zeros (map (λ e. e.0) es)))) ≡ is_some (cond b (Some e.1) (find name_cmp q es))
-    by true rest = refl
-    by false rest = rest
+key_found q (e ∷ es) = grind (arith, key_found q es, eq_by_cmp name_cmp q e.0, name_cmp)
 
 -- the names of names with zeros
 first_part : (l : List (List ℕ)) → map (λ e. e.0) (zeros l) ≡ l
@@ -187,10 +165,7 @@ module _ (slots : List Slot) (distinct : AreDistinct slots) (names : List (List 
 
   -- each is at one place
   one_place : OnePlace (map (λ s. s.name) slots)
-  one_place i j x at_i at_j =
-      let s = named slots i x at_i in
-      let r = named slots j x at_j in
-      distinct i j s.0 r.0 s.1 r.1 (s.2 ∙ sym r.2)
+  one_place i j x at_i at_j = grind (arith, named)
 
   -- the sorted names rise
   names_rise : T (is_sorted name_cmp (zeros names))
@@ -217,31 +192,15 @@ module _ (slots : List Slot) (distinct : AreDistinct slots) (names : List (List 
 
   -- what is found is a zero
   zero_of : (q : List ℕ) (l : List (List ℕ)) → is_some (find name_cmp q (zeros l)) ≡ true → find name_cmp q (zeros l) ≡ Some 0
-  zero_of q l e = by (which (find name_cmp q (zeros l)))
-    where
-      by : (find name_cmp q (zeros l) ≡ None) ⊎ ((n : ℕ) × (find name_cmp q (zeros l) ≡ Some n)) → find name_cmp q (zeros l) ≡ Some 0
-      by (inl none) = absurd (true≢false (sym e ∙ ap is_some none))
-      by (inr some) = some.1 ∙ ap Some (zero_there q l some.0 some.1)
+  zero_of q l e = grind (arith, name_cmp, zero_there)
 
   -- what isn't found is none
   none_if : (q : List ℕ) (l : List (List ℕ)) → is_some (find name_cmp q (zeros l)) ≡ false → find name_cmp q (zeros l) ≡ None
-  none_if q l e = by (which (find name_cmp q (zeros l)))
-    where
-      by : (find name_cmp q (zeros l) ≡ None) ⊎ ((n : ℕ) × (find name_cmp q (zeros l) ≡ Some n)) → find name_cmp q (zeros l) ≡ None
-      by (inl none) = none
-      by (inr some) = absurd (true≢false (sym (ap is_some some.1) ∙ e))
+  none_if q l e = grind (arith, name_cmp)
 
   -- so the same names are found in both lists
   same_found : (q : List ℕ) → find name_cmp q (zeros (keys (row_in slots))) ≡ find name_cmp q (zeros names)
-  same_found q = by (which (node_in slots q))
-    where
-      in_names : (n : ℕ) → node_in slots q ≡ Some n → (b : Bool) → is_some (find name_cmp q (zeros names)) ≡ b → find name_cmp q (zeros names) ≡ Some 0
-      in_names n is true e = zero_of q names e
-      in_names n is false e = absurd (some_in q n is (none_if q names e))
-
-      by : (node_in slots q ≡ None) ⊎ ((n : ℕ) × (node_in slots q ≡ Some n)) → find name_cmp q (zeros (keys (row_in slots))) ≡ find name_cmp q (zeros names)
-      by (inl none) = none_if q (keys (row_in slots)) (in_keys q ∙ ap is_some none) ∙ sym (none_there q none)
-      by (inr some) = zero_of q (keys (row_in slots)) (in_keys q ∙ ap is_some some.1) ∙ sym (in_names some.0 some.1 (is_some (find name_cmp q (zeros names))) refl)
+  same_found q = grind (arith, which (node_in slots q), keys (row_in slots), which, name_cmp, zero_of, some_in, none_if, row_in, in_keys, none_there)
 
   -- the keys of the row rise
   keys_sorted : T (is_sorted name_cmp (zeros (keys (row_in slots))))

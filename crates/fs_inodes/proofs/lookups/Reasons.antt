@@ -1,7 +1,6 @@
 -- Each command is refused by the tree for the reason that the inode map gives.
-use Rattle.std.proofs.Common.{◌≡◌, ℕ, Bool, ◌&&◌, List, ◌∷◌, length, nat_le, is_none, Option, None, if◌then◌else◌, refl, ap, ap₂}
+use Rattle.std.proofs.Common.{◌≡◌, ℕ, Bool, ◌&&◌, List, ◌∷◌, nat_le, is_none, Option, None, if◌then◌else◌, refl, ap, ap₂, arith}
 use Rattle.lang_tree.specs.declared.command.Cmd.{Cmd}
-use Rattle.lang_tree.specs.declared.command.Cmd.TheVariants.{Mkdir, Create, Write, Fill, Read, Truncate, Link, Unlink, Rmdir, Rename, Stat, List as ListNames, Osync, Dsync, Durable, Poll, Bad}
 use Rattle.lang_tree.specs.declared.command.Refusal.{Refusal}
 use Rattle.lang_tree.specs.declared.command.Refusal.TheVariants.{Exists, NotDir, IsDir, NotEmpty, BelowItself, TooManyLinks, NoNode}
 use Rattle.lang_tree.specs.Tree.{Tree}
@@ -84,20 +83,4 @@ module _ (laws : TreeLaws) (limit : ℕ) (m : Inodes) (t : Tree) (a : Agrees lim
 
   -- each command
   pub reason_given : (cmd : Cmd) → refusal limit t cmd ≡ reason limit m cmd
-  reason_given (Mkdir path) = make_given path
-  reason_given (Create path) = make_given path
-  reason_given (Write path offset bytes) = write_given path offset (length bytes)
-  reason_given (Fill path offset count byte) = write_given path offset count
-  reason_given (Read path offset count) = file_given path
-  reason_given (Truncate path size) = truncate_given path size
-  reason_given (Link path other) = link_given path other
-  reason_given (Unlink path) = file_given path
-  reason_given (Rmdir path) = rmdir_given path
-  reason_given (Rename from to) = rename_given from to
-  reason_given (Stat path) = walk_given path
-  reason_given (ListNames path) = list_given path
-  reason_given Osync = refl
-  reason_given Dsync = refl
-  reason_given Durable = refl
-  reason_given Poll = refl
-  reason_given Bad = refl
+  reason_given cmd = grind (arith, make_given, file_given, link_given, rmdir_given, rename_given, walk_given, list_given, reasons, first, is_dir_where)

@@ -1,5 +1,5 @@
 -- What each command that answers no point answers, from inodes.
-use Rattle.std.proofs.Common.{◌≡◌, ℕ, ◌*◌, ◌==◌, Bool, true, false, true≢false, if◌then◌else◌, List, length, take, drop, replicate, Option, Some, None, option_map, option_and_then, refl, sym, ap, ◌∙◌}
+use Rattle.std.proofs.Common.{◌≡◌, ℕ, ◌*◌, ◌==◌, Bool, false, true≢false, if◌then◌else◌, List, length, take, drop, replicate, Option, Some, None, option_map, option_and_then, refl, sym, ap, ◌∙◌, arith}
 use Rattle.std.specs.FinMap.{get}
 use Rattle.layout_bytes.specs.declared.slot.Slot.{Slot}
 use Rattle.lang_tree.specs.declared.command.Cmd.{Cmd}
@@ -12,7 +12,7 @@ use Rattle.lang_tree.specs.Names.{names_in}
 use Rattle.lang_tree.specs.Walk.{content, is_same_node}
 use Rattle.lang_tree.specs.Conditions.{refusal}
 use Rattle.lang_tree.specs.Points.{answers_point}
-use Rattle.lang_tree.specs.Step.{Session, step, answered, accepted, changed_to, edited, written, resized, moved, removed, stat_of, stat_by as tree_stat, stat}
+use Rattle.lang_tree.specs.Step.{Session, step, answered, accepted, changed_to, edited, written, resized, moved, removed, stat_of, stat}
 use Rattle.crash_stands.specs.Inodes.{Inode, Inodes, ADir, AFile, thing_of}
 use Rattle.fs_inodes.specs.Lookups.{slots_of, inode_at}
 use Rattle.fs_inodes.specs.Names.{names_of, stat_by, stat_at, stat_in}
@@ -42,16 +42,11 @@ module _ (limit : ℕ) (m : Inodes) (t : Tree) (a : Agrees limit m t) where
 
   -- and at a path
   pub stat_given : (path : Path) → stat t path ≡ stat_in m path
-  stat_given path = by (get t.names path) refl ∙ ap (stat_at m) (number_given limit m t a path)
-    where
-      by : (o : Option ℕ) → get t.names path ≡ o → tree_stat t path o ≡ stat_at m o
-      by None at = refl
-      by (Some n) at = ap (stat_of t path n) (a.nodes n) ∙ stat_inode path n at (m n) refl
+  stat_given path = grind (arith, get t.names path, stat_at m, number_given limit m t a path, t.names, a.nodes, stat_inode)
 
 -- done, whether something changed or not
 either_done : (s : Session) (t : Tree) (b : Bool) → (if b then (s, Done) else changed_to s t).1 ≡ Done
-either_done s t true = refl
-either_done s t false = refl
+either_done s t b = grind arith
 
 module _ (laws : TreeLaws) (s : Session) (m : Inodes) (a : Agrees s.limit m s.tree) where
   -- the reply of a command that isn't refused
@@ -76,8 +71,7 @@ module _ (laws : TreeLaws) (s : Session) (m : Inodes) (a : Agrees s.limit m s.tr
 
   -- refused or not
   reply_given_by : (cmd : Cmd) → answers_point cmd ≡ false → (r : Option Refusal) → (answered s cmd r).1 ≡ reply_by m cmd r
-  reply_given_by cmd e (Some why) = refl
-  reply_given_by cmd e None = accepted_given cmd e
+  reply_given_by cmd h1 r = grind (arith, accepted_given)
 
   -- the reply of each command that answers no point
   pub reply_given : (cmd : Cmd) → answers_point cmd ≡ false → (step s cmd).1 ≡ reply_of s.limit m cmd

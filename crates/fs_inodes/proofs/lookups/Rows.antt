@@ -1,9 +1,9 @@
 -- The names that a tree has in a directory, as a finite map from names to numbers: those of the slots.
-use Rattle.std.proofs.Common.{◌≡◌, ℕ, suc, ◌+◌, Bool, true, false, true≢false, cond, ◌&&◌, T, List, [], ◌∷◌, ◌++◌, map, length, bytes_eq, Option, Some, None, is_some, option_map, option_and_then, refl, sym, ap, subst, ◌∙◌, ◌⊎◌, inl, inr, arith}
-use Rattle.std.specs.List.{filter_map, cons_option}
-use Rattle.std.specs.Ordering.{nat_cmp, eq_by_cmp, is_eq, is_lt, ordering_then}
+use Rattle.std.proofs.Common.{◌≡◌, ℕ, suc, ◌+◌, Bool, true≢false, cond, ◌&&◌, T, List, [], ◌∷◌, ◌++◌, map, length, bytes_eq, Option, Some, None, is_some, option_map, option_and_then, refl, sym, ap, ◌∙◌, ◌⊎◌, inl, inr, arith}
+use Rattle.std.specs.List.{filter_map}
+use Rattle.std.specs.Ordering.{nat_cmp, eq_by_cmp, ordering_then}
 use Rattle.std.specs.declared.cmp.Ordering.{Ordering}
-use Rattle.std.specs.declared.cmp.Ordering.TheVariants.{Less, Equal, Greater}
+use Rattle.std.specs.declared.cmp.Ordering.TheVariants.{Equal}
 use Rattle.std.specs.Cmp.{IsTotalOrder, nat_cmp_total, tied_itself}
 use Rattle.std.specs.Cmp.Lexicographic.{slice_cmp, lists_total}
 use Rattle.std.specs.FinMap.{IsAntisymmetric, nat_cmp-IsAntisymmetric, slice_cmp-IsAntisymmetric, get, entries, keys, from_sorted, find, is_sorted, entries_sorted, get-entries, get-from_entries, get-from_sorted, entries-from_sorted, same_map, len, len-entries, len-empty, len-insert}
@@ -13,7 +13,7 @@ use Rattle.layout_bytes.specs.declared.slot.Slot.{Slot}
 use Rattle.lang_tree.specs.Tree.{Tree, path_cmp}
 use Rattle.lang_tree.specs.Paths.{strip, name_in, lone_name}
 use Rattle.lang_tree.specs.Names.{names_in}
-use Rattle.crash_stands.specs.Inodes.{Inode, Inodes, ADir, AFile, AreDistinct}
+use Rattle.crash_stands.specs.Inodes.{Inode, Inodes, AreDistinct}
 use Rattle.crash_stands.specs.Walks.{entry_in, node_in}
 use Rattle.fs_inodes.specs.Lookups.{slots_of, inode_at, number_at}
 pub use Rattle.fs_inodes.specs.Names.{row_in, names_of}
@@ -39,9 +39,7 @@ name_same = slice_cmp-IsAntisymmetric nat_cmp-IsAntisymmetric
 
 -- a tie later on decides nothing
 then_equal : (o : Ordering) → ordering_then o Equal ≡ o
-then_equal Less = refl
-then_equal Equal = refl
-then_equal Greater = refl
+then_equal o = grind arith
 
 -- behind one front the last names decide
 pub same_front : (up : Path) (b c : List ℕ) → path_cmp (up ++ b ∷ []) (up ++ c ∷ []) ≡ name_cmp b c
@@ -63,10 +61,7 @@ pub lone_is : (up p : Path) (b : List ℕ) → name_in up p ≡ Some b → p ≡
 lone_is up p b e = by (strip up p) refl e
   where
     by : (o : Option Path) → strip up p ≡ o → lone_name o ≡ Some b → p ≡ up ++ b ∷ []
-    by None is e = absurd (none-some b e)
-    by (Some []) is e = absurd (none-some b e)
-    by (Some (x ∷ [])) is e = strip_is up p (x ∷ []) is ∙ ap (λ x. up ++ x ∷ []) (same_Some x b e)
-    by (Some (x ∷ (y ∷ r))) is e = absurd (none-some b e)
+    by o h1 h2 = grind (arith, none-some, strip_is, same_Some)
 
 -- and a path with the name does
 pub lone_at : (up : Path) (b : List ℕ) → name_in up (up ++ b ∷ []) ≡ Some b
@@ -74,56 +69,32 @@ lone_at up b = ap lone_name (strip_join up (b ∷ []))
 
 -- both hold
 pub both_of : (a b : Bool) → T (a && b) → (T a) × (T b)
-both_of true b h = (tt, h)
-both_of false b h = absurd h
+both_of a b h1 = grind arith
 
 -- and together
 pub join_of : (a b : Bool) → T a → T b → T (a && b)
-join_of true b p q = q
-join_of false b p q = absurd p
+join_of a b h1 h2 = grind arith
 
 module _ (up : Path) where
   -- where all paths come behind one of the directory, all names do
   below_row : (b : List ℕ) (es : List (Path × ℕ)) → T (below_all path_cmp (up ++ b ∷ []) es) → T (below_all name_cmp b (row_of up es))
   below_row b [] h = tt
-  below_row b (e ∷ es) h = by (name_in up e.0) refl (below_row b es (both_of _ _ h).1)
-    where
-      by : (o : Option (List ℕ)) → name_in up e.0 ≡ o → T (below_all name_cmp b (row_of up es)) → T (below_all name_cmp b (cons_option (option_map (λ b. (b, e.1)) o) (row_of up es)))
-      by None is rest = rest
-      by (Some c) is rest = join_of _ _ (subst T (ap (λ p. is_lt (path_cmp (up ++ b ∷ []) p)) (lone_is up e.0 c is) ∙ ap is_lt (same_front up b c)) (both_of _ _ h).0) rest
+  below_row b (e ∷ es) h = grind (arith, below_row b es, name_in up e.0, both_of, join_of, lone_is, same_front)
 
   -- the names of a directory rise
   pub sorted_row : (es : List (Path × ℕ)) → T (is_sorted path_cmp es) → T (is_sorted name_cmp (row_of up es))
   sorted_row [] h = tt
-  sorted_row (e ∷ es) h = by (name_in up e.0) refl (sorted_row es (both_of _ _ h).1)
-    where
-      by : (o : Option (List ℕ)) → name_in up e.0 ≡ o → T (is_sorted name_cmp (row_of up es)) → T (is_sorted name_cmp (cons_option (option_map (λ b. (b, e.1)) o) (row_of up es)))
-      by None is rest = rest
-      by (Some b) is rest = join_of _ _ (below_row b es (subst (λ p. T (below_all path_cmp p es)) (lone_is up e.0 b is) (both_of _ _ h).0)) rest
+  sorted_row (e ∷ es) h = grind (arith, sorted_row es, name_in up e.0, both_of, join_of, below_row, lone_is)
 
   -- a name is found in the directory as its path is found among all paths
   found_row : (b : List ℕ) (es : List (Path × ℕ)) → find name_cmp b (row_of up es) ≡ find path_cmp (up ++ b ∷ []) es
   found_row b [] = refl
-  found_row b (e ∷ es) = by (name_in up e.0) refl (which_key path_total path_same (up ++ b ∷ []) e.0) (found_row b es)
-    where
-      by : (o : Option (List ℕ)) → name_in up e.0 ≡ o → (up ++ b ∷ [] ≡ e.0) ⊎ (eq_by_cmp path_cmp (up ++ b ∷ []) e.0 ≡ false) → find name_cmp b (row_of up es) ≡ find path_cmp (up ++ b ∷ []) es
-          → find name_cmp b (cons_option (option_map (λ b. (b, e.1)) o) (row_of up es)) ≡ cond (eq_by_cmp path_cmp (up ++ b ∷ []) e.0) (Some e.1) (find path_cmp (up ++ b ∷ []) es)
-      by None is (inl same) rest = absurd (none-some b (sym (ap (name_in up) same ∙ is) ∙ lone_at up b))
-      by None is (inr off) rest = rest ∙ sym (ap (λ t. cond t (Some e.1) (find path_cmp (up ++ b ∷ []) es)) off)
-      by (Some c) is side rest =
-          ap (λ o. cond (is_eq o) (Some e.1) (find name_cmp b (row_of up es))) (sym (same_front up b c))
-          ∙ ap (λ p. cond (eq_by_cmp path_cmp (up ++ b ∷ []) p) (Some e.1) (find name_cmp b (row_of up es))) (sym (lone_is up e.0 c is))
-          ∙ ap (cond (eq_by_cmp path_cmp (up ++ b ∷ []) e.0) (Some e.1)) rest
+  found_row b (e ∷ es) = grind (arith, found_row b es, name_in up e.0, which_key path_total path_same (up ++ b ∷ []) e.0, which_key, path_total, path_same, none-some, lone_at, same_front, lone_is)
 
   -- its names are those of the directory
   names_row : (es : List (Path × ℕ)) → map (λ e. e.0) (row_of up es) ≡ filter_map (λ e. name_in up e.0) es
   names_row [] = refl
-  names_row (e ∷ es) = by (name_in up e.0) (names_row es)
-    where
-      by : (o : Option (List ℕ)) → map (λ e. e.0) (row_of up es) ≡ filter_map (λ e. name_in up e.0) es
-          → map (λ e. e.0) (cons_option (option_map (λ b. (b, e.1)) o) (row_of up es)) ≡ cons_option o (filter_map (λ e. name_in up e.0) es)
-      by None rest = rest
-      by (Some b) rest = ap (λ l. b ∷ l) rest
+  names_row (e ∷ es) = grind (arith, names_row es, name_in up e.0)
 
 -- The slots of a directory, as a finite map.
 
@@ -133,11 +104,7 @@ pairs_of slots = map (λ s. (s.name, s.node)) slots
 
 -- two tests of names agree
 same_test : (a b : List ℕ) → eq_by_cmp name_cmp a b ≡ bytes_eq b a
-same_test a b = by (which_key name_total name_same a b)
-  where
-    by : (a ≡ b) ⊎ (eq_by_cmp name_cmp a b ≡ false) → eq_by_cmp name_cmp a b ≡ bytes_eq b a
-    by (inl e) = tied name_total name_same a b e ∙ sym (ap (bytes_eq b) e ∙ same_name b)
-    by (inr off) = off ∙ sym (other_name b a (λ e. true≢false (sym (tied name_total name_same a b (sym e)) ∙ off)))
+same_test a b = grind (arith, which_key name_total name_same a b, which_key, name_total, name_same, tied, same_name, other_name)
 
 -- a name is found among slots as it is under them
 find_slot : (slots : List Slot) (b : List ℕ) → find name_cmp b (pairs_of slots) ≡ node_in slots b
@@ -165,9 +132,7 @@ row_length (s ∷ slots) distinct =
 
 -- what is under a name in an inode is what its slots have
 pub entry_is : (o : Option Inode) (b : List ℕ) → entry_in o b ≡ node_in (slots_of o) b
-entry_is None b = refl
-entry_is (Some (ADir slots)) b = refl
-entry_is (Some (AFile links bytes)) b = refl
+entry_is o b = grind arith
 
 module _ (limit : ℕ) (m : Inodes) (t : Tree) (a : Agrees limit m t) (up : Path) where
   -- what is under a name at a path, which may be no directory
@@ -175,8 +140,7 @@ module _ (limit : ℕ) (m : Inodes) (t : Tree) (a : Agrees limit m t) (up : Path
   name_at b = a.goes up b ∙ ap (option_and_then (λ k. entry_in (m k) b)) (number_given limit m t a up) ∙ by (number_at m up)
     where
       by : (o : Option ℕ) → option_and_then (λ k. entry_in (m k) b) o ≡ node_in (slots_of (option_and_then m o)) b
-      by None = refl
-      by (Some k) = entry_is (m k) b
+      by o = grind (arith, entry_is)
 
   -- the names of the tree's directory are those of the slots, as maps
   pub row_is : from_sorted {R = name_cmp} (row_of up (entries t.names)) ≡ row_in (slots_of (inode_at m up))
@@ -194,19 +158,7 @@ module _ (limit : ℕ) (m : Inodes) (t : Tree) (a : Agrees limit m t) (up : Path
 
   -- no two slots at the path have one name
   pub here_distinct : AreDistinct (slots_of (inode_at m up))
-  here_distinct = by (inode_at m up) refl
-    where
-      none : AreDistinct []
-      none i j s v at_i at_j same = absurd (none-some s at_i)
-
-      by_number : (o : Option ℕ) (x : Option Inode) → option_and_then m o ≡ x → AreDistinct (slots_of x)
-      by_number o None is = none
-      by_number None (Some x) is = absurd (none-some x is)
-      by_number (Some k) (Some (ADir slots)) is = a.distinct k slots is
-      by_number (Some k) (Some (AFile links bytes)) is = none
-
-      by : (x : Option Inode) → inode_at m up ≡ x → AreDistinct (slots_of x)
-      by x is = by_number (number_at m up) x is
+  here_distinct = grind (arith, inode_at m up, number_at m up, none-some, a.distinct)
 
   -- as many as before
   map_length : {A B : Type 0} (f : A → B) (xs : List A) → length (map f xs) ≡ length xs

@@ -76,8 +76,7 @@ module _ (laws : TreeLaws) (limit : ℕ) (m w : Inodes) (t u : Tree) (seen : IsM
   module _ (through : IsThrough m w) where
     -- what was seen has the entries of the whole
     same_entries : (k : ℕ) (x : Inode) (b : List ℕ) → m k ≡ Some x → entries_of m k b ≡ entries_of w k b
-    same_entries k (ADir slots) b in_m = ap (λ o. entry_in o b) in_m ∙ sym (ap (λ o. entry_in o b) (through k slots in_m))
-    same_entries k (AFile links bytes) b in_m = let r = part.files k links bytes in_m in ap (λ o. entry_in o b) in_m ∙ sym (ap (λ o. entry_in o b) r.1)
+    same_entries k x b h1 = grind (arith, part.files)
 
     -- from a path of both trees on, all paths lead to the same numbers
     same_from : (here rest : Path) (k : ℕ) → get t.names here ≡ Some k → get u.names here ≡ Some k → get t.names (here ++ rest) ≡ get u.names (here ++ rest)

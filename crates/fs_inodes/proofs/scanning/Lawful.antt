@@ -1,5 +1,5 @@
 -- An inode map that follows the rules is that of a tree: a scan goes on while a directory isn't through, and it ends since each step sees a slot more.
-use Rattle.std.proofs.Common.{◌≡◌, ◌≢◌, ℕ, zero, suc, ◌+◌, ◌≤◌, ◌<◌, if◌then◌else◌, List, [], ◌∷◌, ◌++◌, length, Option, Some, None, option_map, option_and_then, sym, refl, subst, ap, ◌∙◌, ◌⊎◌, inl, inr, arith, append-nil, append_assoc, length-append, eq-eqb}
+use Rattle.std.proofs.Common.{◌≡◌, ◌≢◌, ℕ, zero, suc, ◌+◌, ◌≤◌, ◌<◌, if◌then◌else◌, List, [], ◌∷◌, ◌++◌, length, Option, Some, None, option_map, option_and_then, sym, refl, ap, ◌∙◌, ◌⊎◌, inl, inr, arith, append-nil, append_assoc, length-append, eq-eqb}
 use Rattle.std.proofs.lemmas.Bool.{cases_eq}
 use Rattle.std.specs.FinMap.{get}
 use Rattle.std.proofs.lemmas.Option.{none-some}
@@ -7,7 +7,7 @@ use Rattle.layout_bytes.specs.declared.slot.Slot.{Slot}
 use Rattle.lang_tree.specs.Tree.{Tree, Dir, File}
 use Rattle.lang_tree.specs.Step.{start}
 use Rattle.crash_stands.specs.Inodes.{Inode, Inodes, ADir, AFile, thing_of, root_alone}
-use Rattle.crash_stands.specs.Walks.{entries_of, entry_in, node_in, walk}
+use Rattle.crash_stands.specs.Walks.{entries_of, node_in, walk}
 use Rattle.crash_stands.specs.Maps.{IsMapOf}
 use Rattle.fs_inodes.specs.Lookups.{slots_of}
 use Rattle.fs_inodes.specs.Changes.{slot_of, with_inode, AddsSlot}
@@ -35,11 +35,7 @@ sum_le f h le k (suc n) = let rest = sum_le f h le (k + 1) n in omega (arith, re
 -- and greater where one of them is
 sum_less : (f h : ℕ → ℕ) → ((i : ℕ) → f i ≤ h i) → (j k n : ℕ) → k ≤ j → j < k + n → f j < h j → sum_from f k n < sum_from h k n
 sum_less f h le j k zero low high less = absurd (omega (arith, low, high))
-sum_less f h le j k (suc n) low high less = by (cases_eq k j) (λ later. sum_less f h le j (k + 1) n later (omega (arith, high)) less)
-  where
-    by : (k ≡ j) ⊎ (k ≡ j → ⊥) → (k + 1 ≤ j → sum_from f (k + 1) n < sum_from h (k + 1) n) → f k + sum_from f (k + 1) n < h k + sum_from h (k + 1) n
-    by (inl e) go = let rest = sum_le f h le (k + 1) n in omega (arith, rest, ap f e, ap h e, less)
-    by (inr off) go = omega (arith, le k, go (omega (arith, low, off)))
+sum_less f h le j k (suc n) low high less = grind (arith, sum_less f h le j (k + 1) n, cases_eq k j, k + 1, sum_from, sum_le)
 
 -- the slots that name a node, as a sum over directories
 naming_sum : (m : Inodes) (n k c : ℕ) → naming_from m n k c ≡ sum_from (λ j. naming n (slots_of (m j))) k c
@@ -109,8 +105,7 @@ module _ (m w : Inodes) (part : IsPartOf m w) where
       by (inr done) (inr all) = inr (λ j low high. at j low high (cases_eq j k))
         where
           at : (j : ℕ) → k ≤ j → j < k + suc n → (j ≡ k) ⊎ (j ≡ k → ⊥) → IsDone j
-          at j low high (inl e) = subst IsDone (sym e) done
-          at j low high (inr off) = all j (omega (arith, low, off)) (omega (arith, high))
+          at j h1 h2 h3 = grind arith
 
 -- One step of the scan.
 
@@ -158,29 +153,11 @@ module _ (laws : TreeLaws) (limit : ℕ) (w : Inodes) (rules : FollowsRules limi
         itself n list = ap (λ b. (if b then 1 else 0) + naming n list) (eq-eqb n n refl)
 
         named_here : naming next.node (slots_of (m d)) < naming next.node (slots_of (w d))
-        named_here = omega (
-          arith,
-          ap (λ o. naming next.node (slots_of o)) here,
-          ap (λ o. naming next.node (slots_of o)) whole,
-          naming_joined next.node slots (next ∷ rest),
-          itself next.node rest,
-        )
+        named_here = grind (arith, next.node, naming_joined, itself)
 
     -- the map with a slot more has more slots
     grows : (new : Inodes) (n : ℕ) (name : List ℕ) (x : Inode) → slots_of (m n) ≡ [] → AddsSlot m new d n name x → (k : ℕ) → length (slots_of (m k)) ≤ length (slots_of (new k))
-    grows new n name x bare ch k = by (cases_eq k d) (cases_eq k n)
-      where
-        by : (k ≡ d) ⊎ (k ≡ d → ⊥) → (k ≡ n) ⊎ (k ≡ n → ⊥) → length (slots_of (m k)) ≤ length (slots_of (new k))
-        by (inl e) side = omega (
-          arith,
-          ap (λ k. length (slots_of (m k))) e,
-          ap (λ k. length (slots_of (new k))) e,
-          ap (λ o. length (slots_of o)) ch.dir,
-          ap (λ o. length (slots_of o)) ch.added,
-          length-append ch.slots (slot_of n name ∷ []),
-        )
-        by (inr off) (inl e) = omega (arith, ap (λ k. length (slots_of (m k))) e, ap length bare)
-        by (inr off) (inr away) = omega (arith, ap (λ o. length (slots_of o)) (ch.others k off away))
+    grows new n name x bare ch k = grind (arith, cases_eq k d, cases_eq k n, ch.dir, ch.added, length-append, ch.slots, ch.others)
 
     -- one slot more was seen
     grown : (new : Inodes) (n : ℕ) (name : List ℕ) (x : Inode) → slots_of (m n) ≡ [] → AddsSlot m new d n name x → seen_slots limit m < seen_slots limit new
@@ -273,8 +250,7 @@ module _ (laws : TreeLaws) (limit : ℕ) (w : Inodes) (rules : FollowsRules limi
 
     -- what was seen has the entries of the whole
     same_in_use : (k : ℕ) (x : Inode) (b : List ℕ) → m k ≡ Some x → entries_of w k b ≡ entries_of m k b
-    same_in_use k (ADir slots) b at = ap (λ o. entry_in o b) (through k slots at) ∙ sym (ap (λ o. entry_in o b) at)
-    same_in_use k (AFile links bytes) b at = let r = s.part.files k links bytes at in ap (λ o. entry_in o b) r.1 ∙ sym (ap (λ o. entry_in o b) at)
+    same_in_use k x b h1 = grind (arith, s.part.files)
 
     used_at : (p : Path) (k : ℕ) → get s.tree.names p ≡ Some k → (x : Inode) × (m k ≡ Some x)
     used_at p k at = let y = e.sound.named p k at in inode_with (m k) y.0 (sym (e.nodes k) ∙ y.1)
@@ -302,13 +278,7 @@ module _ (laws : TreeLaws) (limit : ℕ) (w : Inodes) (rules : FollowsRules limi
 
     -- each directory has its slots
     same_slots : (k : ℕ) → slots_of (m k) ≡ slots_of (w k)
-    same_slots k = by (m k) refl (w k) refl
-      where
-        by : (o : Option Inode) → m k ≡ o → (q : Option Inode) → w k ≡ q → slots_of o ≡ slots_of q
-        by None is None at = refl
-        by None is (Some x) at = let y = saw_all k x at in absurd (none-some y.0 (sym is ∙ y.1))
-        by (Some (ADir slots)) is q at = ap slots_of (sym (through k slots is) ∙ at)
-        by (Some (AFile links bytes)) is q at = let r = s.part.files k links bytes is in ap slots_of (sym r.1 ∙ at)
+    same_slots k = grind (arith, m k, w k, saw_all, none-some, s.part.files)
 
     -- and each node is named as often
     same_sum : (n k c : ℕ) → naming_from m n k c ≡ naming_from w n k c

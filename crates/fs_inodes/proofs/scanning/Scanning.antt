@@ -1,5 +1,5 @@
 -- A scan begins with the root alone, goes on slot by slot, and ends with the whole map.
-use Rattle.std.proofs.Common.{◌≡◌, ℕ, zero, suc, ◌+◌, ◌≤◌, List, [], ◌∷◌, ◌++◌, Option, Some, None, option_map, sym, refl, subst, ap, ◌∙◌, ◌⊎◌, inl, inr, append_assoc}
+use Rattle.std.proofs.Common.{◌≡◌, ℕ, ◌+◌, ◌≤◌, List, [], ◌∷◌, ◌++◌, Option, Some, None, option_map, sym, refl, subst, ap, ◌∙◌, ◌⊎◌, inl, inr, append_assoc, arith}
 use Rattle.std.proofs.lemmas.Bool.{cases_eq}
 use Rattle.std.specs.FinMap.{get}
 use Rattle.std.proofs.lemmas.Option.{same_Some, none-some}
@@ -21,9 +21,7 @@ use Rattle.fs_inodes.proofs.commands.Adding.{adds_name, one_dir, dir_file, node_
 
 -- only the root is there
 at_root : (k : ℕ) (x : Inode) → root_alone k ≡ Some x → (k ≡ 1) × (x ≡ ADir [])
-at_root zero x e = absurd (none-some x e)
-at_root (suc zero) x e = (refl, sym (same_Some (ADir []) x e))
-at_root (suc (suc k)) x e = absurd (none-some x e)
+at_root k x h1 = grind (arith, none-some, same_Some)
 
 -- no slots are no slots
 no_slots : {slots : List Slot} → ADir slots ≡ ADir [] → slots ≡ []
@@ -89,9 +87,7 @@ module _ (m new w : Inodes) (part : IsPartOf m w) (d n : ℕ) (name : List ℕ) 
       dirs k slots is (inr away) (inr off) = part.dirs k slots (sym (ch.others k away off) ∙ is)
 
       files : (k links : ℕ) (bytes : List ℕ) → new k ≡ Some (AFile links bytes) → (k ≡ d) ⊎ (k ≡ d → ⊥) → (k ≡ n) ⊎ (k ≡ n → ⊥) → (all : ℕ) × (w k ≡ Some (AFile all bytes))
-      files k links bytes is (inl e) side = absurd (dir_file (ch.slots ++ slot_of n name ∷ []) links bytes (ap new e ∙ ch.added) is)
-      files k links bytes is (inr away) (inl e) = let r = file_in links bytes (same_Some x (AFile links bytes) (sym ch.named ∙ ap new (sym e) ∙ is)) in (r.0, ap w e ∙ r.1)
-      files k links bytes is (inr away) (inr off) = part.files k links bytes (sym (ch.others k away off) ∙ is)
+      files k links bytes h1 h2 h3 = grind (arith, dir_file, ch.slots, ch.added, same_Some, ch.named, part.files, ch.others)
 
 -- the bytes of a file are one list
 same_bytes : {links more : ℕ} {bytes others : List ℕ} → AFile links bytes ≡ AFile more others → bytes ≡ others
@@ -113,15 +109,6 @@ file_part m new w d n name links all bytes rest ch part next there = still_part 
 
 -- The slots of the record are those of the directory.
 
--- no slot of the record has the name, where none of the directory has
-pub name_of_list : (m new : Inodes) (d n : ℕ) (name : List ℕ) (x : Inode) (slots : List Slot) → m d ≡ Some (ADir slots) → (ch : AddsSlot m new d n name x) → node_in slots name ≡ None → node_in ch.slots name ≡ None
-name_of_list m new d n name x slots at ch free = ap (λ l. node_in l name) (one_dir ch.slots slots ch.dir at) ∙ free
-
--- the directory of the whole goes on behind the record's slots
-pub whole_of_list : (m new w : Inodes) (d n : ℕ) (name : List ℕ) (x : Inode) (slots rest : List Slot) → m d ≡ Some (ADir slots) → (ch : AddsSlot m new d n name x)
-    → w d ≡ Some (ADir (slots ++ slot_of n name ∷ rest)) → w d ≡ Some (ADir (ch.slots ++ slot_of n name ∷ rest))
-whole_of_list m new w d n name x slots rest at ch next = next ∙ ap (λ l. Some (ADir (l ++ slot_of n name ∷ rest))) (sym (one_dir ch.slots slots ch.dir at))
-
 -- The end.
 
 module _ (m w : Inodes) (part : IsPartOf m w) (through : IsThrough m w) (all : SawAll m w) (links : LinksFit m w) where
@@ -130,8 +117,7 @@ module _ (m w : Inodes) (part : IsPartOf m w) (through : IsThrough m w) (all : S
   same_inode k = by (m k) refl
     where
       none : (o : Option Inode) → w k ≡ o → m k ≡ None → None ≡ w k
-      none None is gone = sym is
-      none (Some x) is gone = let y = all k x is in absurd (none-some y.0 (sym gone ∙ y.1))
+      none o h1 h2 = grind (arith, none-some)
 
       by : (o : Option Inode) → m k ≡ o → o ≡ w k
       by None is = none (w k) refl is

@@ -1,11 +1,9 @@
 -- Slots written into the bytes of a directory, and cut off them.
-use Rattle.std.proofs.Common.{◌≡◌, ℕ, ◌+◌, ◌-◌, ◌*◌, ◌/◌, ◌%◌, ◌<◌, ◌≤◌, ◌==◌, Bool, true, false, List, [], ◌∷◌, ◌++◌, length, take, drop, replicate, set, get_or, slice_get, Option, Some, None, option_map, refl, ap, ap₂, ◌∙◌, arith, append-nil, take_all, sym}
+use Rattle.std.proofs.Common.{◌≡◌, ℕ, ◌+◌, ◌-◌, ◌*◌, ◌/◌, ◌%◌, ◌<◌, ◌≤◌, ◌==◌, List, [], ◌∷◌, ◌++◌, length, take, drop, replicate, set, get_or, slice_get, Some, option_map, refl, ap, ◌∙◌, arith, append-nil, take_all, sym}
 use Rattle.std.proofs.lemmas.List.{length-take-le, length-drop, length-append, take-append-le, drop_all, take-append-drop}
 use Rattle.std.proofs.lemmas.Option.{slice_get-get_or, none-some}
 use Rattle.layout_bytes.specs.declared.node.NodeKind.{NodeKind}
-use Rattle.layout_bytes.specs.declared.node.NodeKind.TheVariants.{Free, Dir, File}
 use Rattle.layout_bytes.specs.declared.slot.Slot.{Slot}
-use Rattle.layout_bytes.specs.Bytes.{when}
 use Rattle.layout_bytes.specs.Slot.{slot_of, slots_in, slot_spelling}
 use Rattle.layout_directory.specs.Slots.{IsLawful}
 use Rattle.layout_directory.specs.Directory.{overwrite, without_at}
@@ -13,7 +11,6 @@ use Rattle.lang_tree.specs.Step.{written, resized}
 use Rattle.crash_stands.specs.Files.{FileNode}
 use Rattle.crash_stands.specs.Inodes.{ADir, AFile, inode_by, inode_of}
 use Rattle.fs_inodes.specs.SlotLaws.{SlotLaws}
-use Rattle.fs_inodes.proofs.commands.Adding.{dir_file, one_file}
 
 -- so many slots read from a front of the bytes that is long enough
 taken_by : SlotLaws → (n k : ℕ) (b : List ℕ) (slots : List Slot) → k ≡ 64 * n → k ≤ length b → slots_in n b ≡ Some slots → slots_in n (take k b) ≡ Some slots
@@ -26,11 +23,7 @@ written_within off ys xs fits = ap (λ front. front ++ (ys ++ drop (off + length
 
 -- and behind them
 written_behind : (ys xs : List ℕ) → written (length xs) ys xs ≡ xs ++ ys
-written_behind ys xs =
-    ap₂ (λ front back. front ++ (ys ++ back))
-    (take-append-le (length xs) xs (replicate (length xs - length xs) 0) (omega arith) ∙ take_all (length xs) xs (omega arith))
-    (drop_all (length xs + length ys) xs (omega arith))
-    ∙ ap (λ l. xs ++ l) (append-nil ys)
+written_behind ys xs = grind (arith, take-append-le, take_all, drop_all, append-nil)
 
 -- bytes cut to a front
 resized_front : (n : ℕ) (xs : List ℕ) → n ≤ length xs → resized n xs ≡ take n xs
@@ -38,33 +31,16 @@ resized_front n xs fits = take-append-le n xs (replicate (n - length xs) 0) fits
 
 -- bytes written within others leave their number
 over_length : (at : ℕ) (new b : List ℕ) → at + length new ≤ length b → length (overwrite at new b) ≡ length b
-over_length at new b fits =
-    omega (arith, length-append (take at b) (new ++ drop (at + length new) b), length-append new (drop (at + length new) b), length-drop (at + length new) b, length-take-le at b (omega (arith, fits)))
+over_length at new b fits = grind (arith, length-append, length-drop, length-take-le)
 
 -- what reads as a directory has slots, and with other bytes the slots of those
 record IsDir (kind : NodeKind) (links : ℕ) (bytes : List ℕ) (slots : List Slot) : Type 0 where
   own : slots_in (length bytes / 64) bytes ≡ Some slots
   others : (b : List ℕ) (list : List Slot) → slots_in (length b / 64) b ≡ Some list → inode_by kind links b ≡ Some (ADir list)
 
--- the slots of a directory are those that are read
-slots_same : (o : Option (List Slot)) (slots : List Slot) → option_map ADir o ≡ Some (ADir slots) → o ≡ Some slots
-slots_same None slots e = absurd (none-some (ADir slots) e)
-slots_same (Some l) slots e = cc
-
 -- what reads as a directory is of that kind, and with other bytes it reads as their slots
 dir_is : (kind : NodeKind) (links : ℕ) (bytes : List ℕ) (slots : List Slot) → inode_by kind links bytes ≡ Some (ADir slots) → IsDir kind links bytes slots
-dir_is Free links bytes slots e = absurd (none-some (ADir slots) e)
-dir_is File links bytes slots e = absurd (dir_file slots links bytes e refl)
-dir_is Dir links bytes slots e = record { own = slots_same _ slots (own (links == 1) e); others = λ b list is. other (links == 1) e b list is }
-  where
-    own : (t : Bool) → when t (option_map ADir (slots_in (length bytes / 64) bytes)) ≡ Some (ADir slots) → option_map ADir (slots_in (length bytes / 64) bytes) ≡ Some (ADir slots)
-    own true e = e
-    own false e = absurd (none-some (ADir slots) e)
-
-    other : (t : Bool) → when t (option_map ADir (slots_in (length bytes / 64) bytes)) ≡ Some (ADir slots) → (b : List ℕ) (list : List Slot) → slots_in (length b / 64) b ≡ Some list
-        → when t (option_map ADir (slots_in (length b / 64) b)) ≡ Some (ADir list)
-    other true e b list is = ap (option_map ADir) is
-    other false e b list is = absurd (none-some (ADir slots) e)
+dir_is kind links bytes slots h1 = grind (arith, links == 1, option_map ADir, none-some)
 
 module _ (laws : SlotLaws) (file : FileNode) (slots : List Slot) (is : inode_of file ≡ Some (ADir slots)) where
   -- the file is a directory
@@ -94,9 +70,7 @@ module _ (laws : SlotLaws) (file : FileNode) (slots : List Slot) (is : inode_of 
 
     -- a slot's bytes written over a place put it there
     put_over : (place : ℕ) (new : List ℕ) (s : Slot) → place < length slots → length new ≡ 64 → slot_of new ≡ Some s → slots_in (length slots) (written (64 * place) new file.bytes) ≡ Some (set slots place s)
-    put_over place new s low size reads =
-        ap (slots_in (length slots)) (written_within (64 * place) new file.bytes (omega (arith, bytes_count, low)))
-        ∙ laws.over (length slots) file.bytes new place slots s size (omega (arith, bytes_count)) low reads reads_all
+    put_over place new s low size reads = grind (arith, written_within, file.bytes, laws.over)
 
     -- and leave as many bytes
     over_long : (place : ℕ) (new : List ℕ) → place < length slots → length new ≡ 64 → length (written (64 * place) new file.bytes) ≡ 64 * length slots
@@ -139,20 +113,9 @@ module _ (laws : SlotLaws) (file : FileNode) (slots : List Slot) (is : inode_of 
 
 -- Files.
 
--- what reads as slots is no file
-no_file : (l : ℕ) (b : List ℕ) (t : Bool) (o : Option (List Slot)) → when t (option_map ADir o) ≡ Some (AFile l b) → ⊥
-no_file l b true None e = none-some (AFile l b) e
-no_file l b true (Some list) e = dir_file list l b refl e
-no_file l b false o e = none-some (AFile l b) e
-
 -- a file has its links and bytes
 file_parts : (kind : NodeKind) (links l : ℕ) (bytes b : List ℕ) → inode_by kind links bytes ≡ Some (AFile l b) → (links ≡ l) × (bytes ≡ b)
-file_parts Free links l bytes b e = absurd (none-some (AFile l b) e)
-file_parts Dir links l bytes b e = absurd (no_file l b (links == 1) (slots_in (length bytes / 64) bytes) e)
-file_parts File links l bytes b e = (one_file links l bytes b refl e, same e)
-  where
-    same : Some (AFile links bytes) ≡ Some (AFile l b) → bytes ≡ b
-    same e = cc
+file_parts kind links l bytes b h1 = grind (arith, none-some)
 
 -- of a node in use
 pub parts_of : (file : FileNode) (links : ℕ) (bytes : List ℕ) → inode_of file ≡ Some (AFile links bytes) → (file.links ≡ links) × (file.bytes ≡ bytes)
@@ -160,9 +123,7 @@ parts_of file links bytes e = file_parts file.kind file.links links file.bytes b
 
 -- and with others it is a file too
 with_others : (kind : NodeKind) (links l more : ℕ) (bytes b new : List ℕ) → inode_by kind links bytes ≡ Some (AFile l b) → inode_by kind more new ≡ Some (AFile more new)
-with_others Free links l more bytes b new e = absurd (none-some (AFile l b) e)
-with_others Dir links l more bytes b new e = absurd (no_file l b (links == 1) (slots_in (length bytes / 64) bytes) e)
-with_others File links l more bytes b new e = refl
+with_others kind links l more bytes b new h1 = grind (arith, none-some)
 
 -- of a node in use
 pub others_of : (file : FileNode) (links more : ℕ) (bytes new : List ℕ) → inode_of file ≡ Some (AFile links bytes) → inode_of (record { kind = file.kind; links = more; bytes = new }) ≡ Some (AFile more new)

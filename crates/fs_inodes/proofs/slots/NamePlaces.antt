@@ -50,12 +50,7 @@ not_less i n e = le-ltb i n (omega (arith, e))
 -- where no slot passes, nothing is under the name
 none_at : (name : List ℕ) (slots : List Slot) → nat_lt (position_or_len (λ s. bytes_eq s.name name) slots) (length slots) ≡ false → node_in slots name ≡ None
 none_at name [] high = refl
-none_at name (s ∷ slots) high = by (bytes_eq s.name name) refl high (none_at name slots)
-  where
-    by : (b : Bool) → bytes_eq s.name name ≡ b → nat_lt (cond (not b) (1 + position_or_len (λ s. bytes_eq s.name name) slots) 0) (suc (length slots)) ≡ false
-        → (nat_lt (position_or_len (λ s. bytes_eq s.name name) slots) (length slots) ≡ false → node_in slots name ≡ None) → cond b (Some s.node) (node_in slots name) ≡ None
-    by true is high go = let low = ltb-false _ _ high in absurd (omega (arith, low))
-    by false is high go = let low = ltb-false _ _ high in go (not_less _ _ low)
+none_at name (s ∷ slots) high = grind (arith, none_at name slots, bytes_eq s.name name, s.name, s.node, ltb-false, not_less)
 
 -- what is at the place of a name
 pub place_found : (slots : List Slot) (name : List ℕ) (place : ℕ) → place_of name slots ≡ Some place → (node : ℕ) × (slice_get slots place ≡ Some (slot_of node name)) × (node_in slots name ≡ Some node)
@@ -70,11 +65,7 @@ place_found slots name place e = by (nat_lt (position_or_len (λ s. bytes_eq s.n
 
 -- and that nothing stands where there is none
 pub place_missing : (slots : List Slot) (name : List ℕ) → place_of name slots ≡ None → node_in slots name ≡ None
-place_missing slots name e = by (nat_lt (position_or_len (λ s. bytes_eq s.name name) slots) (length slots)) refl e
-  where
-    by : (b : Bool) → nat_lt (position_or_len (λ s. bytes_eq s.name name) slots) (length slots) ≡ b → cond b (Some (position_or_len (λ s. bytes_eq s.name name) slots)) None ≡ None → node_in slots name ≡ None
-    by true is e = absurd (none-some (position_or_len (λ s. bytes_eq s.name name) slots) (sym e))
-    by false is e = none_at name slots is
+place_missing slots name e = grind (arith, none-some, none_at)
 
 -- The slots with one of that name.
 
@@ -126,12 +117,4 @@ front_of xs v n e = take-append-le n xs (v ∷ []) (omega (arith, e)) ∙ take_a
 
 -- a slot behind the last one comes into the hole of the one that is taken out: as if that one had changed its name in its place
 pub in_its_place : (slots : List Slot) (s : Slot) (place : ℕ) → place_of s.name slots ≡ None → place < length slots → without_at place (with_slot slots s) ≡ set slots place s
-in_its_place slots s place none low =
-    ap (λ o. without_at place (put_at o s slots)) none
-    ∙ ap (λ n. take n (set (slots ++ s ∷ []) place (get_or (slots ++ s ∷ []) n (record { node = 0; name = [] })))) count
-    ∙ ap (λ x. take (length slots) (set (slots ++ s ∷ []) place x)) (last_of slots s _)
-    ∙ ap (take (length slots)) (set_before slots s s place low)
-    ∙ front_of (set slots place s) s (length slots) (sym (length-set slots place s))
-  where
-    count : length (slots ++ s ∷ []) - 1 ≡ length slots
-    count = omega (arith, length-append slots (s ∷ []))
+in_its_place slots s place none low = grind (arith, last_of, set_before, front_of, length-set, length-append)

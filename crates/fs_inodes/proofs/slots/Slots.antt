@@ -45,11 +45,7 @@ pub at_in_longer : {A : Type 0} (xs : List A) (v : A) (i : ℕ) (x : A) → slic
 at_in_longer [] v zero x e = inr (refl, sym (same_Some v x e))
 at_in_longer [] v (suc i) x e = absurd (none-some x e)
 at_in_longer (y ∷ xs) v zero x e = inl e
-at_in_longer (y ∷ xs) v (suc i) x e = by (at_in_longer xs v i x e)
-  where
-    by : (slice_get xs i ≡ Some x) ⊎ ((i ≡ length xs) × (x ≡ v)) → (slice_get xs i ≡ Some x) ⊎ ((suc i ≡ suc (length xs)) × (x ≡ v))
-    by (inl e) = inl e
-    by (inr e) = inr (ap suc e.0, e.1)
+at_in_longer (y ∷ xs) v (suc i) x e = grind (arith, at_in_longer xs v i x e)
 
 -- a front has at each of its places what the list has
 pub take_at : {A : Type 0} (n : ℕ) (xs : List A) (i : ℕ) → i < n → slice_get (take n xs) i ≡ slice_get xs i
@@ -78,9 +74,7 @@ rest_distinct x slots distinct j k u v at_j at_k same = omega (arith, distinct (
 -- the name of each slot leads to its node
 pub finds : (slots : List Slot) (i : ℕ) (s : Slot) → AreDistinct slots → slice_get slots i ≡ Some s → node_in slots s.name ≡ Some s.node
 finds [] i s distinct at = absurd (none-some s at)
-finds (x ∷ slots) zero s distinct at =
-    let same : x ≡ s = same_Some x s at in
-    ap (λ b. cond b (Some x.node) (node_in slots s.name)) ((bytes_eq-Decides x.name s.name).1 (ap (λ r. r.name) same)) ∙ ap (λ r. Some r.node) same
+finds (x ∷ slots) zero s distinct at = grind (arith, same_Some, x.node, s.name, bytes_eq-Decides, x.name)
 finds (x ∷ slots) (suc i) s distinct at = by (finds slots i s (rest_distinct x slots distinct) at) (cases_Bool (bytes_eq x.name s.name))
   where
     by : node_in slots s.name ≡ Some s.node → (bytes_eq x.name s.name ≡ true) ⊎ (bytes_eq x.name s.name ≡ false) → node_in (x ∷ slots) s.name ≡ Some s.node
@@ -126,13 +120,7 @@ same_under old new name distinct_old distinct_new there back = by (which (node_i
 module _ (slots : List Slot) (s : Slot) (distinct : AreDistinct slots) (free : node_in slots s.name ≡ None) where
   -- no two slots have one name then
   pub added_distinct : AreDistinct (slots ++ s ∷ [])
-  added_distinct i j u v at_i at_j same = by (at_in_longer slots s i u at_i) (at_in_longer slots s j v at_j)
-    where
-      by : (slice_get slots i ≡ Some u) ⊎ ((i ≡ length slots) × (u ≡ s)) → (slice_get slots j ≡ Some v) ⊎ ((j ≡ length slots) × (v ≡ s)) → i ≡ j
-      by (inl e) (inl f) = distinct i j u v e f same
-      by (inl e) (inr f) = absurd (not_named slots s.name i u distinct free e (same ∙ ap (λ r. r.name) f.1))
-      by (inr e) (inl f) = absurd (not_named slots s.name j v distinct free f (sym same ∙ ap (λ r. r.name) e.1))
-      by (inr e) (inr f) = e.0 ∙ sym f.0
+  added_distinct i j u v at_i at_j same = grind (arith, at_in_longer slots s i u at_i, at_in_longer slots s j v at_j, at_in_longer, not_named, s.name)
 
   -- its node is under its name
   pub added_here : node_in (slots ++ s ∷ []) s.name ≡ Some s.node
@@ -140,24 +128,14 @@ module _ (slots : List Slot) (s : Slot) (distinct : AreDistinct slots) (free : n
 
   -- and under every other name what was there
   pub added_other : (name : List ℕ) → (name ≡ s.name → ⊥) → node_in (slots ++ s ∷ []) name ≡ node_in slots name
-  added_other name off = same_under slots (slots ++ s ∷ []) name distinct added_distinct
-      (λ u at same. (at.0, front_at slots (s ∷ []) at.0 u at.1))
-      (λ u at same. by u at same (at_in_longer slots s at.0 u at.1))
-    where
-      by : (u : Slot) (at : Has (slots ++ s ∷ []) u) → u.name ≡ name → (slice_get slots at.0 ≡ Some u) ⊎ ((at.0 ≡ length slots) × (u ≡ s)) → Has slots u
-      by u at same (inl e) = (at.0, e)
-      by u at same (inr e) = absurd (off (sym same ∙ ap (λ r. r.name) e.1))
+  added_other name off = grind (arith, same_under, added_distinct, front_at, at_in_longer)
 
 -- Another slot at the place of one.
 
 module _ (slots : List Slot) (place : ℕ) (s v : Slot) (distinct : AreDistinct slots) (at : slice_get slots place ≡ Some s) where
   -- what is at a place is the new slot, or what was there
   at_set : (i : ℕ) (u : Slot) → slice_get (set slots place v) i ≡ Some u → ((i ≡ place) × (u ≡ v)) ⊎ ((i ≡ place → ⊥) × (slice_get slots i ≡ Some u))
-  at_set i u e = by (cases_eq i place)
-    where
-      by : (i ≡ place) ⊎ (i ≡ place → ⊥) → ((i ≡ place) × (u ≡ v)) ⊎ ((i ≡ place → ⊥) × (slice_get slots i ≡ Some u))
-      by (inl same) = inl (same, same_Some u v (sym e ∙ ap (slice_get (set slots place v)) same ∙ set_here slots place s v at))
-      by (inr off) = inr (off, sym (set_other slots place i v off) ∙ e)
+  at_set i u e = grind (arith, cases_eq i place, same_Some, set_here, set_other)
 
   -- its name is that of the one before
   module _ (own : v.name ≡ s.name) where
@@ -167,13 +145,7 @@ module _ (slots : List Slot) (place : ℕ) (s v : Slot) (distinct : AreDistinct 
 
     -- no two slots have one name then
     pub set_distinct : AreDistinct (set slots place v)
-    set_distinct i j u w at_i at_j same = by (at_set i u at_i) (at_set j w at_j)
-      where
-        by : ((i ≡ place) × (u ≡ v)) ⊎ ((i ≡ place → ⊥) × (slice_get slots i ≡ Some u)) → ((j ≡ place) × (w ≡ v)) ⊎ ((j ≡ place → ⊥) × (slice_get slots j ≡ Some w)) → i ≡ j
-        by (inl e) (inl f) = e.0 ∙ sym f.0
-        by (inl e) (inr f) = absurd (no_other j w f.0 f.1 (sym same ∙ ap (λ r. r.name) e.1))
-        by (inr e) (inl f) = absurd (no_other i u e.0 e.1 (same ∙ ap (λ r. r.name) f.1))
-        by (inr e) (inr f) = distinct i j u w e.1 f.1 same
+    set_distinct i j u w at_i at_j same = grind (arith, at_set i u at_i, at_set j w at_j, at_set, no_other)
 
     -- the new slot's node is under its name
     pub set_here_name : node_in (set slots place v) v.name ≡ Some v.node
@@ -186,8 +158,7 @@ module _ (slots : List Slot) (place : ℕ) (s v : Slot) (distinct : AreDistinct 
         (λ u there same. by u there same (at_set there.0 u there.1))
       where
         by : (u : Slot) (there : Has (set slots place v) u) → u.name ≡ name → ((there.0 ≡ place) × (u ≡ v)) ⊎ ((there.0 ≡ place → ⊥) × (slice_get slots there.0 ≡ Some u)) → Has slots u
-        by u there same (inl e) = absurd (off (sym same ∙ ap (λ r. r.name) e.1))
-        by u there same (inr e) = (there.0, e.1)
+        by u there h1 h2 = grind arith
 
 -- A slot taken out, the last one in its place.
 
@@ -203,15 +174,7 @@ module _ (slots : List Slot) (place : ℕ) (s : Slot) (distinct : AreDistinct sl
   -- what is there stood elsewhere, and not at the place
   came_from : (i : ℕ) (u : Slot) → slice_get (without_at place slots) i ≡ Some u
       → ((i ≡ place) × (i < length slots - 1) × (slice_get slots (length slots - 1) ≡ Some u)) ⊎ ((i ≡ place → ⊥) × (i < length slots - 1) × (slice_get slots i ≡ Some u))
-  came_from i u e =
-      let below = at_in_front (length slots - 1) (set slots place (get_or slots (length slots - 1) (record { node = 0; name = [] }))) i u e in
-      let is = sym (take_at (length slots - 1) (set slots place (get_or slots (length slots - 1) (record { node = 0; name = [] }))) i below) ∙ e in
-      by below is (cases_eq i place)
-    where
-      by : i < length slots - 1 → slice_get (set slots place (get_or slots (length slots - 1) (record { node = 0; name = [] }))) i ≡ Some u → (i ≡ place) ⊎ (i ≡ place → ⊥)
-          → ((i ≡ place) × (i < length slots - 1) × (slice_get slots (length slots - 1) ≡ Some u)) ⊎ ((i ≡ place → ⊥) × (i < length slots - 1) × (slice_get slots i ≡ Some u))
-      by below is (inl same) = inl (same, below, last_slot ∙ sym (set_here slots place s _ at) ∙ ap (slice_get (set slots place _)) (sym same) ∙ is)
-      by below is (inr off) = inr (off, below, sym (set_other slots place i _ off) ∙ is)
+  came_from i u e = grind (arith, cases_eq i place, at_in_front, take_at, last_slot, set_here, set_other)
 
   -- what stood elsewhere is there
   comes_to : (i : ℕ) (u : Slot) → (i ≡ place → ⊥) → slice_get slots i ≡ Some u → Has (without_at place slots) u
@@ -230,23 +193,11 @@ module _ (slots : List Slot) (place : ℕ) (s : Slot) (distinct : AreDistinct sl
 
   -- no two slots have one name then
   pub taken_distinct : AreDistinct (without_at place slots)
-  taken_distinct i j u v at_i at_j same = by (came_from i u at_i) (came_from j v at_j)
-    where
-      by : ((i ≡ place) × (i < length slots - 1) × (slice_get slots (length slots - 1) ≡ Some u)) ⊎ ((i ≡ place → ⊥) × (i < length slots - 1) × (slice_get slots i ≡ Some u))
-          → ((j ≡ place) × (j < length slots - 1) × (slice_get slots (length slots - 1) ≡ Some v)) ⊎ ((j ≡ place → ⊥) × (j < length slots - 1) × (slice_get slots j ≡ Some v)) → i ≡ j
-      by (inl e) (inl f) = e.0 ∙ sym f.0
-      by (inl e) (inr f) = let same_place = distinct (length slots - 1) j u v e.2 f.2 same in absurd (omega (arith, f.1, same_place))
-      by (inr e) (inl f) = let same_place = distinct i (length slots - 1) u v e.2 f.2 same in absurd (omega (arith, e.1, same_place))
-      by (inr e) (inr f) = distinct i j u v e.2 f.2 same
+  taken_distinct i j u v at_i at_j same = grind (arith, came_from i u at_i, came_from j v at_j, length slots - 1, came_from)
 
   -- a slot that is there stood in the list, and has another name than the one that went
   pub was_there : (u : Slot) → Has (without_at place slots) u → (Has slots u) × (u.name ≡ s.name → ⊥)
-  was_there u there = by (came_from there.0 u there.1)
-    where
-      by : ((there.0 ≡ place) × (there.0 < length slots - 1) × (slice_get slots (length slots - 1) ≡ Some u)) ⊎ ((there.0 ≡ place → ⊥) × (there.0 < length slots - 1) × (slice_get slots there.0 ≡ Some u))
-          → (Has slots u) × (u.name ≡ s.name → ⊥)
-      by (inl e) = ((length slots - 1, e.2), λ same. let same_place = distinct (length slots - 1) place u s e.2 at same in absurd (omega (arith, e.0, e.1, same_place)))
-      by (inr e) = ((there.0, e.2), λ same. e.0 (distinct there.0 place u s e.2 at same))
+  was_there u there = grind (arith, came_from there.0 u there.1, came_from, u.name, s.name)
 
   -- nothing is under the name of the one that went
   pub taken_here : node_in (without_at place slots) s.name ≡ None

@@ -1,5 +1,5 @@
 -- The figures of a command, from the sizes of inodes, and the blocks of the map after it.
-use Rattle.std.proofs.Common.{◌≡◌, ℕ, ◌+◌, ◌==◌, Bool, length, Option, Some, None, if◌then◌else◌, refl, ap, ap₂, ◌∙◌, sym}
+use Rattle.std.proofs.Common.{◌≡◌, ℕ, ◌+◌, ◌==◌, Bool, length, Option, if◌then◌else◌, refl, ap, ap₂, ◌∙◌, sym, arith}
 use Rattle.lang_tree.specs.declared.command.Cmd.{Cmd}
 use Rattle.lang_tree.specs.declared.command.Cmd.TheVariants.{Mkdir, Create, Write, Fill, Read, Truncate, Link, Unlink, Rmdir, Rename, Stat, List as ListNames, Osync, Dsync, Durable, Poll, Bad}
 use Rattle.lang_tree.specs.declared.command.Refusal.{Refusal}
@@ -63,8 +63,7 @@ module _ (laws : TreeLaws) (limit : ℕ) (m : Inodes) (t : Tree) (a : Agrees lim
 
   -- refused or not
   pub cost_given : (bitmap : ℕ) (cmd : Cmd) (r : Option Refusal) → figures_by bitmap t cmd r ≡ cost_by bitmap m cmd r
-  cost_given bitmap cmd (Some why) = refl
-  cost_given bitmap cmd None = accepted_given bitmap cmd
+  cost_given bitmap cmd r = grind (arith, accepted_given)
 
 -- the figures of each command come from inodes
 pub figures_given : (laws : TreeLaws) (s : Session) (m : Inodes) → Agrees s.limit m s.tree → (bitmap : ℕ) (cmd : Cmd) → figures bitmap s cmd ≡ cost bitmap s.limit m cmd

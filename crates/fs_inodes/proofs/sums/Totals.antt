@@ -1,8 +1,8 @@
 -- The blocks of a tree are those of its inodes, added up by their numbers.
-use Rattle.std.proofs.Common.{◌≡◌, ℕ, zero, suc, ◌+◌, ◌*◌, ◌≤◌, ◌<◌, ◌==◌, Bool, true, false, cond, T, List, [], ◌∷◌, length, if◌then◌else◌, Option, Some, None, option_map, option_and_then, refl, sym, ap, ap₂, subst, ◌∙◌, ◌⊎◌, inl, inr, arith, eq-eqb, ne_eqb}
+use Rattle.std.proofs.Common.{◌≡◌, ℕ, zero, suc, ◌+◌, ◌*◌, ◌≤◌, ◌<◌, ◌==◌, Bool, cond, T, List, [], ◌∷◌, length, if◌then◌else◌, Option, Some, None, option_map, option_and_then, refl, sym, ap, ap₂, ◌∙◌, ◌⊎◌, arith, eq-eqb, ne_eqb}
 use Rattle.std.proofs.lemmas.Bool.{cases_eq}
-use Rattle.std.specs.Ordering.{nat_cmp, eq_by_cmp, is_lt}
-use Rattle.std.specs.Cmp.{nat_cmp_total, tied_itself}
+use Rattle.std.specs.Ordering.{nat_cmp}
+use Rattle.std.specs.Cmp.{nat_cmp_total}
 use Rattle.std.specs.FinMap.{nat_cmp-IsAntisymmetric, get, entries, find, is_sorted, entries_sorted, get-entries}
 use Rattle.std.specs.FinMap.Entries.{below_all}
 use Rattle.std.proofs.lemmas.Option.{none-some}
@@ -49,13 +49,7 @@ sum_nothing f k (suc n) none = let rest = sum_nothing f (k + 1) n (λ i low. non
 -- where f has something at one number of the range alone, that is the sum
 sum_one : (f : ℕ → ℕ) (j c k n : ℕ) → k ≤ j → j < k + n → f j ≡ c → ((i : ℕ) → (i ≡ j → ⊥) → f i ≡ 0) → sum_from f k n ≡ c
 sum_one f j c k zero low high here others = absurd (omega (arith, low, high))
-sum_one f j c k (suc n) low high here others = by (cases_eq k j) (λ later. sum_one f j c (k + 1) n later (omega (arith, high)) here others)
-  where
-    by : (k ≡ j) ⊎ (k ≡ j → ⊥) → (k + 1 ≤ j → sum_from f (k + 1) n ≡ c) → f k + sum_from f (k + 1) n ≡ c
-    by (inl e) go =
-        let rest = sum_nothing f (k + 1) n (λ i above. others i (λ same. omega (arith, above, e, same))) in
-        omega (arith, ap f e ∙ here, rest)
-    by (inr off) go = omega (arith, others k off, go (omega (arith, low, off)))
+sum_one f j c k (suc n) low high here others = grind (arith, sum_one f j c (k + 1) n, cases_eq k j, sum_nothing)
 
 -- the blocks of inodes as such a sum
 pub blocks_summed : (m : Inodes) (k n : ℕ) → blocks_from m k n ≡ sum_from (λ i. inode_blocks (m i)) k n
@@ -72,11 +66,7 @@ thing_blocks (Some x) = content_blocks x
 -- a number before all others isn't among them
 not_below : (k : ℕ) (es : List (ℕ × Thing)) → T (below_all nat_cmp k es) → find nat_cmp k es ≡ None
 not_below k [] h = refl
-not_below k (e ∷ es) h = by (which_key nat_cmp_total nat_cmp-IsAntisymmetric k e.0) (not_below k es (both_of _ _ h).1)
-  where
-    by : (k ≡ e.0) ⊎ (eq_by_cmp nat_cmp k e.0 ≡ false) → find nat_cmp k es ≡ None → cond (eq_by_cmp nat_cmp k e.0) (Some e.1) (find nat_cmp k es) ≡ None
-    by (inl same) rest = absurd (subst T (ap (λ j. is_lt (nat_cmp k j)) (sym same) ∙ ap is_lt (tied_itself nat_cmp_total k)) (both_of _ _ h).0)
-    by (inr off) rest = ap (λ b. cond b (Some e.1) (find nat_cmp k es)) off ∙ rest
+not_below k (e ∷ es) h = grind (arith, not_below k es, which_key nat_cmp_total nat_cmp-IsAntisymmetric k e.0, which_key, both_of)
 
 -- the number of an entry is within the range
 abbrev AreWithin : List (ℕ × Thing) → ℕ → ℕ → Type 0
@@ -93,26 +83,11 @@ module _ (e : ℕ × Thing) (es : List (ℕ × Thing)) (h : T (is_sorted nat_cmp
 
   -- under another number a later one is
   found_later : (j : ℕ) → (j ≡ e.0 → ⊥) → find nat_cmp j (e ∷ es) ≡ find nat_cmp j es
-  found_later j off = by (which_key nat_cmp_total nat_cmp-IsAntisymmetric j e.0)
-    where
-      by : (j ≡ e.0) ⊎ (eq_by_cmp nat_cmp j e.0 ≡ false) → cond (eq_by_cmp nat_cmp j e.0) (Some e.1) (find nat_cmp j es) ≡ find nat_cmp j es
-      by (inl same) = absurd (off same)
-      by (inr other) = ap (λ b. cond b (Some e.1) (find nat_cmp j es)) other
+  found_later j off = grind arith
 
   -- the blocks under a number are those of the first entry or of a later one
   split : (j : ℕ) → thing_blocks (find nat_cmp j (e ∷ es)) ≡ (if j == e.0 then content_blocks e.1 else 0) + thing_blocks (find nat_cmp j es)
-  split j = by (cases_eq j e.0)
-    where
-      by : (j ≡ e.0) ⊎ (j ≡ e.0 → ⊥) → thing_blocks (find nat_cmp j (e ∷ es)) ≡ (if j == e.0 then content_blocks e.1 else 0) + thing_blocks (find nat_cmp j es)
-      by (inl same) =
-          let one : (if j == e.0 then content_blocks e.1 else 0) ≡ content_blocks e.1 = ap (λ b. if b then content_blocks e.1 else 0) (eq-eqb j e.0 same) in
-          let here : thing_blocks (find nat_cmp j (e ∷ es)) ≡ content_blocks e.1 = ap (λ j. thing_blocks (find nat_cmp j (e ∷ es))) same ∙ ap thing_blocks first_found in
-          let gone : thing_blocks (find nat_cmp j es) ≡ 0 = ap (λ j. thing_blocks (find nat_cmp j es)) same ∙ ap thing_blocks first_gone in
-          omega (arith, one, here, gone)
-      by (inr off) =
-          let none : (if j == e.0 then content_blocks e.1 else 0) ≡ 0 = ap (λ b. if b then content_blocks e.1 else 0) (ne_eqb j e.0 off) in
-          let later : thing_blocks (find nat_cmp j (e ∷ es)) ≡ thing_blocks (find nat_cmp j es) = ap thing_blocks (found_later j off) in
-          omega (arith, none, later)
+  split j = grind (arith, cases_eq j e.0, eq-eqb, first_gone, ne_eqb)
 
 -- the blocks of all files, by their numbers
 files_summed : (es : List (ℕ × Thing)) (k n : ℕ) → T (is_sorted nat_cmp es) → AreWithin es k n → file_blocks es ≡ sum_from (λ j. thing_blocks (find nat_cmp j es)) k n
@@ -141,8 +116,7 @@ AreNumbers (e ∷ es) k n = (k ≤ e.1) × (e.1 < k + n) × AreNumbers es k n
 
 -- one more of something
 times_more : (b : Bool) (t f : ℕ) → ((if b then 1 else 0) + t) * f ≡ (if b then f else 0) + t * f
-times_more true t f = omega arith
-times_more false t f = omega arith
+times_more b t f = grind arith
 
 -- a sum over paths is one over numbers, each as often as it has paths
 pub numbers_summed : (f : ℕ → ℕ) (es : List (Path × ℕ)) (k n : ℕ) → AreNumbers es k n → by_number f es ≡ sum_from (λ j. times j es * f j) k n
@@ -159,11 +133,7 @@ numbers_summed f (e ∷ es) k n within =
 -- a key before all others isn't among them
 pub gone_in_front : (x : Path) (es : List (Path × ℕ)) → T (below_all path_cmp x es) → find path_cmp x es ≡ None
 gone_in_front x [] h = refl
-gone_in_front x (d ∷ es) h = by (which_key path_total path_same x d.0) (gone_in_front x es (both_of _ _ h).1)
-  where
-    by : (x ≡ d.0) ⊎ (eq_by_cmp path_cmp x d.0 ≡ false) → find path_cmp x es ≡ None → cond (eq_by_cmp path_cmp x d.0) (Some d.1) (find path_cmp x es) ≡ None
-    by (inl same) rest = absurd (subst T (ap (λ y. is_lt (path_cmp x y)) (sym same) ∙ ap is_lt (tied_itself path_total x)) (both_of _ _ h).0)
-    by (inr off) rest = ap (λ b. cond b (Some d.1) (find path_cmp x es)) off ∙ rest
+gone_in_front x (d ∷ es) h = grind (arith, gone_in_front x es, which_key path_total path_same x d.0, which_key, path_total, path_same, both_of)
 
 -- the blocks of a directory, if it is one
 abbrev dir_blocks : Option Inode → ℕ
@@ -172,11 +142,7 @@ dir_blocks o = directory_blocks (length (slots_of o))
 module _ (laws : TreeLaws) (limit : ℕ) (m : Inodes) (t : Tree) (a : Agrees limit m t) where
   -- a later path is found among all
   pub later_paths : (e : Path × ℕ) (es : List (Path × ℕ)) → T (is_sorted path_cmp (e ∷ es)) → (p : Path) (n : ℕ) → find path_cmp p es ≡ Some n → find path_cmp p (e ∷ es) ≡ Some n
-  later_paths e es h p n is = by (which_key path_total path_same p e.0)
-    where
-      by : (p ≡ e.0) ⊎ (eq_by_cmp path_cmp p e.0 ≡ false) → cond (eq_by_cmp path_cmp p e.0) (Some e.1) (find path_cmp p es) ≡ Some n
-      by (inl same) = absurd (none-some n (sym (gone_in_front e.0 es (both_of _ _ h).0) ∙ ap (λ p. find path_cmp p es) (sym same) ∙ is))
-      by (inr off) = ap (λ b. cond b (Some e.1) (find path_cmp p es)) off ∙ is
+  later_paths e es h p n is = grind (arith, which_key path_total path_same p e.0, which_key, path_total, path_same, none-some, gone_in_front, both_of)
 
   -- the first one is
   pub here_path : (e : Path × ℕ) (es : List (Path × ℕ)) → find path_cmp e.0 (e ∷ es) ≡ Some e.1
@@ -230,9 +196,7 @@ module _ (laws : TreeLaws) (limit : ℕ) (m : Inodes) (t : Tree) (a : Agrees lim
 
   -- the blocks of an inode are those of a file and of a directory
   two_parts : (o : Option Inode) → thing_blocks (option_map thing_of o) + dir_blocks o ≡ inode_blocks o
-  two_parts None = refl
-  two_parts (Some (ADir slots)) = zero_first (directory_blocks (length slots))
-  two_parts (Some (AFile links bytes)) = omega arith
+  two_parts o = grind arith
 
   -- the blocks of the tree are those of the inodes
   pub blocks_given : blocks t ≡ blocks_of limit m
@@ -268,11 +232,7 @@ module _ (laws : TreeLaws) (limit : ℕ) (m : Inodes) (t : Tree) (a : Agrees lim
       once c l e = omega (arith, e)
 
       unused : m n ≡ None → (c : ℕ) → path_count t.names n ≡ c → c ≡ 0
-      unused none zero is = refl
-      unused none (suc c) is =
-          let p = laws.count_found t.names n (omega (arith, is)) in
-          let x = a.sound.named p.0 n p.1 in
-          absurd (none-some x.0 (sym (a.nodes n ∙ ap (option_map thing_of) none) ∙ x.1))
+      unused h1 c h2 = grind (arith, laws.count_found, t.names, a.sound.named, none-some, a.nodes)
 
       by : (o : Option Inode) → m n ≡ o → path_count t.names n * 1 ≡ links_in o
       by None is = once (path_count t.names n) 0 (unused is (path_count t.names n) refl)

@@ -1,18 +1,16 @@
 -- What a finite map has at a key after a change, and which of its entries there are.
-use Rattle.std.proofs.Common.{◌≡◌, Bool, true, false, cond, ◌||◌, List, [], ◌∷◌, map, Some, None, refl, sym, ap, ◌∙◌, ◌⊎◌, inl, inr}
+use Rattle.std.proofs.Common.{◌≡◌, Bool, true, false, cond, ◌||◌, List, [], ◌∷◌, map, Some, None, refl, sym, ap, ◌∙◌, ◌⊎◌, inl, inr, arith}
 use Rattle.std.proofs.lemmas.Bool.{cases_Bool, or_right}
 use Rattle.std.specs.List.{list_any}
 use Rattle.std.specs.Ordering.{eq_by_cmp, is_eq}
 use Rattle.std.specs.declared.cmp.Ordering.{Ordering}
-use Rattle.std.specs.declared.cmp.Ordering.TheVariants.{Less, Equal, Greater}
+use Rattle.std.specs.declared.cmp.Ordering.TheVariants.{Equal}
 use Rattle.std.specs.Cmp.{IsTotalOrder, tied_itself}
 use Rattle.std.specs.FinMap.{FinMap, IsAntisymmetric, get, insert, remove, find, get-insert, get-remove, same_map}
 use Rattle.std.proofs.lemmas.Option.{none-some}
 
 equal_of : (o : Ordering) → is_eq o ≡ true → o ≡ Equal
-equal_of Less e = absurd cc
-equal_of Equal e = refl
-equal_of Greater e = absurd cc
+equal_of o h1 = grind arith
 
 module _ {K : Type 0} {R : K → K → Ordering} where
   pub tied : IsTotalOrder R → (x y : K) → x ≡ y → eq_by_cmp R x y ≡ true
@@ -22,18 +20,10 @@ module _ {K : Type 0} {R : K → K → Ordering} where
   same_key same x y e = same x y (equal_of (R x y) e)
 
   pub which_key : IsAntisymmetric R → (x y : K) → (x ≡ y) ⊎ (eq_by_cmp R x y ≡ false)
-  which_key same x y = by (cases_Bool (eq_by_cmp R x y))
-    where
-      by : (eq_by_cmp R x y ≡ true) ⊎ (eq_by_cmp R x y ≡ false) → (x ≡ y) ⊎ (eq_by_cmp R x y ≡ false)
-      by (inl e) = inl (same_key same x y e)
-      by (inr e) = inr e
+  which_key same x y = grind (arith, cases_Bool (eq_by_cmp R x y), same_key)
 
   pub apart : IsAntisymmetric R → (x y : K) → (x ≡ y → ⊥) → eq_by_cmp R x y ≡ false
-  apart same x y n = by (which_key same x y)
-    where
-      by : (x ≡ y) ⊎ (eq_by_cmp R x y ≡ false) → eq_by_cmp R x y ≡ false
-      by (inl e) = absurd (n e)
-      by (inr e) = e
+  apart same x y n = grind (arith, which_key same x y, which_key)
 
 module _ {K X : Type 0} {R : K → K → Ordering} (o : IsTotalOrder R) where
   pub put_here : (m : FinMap R X) (k : K) (v : X) (q : K) → q ≡ k → get (insert m k v) q ≡ Some v
@@ -47,8 +37,7 @@ module _ {K X : Type 0} {R : K → K → Ordering} (o : IsTotalOrder R) where
   was m k q v e = by (eq_by_cmp R q k) (sym (get-remove o m k q) ∙ e)
     where
       by : (b : Bool) → cond b None (get m q) ≡ Some v → get m q ≡ Some v
-      by true e = absurd (none-some v e)
-      by false e = e
+      by b h1 = grind (arith, none-some)
 
 module _ {K X : Type 0} {R : K → K → Ordering} (o : IsTotalOrder R) (same : IsAntisymmetric R) where
   pub look : (m : FinMap R X) (k : K) (v : X) (q : K) → (q ≡ k) ⊎ (get (insert m k v) q ≡ get m q)
@@ -59,11 +48,7 @@ module _ {K X : Type 0} {R : K → K → Ordering} (o : IsTotalOrder R) (same : 
       by (inr e) = inr (get-insert o m k v q ∙ ap (λ b. cond b (Some v) (get m q)) e)
 
   pub keeps : (m : FinMap R X) (k : K) (v : X) (q : K) (x : X) → get m k ≡ None → get m q ≡ Some x → get (insert m k v) q ≡ Some x
-  keeps m k v q x free there = by (look m k v q)
-    where
-      by : (q ≡ k) ⊎ (get (insert m k v) q ≡ get m q) → get (insert m k v) q ≡ Some x
-      by (inl e) = absurd (none-some x (sym (ap (get m) e ∙ free) ∙ there))
-      by (inr e) = e ∙ there
+  keeps m k v q x free there = grind (arith, look m k v q, look, none-some)
 
   -- what a removal leaves at another key
   pub stays : (m : FinMap R X) (k q : K) → (q ≡ k → ⊥) → get (remove m k) q ≡ get m q
@@ -100,11 +85,7 @@ module _ {K X : Type 0} {R : K → K → Ordering} (o : IsTotalOrder R) (same : 
   -- one entry of a list passes the test
   pub found_any : (test : K → Bool) (es : List (K × X)) (q : K) (v : X) → find R q es ≡ Some v → test q ≡ true → list_any (λ e. test e.0) es ≡ true
   found_any test [] q v e t = absurd (none-some v e)
-  found_any test (e ∷ es) q v is t = by (which_key same q e.0) (found_any test es q v)
-    where
-      by : (q ≡ e.0) ⊎ (eq_by_cmp R q e.0 ≡ false) → (find R q es ≡ Some v → test q ≡ true → list_any (λ e. test e.0) es ≡ true) → (test e.0 || list_any (λ e. test e.0) es) ≡ true
-      by (inl p) go = ap (λ b. b || list_any (λ e. test e.0) es) (ap test (sym p) ∙ t)
-      by (inr p) go = or_right (test e.0) _ (go (sym (ap (λ b. cond b (Some e.1) (find R q es)) p) ∙ is) t)
+  found_any test (e ∷ es) q v is t = grind (arith, found_any test es q v, which_key same q e.0, test e.0, which_key, or_right)
 
   pub any_found : (test : K → Bool) (es : List (K × X)) → list_any (λ e. test e.0) es ≡ true → (q : K) × (v : X) × (find R q es ≡ Some v) × (test q ≡ true)
   any_found test [] t = absurd cc

@@ -6,12 +6,10 @@ use Rattle.std.proofs.lemmas.Option.{same_Some, none-some}
 use Rattle.lang_tree.specs.Paths.{strip, is_within, is_below, has_names, parent}
 
 pub lacks : {A : Type 0} (o : Option A) → is_some o ≡ false → o ≡ None
-lacks None e = refl
-lacks (Some x) e = absurd cc
+lacks o h1 = grind arith
 
 pub has : {A : Type 0} (o : Option A) → is_some o ≡ true → (x : A) × (o ≡ Some x)
-has None e = absurd cc
-has (Some x) e = (x, refl)
+has o h1 = grind arith
 
 -- what is left of a path is behind its front
 pub strip_is : (p q r : List (List ℕ)) → strip p q ≡ Some r → q ≡ p ++ r
@@ -20,8 +18,7 @@ strip_is (a ∷ p) [] r e = absurd (none-some r e)
 strip_is (a ∷ p) (b ∷ q) r e = by (bytes_eq a b) refl (strip_is p q r) e
   where
     by : (t : Bool) → bytes_eq a b ≡ t → (strip p q ≡ Some r → q ≡ p ++ r) → (if t then strip p q else None) ≡ Some r → b ∷ q ≡ (a ∷ p) ++ r
-    by true is go e = let same : a ≡ b = (bytes_eq-Decides a b).0 is in let rest = go e in cc
-    by false is go e = absurd (none-some r e)
+    by t h1 h2 h3 = grind (arith, bytes_eq-Decides, none-some)
 
 pub strip_join : (p r : List (List ℕ)) → strip p (p ++ r) ≡ Some r
 strip_join [] r = refl

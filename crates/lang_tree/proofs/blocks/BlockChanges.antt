@@ -1,14 +1,14 @@
 -- The blocks of a sound tree after a change: with a path more or less, with other bytes in a file, and after a move.
-use Rattle.std.proofs.Common.{◌≡◌, ℕ, ◌+◌, ◌-◌, ◌==◌, max, Bool, true, false, if◌then◌else◌, List, [], ◌∷◌, ◌++◌, length, take, drop, replicate, Option, Some, None, is_none, is_some, refl, sym, ap, ap₂, ◌∙◌, ◌⊎◌, inl, inr, arith, length-append, length-take, length-drop, true≢false, nat_le}
+use Rattle.std.proofs.Common.{◌≡◌, ℕ, ◌+◌, ◌-◌, ◌==◌, max, Bool, true, false, if◌then◌else◌, List, [], ◌∷◌, ◌++◌, length, Option, Some, None, is_none, is_some, refl, sym, ap, ap₂, ◌∙◌, ◌⊎◌, inl, inr, arith, length-append, length-take, length-drop, true≢false, nat_le}
 use Rattle.std.proofs.lemmas.List.{length-replicate}
 use Rattle.std.specs.Cmp.{nat_cmp_total}
 use Rattle.std.specs.FinMap.{nat_cmp-IsAntisymmetric, get, insert, remove, entries}
 use Rattle.std.proofs.lemmas.Option.{none-some}
 use Rattle.lang_tree.specs.declared.command.Refusal.{Refusal}
-use Rattle.lang_tree.specs.declared.command.Refusal.TheVariants.{Exists, IsDir, NotDir, NotEmpty, BelowItself, TooManyLinks, NoNode}
+use Rattle.lang_tree.specs.declared.command.Refusal.TheVariants.{Exists, IsDir, TooManyLinks, NoNode}
 use Rattle.lang_tree.specs.Tree.{Tree, Thing, Dir, File, IsSound}
 use Rattle.lang_tree.specs.Paths.{name_in, is_within, parent}
-use Rattle.lang_tree.specs.Names.{holds_names, renamed}
+use Rattle.lang_tree.specs.Names.{renamed}
 use Rattle.lang_tree.specs.Walk.{walk_refusal, parent_refusal, thing_at, is_dir, is_file, is_there, is_same_node, links, counted, content, bytes_in}
 use Rattle.lang_tree.specs.Conditions.{when, least_unused, make_refusal, link_refusal, rmdir_refusal, rename_refusal}
 use Rattle.lang_tree.specs.Step.{with_node, added, with_bytes, edited_at, edited, written, resized, linked_by, linked, with_used, removed, removed_by, moved}
@@ -26,29 +26,13 @@ abbrev Place : Type 0
 Place = List (List ℕ)
 
 pub length_written : (off : ℕ) (ys xs : List ℕ) → length (written off ys xs) ≡ max (length xs) (off + length ys)
-length_written off ys xs =
-    let zeros : List ℕ = replicate (off - length xs) 0 in
-    omega (
-      arith,
-      length-append (take off (xs ++ zeros)) (ys ++ drop (off + length ys) xs),
-      length-take off (xs ++ zeros),
-      length-append xs zeros,
-      length-replicate {A = ℕ} (off - length xs) 0,
-      length-append ys (drop (off + length ys) xs),
-      length-drop (off + length ys) xs,
-    )
+length_written off ys xs = grind (arith, length-append, length-take, length-replicate, length-drop)
 
 pub length_resized : (size : ℕ) (xs : List ℕ) → length (resized size xs) ≡ size
-length_resized size xs =
-    let zeros : List ℕ = replicate (size - length xs) 0 in
-    omega (arith, length-take size (xs ++ zeros), length-append xs zeros, length-replicate {A = ℕ} (size - length xs) 0)
+length_resized size xs = grind (arith, length-take, length-append, length-replicate)
 
 content_is : (t : Tree) (path : Place) (n : ℕ) (x : Thing) → get t.names path ≡ Some n → get t.nodes n ≡ Some x → content_blocks x ≡ blocks_for (length (content t path))
-content_is t path n x at is = by x ∙ ap (λ o. blocks_for (length (bytes_in o))) (sym (thing_is t path n x at is))
-  where
-    by : (x : Thing) → content_blocks x ≡ blocks_for (length (bytes_in (Some x)))
-    by Dir = refl
-    by (File bytes) = refl
+content_is t path n x at is = grind (arith, thing_is)
 
 module _ (limit : ℕ) (t : Tree) (s : IsSound limit t) where
   empty_where_absent : (path : Place) → get t.names path ≡ None → held t.names path ≡ 0
@@ -153,19 +137,13 @@ module _ (limit : ℕ) (t : Tree) (s : IsSound limit t) where
       omega (arith, gone, none)
     where
       no_file : rmdir_refusal t path ≡ None → is_file (thing_at t path) ≡ false
-      no_file e =
-          let later : List (Option Refusal) = when (holds_names t.names path) NotEmpty ∷ when (length path == 0) BelowItself ∷ [] in
-          let one = no_reason (walk_refusal t path) (when (is_file (thing_at t path)) NotDir ∷ later) e in
-          not_so (is_file (thing_at t path)) NotDir (no_reason (when (is_file (thing_at t path)) NotDir) later one.1).0
+      no_file e = grind (arith, t.names, no_reason, not_so)
 
       no_bytes : (o : Option Thing) → is_file o ≡ false → bytes_in o ≡ []
-      no_bytes None e = refl
-      no_bytes (Some Dir) e = refl
-      no_bytes (Some (File bytes)) e = absurd cc
+      no_bytes o h1 = grind arith
 
       nothing_gone : (b : Bool) → length (content t path) ≡ 0 → (if b then blocks_for (length (content t path)) else 0) ≡ 0
-      nothing_gone true e = omega (arith, e)
-      nothing_gone false e = refl
+      nothing_gone b h1 = grind arith
 
   -- Moves.
 

@@ -1,17 +1,16 @@
 -- The blocks of a sound tree after a command are those before it, with what its figures need and without what they free.
-use Rattle.std.proofs.Common.{◌≡◌, ℕ, ◌+◌, ◌-◌, ◌<◌, ◌≤◌, ◌==◌, min, max, nat_lt, Bool, true, false, ◌&&◌, if◌then◌else◌, List, [], length, replicate, Option, Some, None, refl, sym, ap, ◌∙◌, arith, eqb-true}
+use Rattle.std.proofs.Common.{◌≡◌, ℕ, ◌+◌, ◌-◌, ◌<◌, ◌≤◌, ◌==◌, min, max, nat_lt, Bool, true, false, ◌&&◌, if◌then◌else◌, List, [], length, replicate, None, refl, sym, ap, ◌∙◌, arith, eqb-true}
 use Rattle.std.proofs.lemmas.Bool.{ltb-true, ltb-false}
 use Rattle.std.proofs.lemmas.List.{length-replicate}
 use Rattle.lang_tree.specs.declared.command.Cmd.{Cmd}
 use Rattle.lang_tree.specs.declared.command.Cmd.TheVariants.{Mkdir, Create, Write, Fill, Read, Truncate, Link, Unlink, Rmdir, Rename, Stat, List as ListNames, Osync, Dsync, Durable, Poll, Bad}
 use Rattle.lang_tree.specs.declared.command.Reply.TheVariants.{Ok as Done}
-use Rattle.lang_tree.specs.declared.command.Refusal.{Refusal}
 use Rattle.lang_tree.specs.declared.command.Refusal.TheVariants.{IsDir, TooLarge}
 use Rattle.lang_tree.specs.Tree.{Tree, Dir, File, IsSound}
 use Rattle.lang_tree.specs.Walk.{walk_refusal, thing_at, is_dir, is_same_node, content}
 use Rattle.lang_tree.specs.Conditions.{when, is_too_large, write_refusal, truncate_refusal, refusal}
 use Rattle.lang_tree.specs.Step.{Session, step, answered, changed_to, edited, written, resized, removed, moved, osync}
-use Rattle.lang_tree.specs.Figures.{Figures, nothing, writing, shrinking, blocks, blocks_for, write_figures, truncate_figures, move_figures, figures_by, figures}
+use Rattle.lang_tree.specs.Figures.{Figures, nothing, writing, blocks, blocks_for, write_figures, truncate_figures, move_figures, figures_by, figures}
 use Rattle.lang_tree.proofs.walking.Found.{no_reasons, not_so}
 use Rattle.lang_tree.proofs.soundness.Sound.{can_unlink}
 use Rattle.lang_tree.proofs.blocks.BlockChanges.{length_written, length_resized, added_blocks, linked_blocks, edited_blocks, gone_blocks, rmdir_blocks, moved_blocks}
@@ -21,8 +20,7 @@ abbrev Tells : Tree → Tree → Figures → Type 0
 Tells new old f = blocks new + f.freed ≡ blocks old + f.need
 
 choice_tells : (s : Session) (t : Tree) (b : Bool) (f : Figures) → (b ≡ false → Tells t s.tree f) → Tells (if b then (s, Done) else changed_to s t).0.tree s.tree (if b then nothing else f)
-choice_tells s t true f h = refl
-choice_tells s t false f h = h refl
+choice_tells s t b f h1 = grind arith
 
 more_alone : (after before grown : ℕ) → after ≡ before + grown → after + 0 ≡ before + grown
 more_alone after before grown e = omega (arith, e)
@@ -53,13 +51,7 @@ fill_tells bitmap s ok path offset count byte e =
     ∙ choice_tells s new (count == 0) _ (λ _. write_tells bitmap s ok path offset (replicate count byte) count (length-replicate count byte) e)
 
 resized_tells : (bitmap old size : ℕ) (new before : Tree) → blocks new + blocks_for old ≡ blocks before + blocks_for size → Tells new before (truncate_figures bitmap old size)
-resized_tells bitmap old size new before e = by (nat_lt old size) refl (nat_lt size old) refl
-  where
-    by : (a : Bool) → nat_lt old size ≡ a → (b : Bool) → nat_lt size old ≡ b
-        → Tells new before (if a then writing bitmap old old size else if b then shrinking bitmap (blocks_for old - blocks_for size) else nothing)
-    by true less b is = let h : old < size = ltb-true old size less in omega (arith, e, h)
-    by false other true less = let h : size < old = ltb-true size old less in omega (arith, e, h)
-    by false other false is = let h : size ≤ old = ltb-false old size other in let k : old ≤ size = ltb-false size old is in omega (arith, e, h, k)
+resized_tells bitmap old size new before e = grind (arith, nat_lt old size, nat_lt size old, ltb-true, ltb-false)
 
 truncate_tells : (bitmap : ℕ) (s : Session) → IsSound s.limit s.tree → (path : List (List ℕ)) (size : ℕ) → truncate_refusal s.tree path size ≡ None
     → Tells (if size == length (content s.tree path) then (s, Done) else changed_to s (edited s.tree path (resized size))).0.tree s.tree (truncate_figures bitmap (length (content s.tree path)) size)
@@ -76,8 +68,7 @@ truncate_tells bitmap s ok path size e = by (size == length (content s.tree path
 -- The commands.
 
 osync_tells : (s : Session) (b : Bool) → Tells (osync s b).0.tree s.tree nothing
-osync_tells s true = refl
-osync_tells s false = refl
+osync_tells s b = grind arith
 
 accepted_tells : (bitmap : ℕ) (s : Session) (cmd : Cmd) → IsSound s.limit s.tree → refusal s.limit s.tree cmd ≡ None → Tells (answered s cmd None).0.tree s.tree (figures_by bitmap s.tree cmd None)
 accepted_tells bitmap s (Mkdir path) ok e = more_alone _ _ _ (added_blocks s.limit s.tree ok path Dir refl e)
@@ -99,8 +90,4 @@ accepted_tells bitmap s Poll ok e = refl
 accepted_tells bitmap s Bad ok e = refl
 
 pub figures_tell : (bitmap : ℕ) (s : Session) (cmd : Cmd) → IsSound s.limit s.tree → blocks (step s cmd).0.tree + (figures bitmap s cmd).freed ≡ blocks s.tree + (figures bitmap s cmd).need
-figures_tell bitmap s cmd ok = by (refusal s.limit s.tree cmd) refl
-  where
-    by : (r : Option Refusal) → refusal s.limit s.tree cmd ≡ r → Tells (answered s cmd r).0.tree s.tree (figures_by bitmap s.tree cmd r)
-    by (Some why) is = refl
-    by None is = accepted_tells bitmap s cmd ok is
+figures_tell bitmap s cmd ok = grind (arith, refusal s.limit s.tree cmd, s.limit, s.tree, accepted_tells)

@@ -1,5 +1,5 @@
 -- What the directories of a tree take after a move: one holds a name less, another one a name more, and all else that moves holds as many as before.
-use Rattle.std.proofs.Common.{◌≡◌, ℕ, ◌+◌, false, List, [], ◌∷◌, ◌++◌, Option, Some, None, is_some, refl, sym, ap, ap₂, ◌∙◌, ◌⊎◌, inl, inr, arith, true≢false, append_assoc, append-nil, length, length-append, if◌then◌else◌}
+use Rattle.std.proofs.Common.{◌≡◌, ℕ, ◌+◌, false, List, [], ◌∷◌, ◌++◌, Option, Some, None, is_some, refl, sym, ap, ap₂, ◌∙◌, ◌⊎◌, arith, true≢false, append_assoc, append-nil, length, length-append, if◌then◌else◌}
 use Rattle.std.proofs.lemmas.List.{append_cancel_left}
 use Rattle.std.specs.Ordering.{eq_by_cmp}
 use Rattle.std.specs.FinMap.{get, remove, entries, entries_sorted}
@@ -47,11 +47,7 @@ module _ (names : Names) (from to : Place) (gone : get names to ≡ None) (free 
 
       -- nothing of what lies elsewhere holds what lies below the one path or the other
       apart_from : (top r : Place) (name : List ℕ) → (r ≡ [] → ⊥) → ((s : Place) → q ≡ top ++ s → ⊥) → top ++ r ≡ q ++ name ∷ [] → ⊥
-      apart_from top r name some out e = side (parted top q r name (sym e))
-        where
-          side : ((r ≡ []) × (top ≡ q ++ name ∷ [])) ⊎ ((s : Place) × (r ≡ s ++ name ∷ []) × (q ≡ top ++ s)) → ⊥
-          side (inl end) = some end.0
-          side (inr more) = out more.0 more.2
+      apart_from top r name some out e = grind (arith, parted top q r name (sym e), parted)
 
       not_to : (s : Place) → q ≡ to ++ s → ⊥
       not_to s e = none_at names from to gone free s k (ap (get names) (sym e) ∙ at_q)
@@ -116,13 +112,7 @@ module _ (names : Names) (from to : Place) (gone : get names to ≡ None) (free 
     dirs_within one = dirs_now ∙ total_same path_total (λ q. directory_blocks (now q)) (λ q. directory_blocks (held names q)) names (λ q m at_q. ap directory_blocks (same q m at_q)) ∙ sym (dirs_total names)
       where
         as_many : (q : Place) → one_in q from ≡ one_in q to
-        as_many q = by (which_key path_same q (parent from))
-          where
-            by : (q ≡ parent from) ⊎ (eq_by_cmp path_cmp q (parent from) ≡ false) → one_in q from ≡ one_in q to
-            by (inl e) = ap (λ q. one_in q from) e ∙ one_at_parent from below_root ∙ sym (one_at_parent to to_below_root) ∙ ap (λ q. one_in q to) (sym (e ∙ one))
-            by (inr e) =
-                let off = λ (same : q ≡ parent from). true≢false (sym (tied path_total q (parent from) same) ∙ e) in
-                none_elsewhere q from off ∙ sym (none_elsewhere q to (λ same. off (same ∙ sym one)))
+        as_many q = grind (arith, which_key path_same q (parent from), one_at_parent to to_below_root, which_key, path_same, one_in, one_at_parent, tied, path_total, none_elsewhere)
 
         same : (q : Place) (m : ℕ) → get names q ≡ Some m → now q ≡ held names q
         same q m at_q = let a = now_and_then q m at_q in let b = as_many q in omega (arith, a, b)
@@ -189,9 +179,4 @@ module _ (names : Names) (from to : Place) (free : holds_names names to ≡ fals
       up_as_before two = let less = held_less names to m (parent from) there in let none = none_elsewhere (parent from) to two in omega (arith, less, none)
 
       by : (parent from ≡ parent to) ⊎ (eq_by_cmp path_cmp (parent from) (parent to) ≡ false) → dirs (renamed (remove names to) from to) + release (held names (parent from)) ≡ dirs names
-      by (inl one) = ap₂ (λ d p. d + release (held names p)) (dirs_within (remove names to) from to gone free_now apart n j k from_at below_root to_below_root from_above to_above one) one ∙ first
-      by (inr e) =
-          let two = λ (same : parent from ≡ parent to). true≢false (sym (tied path_total (parent from) (parent to) same) ∙ e) in
-          let across = dirs_across (remove names to) from to gone free_now apart n j k from_at below_root to_below_root from_above to_above two in
-          let one_less = held_one_less names to m k there free to_below_root to_up in
-          balance _ _ _ _ (held (remove names to) (parent to)) (ap (λ c. dirs (renamed (remove names to) from to) + release c) (up_as_before two) ∙ across) (ap (λ c. dirs (remove names to) + release c) (sym one_less) ∙ first)
+      by h1 = grind (arith, held, dirs_within, gone, free_now, from_at, from_above, to_above, first, tied, path_total, dirs_across, held_one_less, balance, dirs, up_as_before)

@@ -1,12 +1,12 @@
 -- Blocks as sums: what the files of a tree take, and what its directories take with a path more or less.
-use Rattle.std.proofs.Common.{◌≡◌, ℕ, ◌+◌, true, false, if◌then◌else◌, List, [], ◌∷◌, ◌++◌, length, Option, Some, None, is_some, refl, sym, ap, ap₂, ◌∙◌, ◌⊎◌, inl, inr, arith, true≢false}
+use Rattle.std.proofs.Common.{◌≡◌, ℕ, ◌+◌, true, false, if◌then◌else◌, List, [], ◌∷◌, ◌++◌, length, Option, Some, None, is_some, refl, sym, ap, ap₂, ◌∙◌, ◌⊎◌, arith, true≢false}
 use Rattle.std.proofs.lemmas.Bool.{false_from_ne_true}
-use Rattle.std.specs.List.{filter_map, cons_option}
+use Rattle.std.specs.List.{filter_map}
 use Rattle.std.specs.Cmp.{nat_cmp_total}
 use Rattle.std.specs.FinMap.{nat_cmp-IsAntisymmetric, get, insert, remove, entries}
 use Rattle.std.proofs.lemmas.Option.{none-some}
 use Rattle.lang_tree.specs.Tree.{Names, Nodes, Thing}
-use Rattle.lang_tree.specs.Paths.{strip, name_in, lone_name, has_names, is_below, parent}
+use Rattle.lang_tree.specs.Paths.{strip, name_in, lone_name, is_below, parent}
 use Rattle.lang_tree.specs.Names.{names_in, holds_names}
 use Rattle.lang_tree.specs.Figures.{content_blocks, file_blocks, directory_blocks, all_directory_blocks, growth, release}
 use Rattle.lang_tree.proofs.basics.Order.{path_total, path_same}
@@ -42,13 +42,7 @@ abbrev pub one_in : Place → Place → ℕ
 one_in up path = one_for (name_in up path)
 
 pub in_parent : (path : Place) → (path ≡ [] → ⊥) → is_some (name_in (parent path) path) ≡ true
-in_parent path below_root = by (from_end path)
-  where
-    by : (path ≡ []) ⊎ ((up : Place) × (name : List ℕ) × (path ≡ up ++ name ∷ [])) → is_some (name_in (parent path) path) ≡ true
-    by (inl root) = absurd (below_root root)
-    by (inr end) =
-        let up : parent path ≡ end.0 = ap parent end.2 ∙ parent_append end.0 end.1 in
-        ap₂ (λ p q. is_some (name_in p q)) up end.2 ∙ ap (λ o. is_some (lone_name o)) (strip_join end.0 (end.1 ∷ []))
+in_parent path below_root = grind (arith, from_end path, from_end, parent_append, strip_join)
 
 -- a path that the directory holds has one name more
 pub last_name : (up path : Place) → is_some (name_in up path) ≡ true → (name : List ℕ) × (path ≡ up ++ name ∷ [])
@@ -74,12 +68,7 @@ none_without up path off = ap (λ b. if b then 1 else 0) (false_from_ne_true (is
 
 -- a directory that holds a path has it below
 one_below : (up path : Place) → is_below up path ≡ false → one_in up path ≡ 0
-one_below up path h = by (strip up path) h
-  where
-    by : (o : Option Place) → has_names o ≡ false → one_for (lone_name o) ≡ 0
-    by None h = refl
-    by (Some []) h = refl
-    by (Some (name ∷ rest)) h = absurd cc
+one_below up path h = grind (arith, strip up path)
 
 -- How many names a directory holds.
 
@@ -88,12 +77,7 @@ held names up = length (names_in names up)
 
 counted : (up : Place) (es : List (Place × ℕ)) → length (filter_map (λ e. name_in up e.0) es) ≡ total (λ e. one_in up e.0) es
 counted up [] = refl
-counted up (e ∷ es) = by (name_in up e.0) (counted up es)
-  where
-    by : (o : Option (List ℕ)) → length (filter_map (λ e. name_in up e.0) es) ≡ total (λ e. one_in up e.0) es
-        → length (cons_option o (filter_map (λ e. name_in up e.0) es)) ≡ one_for o + total (λ e. one_in up e.0) es
-    by None h = omega (arith, h)
-    by (Some name) h = omega (arith, h)
+counted up (e ∷ es) = grind (arith, counted up es, name_in up e.0, total)
 
 pub held_total : (names : Names) (up : Place) → held names up ≡ total (λ e. one_in up e.0) (entries names)
 held_total names up = counted up (entries names)

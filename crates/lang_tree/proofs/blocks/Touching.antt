@@ -1,37 +1,24 @@
 -- How many blocks of a file touch a range of bytes, by two divisions.
-use Rattle.std.proofs.Common.{◌≡◌, ◌⊎◌, ℕ, suc, zero, ◌+◌, ◌-◌, ◌*◌, ◌/◌, ◌<◌, ◌≤◌, min, max, Bool, true, false, cond, nat_lt, List, ◌∷◌, length, refl, arith, inl, inr}
+use Rattle.std.proofs.Common.{◌≡◌, ◌⊎◌, ℕ, suc, zero, ◌+◌, ◌-◌, ◌*◌, ◌/◌, ◌<◌, ◌≤◌, min, max, Bool, true, false, cond, List, ◌∷◌, length, arith}
 use Rattle.std.proofs.lemmas.Bool.{and_parts, ltb-true, ltb-false, and_cases}
 use Rattle.std.specs.List.{filter, range_with_len}
 use Rattle.lang_tree.specs.Figures.{touches, blocks_for, blocks_met}
 
 -- one element more is kept or not
 kept : (b : Bool) (a : ℕ) (xs : List ℕ) (m : ℕ) → (b ≡ true → length xs + 1 ≡ m) → (b ≡ false → length xs ≡ m) → length (cond b (a ∷ xs) xs) ≡ m
-kept true a xs m more same = let e = more refl in omega arith
-kept false a xs m more same = same refl
+kept b a xs m h1 h2 = grind arith
 
 -- a block that touches the bytes lies from the first block of theirs on, and begins before their end
 touched : (lo hi i : ℕ) → touches lo hi i ≡ true → (lo / 1024 ≤ i) × (i < (hi + 1023) / 1024)
-touched lo hi i h =
-    let both = and_parts (nat_lt (1024 * i) hi) (nat_lt lo (1024 * (i + 1))) h in
-    let before : 1024 * i < hi = ltb-true (1024 * i) hi both.0 in
-    let behind : lo < 1024 * (i + 1) = ltb-true lo (1024 * (i + 1)) both.1 in
-    (omega arith, omega arith)
+touched lo hi i h = grind (arith, and_parts, ltb-true)
 
 -- any other block lies before that one, or begins at their end or behind it
 untouched : (lo hi i : ℕ) → touches lo hi i ≡ false → (i < lo / 1024) ⊎ ((hi + 1023) / 1024 ≤ i)
-untouched lo hi i h = elim (and_cases (nat_lt (1024 * i) hi) (nat_lt lo (1024 * (i + 1))) h) [
-  | inl late ↦ let behind : hi ≤ 1024 * i = ltb-false (1024 * i) hi late in inr (omega arith)
-  | inr early ↦ let before : 1024 * (i + 1) ≤ lo = ltb-false lo (1024 * (i + 1)) early in inl (omega arith)
-]
+untouched lo hi i h = grind (arith, and_cases, ltb-false)
 
 met_from : (lo hi a n : ℕ) → length (filter (touches lo hi) (range_with_len a n)) ≡ min (a + n) ((hi + 1023) / 1024) - max a (lo / 1024)
 met_from lo hi a zero = omega arith
-met_from lo hi a (suc n) = kept (touches lo hi a) a _ _
-    (λ h. let between = touched lo hi a h in let later = met_from lo hi (a + 1) n in omega arith)
-    (λ h. let later = met_from lo hi (a + 1) n in elim (untouched lo hi a h) [
-      | inl before ↦ omega arith
-      | inr behind ↦ omega arith
-    ])
+met_from lo hi a (suc n) = grind (arith, met_from lo hi (a + 1) n, kept, touched, untouched)
 
 -- the blocks that begin before `hi`, without those that end at `lo` or before
 pub met_by_division : (size lo hi : ℕ) → min (blocks_for size) (blocks_for hi) - lo / 1024 ≡ blocks_met size lo hi

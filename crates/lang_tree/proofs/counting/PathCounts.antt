@@ -1,12 +1,9 @@
 -- How many paths a number has: none where none leads to it, one more with each path put in, one less with each taken out.
-use Rattle.std.proofs.Common.{◌≡◌, ℕ, ◌+◌, ◌≤◌, arith, Bool, true, false, cond, ◌&&◌, ◌==◌, T, if◌then◌else◌, List, [], ◌∷◌, map, Some, None, refl, sym, ap, subst, ◌∙◌, ◌⊎◌, inl, inr, true≢false, eq-eqb, eqb-true}
+use Rattle.std.proofs.Common.{◌≡◌, ℕ, ◌+◌, ◌≤◌, arith, Bool, true, false, cond, ◌&&◌, ◌==◌, T, if◌then◌else◌, List, [], ◌∷◌, map, Some, None, refl, sym, ap, ◌∙◌, ◌⊎◌, true≢false, eq-eqb, eqb-true}
 use Rattle.std.proofs.lemmas.List.{nil_from_length}
-use Rattle.std.specs.Ordering.{eq_by_cmp, is_eq, is_lt}
-use Rattle.std.specs.declared.cmp.Ordering.{Ordering}
-use Rattle.std.specs.declared.cmp.Ordering.TheVariants.{Less, Equal, Greater}
-use Rattle.std.specs.Cmp.{tied_itself, both_ways}
+use Rattle.std.specs.Ordering.{eq_by_cmp}
 use Rattle.std.specs.FinMap.{get, insert, remove, entries, find, put, from_entries, empty, is_sorted, entries_sorted, entries-insert, get-entries, get-from_entries, len-empty, len-entries}
-use Rattle.std.specs.FinMap.Entries.{below_all, by_order}
+use Rattle.std.specs.FinMap.Entries.{below_all}
 use Rattle.std.proofs.lemmas.Option.{same_Some, none-some}
 use Rattle.lang_tree.specs.Tree.{Tree, Names, Dir, IsSound, path_cmp}
 use Rattle.lang_tree.specs.Names.{times, path_count}
@@ -14,8 +11,7 @@ use Rattle.lang_tree.proofs.basics.Order.{path_total, path_same}
 use Rattle.lang_tree.proofs.basics.Finds.{tied, apart, which_key, gone_here, was, put_back, later, first_is, find_left}
 
 both : (a b : Bool) → T (a && b) → (T a) × (T b)
-both true b h = (tt, h)
-both false b h = absurd h
+both a b h1 = grind arith
 
 -- a number that is found is counted
 pub counted : (es : List (List (List ℕ) × ℕ)) (p : List (List ℕ)) (n : ℕ) → find path_cmp p es ≡ Some n → 1 ≤ times n es
@@ -23,23 +19,14 @@ counted [] p n is = absurd (none-some n is)
 counted (e ∷ es) p n is = by (eq_by_cmp path_cmp p e.0) is (counted es p n)
   where
     one : (b : Bool) → b ≡ true → 1 ≤ (if b then 1 else 0) + times n es
-    one true e = omega arith
-    one false e = absurd cc
+    one b h1 = grind arith
 
     by : (b : Bool) → cond b (Some e.1) (find path_cmp p es) ≡ Some n → (find path_cmp p es ≡ Some n → 1 ≤ times n es) → 1 ≤ times n (e ∷ es)
-    by true is go = one (e.1 == n) (eq-eqb e.1 n (same_Some e.1 n is))
-    by false is go = omega (arith, go is)
+    by b h1 h2 = grind (arith, one, eq-eqb, same_Some)
 
 below_found : (x : List (List ℕ)) (es : List (List (List ℕ) × ℕ)) (p : List (List ℕ)) (n : ℕ) → T (below_all path_cmp x es) → find path_cmp p es ≡ Some n → x ≡ p → ⊥
 below_found x [] p n h is same = none-some n is
-below_found x (e ∷ es) p n h is same = by (which_key path_same p e.0) (below_found x es p n)
-  where
-    less : p ≡ e.0 → ⊥
-    less at = subst T (ap (λ y. is_lt (path_cmp x y)) (sym (same ∙ at)) ∙ ap is_lt (tied_itself path_total x)) (both _ _ h).0
-
-    by : (p ≡ e.0) ⊎ (eq_by_cmp path_cmp p e.0 ≡ false) → (T (below_all path_cmp x es) → find path_cmp p es ≡ Some n → x ≡ p → ⊥) → ⊥
-    by (inl at) go = less at
-    by (inr off) go = go (both _ _ h).1 (sym (ap (λ b. cond b (Some e.1) (find path_cmp p es)) off) ∙ is) same
+below_found x (e ∷ es) p n h is same = grind (arith, below_found x es p n, which_key path_same p e.0, which_key, path_same, path_total, both)
 
 -- a number that is counted is found
 pub uncounted : (es : List (List (List ℕ) × ℕ)) (n : ℕ) → T (is_sorted path_cmp es) → 1 ≤ times n es → (p : List (List ℕ)) × (find path_cmp p es ≡ Some n)
@@ -70,13 +57,7 @@ one_for m n = if m == n then 1 else 0
 
 times_put : (es : List (List (List ℕ) × ℕ)) (p : List (List ℕ)) (m n : ℕ) → find path_cmp p es ≡ None → times n (put path_cmp p m es) ≡ one_for m n + times n es
 times_put [] p m n none = refl
-times_put (e ∷ es) p m n none = by (path_cmp p e.0) none (times_put es p m n)
-  where
-    by : (o : Ordering) → cond (is_eq o) (Some e.1) (find path_cmp p es) ≡ None → (find path_cmp p es ≡ None → times n (put path_cmp p m es) ≡ one_for m n + times n es)
-        → times n (by_order o ((p, m) ∷ e ∷ es) ((e.0, m) ∷ es) (e ∷ put path_cmp p m es)) ≡ one_for m n + times n (e ∷ es)
-    by Less none go = refl
-    by Equal none go = absurd cc
-    by Greater none go = let h = go none in omega (arith, h)
+times_put (e ∷ es) p m n none = grind (arith, times_put es p m n, path_cmp p e.0)
 
 pub count_inserted : (names : Names) (p : List (List ℕ)) (m n : ℕ) → get names p ≡ None → path_count (insert names p m) n ≡ one_for m n + path_count names n
 count_inserted names p m n none = ap (times n) (entries-insert path_total names p m) ∙ times_put (entries names) p m n (sym (get-entries names p) ∙ none)
@@ -90,11 +71,7 @@ one_less names p n at = count_removed names p n n at ∙ ap (λ b. (if b then 1 
 
 -- it has none then exactly where the path was its only one
 pub was_last : (names : Names) (p : List (List ℕ)) (n : ℕ) → get names p ≡ Some n → (path_count (remove names p) n == 0) ≡ (path_count names n == 1)
-was_last names p n at =
-    let e = one_less names p n at in
-    both_ways (path_count (remove names p) n == 0) (path_count names n == 1)
-    (λ none. eq-eqb (path_count names n) 1 (omega (arith, e, eqb-true (path_count (remove names p) n) 0 none)))
-    (λ one. eq-eqb (path_count (remove names p) n) 0 (omega (arith, e, eqb-true (path_count names n) 1 one)))
+was_last names p n at = grind (arith, one_less, eq-eqb, eqb-true)
 
 -- a directory of a sound tree has one path
 pub one_of_dir : (limit : ℕ) (t : Tree) → IsSound limit t → (p : List (List ℕ)) (n : ℕ) → get t.names p ≡ Some n → get t.nodes n ≡ Some Dir → path_count t.names n ≡ 1
@@ -118,13 +95,7 @@ KeepApart f es = (p q : List (List ℕ)) (m n : ℕ) → find path_cmp p es ≡ 
 
 -- so it is behind the first entry
 pub behind_first : (f : List (List ℕ) → List (List ℕ)) (e : List (List ℕ) × ℕ) (es : List (List (List ℕ) × ℕ)) → T (is_sorted path_cmp (e ∷ es)) → KeepApart f (e ∷ es) → (T (is_sorted path_cmp es)) × KeepApart f es
-behind_first f e es h same = (
-  (both _ _ h).1,
-  λ p q m k at_p at_q.
-      let a = later path_total e es p m at_p in
-      let b = later path_total e es q k at_q in
-      same p q a.0 b.0 a.1 b.1,
-)
+behind_first f e es h same = grind (arith, both, later, path_total)
 
 -- and none of the others comes where the first one does
 pub first_free : (f : List (List ℕ) → List (List ℕ)) (e : List (List ℕ) × ℕ) (es : List (List (List ℕ) × ℕ)) → T (is_sorted path_cmp (e ∷ es)) → KeepApart f (e ∷ es)

@@ -1,11 +1,9 @@
 -- Sums over the entries of a finite map: with an entry more or less, with another summand at one key, and with other keys.
-use Rattle.std.proofs.Common.{◌≡◌, ℕ, ◌+◌, Bool, true, false, cond, T, List, [], ◌∷◌, map, Option, Some, None, refl, sym, ap, ap₂, ◌∙◌, arith}
-use Rattle.std.specs.Ordering.{is_eq, eq_by_cmp}
+use Rattle.std.proofs.Common.{◌≡◌, ℕ, ◌+◌, Bool, cond, T, List, [], ◌∷◌, map, Option, Some, None, refl, sym, ap, ap₂, ◌∙◌, arith}
+use Rattle.std.specs.Ordering.{eq_by_cmp}
 use Rattle.std.specs.declared.cmp.Ordering.{Ordering}
-use Rattle.std.specs.declared.cmp.Ordering.TheVariants.{Less, Equal, Greater}
 use Rattle.std.specs.Cmp.{IsTotalOrder}
 use Rattle.std.specs.FinMap.{FinMap, IsAntisymmetric, get, insert, remove, entries, find, put, from_entries, is_sorted, entries-insert, get-entries, get-insert, get-remove, same_map}
-use Rattle.std.specs.FinMap.Entries.{by_order}
 use Rattle.std.proofs.lemmas.Option.{none-some}
 use Rattle.lang_tree.specs.Tree.{path_cmp}
 use Rattle.lang_tree.proofs.basics.Order.{path_total}
@@ -24,13 +22,7 @@ total_none (x ∷ xs) = let h = total_none xs in omega arith
 module _ {K X : Type 0} (R : K → K → Ordering) where
   total_put : (f : K × X → ℕ) (es : List (K × X)) (k : K) (v : X) → find R k es ≡ None → total f (put R k v es) ≡ f (k, v) + total f es
   total_put f [] k v none = refl
-  total_put f (e ∷ es) k v none = by (R k e.0) none (total_put f es k v)
-    where
-      by : (o : Ordering) → cond (is_eq o) (Some e.1) (find R k es) ≡ None → (find R k es ≡ None → total f (put R k v es) ≡ f (k, v) + total f es)
-          → total f (by_order o ((k, v) ∷ e ∷ es) ((e.0, v) ∷ es) (e ∷ put R k v es)) ≡ f (k, v) + total f (e ∷ es)
-      by Less none go = refl
-      by Equal none go = absurd cc
-      by Greater none go = let h = go none in omega (arith, h)
+  total_put f (e ∷ es) k v none = grind (arith, total_put f es k v)
 
 module _ {K X : Type 0} {R : K → K → Ordering} (o : IsTotalOrder R) where
   pub total_inserted : (f : K × X → ℕ) (m : FinMap R X) (k : K) (v : X) → get m k ≡ None → total f (entries (insert m k v)) ≡ f (k, v) + total f (entries m)
@@ -57,17 +49,12 @@ module _ {K X : Type 0} {R : K → K → Ordering} (o : IsTotalOrder R) (same : 
       omega (arith, new, old)
     where
       hidden : (b : Bool) (u : Option X) → cond b (Some v) u ≡ cond b (Some v) (cond b None u)
-      hidden true u = refl
-      hidden false u = refl
+      hidden b u = grind arith
 
   -- two sums that differ at one key
   pub total_changed : (f g : K → ℕ) (m : FinMap R X) (u : K) (v : X) → get m u ≡ Some v → ((k : K) (w : X) → get m k ≡ Some w → (k ≡ u → ⊥) → f k ≡ g k)
       → total (λ e. f e.0) (entries m) + g u ≡ total (λ e. g e.0) (entries m) + f u
-  total_changed f g m u v at alike =
-      let a = total_removed (λ e. f e.0) m u v at in
-      let b = total_removed (λ e. g e.0) m u v at in
-      let c = total_same o f g (remove m u) (λ k w is. alike k w (was o m u k w is) (λ e. none-some w (sym (gone_here o m u k e) ∙ is))) in
-      omega (arith, a, b, c)
+  total_changed f g m u v at alike = grind (arith, total_removed, total_same, was, none-some, gone_here)
 
 -- Other keys for all entries, where no two come to one.
 pub total_moved : (f : List (List ℕ) → ℕ) (move : List (List ℕ) → List (List ℕ)) (es : List (List (List ℕ) × ℕ)) → T (is_sorted path_cmp es) → KeepApart move es

@@ -1,15 +1,13 @@
 -- What a command that moves a path leaves at each path.
-use Rattle.std.proofs.Common.{◌≡◌, ℕ, true, false, if◌then◌else◌, List, ◌++◌, Option, Some, None, refl, sym, ap, ◌∙◌}
+use Rattle.std.proofs.Common.{◌≡◌, ℕ, true, false, if◌then◌else◌, List, ◌++◌, None, ap, ◌∙◌, arith}
 use Rattle.std.specs.FinMap.{get, remove}
 use Rattle.lang_tree.specs.declared.command.Cmd.TheVariants.{Rename}
-use Rattle.lang_tree.specs.declared.command.Reply.TheVariants.{Ok as Done}
-use Rattle.lang_tree.specs.declared.command.Refusal.{Refusal}
 use Rattle.lang_tree.specs.Tree.{Tree, IsSound}
 use Rattle.lang_tree.specs.Paths.{is_within}
 use Rattle.lang_tree.specs.Names.{renamed}
 use Rattle.lang_tree.specs.Walk.{is_same_node}
 use Rattle.lang_tree.specs.Conditions.{refusal}
-use Rattle.lang_tree.specs.Step.{Session, step, answered, changed_to, moved, removed, removed_by}
+use Rattle.lang_tree.specs.Step.{Session, step, removed}
 use Rattle.lang_tree.proofs.basics.Order.{path_total, path_same}
 use Rattle.lang_tree.proofs.basics.Strips.{has}
 use Rattle.lang_tree.proofs.basics.Finds.{remove_absent}
@@ -17,24 +15,14 @@ use Rattle.lang_tree.proofs.walking.Found.{target_apart}
 use Rattle.lang_tree.proofs.moves.Renames.{onto_target, onto_source, onto_elsewhere}
 
 pub removed_names : (t : Tree) (path : List (List ℕ)) → (removed t path).names ≡ remove t.names path
-removed_names t path = by (get t.names path) refl
-  where
-    by : (o : Option ℕ) → get t.names path ≡ o → (removed_by t path o).names ≡ remove t.names path
-    by None is = sym (remove_absent path_total path_same t.names path is)
-    by (Some n) is = refl
+removed_names t path = grind (arith, get t.names path, t.names, remove_absent, path_total, path_same)
 
 pub same_node_stays : (s : Session) (from to : List (List ℕ)) → is_same_node s.tree from to ≡ true → (step s (Rename from to)).0 ≡ s
-same_node_stays s from to same = by (refusal s.limit s.tree (Rename from to))
-  where
-    by : (r : Option Refusal) → (answered s (Rename from to) r).0 ≡ s
-    by (Some why) = refl
-    by None = ap (λ b. (if b then (s, Done) else changed_to s (moved (removed s.tree to) from to)).0) same
+same_node_stays s from to same = grind (arith, refusal s.limit s.tree (Rename from to), s.limit, s.tree)
 
 module _ (s : Session) (from to : List (List ℕ)) (ok : IsSound s.limit s.tree) (accepted : refusal s.limit s.tree (Rename from to) ≡ None) (other : is_same_node s.tree from to ≡ false) where
   names_after : (step s (Rename from to)).0.tree.names ≡ renamed (remove s.tree.names to) from to
-  names_after = ap (λ r. (answered s (Rename from to) r).0.tree.names) accepted
-      ∙ ap (λ b. (if b then (s, Done) else changed_to s (moved (removed s.tree to) from to)).0.tree.names) other
-      ∙ ap (λ names. renamed names from to) (removed_names s.tree to)
+  names_after = grind (arith, s.tree, removed_names)
 
   at_second : (r : List (List ℕ)) → get (step s (Rename from to)).0.tree.names (to ++ r) ≡ get s.tree.names (from ++ r)
   at_second r = let can = target_apart s.limit s.tree ok from to accepted other in ap (λ names. get names (to ++ r)) names_after ∙ onto_target s.tree.names from to can.free can.apart r

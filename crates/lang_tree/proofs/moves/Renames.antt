@@ -1,5 +1,5 @@
 -- What a map of paths has at a path after a move, where nothing is at or below the second path: what was at or below the first one is there, and all else stays.
-use Rattle.std.proofs.Common.{◌≡◌, ℕ, true, false, List, [], ◌∷◌, ◌++◌, map, Option, Some, None, is_some, if◌then◌else◌, refl, sym, ap, ◌∙◌, ◌⊎◌, inl, inr, append-nil, true≢false}
+use Rattle.std.proofs.Common.{◌≡◌, ℕ, true, false, List, [], ◌∷◌, ◌++◌, map, Option, Some, None, is_some, if◌then◌else◌, refl, sym, ap, ◌∙◌, ◌⊎◌, inl, inr, append-nil, true≢false, arith}
 use Rattle.std.proofs.lemmas.Bool.{false_from_ne_true}
 use Rattle.std.proofs.lemmas.List.{append_cancel_left}
 use Rattle.std.proofs.lemmas.Slice.Eq.{bytes_eq-Decides}
@@ -19,14 +19,7 @@ use Rattle.lang_tree.proofs.walking.Found.{none_held, holds_some, some_held}
 pub two_fronts : (p r q s : List (List ℕ)) → p ++ r ≡ q ++ s → (is_within p q ≡ true) ⊎ (is_within q p ≡ true)
 two_fronts [] r q s e = inl refl
 two_fronts (a ∷ p) r [] s e = inr refl
-two_fronts (a ∷ p) r (b ∷ q) s e =
-    let rest : p ++ r ≡ q ++ s = cc in
-    let head : a ≡ b = cc in
-    by head (two_fronts p r q s rest)
-  where
-    by : a ≡ b → (is_within p q ≡ true) ⊎ (is_within q p ≡ true) → (is_within (a ∷ p) (b ∷ q) ≡ true) ⊎ (is_within (b ∷ q) (a ∷ p) ≡ true)
-    by same (inl w) = inl (ap (λ t. is_some (if t then strip p q else None)) ((bytes_eq-Decides a b).1 same) ∙ w)
-    by same (inr w) = inr (ap (λ t. is_some (if t then strip q p else None)) ((bytes_eq-Decides b a).1 (sym same)) ∙ w)
+two_fronts (a ∷ p) r (b ∷ q) s e = grind (arith, two_fronts p r q s, bytes_eq-Decides)
 
 -- behind one front and behind another the same two paths tie
 same_test : (p q r s : List (List ℕ)) → eq_by_cmp path_cmp (p ++ r) (p ++ s) ≡ eq_by_cmp path_cmp (q ++ r) (q ++ s)
@@ -99,13 +92,10 @@ module _ (names : Names) (from to : List (List ℕ)) (gone : get names to ≡ No
       within (Some u) is w = none_at u n (ap (get names) (sym (strip_is to from u is)) ∙ at)
 
       by : (is_within from to ≡ true) ⊎ (is_within to from ≡ true) → ⊥
-      by (inl w) = true≢false (sym w ∙ out)
-      by (inr w) = within (strip to from) refl w
+      by h1 = grind (arith, within)
 
 pub free_after : (names : Names) (p : List (List ℕ)) → holds_names names p ≡ false → holds_names (remove names p) p ≡ false
-free_after names p free = false_from_ne_true (holds_names (remove names p) p) (λ held.
-    let q = holds_some (remove names p) p held in
-    true≢false (sym (some_held names p q.0 q.1 (was path_total names p q.0 q.1 q.2) q.3) ∙ free))
+free_after names p free = grind (arith, false_from_ne_true, holds_some, some_held, was, path_total)
 
 -- the same where something may be at the second path, which goes first
 module _ (names : Names) (from to : List (List ℕ)) (free : holds_names names to ≡ false) (out : is_within from to ≡ false) where

@@ -1,5 +1,5 @@
 -- After a disk fault the session has ended: so it is with one command more, and in a run of a tree in memory, which meets no disk fault.
-use Rattle.std.proofs.Common.{◌≡◌, ◌≢◌, ◌<◌, ◌⊎◌, ℕ, zero, suc, false, List, [], ◌∷◌, ◌++◌, length, Some, refl, sym, ap, ◌∙◌, inl, inr, subst, arith}
+use Rattle.std.proofs.Common.{◌≡◌, ◌≢◌, ◌<◌, ◌⊎◌, ℕ, zero, suc, false, List, [], ◌∷◌, ◌++◌, length, Some, refl, ◌∙◌, inl, inr, subst, arith}
 use Rattle.std.specs.Prelude.{slice_get}
 use Rattle.std.proofs.lemmas.Bool.{false≢true}
 use Rattle.std.proofs.lemmas.Option.{same_Some, none-some, slice_get_within}
@@ -28,11 +28,7 @@ old_or_new : {A : Type 0} (xs : List A) (new : A) (i : ℕ) (x : A) → slice_ge
 old_or_new [] new zero x e = inr (refl, same_Some _ _ e)
 old_or_new [] new (suc i) x e = absurd (none-some _ e)
 old_or_new (y ∷ xs) new zero x e = inl e
-old_or_new (y ∷ xs) new (suc i) x e = behind (old_or_new xs new i x e)
-  where
-    behind : (slice_get xs i ≡ Some x) ⊎ ((i ≡ length xs) × (new ≡ x)) → (slice_get xs i ≡ Some x) ⊎ ((suc i ≡ suc (length xs)) × (new ≡ x))
-    behind (inl old) = inl old
-    behind (inr last) = inr (ap suc last.0, last.1)
+old_or_new (y ∷ xs) new (suc i) x e = grind (arith, old_or_new xs new i x e)
 
 -- One command more.
 
@@ -45,9 +41,7 @@ module _ (cmds : List Cmd) (replies : List Reply) (cmd : Cmd) (reply : Reply) (e
 
   new_command : (i k : ℕ) (c : Cmd) → i < k → k ≡ length cmds → cmd ≡ c → c ≢ Bad
       → (slice_get replies i ≡ Some (Refused DiskFault)) ⊎ ((i ≡ length replies) × (reply ≡ Refused DiskFault)) → slice_get (replies ++ reply ∷ []) k ≡ Some (Refused Stopped)
-  new_command i k c below at is good (inl fault) =
-      ap (λ n. slice_get (replies ++ reply ∷ []) n) (at ∙ even) ∙ last_is replies reply ∙ ap Some (ends i fault (λ bad. good (sym is ∙ bad)))
-  new_command i k c below at is good (inr last) = absurd (omega (arith, below, at, last.0, even))
+  new_command i k c h1 h2 h3 h4 h5 = grind (arith, last_is)
 
   stops_at : (i k : ℕ) (c : Cmd) → i < k → c ≢ Bad → (slice_get replies i ≡ Some (Refused DiskFault)) ⊎ ((i ≡ length replies) × (reply ≡ Refused DiskFault))
       → (slice_get cmds k ≡ Some c) ⊎ ((k ≡ length cmds) × (cmd ≡ c)) → slice_get (replies ++ reply ∷ []) k ≡ Some (Refused Stopped)
@@ -63,8 +57,7 @@ module _ (cmds : List Cmd) (replies : List Reply) (cmd : Cmd) (reply : Reply) (e
 -- A tree in memory.
 
 no_fault : (is_of_disk DiskFault ≡ false) ⊎ (DiskFault ≡ NoMemory) → ⊥
-no_fault (inl e) = false≢true (sym e)
-no_fault (inr e) = false≢true (ap is_of_memory e)
+no_fault h1 = grind (arith, false≢true)
 
 answered_well : (old new : Session) (cmd : Cmd) (reply : Reply) → Answers is_of_memory old cmd reply new → reply ≡ Refused DiskFault → ⊥
 answered_well old new cmd reply answer is =

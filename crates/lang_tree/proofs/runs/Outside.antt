@@ -1,19 +1,17 @@
 -- The reasons from outside the tree: none of them is one of the tree's own, and a run with some of them is one with more.
-use Rattle.std.proofs.Common.{◌≡◌, ◌==◌, ◌⊎◌, ℕ, ◌+◌, nat_lt, nat_le, is_none, Bool, true, false, if◌then◌else◌, ◌&&◌, List, [], ◌∷◌, ◌++◌, length, replicate, Option, Some, None, Result, Ok, Err, refl, sym, ap, ◌∙◌, inl, inr, subst}
-use Rattle.std.specs.FinMap.{get}
+use Rattle.std.proofs.Common.{◌≡◌, ◌==◌, ◌⊎◌, ℕ, ◌+◌, nat_lt, nat_le, is_none, Bool, true, false, if◌then◌else◌, ◌&&◌, List, [], ◌∷◌, ◌++◌, length, Option, Some, None, Result, refl, ap, ◌∙◌, arith}
 use Rattle.std.proofs.lemmas.Bool.{false≢true}
 use Rattle.lang_tree.specs.declared.command.Cmd.{Cmd}
 use Rattle.lang_tree.specs.declared.command.Cmd.TheVariants.{Mkdir, Create, Write, Fill, Read, Truncate, Link, Unlink, Rmdir, Rename, Stat, List as ListNames, Osync, Dsync, Durable, Poll, Bad}
 use Rattle.lang_tree.specs.declared.command.Reply.{Reply}
 use Rattle.lang_tree.specs.declared.command.Reply.TheVariants.{Ok as Done, Refused}
 use Rattle.lang_tree.specs.declared.command.Refusal.{Refusal}
-use Rattle.lang_tree.specs.declared.command.Refusal.TheVariants.{NotFound, Exists, NotDir, IsDir, NotEmpty, BelowItself, TooLarge, TooManyLinks, NoNode, Full, TooBig, Scattered, ReadFault, DiskFault, Stopped, Spent, NoMemory}
-use Rattle.lang_tree.specs.Tree.{Tree, Thing, Dir, File}
-use Rattle.lang_tree.specs.Paths.{parent, is_below}
+use Rattle.lang_tree.specs.declared.command.Refusal.TheVariants.{Exists, NotDir, IsDir, NotEmpty, BelowItself, TooLarge, TooManyLinks, NoNode, NoMemory}
+use Rattle.lang_tree.specs.Tree.{Tree, Thing}
 use Rattle.lang_tree.specs.Names.{holds_names}
-use Rattle.lang_tree.specs.Walk.{walk, walk_from, walk_refusal, parent_refusal, no_directory, refusal_in, enter, thing_at, is_dir, is_file, is_there, is_same_node, links, content}
+use Rattle.lang_tree.specs.Walk.{walk_from, walk_refusal, parent_refusal, no_directory, refusal_in, enter, thing_at, is_dir, is_file, is_there, is_same_node, links}
 use Rattle.lang_tree.specs.Conditions.{when, first_reason, refusal, onto_refusal, is_too_large, least_unused}
-use Rattle.lang_tree.specs.Step.{Session, step, answered, changed_to, osync, edited, written, resized, moved, removed, stat_by, stat_of}
+use Rattle.lang_tree.specs.Step.{Session, step, answered, changed_to, osync, stat_by, stat_of}
 use Rattle.lang_tree.specs.Run.{Answers, Run, is_of_memory, is_of_disk}
 
 -- a reason of the tree's own, where there is one
@@ -22,73 +20,45 @@ Own None = Unit {0}
 Own (Some why) = is_of_disk why ≡ false
 
 first_own : (reason : Option Refusal) (later : List (Option Refusal)) → Own reason → Own (first_reason later) → Own (first_reason (reason ∷ later))
-first_own None later own rest = rest
-first_own (Some why) later own rest = own
+first_own reason later h1 h2 = grind arith
 
 one : (o : Option Refusal) (a : Bool) (x : Refusal) → Own o → is_of_disk x ≡ false → Own (first_reason (o ∷ when a x ∷ []))
-one (Some why) a x own p = own
-one None true x own p = p
-one None false x own p = tt
+one o a x h1 h2 = grind arith
 
 two : (o : Option Refusal) (a b : Bool) (x y : Refusal) → Own o → is_of_disk x ≡ false → is_of_disk y ≡ false → Own (first_reason (o ∷ when a x ∷ when b y ∷ []))
-two (Some why) a b x y own p q = own
-two None true b x y own p q = p
-two None false true x y own p q = q
-two None false false x y own p q = tt
+two o a b x y h1 h2 h3 = grind arith
 
 three : (o : Option Refusal) (a b c : Bool) (x y z : Refusal) → Own o → is_of_disk x ≡ false → is_of_disk y ≡ false → is_of_disk z ≡ false
     → Own (first_reason (o ∷ when a x ∷ when b y ∷ when c z ∷ []))
-three (Some why) a b c x y z own p q r = own
-three None true b c x y z own p q r = p
-three None false true c x y z own p q r = q
-three None false false true x y z own p q r = r
-three None false false false x y z own p q r = tt
+three o a b c x y z h1 h2 h3 h4 = grind arith
 
 enter_own : (there : Bool) (found : Option ℕ) (on : ℕ → Result ℕ Refusal) → ((n : ℕ) → Own (refusal_in (on n))) → Own (refusal_in (enter there found on))
-enter_own false found on own = refl
-enter_own true None on own = refl
-enter_own true (Some n) on own = own n
+enter_own there found on h1 = grind arith
 
 walk_own : (t : Tree) (here : List (List ℕ)) (n : ℕ) (rest : List (List ℕ)) → Own (refusal_in (walk_from t here n rest))
 walk_own t here n [] = tt
-walk_own t here n (name ∷ rest) =
-    enter_own (is_dir (get t.nodes n)) (get t.names (here ++ name ∷ [])) (λ m. walk_from t (here ++ name ∷ []) m rest) (λ m. walk_own t (here ++ name ∷ []) m rest)
+walk_own t here n (name ∷ rest) = grind (arith, λ (m : ℕ). walk_own t (here ++ name ∷ []) m rest, enter_own, t.nodes, t.names)
 
 a_walk : (t : Tree) (path : List (List ℕ)) → Own (walk_refusal t path)
 a_walk t path = walk_own t [] 1 path
 
 directory_own : (t : Tree) (walked : Result ℕ Refusal) → Own (refusal_in walked) → Own (no_directory t walked)
-directory_own t (Err why) own = own
-directory_own t (Ok n) own = by (is_dir (get t.nodes n))
-  where
-    by : (b : Bool) → Own (if b then None else Some NotDir)
-    by true = tt
-    by false = refl
+directory_own t walked h1 = grind (arith, t.nodes)
 
 a_parent : (t : Tree) (path : List (List ℕ)) → Own (parent_refusal t path)
-a_parent t [] = tt
-a_parent t (name ∷ names) = directory_own t (walk t (parent (name ∷ names))) (a_walk t (parent (name ∷ names)))
+a_parent t path = grind (arith, directory_own, a_walk)
 
 onto_by : (a b c d : Bool) → Own (first_reason (when a NotDir ∷ when b IsDir ∷ when c NotEmpty ∷ when d BelowItself ∷ []))
-onto_by true b c d = refl
-onto_by false true c d = refl
-onto_by false false true d = refl
-onto_by false false false true = refl
-onto_by false false false false = tt
+onto_by a b c d = grind arith
 
 onto_own : (t : Tree) (from to : List (List ℕ)) → Own (onto_refusal t from to)
-onto_own t from to =
-    onto_by (is_dir (thing_at t from) && is_file (thing_at t to)) (is_file (thing_at t from) && is_dir (thing_at t to))
-    (is_dir (thing_at t from) && (is_dir (thing_at t to) && holds_names t.names to)) (is_dir (thing_at t from) && is_below from to)
+onto_own t from to = grind (arith, onto_by, t.names)
 
 elsewhere_own : (same : Bool) (reason : Option Refusal) → Own reason → Own (if same then None else reason)
-elsewhere_own true reason own = tt
-elsewhere_own false reason own = own
+elsewhere_own same reason h1 = grind arith
 
 pair_own : (o p : Option Refusal) → Own o → Own p → Own (first_reason (o ∷ p ∷ []))
-pair_own (Some why) p own q = own
-pair_own None (Some why) own q = q
-pair_own None None own q = tt
+pair_own o p h1 h2 = grind arith
 
 refusal_own : (limit : ℕ) (t : Tree) (cmd : Cmd) → Own (refusal limit t cmd)
 refusal_own limit t (Mkdir path) = two (parent_refusal t path) (is_there t path) (is_none (least_unused limit t.nodes)) Exists NoNode (a_parent t path) refl refl
@@ -124,85 +94,37 @@ OwnReply (Refused why) = is_of_disk why ≡ false
 OwnReply _ = Unit {0}
 
 choice_own : (s : Session) (t : Tree) (b : Bool) → OwnReply (if b then (s, Done) else changed_to s t).1
-choice_own s t true = tt
-choice_own s t false = tt
+choice_own s t b = grind arith
 
 osync_own : (s : Session) (changed : Bool) → OwnReply (osync s changed).1
-osync_own s true = tt
-osync_own s false = tt
+osync_own s changed = grind arith
 
 stat_thing : (t : Tree) (path : List (List ℕ)) (n : ℕ) (thing : Option Thing) → OwnReply (stat_of t path n thing)
-stat_thing t path n None = refl
-stat_thing t path n (Some Dir) = tt
-stat_thing t path n (Some (File bytes)) = tt
+stat_thing t path n thing = grind arith
 
 stat_own : (t : Tree) (path : List (List ℕ)) (found : Option ℕ) → OwnReply (stat_by t path found)
-stat_own t path None = refl
-stat_own t path (Some n) = stat_thing t path n (get t.nodes n)
+stat_own t path found = grind (arith, stat_thing, t.nodes)
 
 answered_own : (s : Session) (cmd : Cmd) (r : Option Refusal) → Own r → OwnReply (answered s cmd r).1
-answered_own s cmd (Some why) own = own
-answered_own s (Mkdir path) None own = tt
-answered_own s (Create path) None own = tt
-answered_own s (Write path offset bytes) None own = choice_own s (edited s.tree path (written offset bytes)) (length bytes == 0)
-answered_own s (Fill path offset count byte) None own = choice_own s (edited s.tree path (written offset (replicate count byte))) (length (replicate count byte) == 0)
-answered_own s (Read path offset count) None own = tt
-answered_own s (Truncate path size) None own = choice_own s (edited s.tree path (resized size)) (size == length (content s.tree path))
-answered_own s (Link path other) None own = tt
-answered_own s (Unlink path) None own = tt
-answered_own s (Rmdir path) None own = tt
-answered_own s (Rename from to) None own = choice_own s (moved (removed s.tree to) from to) (is_same_node s.tree from to)
-answered_own s (Stat path) None own = stat_own s.tree path (get s.tree.names path)
-answered_own s (ListNames path) None own = tt
-answered_own s Osync None own = osync_own s s.changed
-answered_own s Dsync None own = tt
-answered_own s Durable None own = tt
-answered_own s Poll None own = tt
-answered_own s Bad None own = tt
+answered_own s cmd r h1 = grind (arith, choice_own, s.tree, stat_own, s.tree.names, osync_own, s.changed)
 
 step_own : (s : Session) (cmd : Cmd) → OwnReply (step s cmd).1
 step_own s cmd = answered_own s cmd (refusal s.limit s.tree cmd) (refusal_own s.limit s.tree cmd)
 
 memory_is : (why : Refusal) → is_of_memory why ≡ true → why ≡ NoMemory
-memory_is NoMemory is = refl
-memory_is NotFound is = absurd cc
-memory_is Exists is = absurd cc
-memory_is NotDir is = absurd cc
-memory_is IsDir is = absurd cc
-memory_is NotEmpty is = absurd cc
-memory_is BelowItself is = absurd cc
-memory_is TooLarge is = absurd cc
-memory_is TooManyLinks is = absurd cc
-memory_is NoNode is = absurd cc
-memory_is (Full need left) is = absurd cc
-memory_is (TooBig weight cost room) is = absurd cc
-memory_is (Scattered runs) is = absurd cc
-memory_is ReadFault is = absurd cc
-memory_is DiskFault is = absurd cc
-memory_is Stopped is = absurd cc
-memory_is Spent is = absurd cc
-
-abbrev reason_of : Reply → Refusal
-reason_of (Refused why) = why
-reason_of _ = NoMemory
+memory_is why h1 = grind arith
 
 pub memory_alone : (old new : Session) (cmd : Cmd) (why : Refusal) → Answers is_of_memory old cmd (Refused why) new → (is_of_disk why ≡ false) ⊎ (why ≡ NoMemory)
-memory_alone old new cmd why (inl is) = inl (subst OwnReply (ap (λ a. a.1) is) (step_own old cmd))
-memory_alone old new cmd why (inr (inl h)) = inr (ap reason_of h.2 ∙ memory_is h.0 h.1)
-memory_alone old new cmd why (inr (inr h)) = absurd (false≢true h.0)
+memory_alone old new cmd why h1 = grind (arith, step_own, memory_is, false≢true)
 
 pub memory_exact : (old new : Session) (cmd : Cmd) (reply : Reply) → Answers is_of_memory old cmd reply new → (step old cmd ≡ (new, reply)) ⊎ ((reply ≡ Refused NoMemory) × (new ≡ old))
-memory_exact old new cmd reply (inl is) = inl is
-memory_exact old new cmd reply (inr (inl h)) = inr (h.2 ∙ ap Refused (memory_is h.0 h.1), h.3)
-memory_exact old new cmd reply (inr (inr h)) = absurd (false≢true h.0)
+memory_exact old new cmd reply h1 = grind (arith, memory_is, false≢true)
 
 -- More reasons from outside, and the same runs.
 
 answer_more : (few more : Refusal → Bool) → ((why : Refusal) → few why ≡ true → more why ≡ true) → (old new : Session) (cmd : Cmd) (reply : Reply)
     → Answers few old cmd reply new → Answers more old cmd reply new
-answer_more few more wider old new cmd reply (inl is) = inl is
-answer_more few more wider old new cmd reply (inr (inl h)) = inr (inl (h.0, wider h.0 h.1, h.2, h.3))
-answer_more few more wider old new cmd reply (inr (inr h)) = inr (inr (wider DiskFault h.0, h.1))
+answer_more few more h1 old new cmd reply h2 = grind arith
 
 run_wider : (few more : Refusal → Bool) → ((why : Refusal) → few why ≡ true → more why ≡ true) → (s : Session) (cmds : List Cmd) (replies : List Reply) (end : Session)
     → Run few s cmds replies end → Run more s cmds replies end

@@ -1,5 +1,5 @@
 -- The sync points of a run with a dsync, and which of them crashes may leave, moment by moment.
-use Rattle.std.proofs.Common.{◌≡◌, ℕ, true, false, List, [], ◌∷◌, map, refl, ap, ◌∙◌}
+use Rattle.std.proofs.Common.{◌≡◌, ℕ, true, false, List, [], ◌∷◌, map, ap, ◌∙◌, arith}
 use Rattle.std.specs.List.{range_with_len}
 use Rattle.std.specs.FinMap.{insert, empty}
 use Rattle.lang_tree.specs.declared.command.Cmd.{Cmd}
@@ -39,9 +39,7 @@ abbrev point_2 : Point
 point_2 = record { tree = written.tree; begun = 6 }
 
 points_are : points_after (start 16) 2 asked answered marks ≡ point_1 ∷ point_2 ∷ []
-points_are =
-    ap (λ s. points_after s.0 2 (Osync ∷ Write a 0 (104 ∷ 105 ∷ []) ∷ Osync ∷ Dsync ∷ []) (Synced 1 ∷ Done ∷ Synced 2 ∷ DurableAt 2 ∷ []) (5 ∷ 6 ∷ 9 ∷ 13 ∷ [])) create_a
-    ∙ ap (λ s. point_1 ∷ points_after s.0 6 (Osync ∷ Dsync ∷ []) (Synced 2 ∷ DurableAt 2 ∷ []) (9 ∷ 13 ∷ [])) write_a
+points_are = grind (arith, a, create_a, write_a)
 
 pub tops : map (λ k. top k (start 16) 2 asked answered marks) (range_with_len 0 14) ≡ 0 ∷ 0 ∷ 1 ∷ 1 ∷ 1 ∷ 1 ∷ 2 ∷ 2 ∷ 2 ∷ 2 ∷ 2 ∷ 2 ∷ 2 ∷ 2 ∷ []
 tops = ap (λ points. map (λ k. begun_by k points) (range_with_len 0 14)) points_are

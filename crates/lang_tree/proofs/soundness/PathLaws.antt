@@ -4,8 +4,8 @@ use Rattle.std.specs.FinMap.{get, remove}
 use Rattle.lang_tree.specs.Tree.{Tree, Names, IsSound}
 use Rattle.lang_tree.specs.Paths.{is_within}
 use Rattle.lang_tree.specs.Names.{path_count, holds_names, renamed}
-use Rattle.lang_tree.specs.Walk.{walk_refusal, parent_refusal, is_same_node}
-use Rattle.lang_tree.specs.Conditions.{file_refusal, rmdir_refusal, onto_refusal, rename_refusal}
+use Rattle.lang_tree.specs.Walk.{is_same_node}
+use Rattle.lang_tree.specs.Conditions.{file_refusal, rmdir_refusal, rename_refusal}
 use Rattle.lang_tree.proofs.basics.Order.{path_total}
 use Rattle.lang_tree.proofs.basics.Strips.{below_is, below_at}
 use Rattle.lang_tree.proofs.basics.Finds.{gone_here}
@@ -15,10 +15,7 @@ use Rattle.lang_tree.proofs.moves.Renames.{free_after, count_renamed}
 use Rattle.lang_tree.proofs.soundness.Sound.{can_unlink, can_rmdir}
 
 pub path_of : (names : Names) (n : ℕ) → 1 ≤ path_count names n → (p : List (List ℕ)) × (get names p ≡ Some n)
-path_of names n some = used_by names n (by (path_count names n) some)
-  where
-    by : (k : ℕ) → 1 ≤ k → (k == 0) ≡ false
-    by k le = grind (arith, le)
+path_of names n some = grind (arith, path_count names n, used_by)
 
 pub count_after_move : (names : Names) (from to : List (List ℕ)) (n : ℕ) → holds_names names to ≡ false → path_count (renamed (remove names to) from to) n ≡ path_count (remove names to) n
 count_after_move names from to n free = count_renamed (remove names to) from to (gone_here path_total names to to refl) (free_after names to free) n
@@ -51,6 +48,4 @@ move_finds limit t from to s e other = let can = target_apart limit t s from to 
 
 -- what moves is there
 pub source_there : (limit : ℕ) (t : Tree) (from to : List (List ℕ)) → IsSound limit t → rename_refusal t from to ≡ None → (n : ℕ) × (get t.names from ≡ Some n)
-source_there limit t from to s e =
-    let r = no_reasons (walk_refusal t from) (parent_refusal t to) (if is_same_node t from to then None else onto_refusal t from to) e in
-    walked_there t from s.root r.0
+source_there limit t from to s e = grind (arith, no_reasons, walked_there, s.root)

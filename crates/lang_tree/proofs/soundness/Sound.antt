@@ -9,7 +9,7 @@ use Rattle.lang_tree.specs.declared.command.Cmd.TheVariants.{Mkdir, Create, Writ
 use Rattle.lang_tree.specs.declared.command.Reply.{Reply}
 use Rattle.lang_tree.specs.declared.command.Reply.TheVariants.{Ok as Done}
 use Rattle.lang_tree.specs.declared.command.Refusal.{Refusal}
-use Rattle.lang_tree.specs.declared.command.Refusal.TheVariants.{Exists, IsDir, NotDir, NotEmpty, BelowItself, TooManyLinks}
+use Rattle.lang_tree.specs.declared.command.Refusal.TheVariants.{Exists, IsDir, TooManyLinks}
 use Rattle.lang_tree.specs.Tree.{Tree, Names, Nodes, Thing, Dir, File, IsSound, path_cmp}
 use Rattle.lang_tree.specs.Paths.{parent}
 use Rattle.lang_tree.specs.Names.{holds_names}
@@ -33,11 +33,7 @@ pub record CanGo (t : Tree) (path : List (List ℕ)) : Type 0 where
 module _ (limit : ℕ) (t : Tree) (s : IsSound limit t) where
   -- what is there and isn't a directory is a file
   pub file_there : (path : List (List ℕ)) (n : ℕ) → get t.names path ≡ Some n → is_dir (thing_at t path) ≡ false → (bytes : List ℕ) × (get t.nodes n ≡ Some (File bytes))
-  file_there path n at no_dir = by (s.named path n at)
-    where
-      by : (x : Thing) × (get t.nodes n ≡ Some x) → (bytes : List ℕ) × (get t.nodes n ≡ Some (File bytes))
-      by (Dir, is) = let e : is_dir (thing_at t path) ≡ true = ap is_dir (thing_is t path n Dir at is) in absurd cc
-      by (File bytes, is) = (bytes, is)
+  file_there path n at no_dir = grind (arith, s.named path n at, thing_at t path, s.named, t.nodes, thing_is)
 
   linked_sound : (path other : List (List ℕ)) → link_refusal t path other ≡ None → IsSound limit (linked t path other)
   linked_sound path other e =
@@ -68,24 +64,11 @@ module _ (limit : ℕ) (t : Tree) (s : IsSound limit t) where
       record { number = n.0; at = n.1; free = nothing_below_file limit t s path is; below_root = λ root. root_is_dir file root }
     where
       root_is_dir : is_dir (thing_at t path) ≡ false → path ≡ [] → ⊥
-      root_is_dir file root =
-          let at : get t.names path ≡ Some 1 = ap (get t.names) root ∙ s.root in
-          let dir : is_dir (thing_at t path) ≡ true = ap is_dir (thing_is t path 1 Dir at s.root_dir) in
-          cc
+      root_is_dir file root = grind (arith, t.names, s.root, thing_is, s.root_dir)
 
   -- an empty directory can go
   pub can_rmdir : (path : List (List ℕ)) → rmdir_refusal t path ≡ None → CanGo t path
-  can_rmdir path e =
-      let root : Option Refusal = when (length path == 0) BelowItself in
-      let full : Option Refusal = when (holds_names t.names path) NotEmpty in
-      let file : Option Refusal = when (is_file (thing_at t path)) NotDir in
-      let one = no_reason (walk_refusal t path) (file ∷ full ∷ root ∷ []) e in
-      let r = no_reasons file full root one.1 in
-      let n = walked_there t path s.root one.0 in
-      record { number = n.0; at = n.1; free = not_so (holds_names t.names path) NotEmpty r.1; below_root = λ none. not_root none (not_so (length path == 0) BelowItself r.2) }
-    where
-      not_root : path ≡ [] → (length path == 0) ≡ false → ⊥
-      not_root none e = let so : (length path == 0) ≡ true = ap (λ p. length p == 0) none in cc
+  can_rmdir path e = grind (arith, length path == 0, t.names, no_reason, no_reasons, walked_there, s.root, not_so)
 
   gone_sound : (path : List (List ℕ)) → CanGo t path → IsSound limit (removed t path)
   gone_sound path can = removed_sound limit t s path can.free can.below_root
@@ -99,12 +82,10 @@ Stays s answer = (IsSound s.limit answer.0.tree) × (answer.0.limit ≡ s.limit)
 
 -- nothing changes where the test holds, and else this tree comes
 choice_stays : (s : Session) (t : Tree) (b : Bool) → Sound s → (b ≡ false → IsSound s.limit t) → Stays s (if b then (s, Done) else changed_to s t)
-choice_stays s t true ok new = (ok, refl)
-choice_stays s t false ok new = (new refl, refl)
+choice_stays s t b h1 h2 = grind arith
 
 osync_stays : (s : Session) (b : Bool) → Sound s → Stays s (osync s b)
-osync_stays s true ok = (ok, refl)
-osync_stays s false ok = (ok, refl)
+osync_stays s b h1 = grind arith
 
 accepted_stays : (s : Session) (cmd : Cmd) → Sound s → refusal s.limit s.tree cmd ≡ None → Stays s (answered s cmd None)
 accepted_stays s (Mkdir path) ok e = (added_sound s.limit s.tree ok path Dir e, refl)
@@ -128,8 +109,7 @@ accepted_stays s Poll ok e = (ok, refl)
 accepted_stays s Bad ok e = (ok, refl)
 
 answered_stays : (s : Session) (cmd : Cmd) (r : Option Refusal) → refusal s.limit s.tree cmd ≡ r → Sound s → Stays s (answered s cmd r)
-answered_stays s cmd (Some why) is ok = (ok, refl)
-answered_stays s cmd None is ok = accepted_stays s cmd ok is
+answered_stays s cmd r h1 h2 = grind (arith, accepted_stays)
 
 pub step_sound : (s : Session) (cmd : Cmd) → IsSound s.limit s.tree → IsSound s.limit (step s cmd).0.tree
 step_sound s cmd ok = (answered_stays s cmd (refusal s.limit s.tree cmd) refl ok).0
@@ -137,32 +117,13 @@ step_sound s cmd ok = (answered_stays s cmd (refusal s.limit s.tree cmd) refl ok
 -- The greatest number stays, sound or not.
 
 choice_limit : (s : Session) (t : Tree) (b : Bool) → (if b then (s, Done) else changed_to s t).0.limit ≡ s.limit
-choice_limit s t true = refl
-choice_limit s t false = refl
+choice_limit s t b = grind arith
 
 osync_limit : (s : Session) (b : Bool) → (osync s b).0.limit ≡ s.limit
-osync_limit s true = refl
-osync_limit s false = refl
+osync_limit s b = grind arith
 
 answered_limit : (s : Session) (cmd : Cmd) (r : Option Refusal) → (answered s cmd r).0.limit ≡ s.limit
-answered_limit s cmd (Some why) = refl
-answered_limit s (Mkdir path) None = refl
-answered_limit s (Create path) None = refl
-answered_limit s (Write path offset bytes) None = choice_limit s _ (length bytes == 0)
-answered_limit s (Fill path offset count byte) None = choice_limit s _ (length (replicate count byte) == 0)
-answered_limit s (Read path offset count) None = refl
-answered_limit s (Truncate path size) None = choice_limit s _ (size == length (content s.tree path))
-answered_limit s (Link path other) None = refl
-answered_limit s (Unlink path) None = refl
-answered_limit s (Rmdir path) None = refl
-answered_limit s (Rename from to) None = choice_limit s _ (is_same_node s.tree from to)
-answered_limit s (Stat path) None = refl
-answered_limit s (ListNames path) None = refl
-answered_limit s Osync None = osync_limit s s.changed
-answered_limit s Dsync None = osync_limit s s.changed
-answered_limit s Durable None = refl
-answered_limit s Poll None = refl
-answered_limit s Bad None = refl
+answered_limit s cmd r = grind (arith, choice_limit, s.tree, osync_limit, s.changed)
 
 pub step_limit : (s : Session) (cmd : Cmd) → (step s cmd).0.limit ≡ s.limit
 step_limit s cmd = answered_limit s cmd (refusal s.limit s.tree cmd)

@@ -1,5 +1,5 @@
 -- A sound tree stays sound with a new node at a new path, with another path of a file, and with other bytes in a file.
-use Rattle.std.proofs.Common.{◌≡◌, ℕ, zero, suc, ◌+◌, ◌≤◌, ◌<◌, Bool, true, false, cond, List, [], ◌∷◌, ◌++◌, Option, Some, None, is_none, find as first, sym, refl, ap, ◌∙◌, ◌⊎◌, inl, inr, arith}
+use Rattle.std.proofs.Common.{◌≡◌, ℕ, zero, suc, ◌+◌, ◌≤◌, ◌<◌, Bool, true, List, [], ◌∷◌, ◌++◌, Option, Some, None, is_none, find as first, sym, refl, ap, ◌∙◌, ◌⊎◌, inl, inr, arith}
 use Rattle.std.specs.List.{range_with_len}
 use Rattle.std.specs.Cmp.{nat_cmp_total}
 use Rattle.std.specs.FinMap.{nat_cmp-IsAntisymmetric, get, insert}
@@ -17,16 +17,10 @@ use Rattle.lang_tree.proofs.walking.Found.{no_reasons, not_so, dir_file, parent_
 
 found_in : (test : ℕ → Bool) (a n m : ℕ) → first test (range_with_len a n) ≡ Some m → (test m ≡ true) × (a ≤ m) × (m < a + n)
 found_in test a zero m e = absurd (none-some m e)
-found_in test a (suc n) m e = by (test a) refl (found_in test (a + 1) n m) e
-  where
-    by : (b : Bool) → test a ≡ b → (first test (range_with_len (a + 1) n) ≡ Some m → (test m ≡ true) × (a + 1 ≤ m) × (m < a + 1 + n))
-        → cond b (Some a) (first test (range_with_len (a + 1) n)) ≡ Some m → (test m ≡ true) × (a ≤ m) × (m < a + suc n)
-    by true is go e = let same : a ≡ m = same_Some a m e in (ap test (sym same) ∙ is, omega (arith, same), omega (arith, same))
-    by false is go e = let r = go e in (r.0, omega (arith, r.1), omega (arith, r.2))
+found_in test a (suc n) m e = grind (arith, found_in test (a + 1) n m, test a, same_Some)
 
 none_of : {A : Type 0} (o : Option A) → is_none o ≡ true → o ≡ None
-none_of None e = refl
-none_of (Some x) e = absurd cc
+none_of o h1 = grind arith
 
 pub unused_is : (limit m : ℕ) (nodes : Nodes) → least_unused limit nodes ≡ Some m → (get nodes m ≡ None) × (1 ≤ m) × (m ≤ limit)
 unfolding least_unused
@@ -64,8 +58,7 @@ module _ (limit : ℕ) (t : Tree) (s : IsSound limit t) where
     parents_by : (up : List (List ℕ)) (name : List ℕ) (n : ℕ) → get (insert t.names path m) (up ++ name ∷ []) ≡ Some n
         → (up ++ name ∷ [] ≡ path) ⊎ (get (insert t.names path m) (up ++ name ∷ []) ≡ get t.names (up ++ name ∷ []))
         → (j : ℕ) × (get (insert t.names path m) up ≡ Some j) × (get (insert t.nodes m x) j ≡ Some Dir)
-    parents_by up name n e (inl is) = lift up (k, ap (get t.names) (sym (parent_append up name) ∙ ap parent is) ∙ up_at, up_dir)
-    parents_by up name n e (inr is) = lift up (s.parents up name n (sym is ∙ e))
+    parents_by up name n h1 h2 = grind (arith, lift, t.names, parent_append, s.parents)
 
     named_by : (p : List (List ℕ)) (n : ℕ) → get (insert t.names path m) p ≡ Some n → (p ≡ path) ⊎ (get (insert t.names path m) p ≡ get t.names p) → (y : Thing) × (get (insert t.nodes m x) n ≡ Some y)
     named_by p n e (inl is) = (x, new_node n (same_Some n m (sym e ∙ new_name p is)))
@@ -77,12 +70,10 @@ module _ (limit : ℕ) (t : Tree) (s : IsSound limit t) where
 
     -- a path of the new number is the new path
     own_path : (p : List (List ℕ)) → get (insert t.names path m) p ≡ Some m → (p ≡ path) ⊎ (get (insert t.names path m) p ≡ get t.names p) → p ≡ path
-    own_path p e (inl is) = is
-    own_path p e (inr is) = absurd (no_old p (sym is ∙ e))
+    own_path p h1 h2 = grind (arith, no_old)
 
     old_path : (n : ℕ) (p : List (List ℕ)) (y : Thing) → get t.nodes n ≡ Some y → get (insert t.names path m) p ≡ Some n → (p ≡ path) ⊎ (get (insert t.names path m) p ≡ get t.names p) → get t.names p ≡ Some n
-    old_path n p y there e (inl is) = absurd (none-some y (sym no_node ∙ ap (get t.nodes) (same_Some m n (sym (new_name p is) ∙ e)) ∙ there))
-    old_path n p y there e (inr is) = sym is ∙ e
+    old_path n p y h1 h2 h3 = grind (arith, none-some, t.nodes, same_Some, new_name)
 
     one_by : (n : ℕ) (p q : List (List ℕ)) → get (insert t.nodes m x) n ≡ Some Dir → get (insert t.names path m) p ≡ Some n → get (insert t.names path m) q ≡ Some n
         → (n ≡ m) ⊎ (get (insert t.nodes m x) n ≡ get t.nodes n) → p ≡ q
@@ -91,8 +82,7 @@ module _ (limit : ℕ) (t : Tree) (s : IsSound limit t) where
         s.one_path n p q dir_before (old_path n p Dir dir_before at_p (look_name p)) (old_path n q Dir dir_before at_q (look_name q))
 
     within_by : (n : ℕ) (y : Thing) → get (insert t.nodes m x) n ≡ Some y → (n ≡ m) ⊎ (get (insert t.nodes m x) n ≡ get t.nodes n) → (1 ≤ n) × (n ≤ limit)
-    within_by n y e (inl is) = (omega (arith, is, low), omega (arith, is, high))
-    within_by n y e (inr is) = s.within n y (sym is ∙ e)
+    within_by n y h1 h2 = grind (arith, s.within)
 
     pub with_new : IsSound limit (record { names = insert t.names path m; nodes = insert t.nodes m x })
     with_new = record {
@@ -124,12 +114,10 @@ module _ (limit : ℕ) (t : Tree) (s : IsSound limit t) where
     link_parents up name m e (inr is) = let r = s.parents up name m (sym is ∙ e) in (r.0, keep_other up r.0 r.1, r.2)
 
     link_named : (p : List (List ℕ)) (m : ℕ) → get (insert t.names path n) p ≡ Some m → (p ≡ path) ⊎ (get (insert t.names path n) p ≡ get t.names p) → (y : Thing) × (get t.nodes m ≡ Some y)
-    link_named p m e (inl is) = (File bytes, ap (get t.nodes) (link_here p m e is) ∙ file)
-    link_named p m e (inr is) = s.named p m (sym is ∙ e)
+    link_named p m h1 h2 = grind (arith, t.nodes, link_here, s.named)
 
     link_old : (p : List (List ℕ)) (m : ℕ) → get t.nodes m ≡ Some Dir → get (insert t.names path n) p ≡ Some m → (p ≡ path) ⊎ (get (insert t.names path n) p ≡ get t.names p) → get t.names p ≡ Some m
-    link_old p m dir e (inl is) = absurd (dir_file dir (ap (get t.nodes) (link_here p m e is) ∙ file))
-    link_old p m dir e (inr is) = sym is ∙ e
+    link_old p m h1 h2 h3 = grind (arith, dir_file, t.nodes, link_here)
 
     pub with_link : IsSound limit (record { names = insert t.names path n; nodes = t.nodes })
     with_link = record {
@@ -151,20 +139,17 @@ module _ (limit : ℕ) (t : Tree) (s : IsSound limit t) where
     new_file j e = put_here nat_cmp_total t.nodes n (File bytes) j e
 
     dir_at : (j : ℕ) → get t.nodes j ≡ Some Dir → (j ≡ n) ⊎ (get (insert t.nodes n (File bytes)) j ≡ get t.nodes j) → get (insert t.nodes n (File bytes)) j ≡ Some Dir
-    dir_at j e (inl is) = absurd (dir_file e (ap (get t.nodes) is ∙ there))
-    dir_at j e (inr is) = is ∙ e
+    dir_at j h1 h2 = grind (arith, dir_file, t.nodes)
 
     some_by : (j : ℕ) → (x : Thing) × (get t.nodes j ≡ Some x) → (j ≡ n) ⊎ (get (insert t.nodes n (File bytes)) j ≡ get t.nodes j) → (x : Thing) × (get (insert t.nodes n (File bytes)) j ≡ Some x)
     some_by j r (inl is) = (File bytes, new_file j is)
     some_by j r (inr is) = (r.0, is ∙ r.1)
 
     old_by : (j : ℕ) (x : Thing) → get (insert t.nodes n (File bytes)) j ≡ Some x → (j ≡ n) ⊎ (get (insert t.nodes n (File bytes)) j ≡ get t.nodes j) → (y : Thing) × (get t.nodes j ≡ Some y)
-    old_by j x e (inl is) = (File old, ap (get t.nodes) is ∙ there)
-    old_by j x e (inr is) = (x, sym is ∙ e)
+    old_by j x h1 h2 = grind (arith, t.nodes)
 
     dir_by : (j : ℕ) → get (insert t.nodes n (File bytes)) j ≡ Some Dir → (j ≡ n) ⊎ (get (insert t.nodes n (File bytes)) j ≡ get t.nodes j) → get t.nodes j ≡ Some Dir
-    dir_by j e (inl is) = absurd (dir_file e (new_file j is))
-    dir_by j e (inr is) = sym is ∙ e
+    dir_by j h1 h2 = grind (arith, dir_file, new_file)
 
     pub with_other : IsSound limit (record { names = t.names; nodes = insert t.nodes n (File bytes) })
     with_other = record {
@@ -200,5 +185,4 @@ module _ (limit : ℕ) (t : Tree) (s : IsSound limit t) where
       by_thing n (Some (File old)) is = with_other n old (change old) is
 
       by : (o : Option ℕ) → IsSound limit (edited_at t change o)
-      by None = s
-      by (Some n) = by_thing n (get t.nodes n) refl
+      by o = grind (arith, by_thing, t.nodes)

@@ -74,11 +74,7 @@ module _ (limit : ℕ) (t : Tree) (s : IsSound limit t) (path : Place) (n : ℕ)
       gone_node m x e same = none-some x (sym (gone_here nat_cmp_total t.nodes n m same) ∙ e)
 
   pub with_used_sound : IsSound limit (with_used (remove t.names path) t.nodes n)
-  with_used_sound = by (path_count (remove t.names path) n == 0) refl
-    where
-      by : (b : Bool) → (path_count (remove t.names path) n == 0) ≡ b → IsSound limit (record { names = remove t.names path; nodes = if b then remove t.nodes n else t.nodes })
-      by true is = last_sound (λ p e. unused (remove t.names path) p n is e)
-      by false is = let p = used_by (remove t.names path) n is in kept_sound p.0 p.1
+  with_used_sound = grind (arith, path_count (remove t.names path) n == 0, remove t.names path, t.names, t.nodes, last_sound, unused, used_by, kept_sound)
 
 -- a path without one below it goes, if it is there
 pub removed_sound : (limit : ℕ) (t : Tree) → IsSound limit t → (path : Place) → holds_names t.names path ≡ false → (path ≡ [] → ⊥) → IsSound limit (removed t path)
@@ -141,8 +137,7 @@ module _ (limit : ℕ) (t : Tree) (s : IsSound limit t) (from to : Place) (n : �
 
   named_by : (p : Place) (m : ℕ) → Origin p m → (x : Thing) × (get t.nodes m ≡ Some x)
   unfolding Origin
-  named_by p m (inl o) = s.named (from ++ o.0) m o.2
-  named_by p m (inr o) = s.named p m o.1
+  named_by p m h1 = grind (arith, s.named)
 
   reached_by : (m : ℕ) → (p : Place) × (get t.names p ≡ Some m) → (p : Place) × (get (renamed t.names from to) p ≡ Some m)
   reached_by m p = by (strip from p.0) refl
@@ -183,11 +178,7 @@ longer up name e = omega (arith, length-append up (name ∷ []), ap length e)
 
 -- a path that isn't the root doesn't lie in itself
 pub not_own_parent : (p : Place) → (p ≡ [] → ⊥) → parent p ≡ p → ⊥
-not_own_parent p below_root e = by (from_end p)
-  where
-    by : (p ≡ []) ⊎ ((up : Place) × (name : List ℕ) × (p ≡ up ++ name ∷ [])) → ⊥
-    by (inl none) = below_root none
-    by (inr end) = longer end.0 end.1 (sym end.2 ∙ sym e ∙ ap parent end.2 ∙ parent_append end.0 end.1)
+not_own_parent p below_root e = grind (arith, from_end p, from_end, longer, parent_append)
 
 -- what a node is, where fewer nodes are used
 was_used : (names : Names) (nodes : Nodes) (n k : ℕ) (x : Thing) → get (with_used names nodes n).nodes k ≡ Some x → get nodes k ≡ Some x

@@ -1,14 +1,13 @@
 -- What walks and refusals tell of a sound tree: what is there, what is a directory, and what lies below a path.
-use Rattle.std.proofs.Common.{◌≡◌, ℕ, Bool, true, false, ◌&&◌, List, [], ◌∷◌, ◌++◌, Option, Some, None, option_and_then, Result, Ok, Err, is_some, if◌then◌else◌, sym, refl, ap, ◌∙◌, ◌⊎◌, inl, inr, append_assoc, append-nil, eq-eqb}
+use Rattle.std.proofs.Common.{◌≡◌, ℕ, Bool, true, false, ◌&&◌, List, [], ◌∷◌, ◌++◌, Option, Some, None, option_and_then, Ok, is_some, if◌then◌else◌, sym, refl, ap, ◌∙◌, ◌⊎◌, inl, inr, append_assoc, append-nil, eq-eqb, arith}
 use Rattle.std.proofs.lemmas.Bool.{false_from_ne_true}
 use Rattle.std.specs.FinMap.{get, entries, get-entries}
 use Rattle.std.proofs.lemmas.Option.{none-some}
 use Rattle.lang_tree.specs.declared.command.Refusal.{Refusal}
-use Rattle.lang_tree.specs.declared.command.Refusal.TheVariants.{NotDir, IsDir, NotEmpty, BelowItself}
 use Rattle.lang_tree.specs.Tree.{Tree, Names, Thing, Dir, File, IsSound}
 use Rattle.lang_tree.specs.Paths.{is_within, is_below, parent}
 use Rattle.lang_tree.specs.Names.{holds_names}
-use Rattle.lang_tree.specs.Walk.{walk, walk_from, enter, is_dir, is_file, thing_at, refusal_in, walk_refusal, no_directory, parent_refusal, are_same, is_same_node}
+use Rattle.lang_tree.specs.Walk.{walk, walk_from, is_dir, is_file, thing_at, walk_refusal, parent_refusal, are_same, is_same_node}
 use Rattle.lang_tree.specs.Conditions.{when, first_reason, onto_refusal, rename_refusal}
 use Rattle.lang_tree.proofs.basics.Order.{path_total, path_same}
 use Rattle.lang_tree.proofs.basics.Strips.{within_is, below_is, below_at, from_end, no_append, parent_append}
@@ -17,26 +16,18 @@ use Rattle.lang_tree.proofs.basics.Finds.{any_found, found_any}
 -- Refusals.
 
 pub no_reason : (r : Option Refusal) (rest : List (Option Refusal)) → first_reason (r ∷ rest) ≡ None → (r ≡ None) × (first_reason rest ≡ None)
-no_reason None rest e = (refl, e)
-no_reason (Some why) rest e = absurd cc
+no_reason r rest h1 = grind arith
 
 pub no_reasons : (a b c : Option Refusal) → first_reason (a ∷ b ∷ c ∷ []) ≡ None → (a ≡ None) × (b ≡ None) × (c ≡ None)
-no_reasons a b c e =
-    let one = no_reason a (b ∷ c ∷ []) e in
-    let two = no_reason b (c ∷ []) one.1 in
-    let three = no_reason c [] two.1 in
-    (one.0, two.0, three.0)
+no_reasons a b c e = grind (arith, no_reason)
 
 pub not_so : (b : Bool) (why : Refusal) → when b why ≡ None → b ≡ false
-not_so true why e = absurd cc
-not_so false why e = refl
+not_so b why h1 = grind arith
 
 -- Directories and files.
 
 pub dir_of : (o : Option Thing) → is_dir o ≡ true → o ≡ Some Dir
-dir_of None e = absurd cc
-dir_of (Some Dir) e = refl
-dir_of (Some (File bytes)) e = absurd cc
+dir_of o h1 = grind arith
 
 pub dir_file : {bytes : List ℕ} {o : Option Thing} → o ≡ Some Dir → o ≡ Some (File bytes) → ⊥
 dir_file dir file = cc
@@ -49,38 +40,18 @@ thing_is t p n x at is = ap (option_and_then (λ n. get t.nodes n)) at ∙ is
 -- the walk ends at the number that the whole path has
 pub walked_on : (t : Tree) (here : List (List ℕ)) (n : ℕ) (rest : List (List ℕ)) (k : ℕ) → get t.names here ≡ Some n → walk_from t here n rest ≡ Ok k → get t.names (here ++ rest) ≡ Some k
 walked_on t here n [] k at end = ap (get t.names) (append-nil here) ∙ at ∙ cc
-walked_on t here n (name ∷ rest) k at end = by (is_dir (get t.nodes n)) (get t.names (here ++ name ∷ [])) refl (λ m. walked_on t (here ++ name ∷ []) m rest k) end
-  where
-    by : (b : Bool) (found : Option ℕ) → get t.names (here ++ name ∷ []) ≡ found
-        → ((m : ℕ) → get t.names (here ++ name ∷ []) ≡ Some m → walk_from t (here ++ name ∷ []) m rest ≡ Ok k → get t.names ((here ++ name ∷ []) ++ rest) ≡ Some k)
-        → enter b found (λ m. walk_from t (here ++ name ∷ []) m rest) ≡ Ok k → get t.names (here ++ name ∷ rest) ≡ Some k
-    by false found is go e = absurd cc
-    by true None is go e = absurd cc
-    by true (Some m) is go e = ap (get t.names) (sym (append_assoc here (name ∷ []) rest)) ∙ go m is e
+walked_on t here n (name ∷ rest) k at end = grind (arith, λ (m : ℕ). walked_on t (here ++ name ∷ []) m rest k, is_dir (get t.nodes n), get t.names (here ++ name ∷ []), get t.names, t.nodes, t.names, append_assoc)
 
 pub walked : (t : Tree) (path : List (List ℕ)) (n : ℕ) → get t.names [] ≡ Some 1 → walk t path ≡ Ok n → get t.names path ≡ Some n
 walked t path n root end = walked_on t [] 1 path n root end
 
 -- a path whose walk isn't refused is there
 pub walked_there : (t : Tree) (path : List (List ℕ)) → get t.names [] ≡ Some 1 → walk_refusal t path ≡ None → (n : ℕ) × (get t.names path ≡ Some n)
-walked_there t path root e = by (walk t path) refl e
-  where
-    by : (r : Result ℕ Refusal) → walk t path ≡ r → refusal_in r ≡ None → (n : ℕ) × (get t.names path ≡ Some n)
-    by (Ok n) is e = (n, walked t path n root is)
-    by (Err why) is e = absurd cc
+walked_there t path root e = grind (arith, walk t path, t.names, walked)
 
 -- a parent that is no refusal is a directory with its path
 pub parent_is : (t : Tree) (path : List (List ℕ)) → get t.names [] ≡ Some 1 → (path ≡ [] → ⊥) → parent_refusal t path ≡ None → (k : ℕ) × (get t.names (parent path) ≡ Some k) × (get t.nodes k ≡ Some Dir)
-parent_is t [] root free e = absurd (free refl)
-parent_is t (name ∷ names) root free e = by (walk t (parent (name ∷ names))) refl e
-  where
-    of_dir : (k : ℕ) (b : Bool) → is_dir (get t.nodes k) ≡ b → (if b then None else Some NotDir) ≡ None → get t.nodes k ≡ Some Dir
-    of_dir k true is e = dir_of (get t.nodes k) is
-    of_dir k false is e = absurd cc
-
-    by : (r : Result ℕ Refusal) → walk t (parent (name ∷ names)) ≡ r → no_directory t r ≡ None → (k : ℕ) × (get t.names (parent (name ∷ names)) ≡ Some k) × (get t.nodes k ≡ Some Dir)
-    by (Err why) is e = absurd cc
-    by (Ok k) is e = (k, walked t (parent (name ∷ names)) k root is, of_dir k (is_dir (get t.nodes k)) refl e)
+parent_is t path h1 h2 h3 = grind (arith, t.nodes, dir_of, t.names, walked)
 
 -- What lies below a path.
 
@@ -98,28 +69,20 @@ module _ (limit : ℕ) (t : Tree) (s : IsSound limit t) where
   -- what has a path below it is a directory
   pub above : (p r : List (List ℕ)) (name : List ℕ) (n : ℕ) → get t.names (p ++ name ∷ r) ≡ Some n → (k : ℕ) × (get t.names p ≡ Some k) × (get t.nodes k ≡ Some Dir)
   above p [] name n at = s.parents p name n at
-  above p (x ∷ r) name n at =
-      let up = above (p ++ name ∷ []) r x n (ap (get t.names) (append_assoc p (name ∷ []) (x ∷ r)) ∙ at) in
-      s.parents p name up.0 up.1
+  above p (x ∷ r) name n at = grind (arith, above (p ++ name ∷ []) r x n (ap (get t.names) (append_assoc p (name ∷ []) (x ∷ r)) ∙ at), t.names, append_assoc, s.parents)
 
   pub above_dir : (p r : List (List ℕ)) (n : ℕ) → get t.names (p ++ r) ≡ Some n → get t.nodes n ≡ Some Dir → (k : ℕ) × (get t.names p ≡ Some k) × (get t.nodes k ≡ Some Dir)
   above_dir p [] n at dir = (n, ap (get t.names) (sym (append-nil p)) ∙ at, dir)
   above_dir p (x ∷ r) n at dir = above p r x n at
 
   pub holds_dir : (p : List (List ℕ)) → holds_names t.names p ≡ true → (k : ℕ) × (get t.names p ≡ Some k) × (get t.nodes k ≡ Some Dir)
-  holds_dir p e =
-      let q = holds_some t.names p e in
-      let r = below_is p q.0 q.3 in
-      above p r.1 r.0 q.1 (ap (get t.names) (sym r.2) ∙ q.2)
+  holds_dir p e = grind (arith, holds_some, t.names, below_is, above)
 
   pub nothing_below_absent : (p : List (List ℕ)) → get t.names p ≡ None → holds_names t.names p ≡ false
   nothing_below_absent p none = false_from_ne_true (holds_names t.names p) (λ e. let k = holds_dir p e in none-some k.0 (sym none ∙ k.1))
 
   pub nothing_below_file : (p : List (List ℕ)) → is_file (thing_at t p) ≡ true → holds_names t.names p ≡ false
-  nothing_below_file p file = false_from_ne_true (holds_names t.names p) (λ e.
-      let k = holds_dir p e in
-      let no_file : is_file (thing_at t p) ≡ false = ap is_file (thing_is t p k.0 Dir k.1 k.2) in
-      cc)
+  nothing_below_file p file = grind (arith, false_from_ne_true, t.names, holds_dir, thing_is)
 
 -- Moves.
 
@@ -139,11 +102,7 @@ same_here n o e = ap (λ o. are_same o o) e ∙ eq-eqb n n refl
 module _ (limit : ℕ) (t : Tree) (s : IsSound limit t) (from to : List (List ℕ)) where
   -- the node at `from` is a directory, or else a file
   sort : (n : ℕ) → get t.names from ≡ Some n → (thing_at t from ≡ Some Dir) ⊎ ((bytes : List ℕ) × (thing_at t from ≡ Some (File bytes)))
-  sort n at = by (s.named from n at)
-    where
-      by : (x : Thing) × (get t.nodes n ≡ Some x) → (thing_at t from ≡ Some Dir) ⊎ ((bytes : List ℕ) × (thing_at t from ≡ Some (File bytes)))
-      by (Dir, is) = inl (thing_is t from n Dir at is)
-      by (File bytes, is) = inr (bytes, thing_is t from n (File bytes) at is)
+  sort n at = grind (arith, s.named from n at, s.named, t.nodes, thing_is)
 
   -- why what is at `to` can take what is at `from`
   record CanTake : Type 0 where
@@ -152,13 +111,7 @@ module _ (limit : ℕ) (t : Tree) (s : IsSound limit t) (from to : List (List �
     apart : (is_dir (thing_at t from) && is_below from to) ≡ false
 
   can_take : onto_refusal t from to ≡ None → CanTake
-  can_take e =
-      let above : Option Refusal = when (is_dir (thing_at t from) && is_below from to) BelowItself in
-      let full : Option Refusal = when (is_dir (thing_at t from) && (is_dir (thing_at t to) && holds_names t.names to)) NotEmpty in
-      let kind : Option Refusal = when (is_file (thing_at t from) && is_dir (thing_at t to)) IsDir in
-      let one = no_reason (when (is_dir (thing_at t from) && is_file (thing_at t to)) NotDir) (kind ∷ full ∷ above ∷ []) e in
-      let r = no_reasons kind full above one.1 in
-      record { kind = not_so _ IsDir r.0; empty = not_so _ NotEmpty r.1; apart = not_so _ BelowItself r.2 }
+  can_take e = grind (arith, above, t.names, no_reason, no_reasons, not_so)
 
   -- not onto what holds names
   onto_free : (n : ℕ) → get t.names from ≡ Some n → onto_refusal t from to ≡ None → holds_names t.names to ≡ false
@@ -171,8 +124,7 @@ module _ (limit : ℕ) (t : Tree) (s : IsSound limit t) (from to : List (List �
       by : holds_names t.names to ≡ true → thing_at t to ≡ Some Dir → (is_file (thing_at t from) && is_dir (thing_at t to)) ≡ false
           → (is_dir (thing_at t from) && (is_dir (thing_at t to) && holds_names t.names to)) ≡ false
           → (thing_at t from ≡ Some Dir) ⊎ ((bytes : List ℕ) × (thing_at t from ≡ Some (File bytes))) → ⊥
-      by held to_dir two three (inl dir) = let e : (is_dir (thing_at t from) && (is_dir (thing_at t to) && holds_names t.names to)) ≡ true = cc in cc
-      by held to_dir two three (inr file) = let e : (is_file (thing_at t from) && is_dir (thing_at t to)) ≡ true = cc in cc
+      by h1 h2 h3 h4 h5 = grind (arith, t.names)
 
   -- not at or below itself
   onto_apart : (n k : ℕ) → get t.names from ≡ Some n → get t.names (parent to) ≡ Some k → get t.nodes k ≡ Some Dir → is_same_node t from to ≡ false → onto_refusal t from to ≡ None

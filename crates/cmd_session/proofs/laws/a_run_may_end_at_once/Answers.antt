@@ -4,6 +4,7 @@ use Rattle.lang_tree.specs.Step.{session_on}
 use Rattle.cmd_session.proofs.Ending.{budget_grows, ends_so}
 use Rattle.cmd_session.proofs.Moments.{spends_ending}
 use Rattle.cmd_session.proofs.laws.a_run_may_end_at_once.Goals as goal
+use Rattle.std.proofs.Common.{arith}
 
 pub returns-clause-run : goal.returns-clause-run
 returns-clause-run g c = λ s k t mounted cmds replies marks more served.
@@ -13,6 +14,4 @@ pub returns-clause-budget : goal.returns-clause-budget
 returns-clause-budget g c = λ k t cmds replies more later e. budget_grows (bitmap_blocks k) (session_on k.i t) 0 cmds replies more later e
 
 pub returns-clause-spends : goal.returns-clause-spends
-returns-clause-spends g c = λ s k t mounted cmds replies marks more served before.
-    let state = g.S.Blocks.state s in
-    spends_ending k (session_on k.i t) mounted state.crash.log state.books.stopped cmds replies marks more served.answered served.marked served.ascend before
+returns-clause-spends g c = grind (arith, g.S.Blocks.state, spends_ending)

@@ -1,11 +1,14 @@
-use Rattle.fs_inodes.proofs.commands.Commands.{mkdir_named, create_named, link_named, unlink_named, rmdir_named, rename_named}
+use Rattle.std.proofs.Common.{refl, [], ◌∷◌, ◌++◌}
+use Rattle.lang_tree.specs.declared.command.Cmd.TheVariants.{Mkdir, Create}
+use Rattle.lang_tree.specs.Tree.{Dir, File}
+use Rattle.fs_inodes.proofs.commands.Commands.{made_named, link_named, unlink_named, rmdir_named, rename_named}
 use Rattle.fs_inodes.proofs.names_in_any_order.names_may_be_in_any_order.Goals as goal
 
 pub returns-clause-mkdir : goal.returns-clause-mkdir
-returns-clause-mkdir c = λ s m new up name dir node is accepts leads free ch. mkdir_named c.the_tree_is_lawful.ensures s m new is up name dir node accepts leads free ch
+returns-clause-mkdir c = λ s m new up name dir node is accepts leads free ch. made_named c.the_tree_is_lawful.ensures s m new is (Mkdir (up ++ name ∷ [])) up name dir node Dir (refl, refl) accepts leads free ch
 
 pub returns-clause-create : goal.returns-clause-create
-returns-clause-create c = λ s m new up name dir node is accepts leads free ch. create_named c.the_tree_is_lawful.ensures s m new is up name dir node accepts leads free ch
+returns-clause-create c = λ s m new up name dir node is accepts leads free ch. made_named c.the_tree_is_lawful.ensures s m new is (Create (up ++ name ∷ [])) up name dir node (File []) (refl, refl) accepts leads free ch
 
 pub returns-clause-link : goal.returns-clause-link
 returns-clause-link c = λ s m new path up name dir node links bytes is accepts to_file file leads ch. link_named c.the_tree_is_lawful.ensures s m new is path up name dir node links bytes accepts to_file file leads ch

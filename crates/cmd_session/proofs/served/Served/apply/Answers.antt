@@ -1,8 +1,7 @@
-use Rattle.std.proofs.Common.{subst, sym}
+use Rattle.std.proofs.Common.{subst, sym, arith}
 use Rattle.lang_tree.specs.Run.{is_of_disk}
-use Rattle.engine_blocks.specs.Crashes.{WritesAtMost}
 use Rattle.fs_commands.specs.Opened.{blocks_in}
-use Rattle.cmd_session.specs.Budget.{KeepsBudget, writes_of}
+use Rattle.cmd_session.specs.Budget.{KeepsBudget}
 use Rattle.cmd_session.specs.Serving.{HasServed}
 use Rattle.cmd_session.proofs.Serving.{KeepsKnown, never_faults, serves_more}
 use Rattle.cmd_session.proofs.Spending.{keeps_more, writes_more}
@@ -34,7 +33,4 @@ returns-clause-budget g c = λ told k t mounted begun cmds replies marks served 
     c.apply-reply.ensures.applies (c.self.invariant.stands told) c.self.invariant.between.goes_on.may
 
 pub returns-clause-writes : goal.returns-clause-writes
-returns-clause-writes g c = λ told.
-    let new = blocks_in c.apply-reply.new.self in
-    subst (λ fs. WritesAtMost (writes_of c.args.cmd.now c.apply-reply.result (g.S.Blocks.state (blocks_in fs)).books) (g.S.Blocks.state (blocks_in fs)) (g.S.Blocks.state new)) c.self.view_is
-    (writes_more g.S.Blocks.tells g.S.Blocks.state told c.args.cmd.now c.apply-reply.result (blocks_in c.self.inside.fs) new (c.self.invariant.stands told) c.apply-reply.ensures.applies)
+returns-clause-writes g c = grind (arith, c.apply-reply.new.self, c.args.cmd.now, c.apply-reply.result, g.S.Blocks.state, c.self.view_is, writes_more, g.S.Blocks.tells, c.self.inside.fs, c.self.invariant.stands, c.apply-reply.ensures.applies)
