@@ -115,16 +115,10 @@ places_front (x ∷ xs) ys = omega (arith, places_front xs ys)
 
 -- the number and the place of the one behind a front
 pub consecutive_at : (j n p : ℕ) (ws : List WrittenRecord) (r : Record) (rest : List Record) → AreConsecutive j n p (all_say ws ++ r ∷ rest) → (r.number ≡ n + length ws) × (r.place ≡ place_after j p (all_say ws))
-consecutive_at j n p [] r rest h = (h.0 ∙ z n, h.1)
-  where
-    z : (k : ℕ) → k ≡ k + 0
-    z k = omega arith
+consecutive_at j n p [] r rest h = (h.0 ∙ omega arith, h.1)
 consecutive_at j n p (w ∷ ws) r rest h =
     let later = consecutive_at j (n + 1) ((p + places w.says) % j) ws r rest h.2 in
-    (later.0 ∙ one n (length ws), later.1)
-  where
-    one : (n k : ℕ) → (n + 1) + k ≡ n + suc k
-    one n k = omega arith
+    (later.0 ∙ omega arith, later.1)
 
 -- each of them says one record
 pub say_length : (ws : List WrittenRecord) → length (all_say ws) ≡ length ws

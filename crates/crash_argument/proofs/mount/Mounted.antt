@@ -40,12 +40,6 @@ mounted_safe laws base log g slot h mounted = record {
   window = subst (λ (t : ℕ). StandsBetween (session_at_mount g h log) base log (length log) t (next_number l - h.start)) (same h.start) (between_start laws (session_at_mount g h log) base log l keeps points);
 }
   where
-    none_past : (n start : ℕ) → start ≤ n → n ≤ start + 0 → n - start ≡ 0
-    none_past n start low high = omega (arith, low, high)
-
-    no_more : (n p : ℕ) → 0 < p → p ≤ n - n → ⊥
-    no_more n p some le = omega arith
-
     same : (n : ℕ) → n - n ≡ 0
     same n = omega arith
 
@@ -67,8 +61,8 @@ mounted_safe laws base log g slot h mounted = record {
       late = omega arith;
       count = omega (arith, no_points g h log);
       told = λ n from. ap (λ es. filter (is_from n) (commits_told g h.epoch es)) (drop_all (length log) log (omega arith)) ∙ sym (none_left (n - h.start));
-      each = λ n low high. subst (λ (p : ℕ). IsPoint (session_at_mount g h log) base log p (live_part g (l.map_before n))) (sym (none_past n h.start low high)) (first_point base log g h (live_part g (l.map_before n)) (issued_holds laws base log l keeps));
-      noticed = λ p some le. absurd (no_more h.start p some le);
+      each = λ n low high. subst (λ (p : ℕ). IsPoint (session_at_mount g h log) base log p (live_part g (l.map_before n))) (sym (omega arith)) (first_point base log g h (live_part g (l.map_before n)) (issued_holds laws base log l keeps));
+      noticed = λ p some le. absurd (omega arith);
     }
 
 -- what has been issued to a safe disk holds the newest map
@@ -78,8 +72,5 @@ safe_holds laws s base log l t floor safe = issued_holds laws base log l safe.ke
 -- the last point counts the commit blocks of the session
 pub safe_last : (s : MountedSession) (base : Blocks) (log : List Event) (l : Ledger) (t floor : ℕ) → IsSafe s base log l t floor → IsPoint s base log (points_in s log) (live_part l.geom (l.map_before (next_number l)))
 safe_last s base log l t floor safe =
-    subst (λ (p : ℕ). IsPoint s base log p (live_part l.geom (l.map_before (next_number l)))) (counted s.first (points_in s log) (next_number l) safe.points.count)
+    subst (λ (p : ℕ). IsPoint s base log p (live_part l.geom (l.map_before (next_number l)))) (omega (arith, safe.points.count, safe.points.count))
     (safe.points.each (next_number l) safe.keeps.known (omega arith))
-  where
-    counted : (first made next : ℕ) → first + made ≡ next → next - first ≡ made
-    counted first made next e = omega (arith, e)

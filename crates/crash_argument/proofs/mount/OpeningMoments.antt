@@ -141,10 +141,7 @@ module _ (laws : JournalLaws) (reads : (h : Header) → IsHeader h → header_of
     same b apart within = (idle_is laws) n base later img honest b within (o.rest b apart).idle ∙ (o.rest b apart).settled
 
     high : (b : ℕ) → 2 ≤ b → b < n → img b ≡ at b
-    high b from within = same b (λ e. apart e) within
-      where
-        apart : 1 - slot ≡ b → ⊥
-        apart e = omega arith
+    high b from within = same b (λ e. omega arith) within
 
     ring : (p : ℕ) → img (ring_block newest.geom p) ≡ at (ring_block newest.geom p)
     ring p = high (ring_block newest.geom p) (omega arith) (ring_within newest.geom p lies.ring lies.shape)
@@ -152,11 +149,8 @@ module _ (laws : JournalLaws) (reads : (h : Header) → IsHeader h → header_of
     here : header_of n (img slot) ≡ Some newest
     here = ap (header_of n) (same slot apart (slot_within newest.geom slot lies.shape ready.is_newest.is_slot)) ∙ ready.is_newest.stands
       where
-        differ : (s : ℕ) → s < 2 → 1 - s ≢ s
-        differ s lt e = omega arith
-
         apart : 1 - slot ≢ slot
-        apart = differ slot ready.is_newest.is_slot
+        apart = λ e. omega (arith, ready.is_newest.is_slot)
 
     is_same : Newest n img slot newest → Holds img
     is_same is = record {
@@ -190,14 +184,11 @@ module _ (laws : JournalLaws) (reads : (h : Header) → IsHeader h → header_of
     now : Holds img
     now = ⊎_elim (λ none. is_same (record { is_slot = ready.is_newest.is_slot; stands = here; other = λ k is. cc })) some (inspect (header_of n (img (1 - slot))))
       where
-        back : 1 - (1 - slot) ≡ slot
-        back = omega (arith, ready.is_newest.is_slot)
-
         some : (k : Header) × (header_of n (img (1 - slot)) ≡ Some k) → Holds img
         some p =
             let stands = ⊎_elim (λ s. s) (λ q. absurd (q.1 (laws.header_sealed n _ p.0 p.1))) (honest_stands n base later img honest (1 - slot) (slot_within newest.geom (1 - slot) lies.shape (omega arith))) in
             ⊎_elim (λ old. is_same (record { is_slot = ready.is_newest.is_slot; stands = here; other = λ k is. ready.is_newest.other k (sym (ap (header_of n) old) ∙ is) }))
-            (λ new. is_new (record { is_slot = omega arith; stands = ap (header_of n) new ∙ own; other = λ k is. inl (subst (λ (f : Header). f.turn < newest.turn + 1) (same_Some _ _ (sym here ∙ ap (λ s. header_of n (img s)) (sym back) ∙ is)) (omega arith)) }))
+            (λ new. is_new (record { is_slot = omega arith; stands = ap (header_of n) new ∙ own; other = λ k is. inl (subst (λ (f : Header). f.turn < newest.turn + 1) (same_Some _ _ (sym here ∙ ap (λ s. header_of n (img s)) (sym (omega (arith, ready.is_newest.is_slot))) ∙ is)) (omega arith)) }))
             (o.beside _ stands)
 
   -- so each moment holds it after the write and the wait
@@ -214,10 +205,6 @@ module _ (laws : JournalLaws) (reads : (h : Header) → IsHeader h → header_of
     abbrev HoldsFound : Blocks → Type 0
     HoldsFound img = HoldsUnder n h.geom img (found_map was h run)
 
-    -- the slots are two
-    apart_from : (s : ℕ) → s < 2 → 1 - s ≢ s
-    apart_from s lt e = omega arith
-
     -- at each moment the journal is being opened
     opening_now : (later : List Event) → IsBeingOpened (cell_of base later) at slot block → IsOpening n (cell_of base later) was slot h newest (opening_header newest last epoch) run
     opening_now later o = record {
@@ -228,8 +215,8 @@ module _ (laws : JournalLaws) (reads : (h : Header) → IsHeader h → header_of
       };
       headers = record {
         is_slot = ready.is_newest.is_slot;
-        stands = ap (header_of n) (o.rest slot (apart_from slot ready.is_newest.is_slot)).settled ∙ ready.is_newest.stands;
-        alone = (o.rest slot (apart_from slot ready.is_newest.is_slot)).idle;
+        stands = ap (header_of n) (o.rest slot (λ e. omega (arith, ready.is_newest.is_slot))).settled ∙ ready.is_newest.stands;
+        alone = (o.rest slot (λ e. omega (arith, ready.is_newest.is_slot))).idle;
         other = λ x k st is. ⊎_elim (λ old. inl (ready.is_newest.other k (sym (ap (header_of n) old) ∙ is))) (λ new. inr (same_Some _ _ (sym is ∙ ap (header_of n) new ∙ own))) (o.beside x st);
         newer = omega arith;
       };
@@ -240,11 +227,8 @@ module _ (laws : JournalLaws) (reads : (h : Header) → IsHeader h → header_of
         above : (a : ℕ) → a ≤ epoch → a < epoch + 1
         above a le = omega arith
 
-        not_beside : (b : ℕ) → 2 ≤ b → 1 - slot ≢ b
-        not_beside b high e = omega arith
-
         kept : (b : ℕ) → 2 ≤ b → (x : List ℕ) → at b ≡ x → ((cell_of base later b).settled ≡ x) × ((cell_of base later b).pending ≡ [])
-        kept b high x is = let k = o.rest b (not_beside b high) in (k.settled ∙ is, k.idle)
+        kept b high x is = let k = o.rest b (λ e. omega arith) in (k.settled ∙ is, k.idle)
 
     -- so each honest image holds it
     now_found : (later : List Event) (img : Blocks) → IsBeingOpened (cell_of base later) at slot block → IsHonest n base later img → HoldsFound img
@@ -272,35 +256,24 @@ module _ (laws : JournalLaws) (reads : (h : Header) → IsHeader h → header_of
 
   -- and closes the run
   pub it_closes : Closes h (closed_header h last) run
-  it_closes = record { geom = refl; epoch = refl; start = refl; place = refl; is_closed = refl; sure = ends h.start (length run) last (laws.header_bounds h.geom.n _ h found.newest.stands).first is_last }
-    where
-      ends : (a b l : ℕ) → 0 < a → l ≡ a + b - 1 → l + 1 ≡ a + b
-      ends a b l some e = omega (arith, e)
+  it_closes = record { geom = refl; epoch = refl; start = refl; place = refl; is_closed = refl; sure = (omega (arith, (laws.header_bounds h.geom.n _ h found.newest.stands).first)) }
 
   -- an image holds what was found
   abbrev HoldsIt : Blocks → Type 0
   HoldsIt img = HoldsUnder h.geom.n h.geom img (found_map (settled (cell_of base log)) h run)
-
-  -- the slots are two
-  not_this : (s : ℕ) → s < 2 → 1 - s ≢ s
-  not_this s lt e = omega arith
-
-  -- and no block behind them is one
-  not_slot : (b : ℕ) → 2 ≤ b → 1 - slot ≢ b
-  not_slot b high e = omega arith
 
   -- at each moment the run is being closed
   closing_now : (later : List Event) → IsBeingOpened (cell_of base later) (settled (cell_of base log)) slot its_block → IsClosing h.geom.n (cell_of base later) (settled (cell_of base log)) slot h (closed_header h last) run
   closing_now later o = record {
     headers = record {
       is_slot = found.newest.is_slot;
-      stands = ap (header_of h.geom.n) (o.rest slot (not_this slot found.newest.is_slot)).settled ∙ found.newest.stands;
-      alone = (o.rest slot (not_this slot found.newest.is_slot)).idle;
+      stands = ap (header_of h.geom.n) (o.rest slot (λ e. omega (arith, found.newest.is_slot))).settled ∙ found.newest.stands;
+      alone = (o.rest slot (λ e. omega (arith, found.newest.is_slot))).idle;
       other = λ x k st is. ⊎_elim (λ old. inl (found.newest.other k (sym (ap (header_of h.geom.n) old) ∙ is))) (λ new. inr (same_Some _ _ (sym is ∙ ap (header_of h.geom.n) new ∙ reads_back))) (o.beside x st);
       newer = omega arith;
     };
     closes = it_closes;
-    rest = λ b high. o.rest b (not_slot b high);
+    rest = λ b high. o.rest b (λ e. omega arith);
   }
 
   -- so each honest image holds it
@@ -333,14 +306,11 @@ module _ (laws : JournalLaws) (reads : (h : Header) → IsHeader h → header_of
       back : 1 - (1 - slot) ≡ slot
       back = omega (arith, found.newest.is_slot)
 
-      apart : 1 - slot ≢ 1 - (1 - slot)
-      apart e = not_this slot found.newest.is_slot (e ∙ back)
-
       there : IsLeft (cell_of base log (1 - (1 - slot))) (cell_of base new (1 - (1 - slot)))
-      there = other_left base log new (1 - slot) (1 - (1 - slot)) its_block w apart (idle (1 - (1 - slot)))
+      there = other_left base log new (1 - slot) (1 - (1 - slot)) its_block w (λ e. omega (arith, found.newest.is_slot)) (idle (1 - (1 - slot)))
 
       as_it_was : (b : ℕ) → 2 ≤ b → IsAsFound (cell_of base new) (settled (cell_of base log)) b
-      as_it_was b high = let k = other_left base log new (1 - slot) b its_block w (not_slot b high) (idle b) in record { settled = k.settled; idle = k.idle }
+      as_it_was b high = let k = other_left base log new (1 - slot) b its_block w (λ e. omega arith) (idle b) in record { settled = k.settled; idle = k.idle }
 
   -- block by block from the first behind the journal on
   pub closed_upto : (new : List Event) (w : AddsWaited (1 - slot) its_block log new) → IsNoticed w.ticket new → IsReplayedUpTo h.geom.n (cell_of base new) (settled (cell_of base log)) (1 - slot) h (closed_header h last) run (bitmap_start h.geom)

@@ -119,10 +119,7 @@ module _ (laws : JournalLaws) (reads : (h : Header) → IsHeader h → header_of
 
   -- the ring is as it was
   ring : (p : ℕ) → (cell_of base new (ring_block shape p)).settled ≡ (cell_of base log (ring_block shape p)).settled
-  ring p = (other (ring_block shape p) (apart (ring_block shape p) (omega arith))).settled
-    where
-      apart : (b : ℕ) → 2 ≤ b → 1 - slot ≢ b
-      apart b high e = omega arith
+  ring p = (other (ring_block shape p) (λ e. omega arith)).settled
 
   -- nothing is pending on any block
   idle : (b : ℕ) → (cell_of base new b).pending ≡ []
@@ -148,14 +145,8 @@ module _ (laws : JournalLaws) (reads : (h : Header) → IsHeader h → header_of
       below : (n : ℕ) → n ≤ epoch → n < epoch + 1
       below n le = omega arith
 
-      two : (s : ℕ) → s < 2 → 1 - (1 - s) ≡ s
-      two s lt = omega arith
-
-      differ : (s : ℕ) → s < 2 → 1 - s ≢ s
-      differ s lt e = omega arith
-
       before : (cell_of base new (1 - (1 - slot))).settled ≡ (cell_of base log slot).settled
-      before = ap (λ b. (cell_of base new b).settled) (two slot ready.is_newest.is_slot) ∙ (other slot (differ slot ready.is_newest.is_slot)).settled
+      before = ap (λ b. (cell_of base new b).settled) (omega (arith, ready.is_newest.is_slot)) ∙ (other slot (λ e. omega (arith, ready.is_newest.is_slot))).settled
 
 -- a write that was accepted, and a wait behind it
 pub then_waited : (block ticket : ℕ) (x y : List ℕ) (old middle new : List Event) → y ≡ x → AddsWrite {E = DiskFault} block y (Ok ticket) old middle → AddsNotices middle new → AddsWaited block x old new

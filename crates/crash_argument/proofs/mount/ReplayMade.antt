@@ -72,14 +72,7 @@ module _ (laws : JournalLaws) (reads : (h : Header) → IsHeader h → header_of
 
   -- which closes the run
   closes : Closes h closed run
-  closes = record { geom = refl; epoch = refl; start = refl; place = refl; is_closed = refl; sure = last h.start (length run) within.first }
-    where
-      last : (a b : ℕ) → 0 < a → a + b - 1 + 1 ≡ a + b
-      last a b some = omega arith
-
-  -- turns grow
-  grows : (a : ℕ) → a < a + 1
-  grows a = omega arith
+  closes = record { geom = refl; epoch = refl; start = refl; place = refl; is_closed = refl; sure = (omega (arith, within.first)) }
 
   -- First it is written.
   pub closing_met : IsClosing n (cell_of at (closing_events ticket slot h run)) at slot h (closing_header h run) run
@@ -92,7 +85,7 @@ module _ (laws : JournalLaws) (reads : (h : Header) → IsHeader h → header_of
           (λ e. inl (found.newest.other k (sym (ap (header_of n) e) ∙ reads_as)))
           (λ e. inr (same_Some _ _ (sym reads_as ∙ ap (header_of n) e ∙ block_reads)))
           (stands_pending _ (at (1 - slot)) x block ticket (own_write ticket (1 - slot) (at (1 - slot)) block) stands);
-      newer = grows h.turn;
+      newer = omega arith;
     };
     closes = closes;
     rest = λ b high. as_found (cell_of at (closing_events ticket slot h run)) at b (other_write ticket (1 - slot) b (at b) block (slot_apart slot b high));
@@ -116,10 +109,6 @@ module _ (laws : JournalLaws) (reads : (h : Header) → IsHeader h → header_of
   -- and none is of a block that the run doesn't cover
   avoids_uncovered : (b : ℕ) → left b ≡ None → AvoidsBlock b homes
   avoids_uncovered b none = uncovered_home left (ticket + 1) (bitmap_start h.geom) (h.geom.n - bitmap_start h.geom) b none
-
-  -- the slots lie before the bitmap
-  slot_low : (s j : ℕ) → s < 2 → s < j + 2
-  slot_low s j lt = omega arith
 
   -- and so does the ring
   ring_low : (place : ℕ) → ring_block h.geom place < bitmap_start h.geom
@@ -150,10 +139,10 @@ module _ (laws : JournalLaws) (reads : (h : Header) → IsHeader h → header_of
       there =
           ap (moment k) (back slot found.newest.is_slot)
           ∙ other_home ticket (1 - slot) slot (at slot) block (take k homes) (beside slot found.newest.is_slot)
-          ∙ left_alone slot (at slot) (take k homes) (avoids_take slot k homes (avoids_low slot (slot_low slot h.geom.j found.newest.is_slot)))
+          ∙ left_alone slot (at slot) (take k homes) (avoids_take slot k homes (avoids_low slot (omega (arith, found.newest.is_slot))))
 
       older_than : (k : Header) → h ≡ k → k.turn < h.turn + 1
-      older_than k same = subst (λ (f : Header). f.turn < h.turn + 1) same (grows h.turn)
+      older_than k same = subst (λ (f : Header). f.turn < h.turn + 1) same (omega arith)
 
       rest : (b : ℕ) → 2 ≤ b → AvoidsBlock b homes → IsAsFound (moment k) at b
       rest b high avoids = as_found (moment k) at b
@@ -187,7 +176,7 @@ module _ (laws : JournalLaws) (reads : (h : Header) → IsHeader h → header_of
     there =
         other_home ticket (1 - slot) slot (at slot) block (homes ++ last) (beside slot found.newest.is_slot)
         ∙ after_all-append slot (idle (at slot)) homes last
-        ∙ ap (λ (c : Cell). after_all slot c last) (left_alone slot (at slot) homes (avoids_low slot (slot_low slot h.geom.j found.newest.is_slot)))
+        ∙ ap (λ (c : Cell). after_all slot c last) (left_alone slot (at slot) homes (avoids_low slot (omega (arith, found.newest.is_slot))))
         ∙ own_write later slot (at slot) (header_block fresh)
 
     -- behind the slots the writes to places alone count
@@ -230,14 +219,14 @@ module _ (laws : JournalLaws) (reads : (h : Header) → IsHeader h → header_of
             (λ e. inl (inl (older_than k (same_Some _ _ (sym found.newest.stands ∙ sym (ap (header_of n) e) ∙ reads_as)))))
             (λ e. inr (same_Some _ _ (sym reads_as ∙ ap (header_of n) e ∙ subst (λ (m : ℕ). header_of m (header_block fresh) ≡ Some fresh) within.blocks (reads fresh is_fresh))))
             (stands_pending _ (at slot) x (header_block fresh) later (ap cells (back slot found.newest.is_slot) ∙ there) stands);
-        newer = grows (h.turn + 1);
+        newer = omega arith;
       };
       geom = refl;
       new_epoch = λ place c reads_as. below c.epoch (epochs place c reads_as);
     }
       where
         older_than : (k : Header) → h ≡ k → k.turn < h.turn + 1
-        older_than k same = subst (λ (f : Header). f.turn < h.turn + 1) same (grows h.turn)
+        older_than k same = subst (λ (f : Header). f.turn < h.turn + 1) same (omega arith)
 
         below : (a : ℕ) → a ≤ greatest_epoch → a < greatest_epoch + 1
         below a le = omega arith
@@ -265,10 +254,6 @@ module _ (laws : JournalLaws) (reads : (h : Header) → IsHeader h → header_of
   uncovered_alone : (b : ℕ) → leaves b ≡ None → AvoidsBlock b to_places
   uncovered_alone b none = uncovered_home leaves ticket (bitmap_start h.geom) (h.geom.n - bitmap_start h.geom) b none
 
-  -- a slot lies before the bitmap
-  slot_before : (s j : ℕ) → s < 2 → s < j + 2
-  slot_before s j lt = omega arith
-
   -- and so does the ring
   ring_before : (place : ℕ) → ring_block h.geom place < bitmap_start h.geom
   ring_before place = in_ring h.geom place (laws.geometry_sizes h.geom lies.geom).0
@@ -278,8 +263,8 @@ module _ (laws : JournalLaws) (reads : (h : Header) → IsHeader h → header_of
   replaying_closed k = record {
     closes = closed;
     is_slot = found.newest.is_slot;
-    stands = ap (λ (c : Cell). header_of n c.settled) (kept slot (low_alone slot (slot_before slot h.geom.j found.newest.is_slot))) ∙ found.newest.stands;
-    alone = ap (λ (c : Cell). c.pending) (kept slot (low_alone slot (slot_before slot h.geom.j found.newest.is_slot)));
+    stands = ap (λ (c : Cell). header_of n c.settled) (kept slot (low_alone slot (omega (arith, found.newest.is_slot)))) ∙ found.newest.stands;
+    alone = ap (λ (c : Cell). c.pending) (kept slot (low_alone slot (omega (arith, found.newest.is_slot))));
     other = λ x q stands reads_as. found.newest.other q (sym (ap (header_of n) (stands_idle _ (at (1 - slot)) x (kept (1 - slot) (low_alone (1 - slot) (omega arith))) stands)) ∙ reads_as);
     ring = λ place. as_found (cell_of at (take k to_places)) at (ring_block h.geom place) (kept (ring_block h.geom place) (low_alone (ring_block h.geom place) (ring_before place)));
     uncovered = λ b low none. as_found (cell_of at (take k to_places)) at b (kept b (uncovered_alone b none));
@@ -312,7 +297,7 @@ module _ (laws : JournalLaws) (reads : (h : Header) → IsHeader h → header_of
 
     -- the newest header is alone in its slot
     still : at_end slot ≡ idle (at slot)
-    still = beside_it slot (at slot) (beside slot found.newest.is_slot) (left_alone slot (at slot) to_places (low_alone slot (slot_before slot h.geom.j found.newest.is_slot)))
+    still = beside_it slot (at slot) (beside slot found.newest.is_slot) (left_alone slot (at slot) to_places (low_alone slot (omega (arith, found.newest.is_slot))))
 
     -- and the new one is pending in the other
     its_own : at_end (1 - slot) ≡ pending (at (1 - slot)) later (header_block anew)

@@ -63,14 +63,8 @@ module _ (laws : JournalLaws) (one two : Blocks) (h : Header) (ring : (p : ℕ) 
 
 -- the number behind consecutive records
 number_behind : (j n p : ℕ) (rs : List Record) (r : Record) → AreConsecutive j n p (rs ++ r ∷ []) → r.number ≡ n + length rs
-number_behind j n p [] r c = c.0 ∙ z n
-  where
-    z : (n : ℕ) → n ≡ n + 0
-    z n = omega arith
-number_behind j n p (q ∷ rs) r c = number_behind j (n + 1) ((p + places q) % j) rs r c.2 ∙ s n (length rs)
-  where
-    s : (n k : ℕ) → n + 1 + k ≡ n + suc k
-    s n k = omega arith
+number_behind j n p [] r c = c.0 ∙ omega arith
+number_behind j n p (q ∷ rs) r c = number_behind j (n + 1) ((p + places q) % j) rs r c.2 ∙ omega arith
 
 -- the same header over an image that agrees outside the slots
 pub run_stays : JournalLaws → (at img : Blocks) (h : Header) (run : List Record) → ((p : ℕ) → ring_block h.geom p < h.geom.n) → ((b : ℕ) → 2 ≤ b → b < h.geom.n → img b ≡ at b) → IsRun at h run → IsRun img h run
@@ -155,14 +149,11 @@ module _ (laws : JournalLaws) (n : ℕ) (base : Blocks) (log : List Event) (img 
       none : header_of n (img (1 - slot)) ≡ None → Newest n img slot h ⊎ Newest n img (1 - slot) next
       none e = inl (record { is_slot = a.is_slot; stands = here; other = λ k is. cc })
 
-      back : 1 - (1 - slot) ≡ slot
-      back = omega (arith, a.is_slot)
-
       some : (k : Header) × (header_of n (img (1 - slot)) ≡ Some k) → Newest n img slot h ⊎ Newest n img (1 - slot) next
       some p =
           let stands = ⊎_elim (λ s. s) (λ q. absurd (q.1 (laws.header_sealed n _ p.0 p.1))) (honest_stands n base log img honest (1 - slot) (low (1 - slot) (omega arith))) in
           ⊎_elim (λ old. inl (record { is_slot = a.is_slot; stands = here; other = λ k is. subst (λ (f : Header). IsOlder slot h f) (same_Some _ _ (sym p.1 ∙ is)) old }))
-          (λ new. inr (record { is_slot = omega arith; stands = p.1 ∙ ap (λ (f : Header). Some f) new; other = λ k is. inl (subst (λ (f : Header). f.turn < next.turn) (same_Some _ _ (sym here ∙ ap (λ s. header_of n (img s)) (sym back) ∙ is)) a.newer) }))
+          (λ new. inr (record { is_slot = omega arith; stands = p.1 ∙ ap (λ (f : Header). Some f) new; other = λ k is. inl (subst (λ (f : Header). f.turn < next.turn) (same_Some _ _ (sym here ∙ ap (λ s. header_of n (img s)) (sym (omega (arith, a.is_slot))) ∙ is)) a.newer) }))
           (a.other _ p.0 stands p.1)
 
   -- where the journal lies

@@ -35,14 +35,6 @@ module _ (laws : JournalLaws) (n : ℕ) (base at : Blocks) (slot old_slot : ℕ)
   lies : IsGeometryOf n h.geom
   lies = header_geometry laws n _ h found.newest.stands
 
-  -- no slot is the block
-  not_slot : (s j : ℕ) → s < 2 → j + 2 ≤ block → s ≢ block
-  not_slot s j lt le e = omega arith
-
-  -- nor is a ring place
-  not_ring : (p : ℕ) → ring_block h.geom p ≢ block
-  not_ring p e = omega (arith, e, in_ring h.geom p lies.ring, low)
-
   -- nor one that the run doesn't cover
   not_uncovered : (b : ℕ) → covered_by h.geom at None run b ≡ None → b ≢ block
   not_uncovered b none e = none-some y (sym none ∙ ap (covered_by h.geom at None run) e ∙ covered)
@@ -50,15 +42,15 @@ module _ (laws : JournalLaws) (n : ℕ) (base at : Blocks) (slot old_slot : ℕ)
   -- a write of the block, accepted or lost, leaves the rest
   with_write : (log new : List Event) → Adds base log new block x → Being log → Being new
   with_write log new a r =
-      let here = a.other slot (not_slot slot h.geom.j r.is_slot low) in
-      let beside = a.other (1 - slot) (not_slot (1 - slot) h.geom.j (omega arith) low) in
+      let here = a.other slot (λ e. omega (arith, r.is_slot)) in
+      let beside = a.other (1 - slot) (λ e. omega arith) in
       record {
         closes = r.closes;
         is_slot = r.is_slot;
         stands = ap (λ (c : Cell). header_of n c.settled) here ∙ r.stands;
         alone = ap (λ (c : Cell). c.pending) here ∙ r.alone;
         other = λ z k st is. r.other z k (subst (λ (c : Cell). Rattle.crash_argument.specs.Ledger.StandsIn c z) beside st) is;
-        ring = λ place. kept (ring_block h.geom place) (not_ring place) (r.ring place);
+        ring = λ place. kept (ring_block h.geom place) (λ e. omega (arith, e, in_ring h.geom place lies.ring, low)) (r.ring place);
         uncovered = λ b from none. kept b (not_uncovered b none) (r.uncovered b from none);
       }
     where

@@ -59,9 +59,6 @@ upto_passes n cells at slot b h closed run r none = record {
 -- A block that the run covers, written and noticed.
 module _ (laws : JournalLaws) (n : ℕ) (base at : Blocks) (slot old_slot : ℕ) (h closed : Header) (run : List Record) (found : IsFound n at old_slot h run)
     (block : ℕ) (x : List ℕ) (low : bitmap_start h.geom ≤ block) (covered : covered_by h.geom at None run block ≡ Some x) where
-  -- no slot is the block
-  slot_apart : (s j : ℕ) → s < 2 → j + 2 ≤ block → block ≢ s
-  slot_apart s j lt le e = omega arith
 
   -- the replay goes on behind it
   pub upto_waited : (log new : List Event) → IsReplayedUpTo n (cell_of base log) at slot h closed run block → (w : AddsWaited block x log new) → IsNoticed w.ticket new → IsReplayedUpTo n (cell_of base new) at slot h closed run (block + 1)
@@ -70,7 +67,7 @@ module _ (laws : JournalLaws) (n : ℕ) (base at : Blocks) (slot old_slot : ℕ)
     idle = λ b. ⊎_elim (λ same. ap (λ c. (cell_of base new c).pending) (sym same) ∙ own.pending) (λ apart. (left b apart).idle) (cases_eq block b);
     placed = λ b from lt. ⊎_elim (λ same. ap (λ c. (cell_of base new c).settled) (sym same) ∙ own.settled ∙ sym (ap (λ (o : Option (List ℕ)). otherwise o (at block)) covered) ∙ ap (replayed h.geom at run) same)
         (λ apart. (left b apart).settled ∙ r.placed b from (omega (arith, lt, apart))) (cases_eq block b);
-    headers = λ s k two is. r.headers s k two (sym (ap (header_of n) (left s (slot_apart s h.geom.j two low)).settled) ∙ is);
+    headers = λ s k two is. r.headers s k two (sym (ap (header_of n) (left s (λ e. omega arith)).settled) ∙ is);
   }
     where
       own : IsSettledIn (cell_of base new block) x

@@ -160,7 +160,4 @@ rest_told base log l p k = back_told k.batch k.rest p.batch k.batch_is ∙ ap (d
 
 -- places of one ring that are less than its size apart are of unlike blocks
 pub ring_apart : (g : Geometry) (place d : ℕ) → 0 < d → d < g.j → ring_block g place ≢ ring_block g (place + d)
-ring_apart g place d some small same = apart place d g.j some small (unplus (place % g.j) ((place + d) % g.j) same)
-  where
-    unplus : (a b : ℕ) → 2 + a ≡ 2 + b → a ≡ b
-    unplus a b e = omega (arith, e)
+ring_apart g place d some small same = apart place d g.j some small (omega arith)

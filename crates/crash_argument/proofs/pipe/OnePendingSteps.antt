@@ -44,10 +44,7 @@ fewer_noticed base log t b = subst (λ (c : Cell). length c.pending ≤ length (
 
 -- a write leaves one more on its block
 one_wrote : (base : Blocks) (log : List Event) (t b : ℕ) (x : List ℕ) → IsIdle (cell_of base log b) → length (cell_of base (log ++ Wrote t b x ∷ []) b).pending ≤ 1
-one_wrote base log t b x idle = subst (λ (c : Cell). length c.pending ≤ 1) (sym (cell_of-append base log (Wrote t b x ∷ []) b ∙ cond-true (b == b) _ _ (eq-eqb b b refl))) (more (cell_of base log b) idle)
-  where
-    more : (c : Cell) → c.pending ≡ [] → length (with_write c (Some t) x).pending ≤ 1
-    more c e = omega (arith, length-append c.pending (record { ticket = Some t; bytes = x } ∷ []), ap (λ (ws : List Write). length ws) e)
+one_wrote base log t b x idle = subst (λ (c : Cell). length c.pending ≤ 1) (sym (cell_of-append base log (Wrote t b x ∷ []) b ∙ cond-true (b == b) _ _ (eq-eqb b b refl))) (omega (arith, length-append (cell_of base log b).pending (record { ticket = Some t; bytes = x } ∷ []), ap (λ (ws : List Write). length ws) idle))
 
 -- a session begins with nothing pending
 pub one_begins : (base : Blocks) (log : List Event) (g : Geometry) (slot : ℕ) (h : Header) (p : PipelineData) → IsMounted (cell_of base log) g slot h → p.home ≡ [] → HasOnePending base log (ledger_at_mount (cell_of base log) g slot h) p []
@@ -131,11 +128,8 @@ module _ (base : Blocks) (log : List Event) (l : Ledger) (p : PipelineData) (uw 
           (subst (λ n. IsTrue (is_live l.geom (l.map_before (f.written.says.number + 1)) n)) f.own (new.live f.place f.at f.written f.entry f.is_record late f.is_entry)))
 
   pub home_idle : (k : DataAgree base log l p) (b : ℕ) (x : List ℕ) → IsConsistentWith base log l → is_one_of b uw ≡ false → p.sent ≤ b → NeedsCheckpoint l k.batch b x → IsIdle (cell_of base log b)
-  home_idle k b x keeps out from needs = ⊎_elim (λ idle. idle) (λ r. ⊎_elim fresh (λ w. absurd (less (o.below w.at b w.ticket w.listed))) r) (o.block b (live_from l.geom (l.map_before (l.header.sure + 1)) b needs.live) out)
+  home_idle k b x keeps out from needs = ⊎_elim (λ idle. idle) (λ r. ⊎_elim fresh (λ w. absurd (omega (arith, o.below w.at b w.ticket w.listed, (o.below w.at b w.ticket w.listed), from))) r) (o.block b (live_from l.geom (l.map_before (l.header.sure + 1)) b needs.live) out)
     where
-      less : b < p.sent → ⊥
-      less lt = omega (arith, lt, from)
-
       fresh : IsFreshInNew l b → IsIdle (cell_of base log b)
       fresh f =
           let late : l.header.sure < f.written.says.number = omega (arith, f.not_known, (keeps.headers.fits l.header (inl refl)).known) in
@@ -190,10 +184,7 @@ module _ (base : Blocks) (log : List Event) (l : Ledger) (p : PipelineData) (uw 
       ring_apart s k e = omega (arith, e)
 
       apart : (c : ℕ) → bitmap_start l.geom ≤ c → 1 - l.slot ≢ c
-      apart c low same = slot_low l.slot c same low
-        where
-          slot_low : (s c : ℕ) → 1 - s ≡ c → l.geom.j + 2 ≤ c → ⊥
-          slot_low s c e le = omega (arith, e, le)
+      apart c low same = omega arith
 
   -- a checkpoint write
   pub one_home : (t b : ℕ) (x : List ℕ) → greatest_ticket log < t → ¬ IsNoticed t log → l.slot < 2 → 0 < l.geom.j → bitmap_start l.geom ≤ b → p.sent ≤ b → (p.batch ≡ 0 → ⊥) → IsIdle (cell_of base log b) → HasOnePending base (log ++ Wrote t b x ∷ []) l (with_home p b t) uw
@@ -237,14 +228,11 @@ module _ (base : Blocks) (log : List Event) (l : Ledger) (p : PipelineData) (uw 
       own : slice_get (l.records ++ w ∷ []) (length l.records + 0) ≡ Some w
       own = get_behind l.records (w ∷ []) 0
 
-      ring_low : (b k j : ℕ) → b ≡ 2 + k → k < j → j + 2 ≤ b → ⊥
-      ring_low b k j e lt le = omega (arith, e, lt, le)
-
       not_fresh : (place : ℕ) → (i : ℕ) × (e : Entry) × (slice_get w.says.fresh i ≡ Some e) × (e.block ≡ ring_block l.geom place) → ⊥
-      not_fresh place f = ring_low f.1.block (place % l.geom.j) l.geom.j f.3 (mod_below place l.geom.j some_ring) (in_place f.0 f.1 f.2)
+      not_fresh place f = omega (arith, f.3, mod_below place l.geom.j some_ring, in_place f.0 f.1 f.2, f.3, (mod_below place l.geom.j some_ring), (in_place f.0 f.1 f.2))
 
       not_ring : (b : ℕ) → (i : ℕ) × (i < places w.says) × (ring_block l.geom (w.says.place + i) ≡ b) → bitmap_start l.geom ≤ b → ⊥
-      not_ring b r low = ring_low b ((w.says.place + r.0) % l.geom.j) l.geom.j (sym r.2) (mod_below (w.says.place + r.0) l.geom.j some_ring) low
+      not_ring b r low = omega (arith, sym r.2, (mod_below (w.says.place + r.0) l.geom.j some_ring), (sym r.2), (mod_below (w.says.place + r.0) l.geom.j some_ring), low)
 
 -- a place is one of a record's, or it isn't
 has_place : (g : Geometry) (w : WrittenRecord) (place : ℕ) → ((i : ℕ) → i < places w.says → ring_block g (w.says.place + i) ≢ ring_block g place) ⊎ ((i : ℕ) × (i < places w.says) × (ring_block g (w.says.place + i) ≡ ring_block g place))
@@ -300,8 +288,5 @@ module _ (base : Blocks) (log : List Event) (l : Ledger) (p : PipelineData) (uw 
 pub one_lost : (base : Blocks) (log : List Event) (b : ℕ) (x : List ℕ) → ((c : ℕ) → length (cell_of base log c).pending ≤ 1) → IsIdle (cell_of base log b) → (c : ℕ) → length (cell_of base (log ++ Lost b x ∷ []) c).pending ≤ 1
 one_lost base log b x one idle c = ⊎_elim (λ same. subst (λ n. length (cell_of base (log ++ Lost b x ∷ []) n).pending ≤ 1) same own) (λ apart. subst (λ (d : Cell). length d.pending ≤ 1) (sym (other_lost base log b c x apart)) (one c)) (cases_eq b c)
   where
-    more : (d : Cell) → d.pending ≡ [] → length (with_write d None x).pending ≤ 1
-    more d e = omega (arith, length-append d.pending (record { ticket = None; bytes = x } ∷ []), ap (λ (ws : List Write). length ws) e)
-
     own : length (cell_of base (log ++ Lost b x ∷ []) b).pending ≤ 1
-    own = subst (λ (d : Cell). length d.pending ≤ 1) (sym (cell_of-append base log (Lost b x ∷ []) b ∙ cond-true (b == b) _ _ (eq-eqb b b refl))) (more (cell_of base log b) idle)
+    own = subst (λ (d : Cell). length d.pending ≤ 1) (sym (cell_of-append base log (Lost b x ∷ []) b ∙ cond-true (b == b) _ _ (eq-eqb b b refl))) (omega (arith, length-append (cell_of base log b).pending (record { ticket = None; bytes = x } ∷ []), ap (λ (ws : List Write). length ws) idle))

@@ -179,19 +179,13 @@ module _ (base : Blocks) (log : List Event) (l : Ledger) (keeps : IsConsistentWi
 
   -- a block that no record from a number on names is live after it where it is live later
   live_down : (d n b : ℕ) → l.header.start ≤ n → n + d ≤ next_number l → ((i : ℕ) (w : WrittenRecord) → slice_get l.records i ≡ Some w → n ≤ w.says.number → w.says.number < n + d → LeavesAlone w b) → IsTrue (is_live l.geom (l.map_before (n + d)) b) → IsTrue (is_live l.geom (l.map_before n) b)
-  live_down zero n b low high alone live = subst (λ q. IsTrue (is_live l.geom (l.map_before q) b)) (z n) live
-    where
-      z : (n : ℕ) → n + 0 ≡ n
-      z n = omega arith
+  live_down zero n b low high alone live = subst (λ q. IsTrue (is_live l.geom (l.map_before q) b)) (omega arith) live
   live_down (suc d) n b low high alone live =
       let w = get_some l.records (n - l.header.start) (omega (arith, low, high)) in
       let number : w.0.says.number ≡ n = omega (arith, numbered base log l keeps k.new (n - l.header.start) w.0 w.1, low) in
-      let rest = live_down d (n + 1) b (omega (arith, low)) (omega (arith, high)) (λ i v is from upto. alone i v is (omega (arith, from)) (omega (arith, upto))) (subst (λ q. IsTrue (is_live l.geom (l.map_before q) b)) (s n d) live) in
+      let rest = live_down d (n + 1) b (omega (arith, low)) (omega (arith, high)) (λ i v is from upto. alone i v is (omega (arith, from)) (omega (arith, upto))) (subst (λ q. IsTrue (is_live l.geom (l.map_before q) b)) (omega arith) live) in
       let one = alone (n - l.header.start) w.0 w.1 (omega (arith, number)) (omega (arith, number)) in
       subst (λ q. IsTrue (is_live l.geom (l.map_before q) b)) number (k.new.kept (n - l.header.start) b w.0 w.1 one.paid one.fresh (subst (λ q. IsTrue (is_live l.geom (l.map_before q) b)) (omega (arith, number)) rest))
-    where
-      s : (n d : ℕ) → n + suc d ≡ n + 1 + d
-      s n d = omega arith
 
   -- a block that is dead now and doesn't wait is dead from the durable `sure` on: it may serve again
   pub reusable_dead : (b : ℕ) → data_start l.geom ≤ b → is_live l.geom (l.map_before (next_number l)) b ≡ false → ((i r : ℕ) → ¬ (slice_get p.waiting i ≡ Some (b, r))) → IsDead l b
@@ -311,17 +305,13 @@ module _ (base : Blocks) (log : List Event) (l : Ledger) (keeps : IsConsistentWi
     own : FitsRecords l l.header
     own = keeps.headers.fits l.header (inl refl)
 
-    -- the next one starts behind the placed ones
-    shift : l.header.start + length k.placed - l.header.start ≡ length k.placed
-    shift = omega arith
-
     -- the records from there on
     abbrev later : List WrittenRecord
     later = drop (l.header.start + length k.placed - l.header.start) l.records
 
     -- these are the batch and the rest
     later_is : later ≡ k.batch ++ k.rest
-    later_is = ap (λ n. drop n l.records) shift ∙ ap (λ (ws : List WrittenRecord). drop (length k.placed) ws) k.is_batch.split ∙ drop-append_seam k.placed (k.batch ++ k.rest)
+    later_is = ap (λ n. drop n l.records) (omega arith) ∙ ap (λ (ws : List WrittenRecord). drop (length k.placed) ws) k.is_batch.split ∙ drop-append_seam k.placed (k.batch ++ k.rest)
 
     -- and those before are the placed ones
     front_is : take (length k.placed) l.records ≡ k.placed
@@ -333,14 +323,8 @@ module _ (base : Blocks) (log : List Event) (l : Ledger) (keeps : IsConsistentWi
 
     -- what comes behind a front of consecutive records is consecutive
     behind : (j n q : ℕ) (xs ys : List Record) → AreConsecutive j n q (xs ++ ys) → AreConsecutive j (n + length xs) (place_after j q xs) ys
-    behind j n q [] ys c = subst (λ m. AreConsecutive j m q ys) (z n) c
-      where
-        z : (n : ℕ) → n ≡ n + 0
-        z n = omega arith
-    behind j n q (r ∷ xs) ys c = subst (λ m. AreConsecutive j m (place_after j ((q + places r) % j) xs) ys) (s n (length xs)) (behind j (n + 1) ((q + places r) % j) xs ys c.2)
-      where
-        s : (n m : ℕ) → n + 1 + m ≡ n + suc m
-        s n m = omega arith
+    behind j n q [] ys c = subst (λ m. AreConsecutive j m q ys) (omega arith) c
+    behind j n q (r ∷ xs) ys c = subst (λ m. AreConsecutive j m (place_after j ((q + places r) % j) xs) ys) (omega arith) (behind j (n + 1) ((q + places r) % j) xs ys c.2)
 
     -- the next header fits the records
     fits_next : FitsRecords l (next_header l (length k.placed))
@@ -353,7 +337,7 @@ module _ (base : Blocks) (log : List Event) (l : Ledger) (keeps : IsConsistentWi
       sure = omega (arith, own.known, k.is_batch.sure);
       last = omega (arith, own.known, keeps.known);
       known = omega (arith, own.known);
-      place = ap (λ n. place_after l.geom.j l.header.at (all_say (take n l.records))) (sym shift);
+      place = ap (λ n. place_after l.geom.j l.header.at (all_say (take n l.records))) (sym (omega arith));
       consecutive = subst (λ (ws : List WrittenRecord). AreConsecutive l.geom.j (l.header.start + length k.placed) (place_after l.geom.j l.header.at (all_say (take (length k.placed) l.records))) (all_say ws)) (sym later_is)
           (subst (λ (ws : List WrittenRecord). AreConsecutive l.geom.j (l.header.start + length k.placed) (place_after l.geom.j l.header.at (all_say ws)) (all_say (k.batch ++ k.rest))) (sym front_is)
           (subst (λ n. AreConsecutive l.geom.j (l.header.start + n) (place_after l.geom.j l.header.at (all_say k.placed)) (all_say (k.batch ++ k.rest))) (say_length k.placed)
@@ -376,7 +360,7 @@ module _ (base : Blocks) (log : List Event) (l : Ledger) (keeps : IsConsistentWi
     next_placed : (before good bad : List WrittenRecord) (b : ℕ) → l.records ≡ before ++ (good ++ bad) → length before ≡ l.header.start + length k.placed - l.header.start → l.known ≤ l.header.start + length k.placed + length good
         → IsTrue (is_live l.geom (l.map_before (l.header.start + length k.placed + length good)) b) → (y : List ℕ) → cover None good b ≡ None → cover None (before ++ good) b ≡ Some y → (latest (cell_of base log b) ≡ y) × ((cell_of base log b).pending ≡ [])
     next_placed before good bad b split len known live y none covered =
-        let parts = same_front before (good ++ bad) k.placed (k.batch ++ k.rest) (sym split ∙ k.is_batch.split) (len ∙ shift) in
+        let parts = same_front before (good ++ bad) k.placed (k.batch ++ k.rest) (sym split ∙ k.is_batch.split) (len ∙ omega arith) in
         let both : cover (cover None before b) good b ≡ Some y = sym (cover-parts before good None b) ∙ covered in
         ⊎_elim (λ all.
         let at : cover None k.placed b ≡ Some y = ap (λ (ws : List WrittenRecord). cover None ws b) (sym parts.0) ∙ sym (alone_leaves good b (cover None before b) all) ∙ both in

@@ -186,12 +186,9 @@ module _ (laws : JournalLaws) (base : Blocks) (log : List Event) (l : Ledger) (k
     fresh = λ late i e at. among_stays log (Wrote n (ring_block l.geom w.says.place) (block_at w.ring 0)) tickets (n ∷ []) e.block _ (λ same. fresh_ring i w.says.place e at (sym same), tt) (u.fresh i e (get_within w.says.fresh i e at) at);
   }
     where
-      z : (p : ℕ) → p ≡ p + 0
-      z p = omega arith
-
       first_or : (i : ℕ) → i < places w.says → IsAmongLast (log ++ Wrote n (ring_block l.geom w.says.place) (block_at w.ring 0) ∷ []) (tickets ++ n ∷ []) (ring_block l.geom (w.says.place + i)) (block_at w.ring i)
-      first_or zero lt = subst (λ p. IsAmongLast (log ++ Wrote n (ring_block l.geom w.says.place) (block_at w.ring 0) ∷ []) (tickets ++ n ∷ []) (ring_block l.geom p) (block_at w.ring 0)) (z w.says.place) (n, among_own tickets n, last_new log _ n _ high none)
-      first_or (suc i) lt = among_stays log (Wrote n (ring_block l.geom w.says.place) (block_at w.ring 0)) tickets (n ∷ []) _ _ (λ same. own_apart 0 (suc i) (omega arith) lt (ap (ring_block l.geom) (sym (z w.says.place)) ∙ same), tt) (u.ring (suc i) (omega arith) lt)
+      first_or zero lt = subst (λ p. IsAmongLast (log ++ Wrote n (ring_block l.geom w.says.place) (block_at w.ring 0) ∷ []) (tickets ++ n ∷ []) (ring_block l.geom p) (block_at w.ring 0)) (omega arith) (n, among_own tickets n, last_new log _ n _ high none)
+      first_or (suc i) lt = among_stays log (Wrote n (ring_block l.geom w.says.place) (block_at w.ring 0)) tickets (n ∷ []) _ _ (λ same. own_apart 0 (suc i) (omega arith) lt (ap (ring_block l.geom) (sym (omega arith)) ∙ same), tt) (u.ring (suc i) (omega arith) lt)
 
 module _ (laws : JournalLaws) (s : MountedSession) (start end : State) (l : Ledger) (p : PipelineData) (w : WrittenRecord) (m : Blocks) (t floor : ℕ) (same : end.base ≡ start.base) (new : FreshAreNew l) (may : IsNextRecord l w m) (safe : IsSafe s start.base start.log l t floor) where
   -- the same under equal names

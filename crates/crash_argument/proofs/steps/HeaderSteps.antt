@@ -44,14 +44,8 @@ pub number_at : (j n p : ℕ) (ws : List WrittenRecord) (i : ℕ) (w : WrittenRe
 number_at j n p [] i w c e = cc
 number_at j n p (v ∷ ws) zero w c e =
     let same : v ≡ w = cc in
-    sym (ap (λ (u : WrittenRecord). u.says.number) same) ∙ c.0 ∙ z n
-  where
-    z : (n : ℕ) → n ≡ n + 0
-    z n = omega arith
-number_at j n p (v ∷ ws) (suc i) w c e = number_at j (n + 1) ((p + places v.says) % j) ws i w c.2 e ∙ s n i
-  where
-    s : (n i : ℕ) → n + 1 + i ≡ n + suc i
-    s n i = omega arith
+    sym (ap (λ (u : WrittenRecord). u.says.number) same) ∙ c.0 ∙ omega arith
+number_at j n p (v ∷ ws) (suc i) w c e = number_at j (n + 1) ((p + places v.says) % j) ws i w c.2 e ∙ omega arith
 
 module _ (base : Blocks) (log : List Event) (l : Ledger) (k : IsConsistentWith base log l) where
   -- all records before a number are known
@@ -118,10 +112,6 @@ module _ (base : Blocks) (log : List Event) (l : Ledger) (k : IsConsistentWith b
     get_from : (i : ℕ) → slice_get (from_start l h) i ≡ slice_get l.records (h.start - l.header.start + i)
     get_from i = get_drop (h.start - l.header.start) l.records i
 
-    -- and at which index a number stood
-    index : (n : ℕ) → h.start ≤ n → h.start - l.header.start + (n - h.start) ≡ n - l.header.start
-    index n le = omega (arith, fit.start)
-
     -- a number less itself is 0
     no_gap : (n : ℕ) → n - n ≡ 0
     no_gap n = omega arith
@@ -142,10 +132,6 @@ module _ (base : Blocks) (log : List Event) (l : Ledger) (k : IsConsistentWith b
       within = omega (arith, ap (λ (ws : List WrittenRecord). Rattle.layout_journal.specs.Run.all_places (all_say ws)) from_same, fit.within);
     }
 
-    -- the slot beside the other one is this one
-    same_slot : 1 - (1 - l.slot) ≡ l.slot
-    same_slot = omega (arith, k.headers.is_slot)
-
     -- the disk is as the ledger says with this header as its durable one
     pub turned_keeps : IsConsistentWith base log (with_durable_header l h)
     turned_keeps = record {
@@ -153,7 +139,7 @@ module _ (base : Blocks) (log : List Event) (l : Ledger) (k : IsConsistentWith b
         is_slot = omega arith;
         durable = d.settled;
         alone = d.alone;
-        other = λ x g st is. inl (older x g (subst (λ s. StandsIn (cell_of base log s) x) same_slot st) is);
+        other = λ x g st is. inl (older x g (subst (λ s. StandsIn (cell_of base log s) x) (omega (arith, k.headers.is_slot)) st) is);
         newer = λ g e. absurd (none-some g e);
         fits = λ g st. subst (λ (f : Header). FitsRecords (with_durable_header l h) f) (sym (only g st)) fits_turned;
       };
@@ -168,8 +154,8 @@ module _ (base : Blocks) (log : List Event) (l : Ledger) (k : IsConsistentWith b
         intact_fresh = λ late low j e at. old.intact_fresh (omega (arith, fit.sure_grows, late)) low j e at;
       };
       numbers = record {
-        commit = λ p x c st is e from. let found = k.numbers.commit p x c st is e (omega (arith, fit.start, from)) in (found.0, get_from (c.number - h.start) ∙ ap (slice_get l.records) (index c.number from) ∙ found.1, found.2);
-        descriptor = λ p x c w st is e from got. k.numbers.descriptor p x c w st is e (omega (arith, fit.start, from)) (ap (slice_get l.records) (sym (index c.number from)) ∙ sym (get_from (c.number - h.start)) ∙ got);
+        commit = λ p x c st is e from. let found = k.numbers.commit p x c st is e (omega (arith, fit.start, from)) in (found.0, get_from (c.number - h.start) ∙ ap (slice_get l.records) (omega (arith, fit.start)) ∙ found.1, found.2);
+        descriptor = λ p x c w st is e from got. k.numbers.descriptor p x c w st is e (omega (arith, fit.start, from)) (ap (slice_get l.records) (sym (omega (arith, fit.start))) ∙ sym (get_from (c.number - h.start)) ∙ got);
       };
       shape = k.shape;
       ring = k.ring;
@@ -297,10 +283,7 @@ module _ (base : Blocks) (log new : List Event) (l : Ledger) (x : List ℕ) (h :
             either m n = grind arith
 
             behind : (i : ℕ) (w : WrittenRecord) → length before ≤ i → slice_get (before ++ good) i ≡ Some w → slice_get good (i - length before) ≡ Some w
-            behind i w le is = sym (get_behind before good (i - length before)) ∙ ap (slice_get (before ++ good)) (split_up i (length before) le) ∙ is
-              where
-                split_up : (i n : ℕ) → n ≤ i → n + (i - n) ≡ i
-                split_up i n le = omega arith
+            behind i w le is = sym (get_behind before good (i - length before)) ∙ ap (slice_get (before ++ good)) (omega arith) ∙ is
 
         uncovered : cover None (before ++ good) b ≡ None → IsLaid (cell_of base log) h good b
         uncovered unnamed = ⊎_elim inl (λ p. later p.0 p.2 p.1 p.3 p.4 p.5 p.6 p.7) (k.home.laid l.header (before ++ good) bad b (inl refl) from_header sure_header live_header unnamed)

@@ -71,10 +71,7 @@ issued_holds laws base log l k = last (reached laws base log l (issued base log)
         subst (λ n. HoldsUnder l.geom.n l.geom (issued base log) (live_part l.geom (l.map_before n))) all r.held
       where
         behind : (r : Reached l (issued base log)) (w : WrittenRecord) → slice_get r.bad 0 ≡ Some w → slice_get l.records (r.header.start - l.header.start + length r.good) ≡ Some w
-        behind r w is = sym (get_drop (r.header.start - l.header.start) l.records (length r.good)) ∙ ap (λ (ws : List WrittenRecord). slice_get ws (length r.good)) r.split ∙ ap (slice_get (r.good ++ r.bad)) (z (length r.good)) ∙ get_behind r.good r.bad 0 ∙ is
-          where
-            z : (n : ℕ) → n ≡ n + 0
-            z n = omega arith
+        behind r w is = sym (get_drop (r.header.start - l.header.start) l.records (length r.good)) ∙ ap (λ (ws : List WrittenRecord). slice_get ws (length r.good)) r.split ∙ ap (slice_get (r.good ++ r.bad)) (omega arith) ∙ get_behind r.good r.bad 0 ∙ is
 
 -- a commit block was written just now: the map of its point is the newest
 pub point_made : JournalLaws → (s : MountedSession) (base : Blocks) (log : List Event) (e : Event) (l : Ledger) (p : ℕ) → s.geom ≡ l.geom → s.mounted ≤ length log → points_in s log ≡ p → commits s.geom s.epoch (e ∷ []) ≡ 1
@@ -85,16 +82,13 @@ point_made laws s base log e l p geom late before one k =
       moment = length (log ++ e ∷ []);
       at = record {
         within = omega arith;
-        count = ap (points_in s) (take-length (log ++ e ∷ [])) ∙ points_in-append s log (e ∷ []) late ∙ sum (points_in s log) (commits s.geom s.epoch (e ∷ [])) p before one;
+        count = ap (points_in s) (take-length (log ++ e ∷ [])) ∙ points_in-append s log (e ∷ []) late ∙ omega arith;
         just = inr (omega (arith, late, len), omega (arith, ap (points_in s) (shorter log e), before));
       };
       held = subst (λ (lg : List Event). HoldsUnder s.geom.n s.geom (issued base lg) (live_part l.geom (l.map_before (next_number l)))) (sym (take-length (log ++ e ∷ [])))
           (subst (λ (g : Geometry). HoldsUnder g.n g (issued base (log ++ e ∷ [])) (live_part l.geom (l.map_before (next_number l)))) (sym geom) (issued_holds laws base (log ++ e ∷ []) l k));
     }
   where
-    sum : (a b p : ℕ) → a ≡ p → b ≡ 1 → a + b ≡ p + 1
-    sum a b p e f = omega arith
-
     shorter : (xs : List Event) (y : Event) → take (length (xs ++ y ∷ []) - 1) (xs ++ y ∷ []) ≡ xs
     shorter xs y = ap (λ n. take n (xs ++ y ∷ [])) (omega (arith, length-append xs (y ∷ []))) ∙ take-append-le (length xs) xs (y ∷ []) (omega arith) ∙ take-length xs
 
@@ -174,11 +168,8 @@ point_was s base log more p m late old i = ⊎_elim inside (λ beyond. absurd (o
 
     reach : (k : ℕ) → length log ≤ k → points_in s log ≤ points_in s (take k (log ++ more))
     reach k le =
-        let parts : take k (log ++ more) ≡ log ++ take (k - length log) more = ap (λ n. take n (log ++ more)) (sum (length log) k le) ∙ take-append-add log more (k - length log) in
+        let parts : take k (log ++ more) ≡ log ++ take (k - length log) more = ap (λ n. take n (log ++ more)) (omega arith) ∙ take-append-add log more (k - length log) in
         omega (arith, ap (points_in s) parts, points_in-append s log (take (k - length log) more) late)
-      where
-        sum : (n k : ℕ) → n ≤ k → k ≡ n + (k - n)
-        sum n k le = omega arith
 
     outside : length log < i.moment → ⊥
     outside lt = ⊎_elim (λ q. omega (arith, q.1)) (λ q. omega (arith, q.1, reach (i.moment - 1) (omega arith))) i.at.just

@@ -25,8 +25,8 @@ module _ (base : Blocks) (log new : List Event) (l : Ledger) (block : ℕ) (x : 
   -- the headers, where neither slot is written
   same_headers : 2 ≤ block → HeadersAlternate (cell_of base new) l
   same_headers high =
-      let own = a.other l.slot (apart (omega (arith, k.headers.is_slot))) in
-      let beside = a.other (1 - l.slot) (apart (omega arith)) in
+      let own = a.other l.slot (λ e. omega arith) in
+      let beside = a.other (1 - l.slot) (λ e. omega arith) in
       record {
         is_slot = k.headers.is_slot;
         durable = ap (λ (c : Cell). header_of l.geom.n c.settled) own ∙ k.headers.durable;
@@ -35,9 +35,6 @@ module _ (base : Blocks) (log new : List Event) (l : Ledger) (block : ℕ) (x : 
         newer = k.headers.newer;
         fits = k.headers.fits;
       }
-    where
-      apart : {s : ℕ} → s < block → s ≢ block
-      apart lt e = omega arith
 
   -- a record, where neither its places nor its fresh blocks past `sure` are written
   same_record : (w : WrittenRecord) → IsIssued base (cell_of base log) log l w → ((i : ℕ) → i < places w.says → ring_block l.geom (w.says.place + i) ≢ block)
@@ -129,10 +126,7 @@ split_last (x ∷ xs) (g ∷ good) bad w e =
 
 -- consecutive records are so still with the next one behind them
 consecutive_more : (j n p : ℕ) (rs : List Record) (r : Record) → AreConsecutive j n p rs → r.number ≡ n + length rs → r.place ≡ place_after j p rs → AreConsecutive j n p (rs ++ r ∷ [])
-consecutive_more j n p [] r h number place = (number ∙ z n, place, tt)
-  where
-    z : (n : ℕ) → n + 0 ≡ n
-    z n = omega arith
+consecutive_more j n p [] r h number place = (number ∙ omega arith, place, tt)
 consecutive_more j n p (x ∷ rs) r h number place = (h.0, h.1, consecutive_more j (n + 1) ((p + places x) % j) rs r h.2 (omega arith) place)
 
 -- and take the places of that one more
@@ -202,10 +196,6 @@ module _ (laws : JournalLaws) (base : Blocks) (log new : List Event) (l : Ledger
   old_headers : HeadersAlternate (cell_of base new) l
   old_headers = same_headers base log new l _ _ a k (omega arith)
 
-  -- a block behind the journal isn't the commit block's
-  fresh_apart : (b : ℕ) → bitmap_start l.geom ≤ b → b ≢ ring_block l.geom w.says.place
-  fresh_apart b high same = omega (arith, in_ring l.geom w.says.place k.ring)
-
   -- the new record is issued
   own_record : IsIssued base (cell_of base new) new (with_record l w m) w
   own_record = record {
@@ -213,17 +203,14 @@ module _ (laws : JournalLaws) (base : Blocks) (log new : List Event) (l : Ledger
     ring = own_ring;
     ring_logged = own_logged;
     in_place = ready.in_place;
-    fresh = λ late i e at. ap latest (a.other e.block (fresh_apart e.block (ready.in_place i e at))) ∙ ready.fresh i e at;
+    fresh = λ late i e at. ap latest (a.other e.block (λ same. omega (arith, ready.in_place i e at, in_ring l.geom w.says.place k.ring))) ∙ ready.fresh i e at;
     fresh_logged = λ i e at. on_disk a _ (ready.fresh_logged i e at);
     intact = λ low i lt. absurd (omega (arith, low, ready.number, k.known));
     intact_fresh = λ late low i e at. absurd (omega (arith, low, ready.number, k.known));
   }
     where
-      z : (n : ℕ) → n + 0 ≡ n
-      z n = omega arith
-
       own_ring : (i : ℕ) → i < places w.says → latest (cell_of base new (ring_block l.geom (w.says.place + i))) ≡ block_at w.ring i
-      own_ring zero lt = ap (λ p. latest (cell_of base new (ring_block l.geom p))) (z w.says.place) ∙ a.latest_is
+      own_ring zero lt = ap (λ p. latest (cell_of base new (ring_block l.geom p))) (omega arith) ∙ a.latest_is
       own_ring (suc i) lt = ap latest (a.other _ (ready.own (suc i) (omega arith) lt)) ∙ ready.ring (suc i) (omega arith) lt
 
       own_logged : (i : ℕ) → i < places w.says → IsOnDisk l.geom.n base new (block_at w.ring i)
@@ -233,7 +220,7 @@ module _ (laws : JournalLaws) (base : Blocks) (log new : List Event) (l : Ledger
   -- and the old ones are still
   old_record : (n : ℕ) (v : WrittenRecord) → slice_get l.records n ≡ Some v → IsIssued base (cell_of base new) new (with_record l w m) v
   old_record n v is =
-      let old = same_record base log new l _ _ a k v (k.each n v is) (λ i lt. ready.free n i v is lt) (λ late i e at. fresh_apart e.block ((k.each n v is).in_place i e at)) in
+      let old = same_record base log new l _ _ a k v (k.each n v is) (λ i lt. ready.free n i v is lt) (λ late i e at. λ same. omega (arith, ((k.each n v is).in_place i e at), in_ring l.geom w.says.place k.ring)) in
       record { spelled = old.spelled; ring = old.ring; ring_logged = old.ring_logged; in_place = old.in_place; fresh = old.fresh; fresh_logged = old.fresh_logged; intact = old.intact; intact_fresh = old.intact_fresh }
 
   -- numbers are used once still
@@ -250,9 +237,6 @@ module _ (laws : JournalLaws) (base : Blocks) (log new : List Event) (l : Ledger
   }
 
   module _ (h : Header) (st : IsStanding l h) (b : ℕ) (live : IsTrue (is_live l.geom m b)) where
-    -- all records that are known are among the old ones
-    sure_all : l.known ≤ h.start + length (from_start l h)
-    sure_all = omega (arith, from_length h st, k.known)
 
     -- with none behind them
     none_behind : from_start l h ≡ from_start l h ++ []
@@ -268,7 +252,7 @@ module _ (laws : JournalLaws) (base : Blocks) (log new : List Event) (l : Ledger
 
     -- a live block is as it was
     same_cell : cell_of base new b ≡ cell_of base log b
-    same_cell = a.other b (fresh_apart b (live_from l.geom m b live))
+    same_cell = a.other b (λ same. omega (arith, live_from l.geom m b live, in_ring l.geom w.says.place k.ring))
 
     -- what is at home in it, under the old records and the new one, is the new map
     covered : (o : Option (List ℕ)) (n : Bool) → o ≡ payload_in w b → n ≡ names_block w.says.fresh b
@@ -276,7 +260,7 @@ module _ (laws : JournalLaws) (base : Blocks) (log new : List Event) (l : Ledger
     covered (Some y) n paid named = sym (ready.paid b y (sym paid))
     covered None true unpaid named = sym (ready.laid b (sym unpaid) (sym named))
     covered None false unpaid named =
-        k.home.map h (from_start l h) [] b st none_behind sure_all (old_live (sym unpaid) (sym named))
+        k.home.map h (from_start l h) [] b st none_behind (omega (arith, from_length h st, k.known)) (old_live (sym unpaid) (sym named))
         ∙ ap (λ n. l.map_before n b) (from_length h st) ∙ sym (ready.same b (sym unpaid) (sym named) live).1
 
     -- and where these don't cover it, nothing is pending on it or one of them wrote it fresh
@@ -287,7 +271,7 @@ module _ (laws : JournalLaws) (base : Blocks) (log new : List Event) (l : Ledger
         let at = named_at w.says.fresh b (sym named) in
         inr (length (from_start l h), w, at.0, at.1, get_last (from_start l h) w _ refl, omega (arith, ready.number, (k.headers.fits h st).last), at.2, at.3)
     laid_so None false unpaid named none =
-        ⊎_elim inl (λ p. inr (p.0, p.1, p.2, p.3, get_front (from_start l h) (w ∷ []) p.0 p.1 p.4, p.5, p.6, p.7)) (k.home.laid h (from_start l h) [] b st none_behind sure_all (old_live (sym unpaid) (sym named)) none)
+        ⊎_elim inl (λ p. inr (p.0, p.1, p.2, p.3, get_front (from_start l h) (w ∷ []) p.0 p.1 p.4, p.5, p.6, p.7)) (k.home.laid h (from_start l h) [] b st none_behind (omega (arith, from_length h st, k.known)) (old_live (sym unpaid) (sym named)) none)
 
   -- a commit block leaves the disk as the ledger with its record says
   pub write_commit : IsConsistentWith base new (with_record l w m)
@@ -302,7 +286,7 @@ module _ (laws : JournalLaws) (base : Blocks) (log new : List Event) (l : Ledger
       map = λ h good bad b st split sure live. ⊎_elim
           (λ p. let le = count_of base log l k h good p.0 st p.2 in
           let old_map = at_old l w m (h.start + length good) le in
-          ap (λ c. otherwise (cover None good b) (latest c)) (a.other b (fresh_apart b (live_from l.geom (l.map_before (h.start + length good)) b (subst (λ (mm : Blocks). IsTrue (is_live l.geom mm b)) old_map live))))
+          ap (λ c. otherwise (cover None good b) (latest c)) (a.other b (λ same. omega (arith, (live_from l.geom (l.map_before (h.start + length good)) b (subst (λ (mm : Blocks). IsTrue (is_live l.geom mm b)) old_map live)), in_ring l.geom w.says.place k.ring)))
           ∙ k.home.map h good p.0 b st p.2 sure (subst (λ (mm : Blocks). IsTrue (is_live l.geom mm b)) old_map live) ∙ sym (ap (λ (mm : Blocks). mm b) old_map))
           (λ p. let new_map = at_new l w m (h.start + length good) (longer h good st p.1) in
           let live_m = subst (λ (mm : Blocks). IsTrue (is_live l.geom mm b)) new_map live in
@@ -314,7 +298,7 @@ module _ (laws : JournalLaws) (base : Blocks) (log new : List Event) (l : Ledger
           (λ p. let le = count_of base log l k h good p.0 st p.2 in
           let old_map = at_old l w m (h.start + length good) le in
           let live_o = subst (λ (mm : Blocks). IsTrue (is_live l.geom mm b)) old_map live in
-          ⊎_elim (λ idle. inl (ap (λ (c : Cell). c.pending) (a.other b (fresh_apart b (live_from l.geom (l.map_before (h.start + length good)) b live_o))) ∙ idle)) (λ f. inr f) (k.home.laid h good p.0 b st p.2 sure live_o none))
+          ⊎_elim (λ idle. inl (ap (λ (c : Cell). c.pending) (a.other b (λ same. omega (arith, (live_from l.geom (l.map_before (h.start + length good)) b live_o), in_ring l.geom w.says.place k.ring))) ∙ idle)) (λ f. inr f) (k.home.laid h good p.0 b st p.2 sure live_o none))
           (λ p. let new_map = at_new l w m (h.start + length good) (longer h good st p.1) in
           let live_m = subst (λ (mm : Blocks). IsTrue (is_live l.geom mm b)) new_map live in
           let none_w = sym (cover-append (from_start l h) None w b) ∙ ap (λ (ws : List WrittenRecord). cover None ws b) (sym p.1) ∙ none in

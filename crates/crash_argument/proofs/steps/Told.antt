@@ -84,10 +84,7 @@ tells_still s log e l late none told n from =
 pub tells_from : (s : MountedSession) (log : List Event) (l : Ledger) (h : Header) → l.header.start ≤ h.start → Tells s log l → Tells s log (with_durable_header l h)
 tells_from s log l h le told n from =
     told n (omega (arith, le, from))
-    ∙ ap (λ ws. map (commit_says s.epoch) (all_say ws)) (ap (λ k. drop k l.records) (parts n l.header.start h.start le from) ∙ sym (drop-drop (n - h.start) (h.start - l.header.start) l.records))
-  where
-    parts : (n a b : ℕ) → a ≤ b → b ≤ n → n - a ≡ (b - a) + (n - b)
-    parts n a b le from = omega (arith, le, from)
+    ∙ ap (λ ws. map (commit_says s.epoch) (all_say ws)) (ap (λ k. drop k l.records) (omega arith) ∙ sym (drop-drop (n - h.start) (h.start - l.header.start) l.records))
 
 -- the one record of a list, from a number on
 one_from : (n : ℕ) (c : Commit) → n ≤ c.number → filter (is_from n) (c ∷ []) ≡ c ∷ []
@@ -173,19 +170,13 @@ places_of_all n cs epoch rs e = of_filter cs ∙ ap total e ∙ of_says rs
 
 -- a session's log tells one record more where its ledger has one more
 pub one_more : (s : MountedSession) (base : Blocks) (log more : List Event) (l : Ledger) (w : WrittenRecord) (m : Blocks) → HasPoints s base log l → HasPoints s base (log ++ more) (with_record l w m) → records_told s (log ++ more) ≡ records_told s log ++ commit_says s.epoch w.says ∷ []
-one_more s base log more l w m old new = records_told-append s log more old.late ∙ ap (λ cs. records_told s log ++ cs) (by (commits_told s.geom s.epoch more) count told)
+one_more s base log more l w m old new = records_told-append s log more old.late ∙ ap (λ cs. records_told s log ++ cs) (by (commits_told s.geom s.epoch more) (omega (arith, as_many s.geom s.epoch more, points_in-append s log more old.late, old.count, new.count, length-append l.records (w ∷ []))) told)
   where
     next : ℕ
     next = next_number l
 
     says : Commit
     says = commit_says s.epoch w.says
-
-    behind : next - l.header.start ≡ length l.records
-    behind = omega arith
-
-    count : length (commits_told s.geom s.epoch more) ≡ 1
-    count = omega (arith, as_many s.geom s.epoch more, points_in-append s log more old.late, old.count, new.count, length-append l.records (w ∷ []))
 
     none : filter (is_from next) (records_told s log) ≡ []
     none = old.told next (omega arith) ∙ ap (λ ws. map (commit_says s.epoch) (all_say ws)) (drop_all (next - l.header.start) l.records (omega arith))
@@ -195,7 +186,7 @@ one_more s base log more l w m old new = records_told-append s log more old.late
         sym (ap (λ cs. cs ++ filter (is_from next) (commits_told s.geom s.epoch more)) none)
         ∙ sym (ap (filter (is_from next)) (records_told-append s log more old.late) ∙ filter-append (is_from next) (records_told s log) (commits_told s.geom s.epoch more))
         ∙ new.told next (omega arith)
-        ∙ ap (λ ws. map (commit_says s.epoch) (all_say ws)) (ap (λ k. drop k (l.records ++ w ∷ [])) behind ∙ drop-append_seam l.records (w ∷ []))
+        ∙ ap (λ ws. map (commit_says s.epoch) (all_say ws)) (ap (λ k. drop k (l.records ++ w ∷ [])) (omega arith) ∙ drop-append_seam l.records (w ∷ []))
 
     is_it : (b : Bool) (c : Commit) → (if b then c ∷ [] else []) ≡ says ∷ [] → c ∷ [] ≡ says ∷ []
     is_it true c e = e
@@ -208,11 +199,8 @@ one_more s base log more l w m old new = records_told-append s log more old.late
 
 -- and no other where its ledger has none more
 pub none_more : (s : MountedSession) (base : Blocks) (log more : List Event) (l k : Ledger) → HasPoints s base log l → HasPoints s base (log ++ more) k → next_number k ≡ next_number l → records_told s (log ++ more) ≡ records_told s log
-none_more s base log more l k old new same = records_told-append s log more old.late ∙ ap (λ cs. records_told s log ++ cs) (empty (commits_told s.geom s.epoch more) count) ∙ append-nil (records_told s log)
+none_more s base log more l k old new same = records_told-append s log more old.late ∙ ap (λ cs. records_told s log ++ cs) (empty (commits_told s.geom s.epoch more) (omega (arith, as_many s.geom s.epoch more, points_in-append s log more old.late, old.count, new.count, same))) ∙ append-nil (records_told s log)
   where
-    count : length (commits_told s.geom s.epoch more) ≡ 0
-    count = omega (arith, as_many s.geom s.epoch more, points_in-append s log more old.late, old.count, new.count, same)
-
     empty : (cs : List Commit) → length cs ≡ 0 → cs ≡ []
     empty [] e = refl
     empty (c ∷ cs) e = absurd (omega (arith, e))

@@ -42,14 +42,11 @@ module _ (laws : JournalLaws) (cells : ℕ → Cell) (l : Ledger) (img : Blocks)
       none : header_of l.geom.n (img (1 - l.slot)) ≡ None → Found l img
       none e = record { slot = l.slot; header = l.header; standing = inl refl; newest = record { is_slot = a.is_slot; stands = here; other = λ k is. cc } }
 
-      back : 1 - (1 - l.slot) ≡ l.slot
-      back = omega (arith, a.is_slot)
-
       some : (k : Header) × (header_of l.geom.n (img (1 - l.slot)) ≡ Some k) → Found l img
       some p =
           let stands = sealed_stands cells l img (1 - l.slot) (f.slots (1 - l.slot) (omega arith)) f (laws.header_sealed l.geom.n _ p.0 p.1) in
           ⊎_elim (λ old. record { slot = l.slot; header = l.header; standing = inl refl; newest = record { is_slot = a.is_slot; stands = here; other = λ k is. inl (subst (λ (h : Header). h.turn < l.header.turn) (same_Some _ _ (sym p.1 ∙ is)) old) } })
-          (λ new. record { slot = 1 - l.slot; header = p.0; standing = inr new; newest = record { is_slot = omega arith; stands = p.1; other = λ k is. inl (subst (λ (h : Header). h.turn < p.0.turn) (same_Some _ _ (sym here ∙ ap (λ s. header_of l.geom.n (img s)) (sym back) ∙ is)) (a.newer p.0 new)) } })
+          (λ new. record { slot = 1 - l.slot; header = p.0; standing = inr new; newest = record { is_slot = omega arith; stands = p.1; other = λ k is. inl (subst (λ (h : Header). h.turn < p.0.turn) (same_Some _ _ (sym here ∙ ap (λ s. header_of l.geom.n (img s)) (sym (omega (arith, a.is_slot))) ∙ is)) (a.newer p.0 new)) } })
           (a.other _ p.0 stands p.1)
 
   -- whether the bytes of a fresh entry are in the image is decided
@@ -144,16 +141,10 @@ module _ (laws : JournalLaws) (cells : ℕ → Cell) (l : Ledger) (img : Blocks)
           three p q a b i e d = omega arith
 
       zero_in : (i : ℕ) → i ≡ 0 → img (ring_block l.geom (w.says.place + i)) ≡ block_at w.ring i
-      zero_in i e = ap (λ p. img (ring_block l.geom p)) (z r.place w.says.place i place e) ∙ first ∙ ap (block_at w.ring) (sym e)
-        where
-          z : (p q i : ℕ) → p ≡ q → i ≡ 0 → q + i ≡ p
-          z p q i e d = omega arith
+      zero_in i e = ap (λ p. img (ring_block l.geom p)) (omega arith) ∙ first ∙ ap (block_at w.ring) (sym e)
 
       head_in : (i j : ℕ) → i ≡ 1 + j → j < descriptor_count (length (entries r)) → img (ring_block l.geom (w.says.place + i)) ≡ block_at w.ring i
-      head_in i j e lt = ap (λ p. img (ring_block l.geom p)) (z r.place w.says.place i j place e) ∙ head j lt ∙ ap (block_at w.ring) (sym e)
-        where
-          z : (p q i j : ℕ) → p ≡ q → i ≡ 1 + j → q + i ≡ p + 1 + j
-          z p q i j e d = omega arith
+      head_in i j e lt = ap (λ p. img (ring_block l.geom p)) (omega arith) ∙ head j lt ∙ ap (block_at w.ring) (sym e)
 
       payload_at : (i j : ℕ) → i ≡ heads w.says + j → j < length w.says.payloads → img (ring_block l.geom (w.says.place + i)) ≡ block_at w.ring i
       payload_at i j e lt = ap (λ n. img (ring_block l.geom (w.says.place + n))) e ∙ payload j lt ∙ ap (block_at w.ring) (sym e)
@@ -180,24 +171,15 @@ module _ (laws : JournalLaws) (cells : ℕ → Cell) (l : Ledger) (img : Blocks)
   payload_same : (p i : ℕ) (blocks : List (List ℕ)) (es : List Entry) (b : ℕ) → ((j : ℕ) → j < length es → img (ring_block l.geom (p + j)) ≡ block_at blocks (i + j)) → payload_from l.geom img p es b ≡ payload_among blocks i es b
   payload_same p i blocks [] b at = refl
   payload_same p i blocks (e ∷ es) b at =
-      let first : img (ring_block l.geom p) ≡ block_at blocks i = ap (λ q. img (ring_block l.geom q)) (z p) ∙ at 0 (omega arith) ∙ ap (block_at blocks) (sym (z i)) in
+      let first : img (ring_block l.geom p) ≡ block_at blocks i = ap (λ q. img (ring_block l.geom q)) (omega arith) ∙ at 0 (omega arith) ∙ ap (block_at blocks) (sym (omega arith)) in
       ap (λ x. if e.block == b then Some (unescaped e.kind x) else payload_from l.geom img (p + 1) es b) first
       ∙ ap (λ x. if e.block == b then Some (unescaped e.kind (block_at blocks i)) else x)
-      (payload_same (p + 1) (i + 1) blocks es b (λ j lt. ap (λ q. img (ring_block l.geom q)) (s p j) ∙ at (suc j) (omega arith) ∙ ap (block_at blocks) (sym (s i j))))
-    where
-      z : (n : ℕ) → n ≡ n + 0
-      z n = omega arith
-
-      s : (n j : ℕ) → n + 1 + j ≡ n + suc j
-      s n j = omega arith
+      (payload_same (p + 1) (i + 1) blocks es b (λ j lt. ap (λ q. img (ring_block l.geom q)) (omega arith) ∙ at (suc j) (omega arith) ∙ ap (block_at blocks) (sym (omega arith))))
 
   -- so a payload of a record that stands is read as it was written
   pub payload_read : (h : Header) (w : WrittenRecord) (b : ℕ) → Stands l img h w → payload_of l.geom img w.says b ≡ payload_in w b
   payload_read h w b s = payload_same (w.says.place + heads w.says) (heads w.says) w.ring w.says.payloads b
-      (λ j lt. ap (λ q. img (ring_block l.geom q)) (three w.says.place (heads w.says) j) ∙ s.ring (heads w.says + j) (omega (arith, lt)))
-    where
-      three : (p a j : ℕ) → p + a + j ≡ p + (a + j)
-      three p a j = omega arith
+      (λ j lt. ap (λ q. img (ring_block l.geom q)) (omega arith) ∙ s.ring (heads w.says + j) (omega (arith, lt)))
 
   -- and what records that stand leave in a block is read so too
   pub cover_read : (h : Header) (ws : List WrittenRecord) (before : Option (List ℕ)) (b : ℕ) → ((k : ℕ) (w : WrittenRecord) → slice_get ws k ≡ Some w → Stands l img h w) → covered_by l.geom img before (all_say ws) b ≡ cover before ws b
