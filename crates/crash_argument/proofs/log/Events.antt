@@ -1,6 +1,6 @@
 -- What one more event does to a log and to the cells of its blocks.
-use Rattle.std.proofs.Common.{◌≡◌, ◌≢◌, ◌⊎◌, inl, inr, ⊎_elim, ℕ, false, ◌==◌, List, [], ◌∷◌, ◌++◌, refl, ◌∙◌, arith}
-use Rattle.std.proofs.lemmas.Bool.{or_cases, cond-false, or_left, or_right}
+use Rattle.std.proofs.Common.{◌≡◌, ◌≢◌, ◌⊎◌, inl, inr, ⊎_elim, ℕ, ◌==◌, List, [], ◌∷◌, ◌++◌, refl, ◌∙◌}
+use Rattle.std.proofs.lemmas.Bool.{or_cases, cond-false, ne_eqb, or_left, or_right}
 use Rattle.base_types.specs.Seal.{Blocks}
 use Rattle.disk_contract.specs.declared.event.Event.{Event}
 use Rattle.disk_contract.specs.declared.event.Event.TheVariants.{Wrote, Lost, Noticed}
@@ -32,14 +32,8 @@ IsNoticed-append t (Noticed u ∷ xs) ys h =
 
 -- a write to another block leaves a cell
 pub other_wrote : (base : Blocks) (log : List Event) (t a b : ℕ) (x : List ℕ) → a ≢ b → cell_of base (log ++ Wrote t a x ∷ []) b ≡ cell_of base log b
-other_wrote base log t a b x apart = cell_of-append base log _ b ∙ cond-false (a == b) _ _ (neq a b apart)
-  where
-    neq : (m n : ℕ) → m ≢ n → (m == n) ≡ false
-    neq m n d = grind arith
+other_wrote base log t a b x apart = cell_of-append base log _ b ∙ cond-false (a == b) _ _ (ne_eqb a b apart)
 
 -- and so does a lost one
 pub other_lost : (base : Blocks) (log : List Event) (a b : ℕ) (x : List ℕ) → a ≢ b → cell_of base (log ++ Lost a x ∷ []) b ≡ cell_of base log b
-other_lost base log a b x apart = cell_of-append base log _ b ∙ cond-false (a == b) _ _ (neq a b apart)
-  where
-    neq : (m n : ℕ) → m ≢ n → (m == n) ≡ false
-    neq m n d = grind arith
+other_lost base log a b x apart = cell_of-append base log _ b ∙ cond-false (a == b) _ _ (ne_eqb a b apart)

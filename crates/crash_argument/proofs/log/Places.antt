@@ -1,5 +1,5 @@
 -- Ring places are safe: what lies behind the records within the ring is none of theirs.
-use Rattle.std.proofs.Common.{◌≡◌, ◌≢◌, ◌⊎◌, inl, inr, ⊎_elim, ℕ, zero, suc, ◌+◌, ◌-◌, ◌%◌, ◌<◌, ◌≤◌, List, [], ◌∷◌, ◌++◌, length, Option, Some, None, slice_get, refl, sym, ◌∙◌, ap, subst, arith}
+use Rattle.std.proofs.Common.{◌≡◌, ◌≢◌, ◌⊎◌, inl, ⊎_elim, ℕ, zero, suc, ◌+◌, ◌-◌, ◌%◌, ◌<◌, ◌≤◌, List, [], ◌∷◌, ◌++◌, Some, slice_get, refl, sym, ◌∙◌, ap, subst, arith}
 use Rattle.std.proofs.lemmas.Bool.{cases_lt}
 use Rattle.std.proofs.lemmas.Nat.{mod_below}
 use Rattle.std.proofs.Math.Nat.{mod-add-mod, add-mod_right, mod-eq_of_lt}
@@ -8,6 +8,7 @@ use Rattle.disk_contract.specs.declared.event.Event.{Event}
 use Rattle.layout_journal.specs.Run.{Record, AreConsecutive, place_after, all_places, places}
 use Rattle.crash_argument.specs.Ledger.{Ledger, WrittenRecord, IsConsistentWith, all_say}
 use Rattle.crash_argument.specs.Steps.{IsFreePlace}
+use Rattle.crash_argument.proofs.log.Lists.{whole_list}
 
 -- two numbers less than j apart are apart modulo j
 pub apart : (a d j : ℕ) → 0 < d → d < j → a % j ≡ (a + d) % j → ⊥
@@ -48,13 +49,4 @@ free_behind j n p k (v ∷ ws) c small i (suc x) w is lt e = free_behind j (n + 
 pub behind_free : (base : Blocks) (log : List Event) (l : Ledger) → IsConsistentWith base log l → (k : ℕ) → all_places (all_say l.records) + k < l.geom.j → IsFreePlace l (place_after l.geom.j l.header.at (all_say l.records) + k)
 behind_free base log l keeps k small = λ x i w is lt same.
     free_behind l.geom.j l.header.start l.header.at k l.records
-    (subst (λ (ws : List WrittenRecord). AreConsecutive l.geom.j l.header.start l.header.at (all_say ws)) (whole l.header.start) (keeps.headers.fits l.header (inl refl)).consecutive) small i x w is lt (unplus _ _ same)
-  where
-    whole : (n : ℕ) → Rattle.std.proofs.Common.drop (n - n) l.records ≡ l.records
-    whole n = ap (λ m. Rattle.std.proofs.Common.drop m l.records) (z n)
-      where
-        z : (n : ℕ) → n - n ≡ 0
-        z n = omega arith
-
-    unplus : (a b : ℕ) → 2 + a ≡ 2 + b → a ≡ b
-    unplus a b e = omega arith
+    (subst (λ (ws : List WrittenRecord). AreConsecutive l.geom.j l.header.start l.header.at (all_say ws)) (whole_list l) (keeps.headers.fits l.header (inl refl)).consecutive) small i x w is lt (omega (arith, same))

@@ -1,5 +1,5 @@
 -- A mounted disk begins with point 0; and the last point is what has been issued.
-use Rattle.std.proofs.Common.{◌≡◌, inl, ℕ, zero, suc, ◌+◌, ◌-◌, ◌<◌, ◌≤◌, List, [], length, map, take, drop, refl, sym, ◌∙◌, ap, subst, arith}
+use Rattle.std.proofs.Common.{◌≡◌, inl, ℕ, ◌+◌, ◌-◌, ◌<◌, ◌≤◌, List, [], length, map, take, refl, sym, ◌∙◌, ap, subst, arith}
 use Rattle.std.proofs.lemmas.List.{take_all, drop_all}
 use Rattle.std.specs.List.{filter}
 use Rattle.base_types.specs.Seal.{Blocks}
@@ -37,16 +37,9 @@ mounted_safe laws base log g slot h mounted = record {
   keeps = keeps;
   points = points;
   low = omega arith;
-  window = subst (λ (t : ℕ). StandsBetween (session_at_mount g h log) base log (length log) t (next_number l - h.start)) (same h.start) (between_start laws (session_at_mount g h log) base log l keeps points);
+  window = subst (λ (t : ℕ). StandsBetween (session_at_mount g h log) base log (length log) t (next_number l - h.start)) {x = h.start - h.start} {y = 0} (omega arith) (between_start laws (session_at_mount g h log) base log l keeps points);
 }
   where
-    same : (n : ℕ) → n - n ≡ 0
-    same n = omega arith
-
-    none_left : (k : ℕ) → map (commit_says h.epoch) (all_say (drop k [])) ≡ []
-    none_left zero = refl
-    none_left (suc k) = refl
-
     l : Ledger
     l = ledger_at_mount (cell_of base log) g slot h
 
@@ -60,7 +53,7 @@ mounted_safe laws base log g slot h mounted = record {
       first = omega arith;
       late = omega arith;
       count = omega (arith, no_points g h log);
-      told = λ n from. ap (λ es. filter (is_from n) (commits_told g h.epoch es)) (drop_all (length log) log (omega arith)) ∙ sym (none_left (n - h.start));
+      told = λ n from. ap (λ es. filter (is_from n) (commits_told g h.epoch es)) (drop_all (length log) log (omega arith)) ∙ sym (ap (λ ws. map (commit_says h.epoch) (all_say ws)) (drop_all (n - h.start) [] (omega arith)));
       each = λ n low high. subst (λ (p : ℕ). IsPoint (session_at_mount g h log) base log p (live_part g (l.map_before n))) (sym (omega arith)) (first_point base log g h (live_part g (l.map_before n)) (issued_holds laws base log l keeps));
       noticed = λ p some le. absurd (omega arith);
     }

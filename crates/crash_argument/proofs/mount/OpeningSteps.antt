@@ -54,13 +54,17 @@ other_left base log new block b x w apart idle =
     subst (λ (l : List Event). IsLeft (cell_of base log b) (cell_of base l b)) (sym w.waited.log)
     (subst (λ (c : Cell). IsLeft c (cell_of base ((log ++ Wrote w.ticket block x ∷ []) ++ notices w.waited.tickets) b)) same (left_by_notices base (log ++ Wrote w.ticket block x ∷ []) b w.waited.tickets (ap (λ (c : Cell). c.pending) same ∙ idle)))
 
+-- eight bytes hold a number
+in8 : (v : ℕ) → v < 2 ^ 64 → Rattle.layout_journal.specs.Spelling.fits_in 8 v
+in8 v lt = omega arith
+
 -- the opening header can be written
 pub opening_is : (newest : Header) (last epoch n : ℕ) → IsWithinDisk n newest → epoch < 2 ^ 64 - 1 → newest.turn < 2 ^ 64 - 1 → last < 2 ^ 64 - 1 → IsHeader (opening_header newest last epoch)
 opening_is newest last epoch n within low turn sure = record {
-  epoch = next8 epoch low;
-  turn = next8 newest.turn turn;
-  first = next8 last sure;
-  sure = own8 last sure;
+  epoch = in8 (epoch + 1) (omega (arith, low));
+  turn = in8 (newest.turn + 1) (omega (arith, turn));
+  first = in8 (last + 1) (omega (arith, sure));
+  sure = in8 last (omega (arith, sure));
   epoch_from = omega arith;
   turn_from = omega arith;
   start_from = omega arith;
@@ -68,20 +72,14 @@ opening_is newest last epoch n within low turn sure = record {
   at = omega (arith, within.at);
   geom = within.geom;
 }
-  where
-    next8 : (v : ℕ) → v < 2 ^ 64 - 1 → Rattle.layout_journal.specs.Spelling.fits_in 8 (v + 1)
-    next8 v lt = omega arith
-
-    own8 : (v : ℕ) → v < 2 ^ 64 - 1 → Rattle.layout_journal.specs.Spelling.fits_in 8 v
-    own8 v lt = omega arith
 
 -- and so can the one that closes a run
 pub closing_is : (h : Header) (last count n : ℕ) → IsWithinDisk n h → last ≡ h.start + count - 1 → h.epoch < 2 ^ 64 → h.turn < 2 ^ 64 - 1 → h.start < 2 ^ 64 → last < 2 ^ 64 → IsHeader (closed_header h last)
 closing_is h last count n within is epoch turn start sure = record {
-  epoch = own8 h.epoch epoch;
-  turn = next8 h.turn turn;
-  first = own8 h.start start;
-  sure = own8 last sure;
+  epoch = in8 h.epoch (omega (arith, epoch));
+  turn = in8 (h.turn + 1) (omega (arith, turn));
+  first = in8 h.start (omega (arith, start));
+  sure = in8 last (omega (arith, sure));
   epoch_from = within.epoch;
   turn_from = omega arith;
   start_from = within.first;
@@ -89,12 +87,6 @@ closing_is h last count n within is epoch turn start sure = record {
   at = within.at;
   geom = within.geom;
 }
-  where
-    next8 : (v : ℕ) → v < 2 ^ 64 - 1 → Rattle.layout_journal.specs.Spelling.fits_in 8 (v + 1)
-    next8 v lt = omega arith
-
-    own8 : (v : ℕ) → v < 2 ^ 64 → Rattle.layout_journal.specs.Spelling.fits_in 8 v
-    own8 v lt = omega arith
 
 -- what the laws of the journal's blocks say: a header that can be written reads back
 module _ (laws : JournalLaws) (reads : (h : Header) → IsHeader h → header_of h.geom.n (header_block h) ≡ Some h)

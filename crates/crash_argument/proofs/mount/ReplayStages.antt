@@ -1,5 +1,5 @@
 -- While a mount replays, each honest image holds what was found.
-use Rattle.std.proofs.Common.{◌≡◌, ◌⊎◌, inl, inr, ⊎_elim, ℕ, suc, ◌+◌, ◌-◌, ◌%◌, ◌<◌, ◌≤◌, IsTrue, if◌then◌else◌, ◌==◌, List, [], ◌∷◌, ◌++◌, length, slice_get, Option, Some, None, refl, sym, ◌∙◌, ap, subst, arith}
+use Rattle.std.proofs.Common.{◌≡◌, ◌⊎◌, inl, inr, ⊎_elim, ℕ, ◌+◌, ◌-◌, ◌%◌, ◌<◌, ◌≤◌, IsTrue, if◌then◌else◌, ◌==◌, List, [], ◌∷◌, ◌++◌, length, slice_get, Option, Some, None, refl, sym, ◌∙◌, ap, subst, arith}
 use Rattle.std.proofs.lemmas.Option.{same_Some}
 use Rattle.base_types.specs.Seal.{Blocks, sha256}
 use Rattle.disk_contract.specs.declared.event.Event.{Event}
@@ -232,10 +232,7 @@ module _ (laws : JournalLaws) (n : ℕ) (base : Blocks) (log : List Event) (img 
           header = fresh;
           run = [];
           newest = newest;
-          is_run = record { consecutive = tt; whole = tt; let_in = tt; within = omega arith; longest = λ q can. strict fresh.epoch fresh.epoch (c.new_epoch q.place (commit_says fresh.epoch q) (sym (ap (λ (g : Geometry). commit_of g (img (ring_block g q.place))) c.geom ∙ ap (commit_of h.geom) (ring q.place)) ∙ can.whole.commit)) refl };
+          is_run = record { consecutive = tt; whole = tt; let_in = tt; within = omega arith; longest = λ q can. omega (arith, c.new_epoch q.place (commit_says fresh.epoch q) (sym (ap (λ (g : Geometry). commit_of g (img (ring_block g q.place))) c.geom ∙ ap (commit_of h.geom) (ring q.place)) ∙ can.whole.commit)) };
           each = λ b. subst (λ (g : Geometry). found_map at h run b ≡ live_part g (replayed g img []) b) (sym c.geom) (live_part_same h.geom (replayed h.geom at run) img g.shape (λ b live. at_home b (live_from h.geom (replayed h.geom at run) b live) (live_below h.geom (replayed h.geom at run) b live)) b);
         };
       }
-        where
-          strict : (a b : ℕ) → a < b → a ≡ b → ⊥
-          strict a b lt e = omega arith

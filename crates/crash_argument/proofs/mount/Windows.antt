@@ -13,7 +13,7 @@ use Rattle.crash_argument.specs.JournalLaws.{JournalLaws}
 use Rattle.crash_argument.specs.Ledger.{Ledger, HoldsUnder, StandsForOne, IsConsistentWith, next_number}
 use Rattle.crash_argument.specs.Opening.{AddsWaited, AddsDurable}
 use Rattle.crash_argument.specs.Points.{MountedSession, IsPoint, HoldsPoint, IsSafe, points_in}
-use Rattle.crash_argument.proofs.mount.OpeningMoments.{window_goes_on}
+use Rattle.crash_argument.proofs.mount.Moments.{window_goes_on}
 use Rattle.crash_argument.proofs.steps.WindowSteps.{last_is}
 use Rattle.crash_argument.proofs.theorem.Whole.{stands_for_one}
 

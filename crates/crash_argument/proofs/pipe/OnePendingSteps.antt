@@ -1,12 +1,12 @@
 -- One pending write a block: how it is kept by each event, and that the blocks that are to be written are idle.
-use Rattle.std.proofs.Common.{◌≡◌, ◌≢◌, ◌⊎◌, inl, inr, ⊎_elim, ℕ, zero, suc, ◌+◌, ◌-◌, ◌%◌, ◌<◌, ◌≤◌, ◌==◌, Bool, true, false, if◌then◌else◌, IsTrue, List, [], ◌∷◌, ◌++◌, length, slice_get, Some, None, refl, sym, ◌∙◌, ap, subst, arith, length-append}
+use Rattle.std.proofs.Common.{◌≡◌, ◌≢◌, ◌⊎◌, inl, inr, ⊎_elim, ℕ, ◌+◌, ◌-◌, ◌%◌, ◌<◌, ◌≤◌, ◌==◌, Bool, true, false, if◌then◌else◌, IsTrue, List, [], ◌∷◌, ◌++◌, length, slice_get, Some, None, refl, sym, ◌∙◌, ap, subst, arith, length-append}
 use Rattle.std.proofs.lemmas.Bool.{cases_eq, cases_lt, cases_Bool, both_ways, eq-eqb, false≢true, cond-true, cond-false}
 use Rattle.std.proofs.lemmas.Nat.{mod_below}
 use Rattle.std.proofs.lemmas.Option.{none-some, same_Some}
 use Rattle.base_types.specs.Seal.{Blocks}
 use Rattle.disk_contract.specs.declared.event.Event.{Event}
 use Rattle.disk_contract.specs.declared.event.Event.TheVariants.{Wrote, Lost, Noticed}
-use Rattle.disk_contract.specs.Cell.{Cell, Write, with_write, settle, from_ticket, is_ticket, cell_of, greatest_ticket, IsNoticed}
+use Rattle.disk_contract.specs.Cell.{Cell, Write, settle, from_ticket, is_ticket, cell_of, greatest_ticket, IsNoticed}
 use Rattle.layout_geometry.specs.Geometry.{Geometry, ring_block, bitmap_start}
 use Rattle.layout_journal.specs.declared.header.Header.{Header}
 use Rattle.layout_journal.specs.declared.entry.Entry.{Entry}
@@ -22,7 +22,7 @@ use Rattle.crash_argument.proofs.log.Events.{cell_of-append, other_wrote, other_
 use Rattle.crash_argument.proofs.log.Tickets.{noticed_done}
 use Rattle.crash_argument.proofs.log.LastWrites.{last_stays, last_new}
 use Rattle.crash_argument.proofs.log.Adds.{settles_one}
-use Rattle.crash_argument.proofs.log.Lists.{get_drop, get_front, get_behind, get_some, decide_below, inspect}
+use Rattle.crash_argument.proofs.log.Lists.{get_drop, get_front, get_behind, get_some, decide_below, inspect, last_or}
 use Rattle.crash_argument.proofs.pipe.InPlace.{numbered, within}
 use Rattle.crash_argument.proofs.theorem.Core.{live_from}
 
@@ -69,16 +69,21 @@ module _ (base : Blocks) (log : List Event) (l : Ledger) (p : PipelineData) (uw 
     none = o.none;
   }
 
-  -- records become known
-  pub one_known : (number : ℕ) → IsConsistentWith base log l → AreNoticed (cell_of base log) l number → HasOnePending base log (with_known l number) p uw
-  one_known number keeps are = record {
+  -- where the log stays, and what is said of the blocks that aren't idle goes on
+  one_on : (known : ℕ) (q : PipelineData) → ((b : ℕ) → IsFreshInNew l b ⊎ IsOnItsWay log p b → IsIdle (cell_of base log b) ⊎ IsFreshInNew (with_known l known) b ⊎ IsOnItsWay log q b)
+      → ((k b t : ℕ) → slice_get q.home k ≡ Some (b, t) → b < q.sent) → (q.batch ≡ 0 → q.home ≡ []) → HasOnePending base log (with_known l known) q uw
+  one_on known q goes below none = record {
     one = o.one;
     slot = o.slot;
     ring = o.ring;
-    block = λ b low e. ⊎_elim inl (λ r. ⊎_elim (λ f. fresh b f) (λ w. inr (inr w)) r) (o.block b low e);
-    below = o.below;
-    none = o.none;
+    block = λ b low e. ⊎_elim inl (goes b) (o.block b low e);
+    below = below;
+    none = none;
   }
+
+  -- records become known
+  pub one_known : (number : ℕ) → IsConsistentWith base log l → AreNoticed (cell_of base log) l number → HasOnePending base log (with_known l number) p uw
+  one_known number keeps are = one_on number p (λ b r. ⊎_elim (fresh b) (λ w. inr (inr w)) r) o.below o.none
     where
       fresh : (b : ℕ) → IsFreshInNew l b → IsIdle (cell_of base log b) ⊎ IsFreshInNew (with_known l number) b ⊎ IsOnItsWay log p b
       fresh b f = ⊎_elim
@@ -87,35 +92,17 @@ module _ (base : Blocks) (log : List Event) (l : Ledger) (p : PipelineData) (uw 
 
   -- the batch is taken, and all of it is sent
   pub one_batch : (count : ℕ) → p.batch ≡ 0 → HasOnePending base log l (with_batch p count) uw
-  one_batch count none = record {
-    one = o.one;
-    slot = o.slot;
-    ring = o.ring;
-    block = λ b low e. ⊎_elim inl (λ r. ⊎_elim (λ f. inr (inl f)) (λ w. absurd (none-some (b, w.ticket) (sym (ap (λ (hs : List (ℕ × ℕ)). slice_get hs w.at) (o.none none)) ∙ w.listed))) r) (o.block b low e);
-    below = λ k b t is. absurd (none-some (b, t) is);
-    none = λ e. refl;
-  }
+  one_batch count none = one_on l.known (with_batch p count)
+      (λ b r. ⊎_elim (λ f. inr (inl f)) (λ w. absurd (none-some (b, w.ticket) (sym (ap (λ (hs : List (ℕ × ℕ)). slice_get hs w.at) (o.none none)) ∙ w.listed))) r)
+      (λ k b t is. absurd (none-some (b, t) is)) (λ e. refl)
 
   pub one_sent : (n : ℕ) → p.sent ≤ n → HasOnePending base log l (with_sent p n) uw
-  one_sent n le = record {
-    one = o.one;
-    slot = o.slot;
-    ring = o.ring;
-    block = λ b low e. ⊎_elim inl (λ r. ⊎_elim (λ f. inr (inl f)) (λ w. inr (inr (record { at = w.at; ticket = w.ticket; bytes = w.bytes; listed = w.listed; last = w.last }))) r) (o.block b low e);
-    below = λ k b t is. omega (arith, o.below k b t is, le);
-    none = o.none;
-  }
+  one_sent n le = one_on l.known (with_sent p n) (λ b r. inr (⊎_elim inl (λ w. inr (record { at = w.at; ticket = w.ticket; bytes = w.bytes; listed = w.listed; last = w.last })) r)) (λ k b t is. omega (arith, o.below k b t is, le)) o.none
 
   -- the batch is at home
   pub one_placed : IsHomeNoticed log p.home → HasOnePending base log l (with_placed p) uw
-  one_placed home = record {
-    one = o.one;
-    slot = o.slot;
-    ring = o.ring;
-    block = λ b low e. ⊎_elim inl (λ r. ⊎_elim (λ f. inr (inl f)) (λ w. inl (noticed_done base log b w.ticket w.bytes w.last (home w.at b w.ticket w.listed)).pending) r) (o.block b low e);
-    below = λ k b t is. absurd (none-some (b, t) is);
-    none = λ e. refl;
-  }
+  one_placed home = one_on l.known (with_placed p) (λ b r. ⊎_elim (λ f. inr (inl f)) (λ w. inl (noticed_done base log b w.ticket w.bytes w.last (home w.at b w.ticket w.listed)).pending) r)
+      (λ k b t is. absurd (none-some (b, t) is)) (λ e. refl)
 
   -- what may be written is idle: a free place, a block for a fresh write, and one that has to go home
   pub fresh_idle : (b : ℕ) → IsConsistentWith base log l → FreshAreNew l → bitmap_start l.geom ≤ b → is_one_of b uw ≡ false → IsDead l b → IsNotOnItsWay log p b → IsIdle (cell_of base log b)
@@ -202,12 +189,6 @@ module _ (base : Blocks) (log : List Event) (l : Ledger) (p : PipelineData) (uw 
 
       ring_low : (b k j : ℕ) → b ≡ 2 + k → k < j → j + 2 ≤ b → ⊥
       ring_low b k j e lt le = omega (arith, e, lt, le)
-
-      last_or : (xs : List (ℕ × ℕ)) (y : ℕ × ℕ) (k : ℕ) (z : ℕ × ℕ) → slice_get (xs ++ y ∷ []) k ≡ Some z → (slice_get xs k ≡ Some z) ⊎ (y ≡ z)
-      last_or [] y zero z is = inr (same_Some _ _ is)
-      last_or [] y (suc k) z is = absurd (none-some z is)
-      last_or (v ∷ xs) y zero z is = inl is
-      last_or (v ∷ xs) y (suc k) z is = last_or xs y k z is
 
       own : (c : ℕ) → b ≡ c → IsOnItsWay (log ++ Wrote t b x ∷ []) (with_home p b t) c
       own c same = record { at = length p.home + 0; ticket = t; bytes = x; listed = get_behind p.home ((b, t) ∷ []) 0 ∙ ap (λ n. Some (n, t)) same; last = subst (λ n. IsLastWrite (log ++ Wrote t b x ∷ []) n t x) same (last_new log b t x high new) }

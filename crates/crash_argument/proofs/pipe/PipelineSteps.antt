@@ -1,5 +1,5 @@
 -- The steps of what a session's data say: a notice, records that become durable, a batch that is at home, a header that is durable, and the header that may be written.
-use Rattle.std.proofs.Common.{◌≡◌, ◌⊎◌, inl, inr, ⊎_elim, ℕ, zero, suc, ◌+◌, ◌-◌, ◌%◌, ◌<◌, ◌≤◌, nat_le, ◌==◌, Bool, true, false, if◌then◌else◌, IsTrue, List, [], ◌∷◌, ◌++◌, length, take, drop, slice_get, Option, Some, None, refl, sym, ◌∙◌, ap, subst, arith, length-append, length-drop, append_assoc}
+use Rattle.std.proofs.Common.{◌≡◌, ◌⊎◌, inl, inr, ⊎_elim, ℕ, zero, suc, ◌+◌, ◌-◌, ◌%◌, ◌<◌, ◌≤◌, nat_le, ◌==◌, Bool, true, false, if◌then◌else◌, IsTrue, List, [], ◌∷◌, ◌++◌, length, take, drop, slice_get, Some, None, refl, sym, ◌∙◌, ap, subst, arith, length-append, length-drop, append_assoc}
 use Rattle.std.proofs.lemmas.Bool.{cases_lt, cases_Bool, false≢true, eqb-true, lt-leb, cond-true, cond-false}
 use Rattle.std.proofs.lemmas.Option.{none-some, same_Some}
 use Rattle.base_types.specs.Seal.{Blocks}
@@ -10,42 +10,20 @@ use Rattle.crash_argument.proofs.log.Events.{cell_of-append}
 use Rattle.layout_geometry.specs.Geometry.{data_start}
 use Rattle.layout_journal.specs.declared.header.Header.{Header}
 use Rattle.layout_journal.specs.Layout.{header_of}
-use Rattle.layout_journal.specs.Run.{Record, places, all_places, place_after, AreConsecutive, is_live, names_block, or_else}
-use Rattle.crash_argument.specs.Ledger.{Ledger, WrittenRecord, IsConsistentWith, FitsRecords, from_start, next_number, all_say, cover, payload_in, latest, last_of}
+use Rattle.layout_journal.specs.Run.{Record, places, all_places, place_after, AreConsecutive, is_live}
+use Rattle.crash_argument.specs.Ledger.{Ledger, WrittenRecord, IsConsistentWith, FitsRecords, from_start, next_number, all_say, cover, latest, last_of}
 use Rattle.crash_argument.specs.Steps.{AreNoticed, with_known, IsDurable, with_durable_header, MayWriteHeader, MayWriteInPlace}
 use Rattle.crash_argument.specs.LastWrites.{HasTickets, IsDead, is_among}
 use Rattle.crash_argument.specs.PipelineData.{PipelineData, DataAgree, IsSettledIn, StaysLive, LeavesAlone, AllNoticed, AreAllNoticed, AreNewlyNoticed, IsHomeNoticed, with_placed, with_durable, still_waiting, next_header}
-use Rattle.crash_argument.proofs.log.Lists.{get_some, get_drop, front_get, get_behind, say_append, say_length, places_append, place_after-append}
+use Rattle.crash_argument.proofs.log.Lists.{whole_list, get_some, get_drop, front_get, get_behind, say_append, say_length, places_append, place_after-append}
 use Rattle.crash_argument.proofs.log.Tickets.{noticed_done, done_notice}
 use Rattle.crash_argument.proofs.log.LastWrites.{last_stays}
-use Rattle.crash_argument.proofs.steps.HeaderSteps.{whole_list, cover-parts, count}
+use Rattle.crash_argument.proofs.steps.HeaderSteps.{cover-parts, leave_or_decide, alone_leaves, count}
+use Rattle.crash_argument.proofs.pipe.Agree.{knows_with, knows_under}
 use Rattle.crash_argument.proofs.pipe.InPlace.{numbered, within, home_may}
 use Rattle.crash_argument.proofs.theorem.Core.{live_from, live_below}
 use Rattle.std.proofs.lemmas.List.{drop-append-le, take-append-drop}
 use Rattle.std.proofs.Math.Seq.{take-append_seam, drop-append_seam}
-
--- these records leave the block alone, or they decide by themselves
-pub leave_or_decide : (ws : List WrittenRecord) (b : ℕ) → ((k : ℕ) (w : WrittenRecord) → slice_get ws k ≡ Some w → LeavesAlone w b) ⊎ ((o : Option (List ℕ)) → cover o ws b ≡ cover None ws b)
-leave_or_decide [] b = inl (λ k w e. cc)
-leave_or_decide (w ∷ ws) b = by (payload_in w b) (names_block w.says.fresh b) refl refl (leave_or_decide ws b)
-  where
-    alone : payload_in w b ≡ None → names_block w.says.fresh b ≡ false → ((k : ℕ) (v : WrittenRecord) → slice_get ws k ≡ Some v → LeavesAlone v b) → (k : ℕ) (v : WrittenRecord) → slice_get (w ∷ ws) k ≡ Some v → LeavesAlone v b
-    alone p f rest zero v e = subst (λ (u : WrittenRecord). LeavesAlone u b) (same_Some _ _ e) (record { paid = p; fresh = f })
-    alone p f rest (suc k) v e = rest k v e
-
-    by : (p : Option (List ℕ)) (n : Bool) → payload_in w b ≡ p → names_block w.says.fresh b ≡ n → ((k : ℕ) (v : WrittenRecord) → slice_get ws k ≡ Some v → LeavesAlone v b) ⊎ ((o : Option (List ℕ)) → cover o ws b ≡ cover None ws b)
-        → ((k : ℕ) (v : WrittenRecord) → slice_get (w ∷ ws) k ≡ Some v → LeavesAlone v b) ⊎ ((o : Option (List ℕ)) → cover (or_else (payload_in w b) (if names_block w.says.fresh b then None else o)) ws b ≡ cover (or_else (payload_in w b) (if names_block w.says.fresh b then None else None)) ws b)
-    by (Some x) n pe ne rest = inr (λ o. ap (λ q. cover (or_else q (if names_block w.says.fresh b then None else o)) ws b) pe ∙ sym (ap (λ q. cover (or_else q (if names_block w.says.fresh b then None else None)) ws b) pe))
-    by None true pe ne rest = inr (λ o. ap (λ q. cover (or_else (payload_in w b) q) ws b) (cond-true (names_block w.says.fresh b) None o ne) ∙ sym (ap (λ q. cover (or_else (payload_in w b) q) ws b) (cond-true (names_block w.says.fresh b) None None ne)))
-    by None false pe ne rest = ⊎_elim (λ all. inl (alone pe ne all))
-        (λ decide. inr (λ o. decide (or_else (payload_in w b) (if names_block w.says.fresh b then None else o)) ∙ sym (decide (or_else (payload_in w b) (if names_block w.says.fresh b then None else None))))) rest
-
--- records that leave a block alone change nothing of it
-pub alone_leaves : (ws : List WrittenRecord) (b : ℕ) (o : Option (List ℕ)) → ((k : ℕ) (w : WrittenRecord) → slice_get ws k ≡ Some w → LeavesAlone w b) → cover o ws b ≡ o
-alone_leaves [] b o all = refl
-alone_leaves (w ∷ ws) b o all =
-    let first = all 0 w refl in
-    ap (λ q. cover (or_else q (if names_block w.says.fresh b then None else o)) ws b) first.paid ∙ ap (λ q. cover q ws b) (cond-false (names_block w.says.fresh b) None o first.fresh) ∙ alone_leaves ws b o (λ k v e. all (suc k) v e)
 
 -- a ticket among noticed ones is noticed
 among_noticed : (log : List Event) (ts : List ℕ) (t : ℕ) → AllNoticed log ts → IsTrue (is_among ts t) → IsNoticed t log
@@ -66,43 +44,16 @@ module _ (base : Blocks) (log : List Event) (l : Ledger) (keeps : IsConsistentWi
 
   -- all that the data say holds on after it
   pub knows_notice : (t : ℕ) → DataAgree base (log ++ Noticed t ∷ []) l p
-  knows_notice t = record {
-    count = k.count;
-    tickets = λ i w ts is at from. tickets_stay t w ts (k.tickets i w ts is at from);
-    pending = λ h e. let o = k.pending h e in record { number = o.number; bytes = o.bytes; is_ticket = o.is_ticket; reads = o.reads; last = last_stays log (Noticed t ∷ []) _ o.number _ tt o.last };
-    not_pending = k.not_pending;
-    new = k.new;
-    placed = k.placed;
-    batch = k.batch;
-    rest = k.rest;
-    is_batch = k.is_batch;
-    placed_is = k.placed_is;
-    batch_is = k.batch_is;
-    home = λ b x sent covered on. let o = k.home b x sent covered on in (o.0, o.1, o.2, last_stays log (Noticed t ∷ []) b o.1 x tt o.3);
-    at_home = λ b x covered on. subst (λ (c : Cell). IsSettledIn c x) (sym (cell_of-append base log (Noticed t ∷ []) b)) (done_notice t (cell_of base log b) x (k.at_home b x covered on));
-    next_place = k.next_place;
-    taken = k.taken;
-    waiting = k.waiting;
-  }
+  knows_notice t = knows_with k (log ++ Noticed t ∷ []) p.tickets p.home p.sent p.waiting k.count (λ i w ts is at from. tickets_stay t w ts (k.tickets i w ts is at from))
+      (λ h e. let o = k.pending h e in record { number = o.number; bytes = o.bytes; is_ticket = o.is_ticket; reads = o.reads; last = last_stays log (Noticed t ∷ []) _ o.number _ tt o.last })
+      (λ b x sent covered on. let o = k.home b x sent covered on in (o.0, o.1, o.2, last_stays log (Noticed t ∷ []) b o.1 x tt o.3))
+      (λ b x covered on. subst (λ (c : Cell). IsSettledIn c x) (sym (cell_of-append base log (Noticed t ∷ []) b)) (done_notice t (cell_of base log b) x (k.at_home b x covered on))) k.waiting
 
   -- records of which all is noticed
   ticket_of : (i : ℕ) (w : WrittenRecord) → slice_get l.records i ≡ Some w → (ts : List ℕ) × (slice_get p.tickets i ≡ Some ts)
   ticket_of i w is = get_some p.tickets i (omega (arith, k.count, within base log l keeps k.new i w is))
 
-  -- once the tickets of all before a number are noticed, these records are
-  pub durable_noticed : (number : ℕ) → l.known ≤ number → number ≤ next_number l → AreAllNoticed log l p number → AreNoticed (cell_of base log) l number
-  durable_noticed number from upto all = record {
-    from = from;
-    upto = upto;
-    ring = λ i j w is low lt. ⊎_elim (λ old. (keeps.each i w is).intact old j lt)
-        (λ new. let ts = ticket_of i w is in let o = (k.tickets i w ts.0 is ts.1 new).ring j lt in (noticed_done base log _ o.0 _ o.2 (among_noticed log ts.0 o.0 (all i w ts.0 is ts.1 low) o.1)).pending)
-        (cases_lt w.says.number l.known);
-    fresh = λ i j w e is low late at. ⊎_elim (λ old. (keeps.each i w is).intact_fresh late old j e at)
-        (λ new. let ts = ticket_of i w is in let o = (k.tickets i w ts.0 is ts.1 new).fresh late j e at in (noticed_done base log _ o.0 _ o.2 (among_noticed log ts.0 o.0 (all i w ts.0 is ts.1 low) o.1)).pending)
-        (cases_lt w.says.number l.known);
-  }
-
-  -- of those that are known already nothing need be asked
+  -- once the tickets of the records before a number are noticed, these records are: of those that are known already nothing need be asked
   pub newly_noticed : (number : ℕ) → l.known ≤ number → number ≤ next_number l → AreNewlyNoticed log l p number → AreNoticed (cell_of base log) l number
   newly_noticed number from upto all = record {
     from = from;
@@ -115,26 +66,14 @@ module _ (base : Blocks) (log : List Event) (l : Ledger) (keeps : IsConsistentWi
         (cases_lt w.says.number l.known);
   }
 
+  -- so they are where all tickets are noticed
+  pub durable_noticed : (number : ℕ) → l.known ≤ number → number ≤ next_number l → AreAllNoticed log l p number → AreNoticed (cell_of base log) l number
+  durable_noticed number from upto all = newly_noticed number from upto (λ i w ts is at new. all i w ts is at)
+
   -- and what the data say holds on when they are known
   pub knows_known : (number : ℕ) → l.known ≤ number → DataAgree base log (with_known l number) p
-  knows_known number from = record {
-    count = k.count;
-    tickets = λ i w ts is at low. let h = k.tickets i w ts is at (omega (arith, from, low)) in record { ring = h.ring; fresh = h.fresh };
-    pending = λ h e. let o = k.pending h e in record { number = o.number; bytes = o.bytes; is_ticket = o.is_ticket; reads = o.reads; last = o.last };
-    not_pending = k.not_pending;
-    new = record { live = k.new.live; dead = k.new.dead; paid = k.new.paid; kept = k.new.kept };
-    placed = k.placed;
-    batch = k.batch;
-    rest = k.rest;
-    is_batch = record { split = k.is_batch.split; sure = k.is_batch.sure; from = k.is_batch.from };
-    placed_is = k.placed_is;
-    batch_is = k.batch_is;
-    home = λ b x sent covered on. k.home b x sent covered (record { live = on.live; alone = on.alone });
-    at_home = λ b x covered on. k.at_home b x covered (record { live = on.live; alone = on.alone });
-    next_place = k.next_place;
-    taken = k.taken;
-    waiting = record { each = k.waiting.each };
-  }
+  knows_known number from =
+      knows_under k l.next number p.pending from (λ h e. let o = k.pending h e in record { number = o.number; bytes = o.bytes; is_ticket = o.is_ticket; reads = o.reads; last = o.last }) k.not_pending k.is_batch.from
 
   -- where the records of the batch stand
   pub in_batch : (i : ℕ) (w : WrittenRecord) → slice_get l.records i ≡ Some w → l.header.start + length k.placed ≤ w.says.number → w.says.number < l.header.start + length k.placed + length k.batch → slice_get k.batch (i - length k.placed) ≡ Some w

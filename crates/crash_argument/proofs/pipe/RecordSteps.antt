@@ -1,7 +1,7 @@
 -- A record that is written block by block: each block may be written, and at the end the commit block may.
 use Rattle.std.proofs.Common.{◌≡◌, ◌≢◌, ◌⊎◌, inl, inr, ⊎_elim, ℕ, zero, suc, ◌+◌, ◌-◌, ◌%◌, ◌<◌, ◌≤◌, IsTrue, List, [], ◌∷◌, ◌++◌, length, slice_get, Some, Result, Ok, Err, refl, sym, ◌∙◌, ap, subst, arith}
 use Rattle.std.proofs.lemmas.Bool.{cases_lt}
-use Rattle.std.proofs.lemmas.Option.{none-some, same_Some}
+use Rattle.std.proofs.lemmas.Option.{none-some, same_Some, slice_get_within}
 use Rattle.base_types.specs.Seal.{Blocks}
 use Rattle.disk_contract.specs.declared.event.Event.{Event}
 use Rattle.disk_contract.specs.declared.event.Event.TheVariants.{Wrote, Lost}
@@ -21,7 +21,7 @@ use Rattle.crash_argument.specs.LastWrites.{FreshAreNew, HasTickets}
 use Rattle.crash_argument.specs.Recording.{IsNextRecord, IsPartlyWritten, IsAmongLast, PartWritten, IsInLedger, RecordWritten}
 use Rattle.crash_argument.proofs.theorem.Images.{in_ring}
 use Rattle.crash_argument.proofs.steps.Steps.{at_old, at_new}
-use Rattle.crash_argument.proofs.log.Lists.{get_some, get_within, named_at, in_longer}
+use Rattle.crash_argument.proofs.log.Lists.{get_some, named_at, in_longer}
 use Rattle.crash_argument.proofs.log.Adds.{Adds, adds_wrote}
 use Rattle.crash_argument.proofs.log.LastWrites.{last_latest, last_logged, last_new, among_stays, among_own}
 use Rattle.crash_argument.proofs.log.Places.{apart, behind_free}
@@ -53,7 +53,7 @@ module _ (laws : JournalLaws) (base : Blocks) (log : List Event) (l : Ledger) (k
 
   -- no record of the ledger has the next number
   not_there : (n : ℕ) (v : WrittenRecord) → n ≡ next_number l → slice_get l.records (n - l.header.start) ≡ Some v → ⊥
-  not_there n v e is = omega (arith, e, get_within l.records (n - l.header.start) v is)
+  not_there n v e is = omega (arith, e, slice_get_within l.records (n - l.header.start) v is)
 
   -- so each such block may be written to its place
   pub ring_may : (i : ℕ) → 0 < i → i < places w.says → MayWriteInRing l (w.says.place + i) (block_at w.ring i)
@@ -104,7 +104,7 @@ module _ (laws : JournalLaws) (base : Blocks) (log : List Event) (l : Ledger) (k
     ring_logged = λ i some lt. inl (last_logged log _ (u.ring i some lt).0 _ (u.ring i some lt).2);
     in_place = high_fresh;
     fresh = fresh_is;
-    fresh_logged = λ i e at. inl (last_logged log _ (u.fresh i e (get_within w.says.fresh i e at) at).0 _ (u.fresh i e (get_within w.says.fresh i e at) at).2);
+    fresh_logged = λ i e at. inl (last_logged log _ (u.fresh i e (slice_get_within w.says.fresh i e at) at).0 _ (u.fresh i e (slice_get_within w.says.fresh i e at) at).2);
     writing = u.writing;
     paid = may.paid;
     laid = λ b none named. let p = named_at w.says.fresh b named in ap m (sym p.3) ∙ may.laid p.0 p.1 p.2 ∙ sym (fresh_is p.0 p.1 p.2) ∙ ap (λ c. latest (cell_of base log c)) p.3;
@@ -115,7 +115,7 @@ module _ (laws : JournalLaws) (base : Blocks) (log : List Event) (l : Ledger) (k
       z p = omega arith
 
       fresh_is : (i : ℕ) (e : Entry) → slice_get w.says.fresh i ≡ Some e → latest (cell_of base log e.block) ≡ block_at w.fresh i
-      fresh_is i e at = let p = u.fresh i e (get_within w.says.fresh i e at) at in last_latest base log e.block p.0 _ p.2
+      fresh_is i e at = let p = u.fresh i e (slice_get_within w.says.fresh i e at) at in last_latest base log e.block p.0 _ p.2
 
   -- one block more
   pub under_fresh : (n i issued : ℕ) (e : Entry) (tickets : List ℕ) → greatest_ticket log < n → ¬ IsNoticed n log → slice_get w.says.fresh i ≡ Some e → IsPartlyWritten base log l p w tickets i issued
@@ -183,7 +183,7 @@ module _ (laws : JournalLaws) (base : Blocks) (log : List Event) (l : Ledger) (k
       → HasTickets (log ++ Wrote n (ring_block l.geom w.says.place) (block_at w.ring 0) ∷ []) (with_record l w m) w (tickets ++ n ∷ [])
   own_tickets n tickets high none u = record {
     ring = λ i lt. first_or i lt;
-    fresh = λ late i e at. among_stays log (Wrote n (ring_block l.geom w.says.place) (block_at w.ring 0)) tickets (n ∷ []) e.block _ (λ same. fresh_ring i w.says.place e at (sym same), tt) (u.fresh i e (get_within w.says.fresh i e at) at);
+    fresh = λ late i e at. among_stays log (Wrote n (ring_block l.geom w.says.place) (block_at w.ring 0)) tickets (n ∷ []) e.block _ (λ same. fresh_ring i w.says.place e at (sym same), tt) (u.fresh i e (slice_get_within w.says.fresh i e at) at);
   }
     where
       first_or : (i : ℕ) → i < places w.says → IsAmongLast (log ++ Wrote n (ring_block l.geom w.says.place) (block_at w.ring 0) ∷ []) (tickets ++ n ∷ []) (ring_block l.geom (w.says.place + i)) (block_at w.ring i)

@@ -1,7 +1,7 @@
 -- An image stands for the map after some of the records.
 use Rattle.std.proofs.Common.{◌≡◌, ◌⊎◌, inl, inr, ⊎_elim, ℕ, zero, suc, ◌+◌, ◌-◌, ◌/◌, ◌%◌, ◌<◌, ◌≤◌, nat_le, nat_lt, ◌&&◌, ◌||◌, slice_index, Bool, true, false, IsTrue, if◌then◌else◌, ◌==◌, List, [], ◌∷◌, length, Option, Some, None, slice_get, refl, sym, ◌∙◌, ap, subst, arith, length-append}
 use Rattle.std.proofs.lemmas.Bool.{cases_lt, cases_Bool, and_from, and_parts, leb-true, ltb-true, le-leb, lt-ltb, le-ltb, cond-true, cond-false, or_left}
-use Rattle.std.proofs.lemmas.Option.{none-some, same_Some}
+use Rattle.std.proofs.lemmas.Option.{none-some, same_Some, slice_get_within}
 use Rattle.std.specs.Int.{bit_at}
 use Rattle.base_types.specs.Seal.{Blocks, sha256}
 use Rattle.disk_contract.specs.Cell.{Cell}
@@ -16,7 +16,7 @@ use Rattle.layout_bytes.specs.Bitmap.{is_set}
 use Rattle.layout_journal.specs.Run.{entries_fit, Newest, Record, entries, heads, places, commit_says, descriptor_says, Fits, IsWhole, AreConsecutive, AreWhole, AreLetIn, payload_from, payload_of, names_block, or_else, covered_by, is_live, live_part}
 use Rattle.crash_argument.specs.JournalLaws.{JournalLaws}
 use Rattle.crash_argument.specs.Ledger.{Ledger, WrittenRecord, IsIssued, IsSpelled, IsStanding, FitsRecords, HeadersAlternate, NumbersUsedOnce, block_at, all_say, payload_among, payload_in, cover}
-use Rattle.crash_argument.proofs.log.Lists.{inspect, bytes_same, decide_below, get_some, get_within}
+use Rattle.crash_argument.proofs.log.Lists.{inspect, bytes_same, decide_below, get_some}
 use Rattle.crash_argument.proofs.theorem.Images.{IsFaithful, idle_settled, idle_latest, sealed_stands}
 
 -- the newest header of the image is a standing one
@@ -56,7 +56,7 @@ module _ (laws : JournalLaws) (cells : ℕ → Cell) (l : Ledger) (img : Blocks)
   -- and so is whether all blocks of a record do
   pub decide_stands : (h : Header) (w : WrittenRecord) → Stands l img h w ⊎ ¬ Stands l img h w
   decide_stands h w =
-      ⊎_elim (λ ring. ⊎_elim (λ late. ⊎_elim (λ all. inl (record { ring = ring; fresh = λ _ i e is. all i (get_within w.says.fresh i e is) e is })) (λ some. inr (λ s. some.2 (λ e is. s.fresh late some.0 e is))) (decide_below (λ i. (e : Entry) → slice_get w.says.fresh i ≡ Some e → img e.block ≡ block_at w.fresh i) (decide_fresh w) (length w.says.fresh)))
+      ⊎_elim (λ ring. ⊎_elim (λ late. ⊎_elim (λ all. inl (record { ring = ring; fresh = λ _ i e is. all i (slice_get_within w.says.fresh i e is) e is })) (λ some. inr (λ s. some.2 (λ e is. s.fresh late some.0 e is))) (decide_below (λ i. (e : Entry) → slice_get w.says.fresh i ≡ Some e → img e.block ≡ block_at w.fresh i) (decide_fresh w) (length w.says.fresh)))
       (λ early. inl (record { ring = ring; fresh = λ late. absurd (omega arith) })) (cases_lt h.sure w.says.number))
       (λ some. inr (λ s. some.2 (s.ring some.0 some.1)))
       (decide_below (λ i. img (ring_block l.geom (w.says.place + i)) ≡ block_at w.ring i) (λ i. bytes_same _ _) (places w.says))
@@ -65,22 +65,13 @@ module _ (laws : JournalLaws) (cells : ℕ → Cell) (l : Ledger) (img : Blocks)
   pub stands_whole : (h : Header) (w : WrittenRecord) → h.geom ≡ l.geom → h.epoch ≡ l.epoch → IsSpelled l.geom l.epoch w → Stands l img h w → IsWhole img h w.says
   stands_whole h w geom epoch spelled s = record {
     fit = subst (λ (g : Geometry). IsTrue (entries_fit g w.says)) (sym geom) spelled.fit;
-    commit = ap (λ g. commit_of g (img (ring_block g w.says.place))) geom ∙ ap (λ p. commit_of l.geom (img (ring_block l.geom p))) (plus_zero w.says.place) ∙ ap (commit_of l.geom) (s.ring 0 (omega arith)) ∙ spelled.commit ∙ ap (λ n. Some (commit_says n w.says)) (sym epoch);
-    descriptors = λ i lt. ap (λ g. descriptor_of g (img (ring_block g (w.says.place + 1 + i)))) geom ∙ ap (λ p. descriptor_of l.geom (img (ring_block l.geom p))) (add_assoc1 w.says.place i) ∙ ap (descriptor_of l.geom) (s.ring (1 + i) (omega arith)) ∙ spelled.descriptors i lt ∙ ap (λ n. Some (descriptor_says n w.says i)) (sym epoch);
+    commit = ap (λ g. commit_of g (img (ring_block g w.says.place))) geom ∙ ap (λ p. commit_of l.geom (img (ring_block l.geom p))) {x = w.says.place} {y = w.says.place + 0} (omega arith) ∙ ap (commit_of l.geom) (s.ring 0 (omega arith)) ∙ spelled.commit ∙ ap (λ n. Some (commit_says n w.says)) (sym epoch);
+    descriptors = λ i lt. ap (λ g. descriptor_of g (img (ring_block g (w.says.place + 1 + i)))) geom ∙ ap (λ p. descriptor_of l.geom (img (ring_block l.geom p))) {x = w.says.place + 1 + i} {y = w.says.place + (1 + i)} (omega arith) ∙ ap (descriptor_of l.geom) (s.ring (1 + i) (omega arith)) ∙ spelled.descriptors i lt ∙ ap (λ n. Some (descriptor_says n w.says i)) (sym epoch);
     payloads = λ i e is.
-        let at : img (ring_block h.geom (w.says.place + heads w.says + i)) ≡ block_at w.ring (heads w.says + i) = ap (λ (g : Geometry). img (ring_block g (w.says.place + heads w.says + i))) geom ∙ ap (λ p. img (ring_block l.geom p)) (add3 w.says.place (heads w.says) i) ∙ s.ring (heads w.says + i) (omega (arith, get_within w.says.payloads i e is)) in
+        let at : img (ring_block h.geom (w.says.place + heads w.says + i)) ≡ block_at w.ring (heads w.says + i) = ap (λ (g : Geometry). img (ring_block g (w.says.place + heads w.says + i))) geom ∙ ap (λ p. img (ring_block l.geom p)) {x = w.says.place + heads w.says + i} {y = w.says.place + (heads w.says + i)} (omega arith) ∙ s.ring (heads w.says + i) (omega (arith, slice_get_within w.says.payloads i e is)) in
         subst (λ (x : List ℕ). Fits e x) (sym at) (spelled.payloads i e is);
     fresh = λ late i e is. ap sha256 (s.fresh late i e is) ∙ spelled.fresh i e is;
   }
-    where
-      plus_zero : (p : ℕ) → p ≡ p + 0
-      plus_zero p = omega arith
-
-      add_assoc1 : (p i : ℕ) → p + 1 + i ≡ p + (1 + i)
-      add_assoc1 p i = omega arith
-
-      add3 : (p k i : ℕ) → p + k + i ≡ p + (k + i)
-      add3 p k i = omega arith
 
   -- a whole record with the number and the place of one that was written is that one, and all its blocks stand
   pub whole_stands : (h : Header) (w : WrittenRecord) (r : Record) (k : ℕ) → FitsRecords l h → IsSpelled l.geom l.epoch w → NumbersUsedOnce cells l
@@ -107,11 +98,8 @@ module _ (laws : JournalLaws) (cells : ℕ → Cell) (l : Ledger) (img : Blocks)
       n_same : length r.fresh ≡ length w.says.fresh
       n_same = ap (λ (c : Commit). c.fresh) (same_Some _ _ commits)
 
-      all_same : length (entries r) ≡ length (entries w.says)
-      all_same = omega (arith, m_same, n_same, length-append r.payloads r.fresh, length-append w.says.payloads w.says.fresh)
-
       d_same : descriptor_count (length (entries r)) ≡ descriptor_count (length (entries w.says))
-      d_same = ap descriptor_count all_same
+      d_same = ap descriptor_count {x = length (entries r)} {y = length (entries w.says)} (omega (arith, m_same, n_same, length-append r.payloads r.fresh, length-append w.says.payloads w.says.fresh))
 
       heads_same : heads r ≡ heads w.says
       heads_same = ap (λ n. 1 + n) d_same
@@ -133,12 +121,9 @@ module _ (laws : JournalLaws) (cells : ℕ → Cell) (l : Ledger) (img : Blocks)
       payload j lt =
           let e = get_some w.says.payloads j lt in
           let here : img (ring_block h.geom (r.place + heads r + j)) ≡ img (ring_block l.geom (w.says.place + (heads w.says + j))) =
-          ap (λ (g : Geometry). img (ring_block g (r.place + heads r + j))) fits.geom ∙ ap (λ p. img (ring_block l.geom p)) (three r.place w.says.place (heads r) (heads w.says) j place heads_same) in
+          ap (λ (g : Geometry). img (ring_block g (r.place + heads r + j))) fits.geom ∙ ap (λ p. img (ring_block l.geom p)) {x = r.place + heads r + j} {y = w.says.place + (heads w.says + j)} (omega (arith, place, heads_same)) in
           let in_image = whole.payloads j e.0 (ap (λ (es : List Entry). slice_get es j) parts.0 ∙ e.1) in
           f.ring k (heads w.says + j) w is (omega arith) (ap sha256 (sym here) ∙ in_image.digest ∙ sym (spelled.payloads j e.0 e.1).digest)
-        where
-          three : (p q a b i : ℕ) → p ≡ q → a ≡ b → p + a + i ≡ q + (b + i)
-          three p q a b i e d = omega arith
 
       zero_in : (i : ℕ) → i ≡ 0 → img (ring_block l.geom (w.says.place + i)) ≡ block_at w.ring i
       zero_in i e = ap (λ p. img (ring_block l.geom p)) (omega arith) ∙ first ∙ ap (block_at w.ring) (sym e)

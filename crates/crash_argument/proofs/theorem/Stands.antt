@@ -10,7 +10,7 @@ use Rattle.layout_journal.specs.Layout.{commit_of}
 use Rattle.layout_journal.specs.Run.{Newest, Record, AreConsecutive, place_after, CanFollow, IsRun, all_places, commit_says, covered_by, otherwise, replayed, is_live, live_part}
 use Rattle.crash_argument.specs.JournalLaws.{JournalLaws}
 use Rattle.crash_argument.specs.Ledger.{Ledger, WrittenRecord, HoldsUnder, IsConsistentWith, IsStanding, FitsRecords, from_start, all_say, cover, latest}
-use Rattle.crash_argument.proofs.log.Lists.{inspect, front, get_front, get_behind, get_drop, say_append, say_length, consecutive_front, places_front, consecutive_at}
+use Rattle.crash_argument.proofs.log.Lists.{inspect, front, get_front, get_behind, get_drop, say_append, say_length, consecutive_front, places_append, consecutive_at}
 use Rattle.crash_argument.proofs.theorem.Images.{IsFaithful, idle_latest, sealed_stands}
 use Rattle.crash_argument.proofs.theorem.Core.{find_newest, Stands, decide_stands, stands_whole, whole_stands, known_stands, cover_read, whole_all, let_in_all, live_part_same, live_below}
 
@@ -68,12 +68,9 @@ module _ (laws : JournalLaws) (base : Blocks) (log : List Event) (l : Ledger) (i
         let k_is : h.start - l.header.start + length good ≡ r.number - l.header.start = omega (arith, at.0, fits.start) in
         let w = found.0 in
         let in_records : slice_get l.records (h.start - l.header.start + length good) ≡ Some w = ap (slice_get l.records) k_is ∙ found.1 in
-        let in_rest : slice_get bad 0 ≡ Some w = sym (get_behind good bad 0) ∙ ap (slice_get (good ++ bad)) (z (length good)) ∙ ap (λ (ws : List WrittenRecord). slice_get ws (length good)) (sym split) ∙ get_drop (h.start - l.header.start) l.records (length good) ∙ in_records in
+        let in_rest : slice_get bad 0 ≡ Some w = sym (get_behind good bad 0) ∙ ap (slice_get (good ++ bad)) {x = length good + 0} {y = length good} (omega arith) ∙ ap (λ (ws : List WrittenRecord). slice_get ws (length good)) (sym split) ∙ get_drop (h.start - l.header.start) l.records (length good) ∙ in_records in
         let place = behind w in_rest in
         stops w in_rest (whole_stands laws (cell_of base log) l img f h w r (h.start - l.header.start + length good) fits (keeps.each _ w in_records).spelled keeps.numbers in_records k_is from (at.0 ∙ sym place.0) (at.1 ∙ sym place.1) can.whole)
-      where
-        z : (n : ℕ) → n + 0 ≡ n
-        z n = omega arith
 
     -- the good part is the recoverable run of the image
     is_run : IsRun img h (all_say good)
@@ -81,7 +78,7 @@ module _ (laws : JournalLaws) (base : Blocks) (log : List Event) (l : Ledger) (i
       consecutive = subst (λ (g : Geometry). AreConsecutive g.j h.start h.at (all_say good)) (sym fits.geom) (consecutive_front l.geom.j h.start h.at (all_say good) (all_say bad) (subst (λ (rs : List Record). AreConsecutive l.geom.j h.start h.at rs) say_split fits.consecutive));
       whole = whole_all laws (cell_of base log) l img f h good (λ k w is. (stands_whole laws) (cell_of base log) l img f h w fits.geom fits.epoch (keeps.each _ w (in_good k w is)).spelled (each k w is));
       let_in = let_in_all laws (cell_of base log) l img f h l.geom.j h.start h.at (all_say good) (consecutive_front l.geom.j h.start h.at (all_say good) (all_say bad) (subst (λ (rs : List Record). AreConsecutive l.geom.j h.start h.at rs) say_split fits.consecutive)) (λ closed. omega (arith, fits.let_in closed, fits.start, fits.sure, fits.last, say_length good, ap (λ (ws : List WrittenRecord). length ws) split, length-append good bad, length-drop {A = WrittenRecord} (h.start - l.header.start) l.records));
-      within = omega (arith, places_front (all_say good) (all_say bad), ap all_places say_split, fits.within, ap (λ (g : Geometry). g.j) fits.geom);
+      within = omega (arith, places_append (all_say good) (all_say bad), ap all_places say_split, fits.within, ap (λ (g : Geometry). g.j) fits.geom);
       longest = longest;
     }
 

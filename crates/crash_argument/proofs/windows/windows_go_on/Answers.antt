@@ -1,4 +1,4 @@
-use Rattle.crash_argument.proofs.mount.OpeningMoments.{window_begins, window_goes_on}
+use Rattle.crash_argument.proofs.mount.Moments.{window_begins, window_goes_on}
 use Rattle.crash_argument.proofs.mount.Windows.{window_after_wait, window_joins}
 use Rattle.crash_argument.proofs.windows.windows_go_on.Goals as goal
 
