@@ -58,10 +58,6 @@ module _ (n : ℕ) (base : Blocks) (log : List Event) (slot : ℕ) (block : List
   abbrev Being : List Event → Type 0
   Being later = IsBeingOpened (cell_of base later) (settled (cell_of base log)) slot block
 
-  -- so they begin, and so they go on with the write and with a notice
-  first : Being log
-  first = being_begins (cell_of base log) slot block idle
-
   with_write : (later new : List Event) → Adds base later new (1 - slot) block → Being later → Being new
   with_write later new a o = being_stays (cell_of base later) (cell_of base new) (settled (cell_of base log)) slot block (others_stay a) a.stands o
 
@@ -70,8 +66,8 @@ module _ (n : ℕ) (base : Blocks) (log : List Event) (slot : ℕ) (block : List
 
   -- after the write and the wait, or a write that failed
   window : (new : List Event) → IsTried log slot block new → Window n base new (length log) Holds
-  window new tried = ⊎_elim (λ w. (moments_waited n base (1 - slot) block Being Holds now with_write with_notice log new first w).1)
-      (λ f. (moments_failed n base (1 - slot) block Being Holds now with_write with_notice log new f.0 f.1 f.2 first f.3).1) tried
+  window new tried = ⊎_elim (λ w. (moments_waited n base (1 - slot) block Being Holds now with_write with_notice log new (being_begins (cell_of base log) slot block idle) w).1)
+      (λ f. (moments_failed n base (1 - slot) block Being Holds now with_write with_notice log new f.0 f.1 f.2 (being_begins (cell_of base log) slot block idle) f.3).1) tried
 
 -- what the laws of the journal's blocks say: a header that can be written reads back
 module _ (laws : JournalLaws) (reads : (h : Header) → IsHeader h → header_of h.geom.n (header_block h) ≡ Some h)
@@ -263,7 +259,7 @@ module _ (laws : JournalLaws) (reads : (h : Header) → IsHeader h → header_of
       as_it_was : (b : ℕ) → 2 ≤ b → IsAsFound (cell_of base new) (settled (cell_of base log)) b
       as_it_was b high = let k = other_left base log new (1 - slot) b its_block w (λ e. omega arith) (idle b) in record { settled = k.settled; idle = k.idle }
 
-  -- block by block from the first behind the journal on
+  -- block by block from the (being_begins (cell_of base log) slot block idle) behind the journal on
   pub closed_upto : (new : List Event) (w : AddsWaited (1 - slot) its_block log new) → IsNoticed w.ticket new → IsReplayedUpTo h.geom.n (cell_of base new) (settled (cell_of base log)) (1 - slot) h (closed_header h last) run (bitmap_start h.geom)
   closed_upto new w noticed = record {
     replaying = closed_done new w noticed;

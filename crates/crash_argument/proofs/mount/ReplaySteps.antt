@@ -31,10 +31,6 @@ module _ (laws : JournalLaws) (n : ℕ) (base at : Blocks) (slot old_slot : ℕ)
   abbrev Holds : Blocks → Type 0
   Holds img = HoldsUnder n h.geom img (found_map at h run)
 
-  -- the journal has a place
-  lies : IsGeometryOf n h.geom
-  lies = header_geometry laws n _ h found.newest.stands
-
   -- nor one that the run doesn't cover
   not_uncovered : (b : ℕ) → covered_by h.geom at None run b ≡ None → b ≢ block
   not_uncovered b none e = none-some y (sym none ∙ ap (covered_by h.geom at None run) e ∙ covered)
@@ -49,7 +45,7 @@ module _ (laws : JournalLaws) (n : ℕ) (base at : Blocks) (slot old_slot : ℕ)
         stands = ap (header_of n) here.1 ∙ r.stands;
         alone = here.0;
         other = λ z k st is. r.other z k ((stays (1 - slot) (λ e. omega arith)).stands z st) is;
-        ring = λ place. kept (ring_block h.geom place) (λ e. omega (arith, e, in_ring h.geom place lies.ring, low)) (r.ring place);
+        ring = λ place. kept (ring_block h.geom place) (λ e. omega (arith, e, in_ring h.geom place (header_geometry laws n _ h found.newest.stands).ring, low)) (r.ring place);
         uncovered = λ b from none. kept b (not_uncovered b none) (r.uncovered b from none);
       }
     where

@@ -155,10 +155,6 @@ module _ (base : Blocks) (log : List Event) (l : Ledger) (keeps : IsConsistentWi
     gone_placed : gone ≤ length k.placed
     gone_placed = omega (arith, k.is_batch.from h (inr d.next), fit.start)
 
-    -- the next number stays
-    same_next : h.start + length (from_start l h) ≡ next_number l
-    same_next = count base log l keeps h d
-
     -- a record from its start on was one before
     older : (i : ℕ) (w : WrittenRecord) → slice_get (from_start l h) i ≡ Some w → slice_get l.records (gone + i) ≡ Some w
     older i w is = sym (get_drop gone l.records i) ∙ is
@@ -225,7 +221,7 @@ module _ (base : Blocks) (log : List Event) (l : Ledger) (keeps : IsConsistentWi
       taken = ap (λ n. n - all_places (all_say (take gone l.records))) (k.taken ∙ ap all_places parts ∙ places_append (all_say (take gone l.records)) (all_say (from_start l h))) ∙ minus (all_places (all_say (take gone l.records))) (all_places (all_say (from_start l h)));
       waiting = record {
         each = λ b n high from upto live dead.
-            let o = k.waiting.each b n high (omega (arith, from, fit.sure_grows)) (omega (arith, upto, same_next)) live (subst (λ q. is_live l.geom (l.map_before q) b ≡ false) same_next dead) in
+            let o = k.waiting.each b n high (omega (arith, from, fit.sure_grows)) (omega (arith, upto, count base log l keeps h d)) live (subst (λ q. is_live l.geom (l.map_before q) b ≡ false) (count base log l keeps h d) dead) in
             let s = still_in p.waiting o.0 b o.1 o.2 (omega (arith, from, o.3)) in
             (s.0, o.1, s.1, o.3);
       };

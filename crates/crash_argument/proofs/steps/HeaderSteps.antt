@@ -88,13 +88,9 @@ module _ (base : Blocks) (log : List Event) (l : Ledger) (k : IsConsistentWith b
 
   -- the header that was written last is known to be durable
   module _ (h : Header) (d : IsDurable (cell_of base log) l h) where
-    -- it was a standing one
-    st_new : IsStanding l h
-    st_new = inr d.next
-
     -- and fits the records
     fit : FitsRecords l h
-    fit = k.headers.fits h st_new
+    fit = k.headers.fits h (inr d.next)
 
     -- no other one stands then
     only : (g : Header) → IsStanding (with_durable_header l h) g → g ≡ h
@@ -161,10 +157,10 @@ module _ (base : Blocks) (log : List Event) (l : Ledger) (k : IsConsistentWith b
       ring = k.ring;
       known = omega (arith, k.known, count);
       home = record {
-        map = λ g good bad b st split sure live. let same = only g st in
-            move_map g good bad b (sym same) (sym from_same ∙ ap (λ (f : Header). from_start (with_durable_header l h) f) (sym same) ∙ split) sure live;
-        laid = λ g good bad b st split sure live none. let same = only g st in
-            move_laid g good bad b (sym same) (sym from_same ∙ ap (λ (f : Header). from_start (with_durable_header l h) f) (sym same) ∙ split) sure live none;
+        map = λ g good bad b st. subst (λ (f : Header). from_start (with_durable_header l h) f ≡ good ++ bad → l.known ≤ f.start + length good → IsTrue (is_live l.geom (l.map_before (f.start + length good)) b) → otherwise (cover None good b) (latest (cell_of base log b)) ≡ l.map_before (f.start + length good) b) (sym (only g st))
+            (λ split sure live. k.home.map h good bad b (inr d.next) (sym from_same ∙ split) sure live);
+        laid = λ g good bad b st. subst (λ (f : Header). from_start (with_durable_header l h) f ≡ good ++ bad → l.known ≤ f.start + length good → IsTrue (is_live l.geom (l.map_before (f.start + length good)) b) → cover None good b ≡ None → IsLaid (cell_of base log) f good b) (sym (only g st))
+            (λ split sure live none. k.home.laid h good bad b (inr d.next) (sym from_same ∙ split) sure live none);
       };
     }
       where
@@ -172,12 +168,6 @@ module _ (base : Blocks) (log : List Event) (l : Ledger) (k : IsConsistentWith b
         older x g st is =
             let at : x ≡ (cell_of base log l.slot).settled = stands_settled _ x k.headers.alone st in
             subst (λ (f : Header). f.turn < h.turn) (same_Some _ _ (sym k.headers.durable ∙ ap (header_of l.geom.n) (sym at) ∙ is)) (k.headers.newer h d.next)
-
-        move_map : (g : Header) (good bad : List WrittenRecord) (b : ℕ) → h ≡ g → from_start l h ≡ good ++ bad → l.known ≤ g.start + length good → IsTrue (is_live l.geom (l.map_before (g.start + length good)) b) → otherwise (cover None good b) (latest (cell_of base log b)) ≡ l.map_before (g.start + length good) b
-        move_map g good bad b same split sure live = subst (λ (f : Header). from_start l h ≡ good ++ bad → l.known ≤ f.start + length good → IsTrue (is_live l.geom (l.map_before (f.start + length good)) b) → otherwise (cover None good b) (latest (cell_of base log b)) ≡ l.map_before (f.start + length good) b) same (λ sp su li. k.home.map h good bad b st_new sp su li) split sure live
-
-        move_laid : (g : Header) (good bad : List WrittenRecord) (b : ℕ) → h ≡ g → from_start l h ≡ good ++ bad → l.known ≤ g.start + length good → IsTrue (is_live l.geom (l.map_before (g.start + length good)) b) → cover None good b ≡ None → IsLaid (cell_of base log) g good b
-        move_laid g good bad b same split sure live none = subst (λ (f : Header). from_start l h ≡ good ++ bad → l.known ≤ f.start + length good → IsTrue (is_live l.geom (l.map_before (f.start + length good)) b) → cover None good b ≡ None → IsLaid (cell_of base log) f good b) same (λ sp su li no. k.home.laid h good bad b st_new sp su li no) split sure live none
 
 -- a header is written beside the durable one
 module _ (base : Blocks) (log new : List Event) (l : Ledger) (x : List ℕ) (h : Header) (a : Adds base log new (1 - l.slot) x) (k : IsConsistentWith base log l) (may : MayWriteHeader (cell_of base log) l x h) where

@@ -185,10 +185,6 @@ module _ (laws : JournalLaws) (base : Blocks) (log new : List Event) (l : Ledger
   }
 
   module _ (h : Header) (st : IsStanding l h) (b : ℕ) (live : IsTrue (is_live l.geom m b)) where
-    -- with none behind them
-    none_behind : from_start l h ≡ from_start l h ++ []
-    none_behind = sym (append-nil (from_start l h))
-
     -- a live block for which the new record has no entry was live before
     old_live : payload_in w b ≡ None → names_block w.says.fresh b ≡ false → IsTrue (is_live l.geom (l.map_before (h.start + length (from_start l h))) b)
     old_live unpaid unlaid = subst (λ n. IsTrue (is_live l.geom (l.map_before n) b)) (sym (from_length h st)) (ready.same b unpaid unlaid live).0
@@ -203,7 +199,7 @@ module _ (laws : JournalLaws) (base : Blocks) (log new : List Event) (l : Ledger
     covered (Some y) n paid named = sym (ready.paid b y (sym paid))
     covered None true unpaid named = sym (ready.laid b (sym unpaid) (sym named))
     covered None false unpaid named =
-        k.home.map h (from_start l h) [] b st none_behind (omega (arith, from_length h st, k.known)) (old_live (sym unpaid) (sym named))
+        k.home.map h (from_start l h) [] b st (sym (append-nil (from_start l h))) (omega (arith, from_length h st, k.known)) (old_live (sym unpaid) (sym named))
         ∙ ap (λ n. l.map_before n b) (from_length h st) ∙ sym (ready.same b (sym unpaid) (sym named) live).1
 
     -- and where these don't cover it, nothing is pending on it or one of them wrote it fresh
@@ -214,7 +210,7 @@ module _ (laws : JournalLaws) (base : Blocks) (log new : List Event) (l : Ledger
         let at = named_at w.says.fresh b (sym named) in
         inr (length (from_start l h), w, at.0, at.1, get_last (from_start l h) w _ refl, omega (arith, ready.number, (k.headers.fits h st).last), at.2, at.3)
     laid_so None false unpaid named none =
-        ⊎_elim inl (λ p. inr (p.0, p.1, p.2, p.3, get_front (from_start l h) (w ∷ []) p.0 p.1 p.4, p.5, p.6, p.7)) (k.home.laid h (from_start l h) [] b st none_behind (omega (arith, from_length h st, k.known)) (old_live (sym unpaid) (sym named)) none)
+        ⊎_elim inl (λ p. inr (p.0, p.1, p.2, p.3, get_front (from_start l h) (w ∷ []) p.0 p.1 p.4, p.5, p.6, p.7)) (k.home.laid h (from_start l h) [] b st (sym (append-nil (from_start l h))) (omega (arith, from_length h st, k.known)) (old_live (sym unpaid) (sym named)) none)
 
   -- a commit block leaves the disk as the ledger with its record says
   pub write_commit : IsConsistentWith base new (with_record l w m)
