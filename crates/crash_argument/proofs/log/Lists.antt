@@ -12,6 +12,11 @@ pub inspect : {A : Type 0} (o : Option A) → (o ≡ None) ⊎ ((x : A) × (o �
 inspect None = inl refl
 inspect (Some x) = inr (x, refl)
 
+-- a list is empty, or it has a first element
+pub first_or_none : {A : Type 0} (xs : List A) → (xs ≡ []) ⊎ ((x : A) × (slice_get xs 0 ≡ Some x))
+first_or_none [] = inl refl
+first_or_none (x ∷ xs) = inr (x, refl)
+
 -- bytes are the same, or they aren't
 pub bytes_same : (xs ys : List ℕ) → (xs ≡ ys) ⊎ (xs ≢ ys)
 bytes_same xs ys = ⊎_elim (λ e. inl ((bytes_eq-Decides xs ys).0 e)) (λ e. inr (λ is. both_ways _ e ((bytes_eq-Decides xs ys).1 is))) (cases_Bool (bytes_eq xs ys))

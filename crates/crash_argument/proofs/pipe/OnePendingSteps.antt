@@ -146,30 +146,24 @@ module _ (base : Blocks) (log : List Event) (l : Ledger) (p : PipelineData) (uw 
   pub one_under_way : (t b : ℕ) (x : List ℕ) → l.slot < 2 → 2 ≤ b → IsIdle (cell_of base log b) → HasOnePending base (log ++ Wrote t b x ∷ []) l p (b ∷ uw)
   one_under_way t b x small high idle = record {
     one = one_more t b x idle;
-    slot = λ e. other_idle t b (1 - l.slot) x (λ same. slot_apart l.slot b same small high) (o.slot e);
+    slot = λ e. other_idle t b (1 - l.slot) x (λ same. omega (arith, same, small, high)) (o.slot e);
     ring = λ place free e. let out = out_of b (ring_block l.geom place) uw e in other_idle t b (ring_block l.geom place) x out.0 (o.ring place free out.1);
     block = λ c low e. let out = out_of b c uw e in ⊎_elim (λ idle. inl (other_idle t b c x out.0 idle)) (λ r. inr (⊎_elim inl (λ w. inr (other_way t b c x out.0 w)) r)) (o.block c low out.1);
     below = o.below;
     none = o.none;
   }
-    where
-      slot_apart : (s b : ℕ) → b ≡ 1 - s → s < 2 → 2 ≤ b → ⊥
-      slot_apart s b e lt le = omega (arith, e, lt, le)
 
   -- the next header
   pub one_header : (t : ℕ) (x : List ℕ) (h : Header) → l.slot < 2 → l.next ≡ None → HasOnePending base (log ++ Wrote t (1 - l.slot) x ∷ []) (with_header l h) (with_pending p t) uw
   one_header t x h small none = record {
     one = one_more t (1 - l.slot) x (o.slot none);
     slot = λ e. absurd (none-some h (sym e));
-    ring = λ place free e. other_idle t (1 - l.slot) (ring_block l.geom place) x (λ same. ring_apart l.slot (place % l.geom.j) same) (o.ring place free e);
+    ring = λ place free e. other_idle t (1 - l.slot) (ring_block l.geom place) x (λ same. omega (arith, same)) (o.ring place free e);
     block = λ c low e. ⊎_elim (λ idle. inl (other_idle t (1 - l.slot) c x (apart c low) idle)) (λ r. inr (⊎_elim (λ f. inl (record { place = f.place; at = f.at; written = f.written; entry = f.entry; is_record = f.is_record; not_known = f.not_known; is_entry = f.is_entry; own = f.own })) (λ w. let v = other_way t (1 - l.slot) c x (apart c low) w in inr (record { at = v.at; ticket = v.ticket; bytes = v.bytes; listed = v.listed; last = v.last })) r)) (o.block c low e);
     below = o.below;
     none = o.none;
   }
     where
-      ring_apart : (s k : ℕ) → 1 - s ≡ 2 + k → ⊥
-      ring_apart s k e = omega (arith, e)
-
       apart : (c : ℕ) → bitmap_start l.geom ≤ c → 1 - l.slot ≢ c
       apart c low same = omega arith
 
@@ -177,19 +171,13 @@ module _ (base : Blocks) (log : List Event) (l : Ledger) (p : PipelineData) (uw 
   pub one_home : (t b : ℕ) (x : List ℕ) → greatest_ticket log < t → ¬ IsNoticed t log → l.slot < 2 → 0 < l.geom.j → bitmap_start l.geom ≤ b → p.sent ≤ b → (p.batch ≡ 0 → ⊥) → IsIdle (cell_of base log b) → HasOnePending base (log ++ Wrote t b x ∷ []) l (with_home p b t) uw
   one_home t b x high new small some_ring low from some idle = record {
     one = one_more t b x idle;
-    slot = λ e. other_idle t b (1 - l.slot) x (λ same. slot_low l.slot b l.geom.j same low) (o.slot e);
-    ring = λ place free e. other_idle t b (ring_block l.geom place) x (λ same. ring_low b (place % l.geom.j) l.geom.j same (mod_below place l.geom.j some_ring) low) (o.ring place free e);
+    slot = λ e. other_idle t b (1 - l.slot) x (λ same. omega (arith, same, low)) (o.slot e);
+    ring = λ place free e. other_idle t b (ring_block l.geom place) x (λ same. omega (arith, same, mod_below place l.geom.j some_ring, low)) (o.ring place free e);
     block = λ c lo e. ⊎_elim (λ same. inr (inr (own c same))) (λ apart. ⊎_elim (λ idle. inl (other_idle t b c x apart idle)) (λ r. inr (⊎_elim inl (λ w. let v = other_way t b c x apart w in inr (record { at = v.at; ticket = v.ticket; bytes = v.bytes; listed = get_front p.home ((b, t) ∷ []) v.at (c, v.ticket) v.listed; last = v.last })) r)) (o.block c lo e)) (cases_eq b c);
     below = λ k c u is. ⊎_elim (λ old. omega (arith, o.below k c u old, from)) (λ own. omega (arith, ap (λ (q : ℕ × ℕ). q.0) own)) (last_or p.home (b, t) k (c, u) is);
     none = λ e. absurd (some e);
   }
     where
-      slot_low : (s b j : ℕ) → b ≡ 1 - s → j + 2 ≤ b → ⊥
-      slot_low s b j e le = omega (arith, e, le)
-
-      ring_low : (b k j : ℕ) → b ≡ 2 + k → k < j → j + 2 ≤ b → ⊥
-      ring_low b k j e lt le = omega (arith, e, lt, le)
-
       own : (c : ℕ) → b ≡ c → IsOnItsWay (log ++ Wrote t b x ∷ []) (with_home p b t) c
       own c same = record { at = length p.home + 0; ticket = t; bytes = x; listed = get_behind p.home ((b, t) ∷ []) 0 ∙ ap (λ n. Some (n, t)) same; last = subst (λ n. IsLastWrite (log ++ Wrote t b x ∷ []) n t x) same (last_new log b t x high new) }
 
@@ -236,7 +224,7 @@ module _ (base : Blocks) (log : List Event) (l : Ledger) (p : PipelineData) (uw 
   pub one_durable : (h : Header) → IsDurable (cell_of base log) l h → HasOnePending base log (with_durable_header l h) (with_durable p l h) uw
   one_durable h d = record {
     one = o.one;
-    slot = λ e. ap (λ n. (cell_of base log n).pending) (back l.slot keeps.headers.is_slot) ∙ keeps.headers.alone;
+    slot = λ e. ap (λ n. (cell_of base log n).pending) {x = 1 - (1 - l.slot)} {y = l.slot} (omega (arith, keeps.headers.is_slot)) ∙ keeps.headers.alone;
     ring = λ place free e. ⊎_elim (λ was. o.ring place was e) (λ t. ⊎_elim (λ gone. ap (λ n. (cell_of base log n).pending) (sym t.5) ∙ (keeps.each t.0 t.2 t.3).intact (old t.0 t.2 t.3 gone) t.1 t.4)
         (λ still. absurd (free (t.0 - (h.start - l.header.start)) t.1 t.2 (get_drop (h.start - l.header.start) l.records (t.0 - (h.start - l.header.start)) ∙ ap (slice_get l.records) (index t.0 (h.start - l.header.start) still) ∙ t.3) t.4 t.5)) (cases_lt t.0 (h.start - l.header.start))) (free_or_taken place);
     block = λ b low e. ⊎_elim inl (λ r. inr (⊎_elim (λ f. inl (fresh b f)) (λ v. inr (record { at = v.at; ticket = v.ticket; bytes = v.bytes; listed = v.listed; last = v.last })) r)) (o.block b low e);
@@ -244,9 +232,6 @@ module _ (base : Blocks) (log : List Event) (l : Ledger) (p : PipelineData) (uw 
     none = o.none;
   }
     where
-      back : (s : ℕ) → s < 2 → 1 - (1 - s) ≡ s
-      back s lt = omega (arith, lt)
-
       index : (k d : ℕ) → d ≤ k → d + (k - d) ≡ k
       index k d le = omega (arith, le)
 

@@ -38,13 +38,7 @@ module _ (laws : JournalLaws) (base : Blocks) (log : List Event) (l : Ledger) (k
 
   -- and apart from one another
   own_apart : (i k : ℕ) → i < k → k < places w.says → ring_block l.geom (w.says.place + i) ≢ ring_block l.geom (w.says.place + k)
-  own_apart i k lt within e = apart (w.says.place + i) (k - i) l.geom.j (omega arith) (omega (arith, may.within)) (same _ _ e ∙ ap (λ n. n % l.geom.j) (sum w.says.place i k lt))
-    where
-      same : (a b : ℕ) → 2 + a ≡ 2 + b → a ≡ b
-      same a b e = omega arith
-
-      sum : (p i k : ℕ) → i < k → p + k ≡ p + i + (k - i)
-      sum p i k lt = omega arith
+  own_apart i k lt within e = apart (w.says.place + i) (k - i) l.geom.j (omega arith) (omega (arith, may.within)) (omega (arith, e, ap (λ n. n % l.geom.j) {x = w.says.place + k} {y = w.says.place + i + (k - i)} (omega (arith, lt))))
 
   -- a block behind the commit block is a descriptor or a payload
   part_of : (i : ℕ) → 0 < i → i < places w.says → ((n : ℕ) × (i ≡ 1 + n) × (n < descriptor_count (length (entries w.says)))) ⊎ ((n : ℕ) × (e : Entry) × (i ≡ heads w.says + n) × (slice_get w.says.payloads n ≡ Some e))
@@ -98,8 +92,8 @@ module _ (laws : JournalLaws) (base : Blocks) (log : List Event) (l : Ledger) (k
     place = may.place;
     within = may.within;
     spelled = may.spelled;
-    free = subst (IsFreePlace l) (z w.says.place) (place_free 0 (omega arith));
-    own = λ i some lt e. own_apart 0 i some lt (ap (ring_block l.geom) (z w.says.place) ∙ sym e);
+    free = subst (IsFreePlace l) {x = w.says.place + 0} {y = w.says.place} (omega arith) (place_free 0 (omega arith));
+    own = λ i some lt e. own_apart 0 i some lt (ap (ring_block l.geom) {x = w.says.place + 0} {y = w.says.place} (omega arith) ∙ sym e);
     ring = λ i some lt. last_latest base log _ (u.ring i some lt).0 _ (u.ring i some lt).2;
     ring_logged = λ i some lt. inl (last_logged log _ (u.ring i some lt).0 _ (u.ring i some lt).2);
     in_place = high_fresh;
@@ -111,9 +105,6 @@ module _ (laws : JournalLaws) (base : Blocks) (log : List Event) (l : Ledger) (k
     same = may.same;
   }
     where
-      z : (p : ℕ) → p + 0 ≡ p
-      z p = omega arith
-
       fresh_is : (i : ℕ) (e : Entry) → slice_get w.says.fresh i ≡ Some e → latest (cell_of base log e.block) ≡ block_at w.fresh i
       fresh_is i e at = let p = u.fresh i e (slice_get_within w.says.fresh i e at) at in last_latest base log e.block p.0 _ p.2
 

@@ -203,10 +203,6 @@ module _ (base : Blocks) (log new : List Event) (l : Ledger) (x : List ℕ) (h :
   same_pending : (m : Blocks) (b : ℕ) → IsTrue (is_live l.geom m b) → (cell_of base new b).pending ≡ (cell_of base log b).pending
   same_pending m b live = ap (λ (c : Cell). c.pending) (a.other b (live_apart m b live))
 
-  -- the new header fits the records
-  fit_new : FitsRecords l h
-  fit_new = may.fits
-
   module _ (before good bad : List WrittenRecord) (is_before : before ≡ take (h.start - l.header.start) l.records) (split : from_start l h ≡ good ++ bad) (sure : l.known ≤ h.start + length good) (b : ℕ)
       (live : IsTrue (is_live l.geom (l.map_before (h.start + length good)) b)) where
     -- all records: those before its start, the good ones, and the rest
@@ -219,18 +215,18 @@ module _ (base : Blocks) (log new : List Event) (l : Ledger) (x : List ℕ) (h :
 
     -- how many come before its start
     before_length : length before ≡ h.start - l.header.start
-    before_length = omega (arith, ap (λ (ws : List WrittenRecord). length ws) is_before, length-take {A = WrittenRecord} (h.start - l.header.start) l.records, fit_new.start, fit_new.sure, fit_new.last)
+    before_length = omega (arith, ap (λ (ws : List WrittenRecord). length ws) is_before, length-take {A = WrittenRecord} (h.start - l.header.start) l.records, may.fits.start, may.fits.sure, may.fits.last)
 
     -- counted from either start, the good ones end at one number
     count_new : l.header.start + length (before ++ good) ≡ h.start + length good
-    count_new = omega (arith, length-append before good, before_length, fit_new.start)
+    count_new = omega (arith, length-append before good, before_length, may.fits.start)
 
     -- so the block is live there by both, and all that is known comes before it by both
     live_header : IsTrue (is_live l.geom (l.map_before (l.header.start + length (before ++ good))) b)
     live_header = subst (λ n. IsTrue (is_live l.geom (l.map_before n) b)) (sym count_new) live
 
     sure_header : l.known ≤ l.header.start + length (before ++ good)
-    sure_header = omega (arith, count_new, sure, fit_new.sure_grows)
+    sure_header = omega (arith, count_new, sure, may.fits.sure_grows)
 
     -- under the durable header what is at home is the map
     old_map : otherwise (cover None (before ++ good) b) (latest (cell_of base log b)) ≡ l.map_before (h.start + length good) b
@@ -262,8 +258,8 @@ module _ (base : Blocks) (log new : List Event) (l : Ledger) (x : List ℕ) (h :
             let in_from : slice_get (from_start l l.header) i ≡ Some w = ap (λ (ws : List WrittenRecord). slice_get ws i) from_header ∙ in_all in
             let number : w.says.number ≡ l.header.start + i = number_at l.geom.j l.header.start l.header.at (from_start l l.header) i w (k.headers.fits l.header (inl refl)).consecutive in_from in
             let in_records : slice_get l.records i ≡ Some w = ap (λ (ws : List WrittenRecord). slice_get ws i) (sym (whole_list l)) ∙ in_from in
-            ⊎_elim (λ past. inr (i - length before, w, j, e, behind i w (omega (arith, past, number, fit_new.sure, before_length, fit_new.start)) is, past, at, same))
-            (λ early. inl (subst (λ c. (cell_of base log c).pending ≡ []) same ((k.each i w in_records).intact_fresh late (omega (arith, early, fit_new.known)) j e at)))
+            ⊎_elim (λ past. inr (i - length before, w, j, e, behind i w (omega (arith, past, number, may.fits.sure, before_length, may.fits.start)) is, past, at, same))
+            (λ early. inl (subst (λ c. (cell_of base log c).pending ≡ []) same ((k.each i w in_records).intact_fresh late (omega (arith, early, may.fits.known)) j e at)))
             (cases_lt h.sure w.says.number)
           where
             behind : (i : ℕ) (w : WrittenRecord) → length before ≤ i → slice_get (before ++ good) i ≡ Some w → slice_get good (i - length before) ≡ Some w

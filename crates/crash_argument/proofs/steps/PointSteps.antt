@@ -16,7 +16,7 @@ use Rattle.crash_argument.specs.JournalLaws.{JournalLaws}
 use Rattle.crash_argument.specs.Ledger.{Ledger, WrittenRecord, HoldsUnder, IsConsistentWith, IsStanding, issued, latest, cover, next_number, from_start}
 use Rattle.crash_argument.specs.Points.{MountedSession, commits, points_in, IsPoint, IsMounted, ledger_at_mount}
 use Rattle.crash_argument.proofs.log.Adds.{stands_settled}
-use Rattle.crash_argument.proofs.log.Lists.{get_drop, get_behind, empty_parts}
+use Rattle.crash_argument.proofs.log.Lists.{first_or_none, get_drop, get_behind, empty_parts}
 use Rattle.crash_argument.proofs.theorem.Core.{Stands}
 use Rattle.crash_argument.proofs.theorem.Images.{issued_faithful}
 use Rattle.crash_argument.proofs.theorem.Stands.{Reached, reached}
@@ -55,14 +55,10 @@ issued_holds laws base log l k = last (reached laws base log l (issued base log)
     all_stand : (h : Header) (st : IsStanding l h) (i : ℕ) (w : WrittenRecord) → slice_get l.records i ≡ Some w → Stands l (issued base log) h w
     all_stand h st i w is = record { ring = (k.each i w is).ring; fresh = λ late j e at. (k.each i w is).fresh (omega (arith, (k.headers.fits h st).sure_grows, late)) j e at }
 
-    no_more : (xs : List WrittenRecord) → ((w : WrittenRecord) → slice_get xs 0 ≡ Some w → ⊥) → xs ≡ []
-    no_more [] none = refl
-    no_more (x ∷ xs) none = absurd (none x refl)
-
     last : Reached l (issued base log) → HoldsUnder l.geom.n l.geom (issued base log) (live_part l.geom (l.map_before (next_number l)))
     last r =
         let f = k.headers.fits r.header r.standing in
-        let empty : r.bad ≡ [] = no_more r.bad (λ w is. r.stops w is (all_stand r.header r.standing _ w (behind r w is))) in
+        let empty : r.bad ≡ [] = ⊎_elim (λ e. e) (λ f. absurd (r.stops f.0 f.1 (all_stand r.header r.standing _ f.0 (behind r f.0 f.1)))) (first_or_none r.bad) in
         let all : r.header.start + length r.good ≡ next_number l = omega (arith, f.start, f.sure, f.last, ap (λ (ws : List WrittenRecord). length ws) r.split, length-append r.good r.bad, ap (λ (ws : List WrittenRecord). length ws) empty, length-drop {A = WrittenRecord} (r.header.start - l.header.start) l.records) in
         subst (λ n. HoldsUnder l.geom.n l.geom (issued base log) (live_part l.geom (l.map_before n))) all r.held
       where

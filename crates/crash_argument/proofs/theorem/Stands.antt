@@ -1,5 +1,5 @@
 -- Each faithful image stands for the map after some of the records.
-use Rattle.std.proofs.Common.{◌≡◌, ◌⊎◌, inl, inr, ⊎_elim, ℕ, ◌+◌, ◌-◌, ◌≤◌, IsTrue, List, [], ◌∷◌, ◌++◌, length, Some, None, slice_get, refl, sym, ◌∙◌, ap, subst, arith, length-append, length-drop}
+use Rattle.std.proofs.Common.{◌≡◌, ◌⊎◌, ⊎_elim, ℕ, ◌+◌, ◌-◌, ◌≤◌, IsTrue, List, [], ◌∷◌, ◌++◌, length, Some, None, slice_get, sym, ◌∙◌, ap, subst, arith, length-append, length-drop}
 use Rattle.std.proofs.lemmas.Bool.{cases_lt}
 use Rattle.base_types.specs.Seal.{Blocks}
 use Rattle.disk_contract.specs.declared.event.Event.{Event}
@@ -10,7 +10,7 @@ use Rattle.layout_journal.specs.Layout.{commit_of}
 use Rattle.layout_journal.specs.Run.{Newest, Record, AreConsecutive, place_after, CanFollow, IsRun, all_places, commit_says, covered_by, otherwise, replayed, is_live, live_part}
 use Rattle.crash_argument.specs.JournalLaws.{JournalLaws}
 use Rattle.crash_argument.specs.Ledger.{Ledger, WrittenRecord, HoldsUnder, IsConsistentWith, IsStanding, FitsRecords, from_start, all_say, cover, latest}
-use Rattle.crash_argument.proofs.log.Lists.{inspect, front, get_front, get_behind, get_drop, say_append, say_length, consecutive_front, places_append, consecutive_at}
+use Rattle.crash_argument.proofs.log.Lists.{first_or_none, inspect, front, get_front, get_behind, get_drop, say_append, say_length, consecutive_front, places_append, consecutive_at}
 use Rattle.crash_argument.proofs.theorem.Images.{IsFaithful, idle_latest, sealed_stands}
 use Rattle.crash_argument.proofs.theorem.Core.{find_newest, Stands, decide_stands, stands_whole, whole_stands, known_stands, cover_read, whole_all, let_in_all, live_part_same, live_below}
 
@@ -82,17 +82,9 @@ module _ (laws : JournalLaws) (base : Blocks) (log : List Event) (l : Ledger) (i
       longest = longest;
     }
 
-    -- the rest is empty, or it has a first record
-    last_or_not : (bad ≡ []) ⊎ ((w : WrittenRecord) × (slice_get bad 0 ≡ Some w))
-    last_or_not = cases bad
-      where
-        cases : (ws : List WrittenRecord) → (ws ≡ []) ⊎ ((w : WrittenRecord) × (slice_get ws 0 ≡ Some w))
-        cases [] = inl refl
-        cases (w ∷ ws) = inr (w, refl)
-
     -- all records that are known are in the good part
     known : l.known ≤ h.start + length good
-    known = ⊎_elim (λ e. omega (arith, keeps.known, fits.start, dropped, ap (λ (x : List WrittenRecord). length x) split, length-append good bad, ap (λ (x : List WrittenRecord). length x) e)) some last_or_not
+    known = ⊎_elim (λ e. omega (arith, keeps.known, fits.start, dropped, ap (λ (x : List WrittenRecord). length x) split, length-append good bad, ap (λ (x : List WrittenRecord). length x) e)) some (first_or_none bad)
       where
         dropped : length (from_start l h) ≡ length l.records - (h.start - l.header.start)
         dropped = length-drop (h.start - l.header.start) l.records
