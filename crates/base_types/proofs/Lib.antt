@@ -1,2 +1,1 @@
 pub mod Seals
-pub mod Below

@@ -16,7 +16,7 @@ mod words;
 
 pub use block::{Block, digest, is_sealed, seal};
 pub use bytes::Bytes;
-pub use draw_laws::{draws_have_31_bits, seed_one_gives_these_draws};
+pub use draw_laws::seed_one_gives_these_draws;
 pub use draws::Draws;
 pub use memory::NoMemory;
 pub use name::Name;

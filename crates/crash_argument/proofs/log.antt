@@ -1,4 +1,3 @@
-pub mod Events
 pub mod Lists
 pub mod Adds
 pub mod Places

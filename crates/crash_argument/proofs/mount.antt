@@ -1,3 +1,4 @@
+pub mod Moments
 pub mod Mounted
 pub mod Formatted
 pub mod FormattedOpens

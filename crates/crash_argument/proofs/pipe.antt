@@ -1,3 +1,4 @@
+pub mod Agree
 pub mod InPlace
 pub mod PipelineSteps
 pub mod PipelineWrites

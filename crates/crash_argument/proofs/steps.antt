@@ -1,3 +1,4 @@
+pub mod Kept
 pub mod Steps
 pub mod HeaderSteps
 pub mod Notices

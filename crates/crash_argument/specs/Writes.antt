@@ -1,5 +1,5 @@
 -- Writes that are issued and not waited for: what they add to a log.
-use Rattle.std.specs.Prelude.{◌≡◌, ◌⊎◌, ℕ, ◌+◌, ◌<◌, List, [], ◌∷◌, ◌++◌, take, Result, Ok, Err}
+use Rattle.std.specs.Prelude.{◌≡◌, ◌⊎◌, ℕ, ◌<◌, List, [], ◌∷◌, ◌++◌, take, Result, Ok, Err}
 use Rattle.disk_contract.specs.declared.event.Event.{Event}
 use Rattle.disk_contract.specs.declared.event.Event.TheVariants.{Wrote, Lost}
 use Rattle.disk_contract.specs.Cell.{greatest_ticket, IsNoticed}
@@ -29,8 +29,3 @@ AddsAll ws (Err e) before now old new = AddsFront ws old new
 -- so many of these writes are accepted, and their tickets have joined the list
 abbrev pub HasWritten : List (ℕ × List ℕ) → ℕ → List ℕ → List ℕ → List Event → List Event → Type 0
 HasWritten ws count before now old new = (ts : List ℕ) × (now ≡ before ++ ts) × AddsWrites (take count ws) ts old new
-
--- blocks that are written one behind the other, from block b on
-abbrev pub row_writes : ℕ → List (List ℕ) → List (ℕ × List ℕ)
-row_writes b [] = []
-row_writes b (x ∷ xs) = (b, x) ∷ row_writes (b + 1) xs

@@ -1,8 +1,7 @@
 //! Disk calls that are guarded by the laws: each is one call of a disk, and its clause says what becomes of
 //! the ledger. Which block is to be written, and when to wait, is not their matter.
 
-ghost use Rattle.std.specs.Prelude.{◌≡◌, ◌<◌, ◌≤◌, ◌+◌, ◌-◌, ◌^◌, ℕ, List, length, IsTrue, true, OnOk, OnErr, slice_index_or, is_err, vec_len};
-ghost use Rattle.std.specs.Prelude.{vec_capacity, []};
+ghost use Rattle.std.specs.Prelude.{◌≡◌, ◌<◌, ◌-◌, ℕ, IsTrue, true, OnOk, OnErr, is_err};
 ghost use Rattle.base_types.specs.Seal.{Blocks};
 ghost use Rattle.disk_contract.specs.Cell.{IsAccepted, IsNoticed};
 ghost use Rattle.disk_contract.specs.Disk.{HasFailed, HearsAlone, AddsWrite, AddsPoll, AddsNotices, OnlyWrites, OnlyPolls, OnlyWaits};
@@ -11,26 +10,12 @@ ghost use Rattle.layout_geometry.specs.Geometry.{ring_block};
 ghost use Rattle.layout_journal.specs.declared.header.Header.{Header};
 ghost use Rattle.crash_argument.specs.Ledger.{Ledger, WrittenRecord, cells_of, block_at};
 ghost use Rattle.crash_argument.specs.PipelineData.{PipelineData, AreRightOn};
-ghost use Rattle.crash_argument.specs.Steps.{MayWriteInRing, MayWriteInPlace, IsReadyToCommit, MayWriteHeader};
-ghost use Rattle.crash_argument.specs.Writes.{AddsAll, row_writes};
+ghost use Rattle.crash_argument.specs.Steps.{MayWriteInPlace, IsReadyToCommit, MayWriteHeader};
 ghost use Rattle.crash_argument.specs.Points.{MountedSession, IsSafeOn, StaysSafe, CommitWritten, HeaderWritten};
 
 use crate::journal::the_journal_is_lawful;
 use base_types::Block;
 use disk_contract::{Disk, DiskFault};
-
-/// Writes a descriptor or a payload of the record that is being written.
-pub fn write_in_ring<D: Disk>(disk: &mut D, block: u32, bytes: &Block) -> Result<u64, DiskFault>
-    requires { block < (D.state disk.old).blocks }
-    ensures safe { IsTrue D.tells → (s : MountedSession) (l : Ledger) (t floor place : ℕ) → block ≡ ring_block l.geom place → MayWriteInRing l place bytes.now
-        → StaysSafe s l t floor (D.state disk.old) (D.state disk.new) }
-    ensures log { IsTrue D.tells → AddsWrite block bytes.now result (D.state disk.old).log (D.state disk.new).log }
-    ensures spends { OnlyWrites (is_err result) (D.state disk.old) (D.state disk.new) }
-    ensures cause { IsTrue D.tells → OnErr result (HasFailed (D.state disk.new)) }
-{
-    the_journal_is_lawful();
-    disk.write(block, bytes)
-}
 
 /// Writes a fresh block, or a block home.
 pub fn write_in_place<D: Disk>(disk: &mut D, block: u32, bytes: &Block) -> Result<u64, DiskFault>
@@ -99,36 +84,4 @@ pub fn poll_once<D: Disk>(disk: &mut D) -> Result<Option<u64>, DiskFault>
 {
     the_journal_is_lawful();
     disk.poll()
-}
-
-/// Writes blocks one behind another into the ring, from block `first` on, and puts their tickets behind those
-/// that are in the list.
-///
-/// # Errors
-/// A write failed, which the disk has counted. Those before it are accepted.
-pub fn write_all_in_ring<D: Disk>(
-    disk: &mut D,
-    first: u32,
-    blocks: &[Block],
-    tickets: &mut Vec<u64>,
-) -> Result<(), DiskFault>
-    requires within { first + length blocks.now ≤ (D.state disk.old).blocks }
-    requires fits { first + length blocks.now < 2 ^ 32 }
-    requires room { vec_len tickets.old + length blocks.now ≤ vec_capacity tickets.old }
-    ensures safe { IsTrue D.tells → (s : MountedSession) (l : Ledger) (t floor place : ℕ)
-        → ((i : ℕ) → i < length blocks.now → (first + i ≡ ring_block l.geom (place + i)) × MayWriteInRing l (place + i) (slice_index_or blocks.now i []))
-        → StaysSafe s l t floor (D.state disk.old) (D.state disk.new) }
-    ensures log { IsTrue D.tells → AddsAll (row_writes first blocks.now) result tickets.old.items tickets.new.items (D.state disk.old).log
-        (D.state disk.new).log }
-    ensures taken { OnOk result (vec_len tickets.new ≡ vec_len tickets.old + length blocks.now) }
-    ensures spends { OnlyWrites (is_err result) (D.state disk.old) (D.state disk.new) }
-    ensures cause { IsTrue D.tells → OnErr result (HasFailed (D.state disk.new)) }
-{
-    let mut at = first;
-    for block in blocks {
-        let ticket = write_in_ring(disk, at, block)?;
-        tickets.push(ticket).unwrap();
-        at += 1;
-    }
-    Ok(())
 }

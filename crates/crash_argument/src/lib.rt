@@ -69,10 +69,7 @@ pub use closing::{close_journal, closed_header, replay_block};
 pub use counts::{
     calls_add_at_most_one_write, the_counts_are_of_the_log, writes_keep_within_the_sum,
 };
-pub use guarded::{
-    poll_once, wait_for, write_all_in_ring, write_commit, write_header, write_in_place,
-    write_in_ring,
-};
+pub use guarded::{poll_once, wait_for, write_commit, write_header, write_in_place};
 pub use laws::{
     a_commit_is_safe, a_durable_header_is_safe, a_formatted_disk_is_mounted, a_header_is_safe,
     a_mounted_disk_begins, a_notice_is_safe, a_ring_write_is_safe, a_write_in_place_is_safe,
@@ -85,10 +82,9 @@ pub use one_pending::{
 pub use opening::{open_journal, opening_header, the_formatted_disk_may_be_opened};
 pub use pipeline::{
     a_batch_comes_home, a_batch_goes_home, a_header_becomes_durable, a_home_write_may_be_made,
-    a_mounted_disk_has_its_data, a_notice_keeps_the_data, a_record_joins_the_data,
-    a_reusable_block_is_dead, counts_tell_the_batch, fewer_may_be_sent, fewer_may_wait,
-    known_tickets_may_go, more_may_wait, records_become_durable, the_home_test_is_exact,
-    the_next_header_may_be_written,
+    a_mounted_disk_has_its_data, a_record_joins_the_data, a_reusable_block_is_dead,
+    counts_tell_the_batch, fewer_may_be_sent, fewer_may_wait, known_tickets_may_go, more_may_wait,
+    records_become_durable, the_home_test_is_exact, the_next_header_may_be_written,
 };
 pub use points::{
     a_call_begins_safe, a_crash_leaves_a_point, a_ledger_knows_what_is_noticed,

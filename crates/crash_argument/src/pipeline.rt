@@ -25,12 +25,6 @@ pub fn a_mounted_disk_has_its_data()
         → DataAgree base log (ledger_at_mount (cell_of base log) g slot h) (data_at_mount h) }
 {}
 
-/// A notice leaves all of it.
-pub fn a_notice_keeps_the_data()
-    ensures kept { (base : Blocks) (log : List Event) (l : Ledger) (p : PipelineData) (ticket : ℕ) → IsConsistentWith base log l
-        → DataAgree base log l p → DataAgree base (log ++ Noticed ticket ∷ []) l p }
-{}
-
 /// Records of which each ticket is noticed are durable.
 pub fn records_become_durable()
     ensures noticed { (base : Blocks) (log : List Event) (l : Ledger) (p : PipelineData) (number : ℕ) → IsConsistentWith base log l

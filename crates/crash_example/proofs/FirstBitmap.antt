@@ -30,25 +30,16 @@ byte_after : (i n : ℕ) → i < 3 + n → get_or (255 ∷ 255 ∷ 255 ∷ repli
 byte_after zero n lt = refl
 byte_after (suc zero) n lt = refl
 byte_after (suc (suc zero)) n lt = refl
-byte_after (suc (suc (suc k))) n lt = get_or-replicate n k 0 0 (omega arith) ∙ sym (ap (λ (s : ℕ). 2 ^ min s 8 - 1) (past k))
-  where
-    past : (k : ℕ) → 24 - 8 * suc (suc (suc k)) ≡ 0
-    past k = omega arith
+byte_after (suc (suc (suc k))) n lt = get_or-replicate n k 0 0 (omega arith) ∙ sym (ap (λ (s : ℕ). 2 ^ min s 8 - 1) {x = 24 - 8 * suc (suc (suc k))} {y = 0} (omega arith))
 
 -- the bits of a disk of the least geometry, given its bitmap block's bytes
 bits_are : (m : Blocks) (d b : ℕ) (bytes : List ℕ) → m 18 ≡ bytes → b < 64 → get_or bytes (b / 8) 0 ≡ first_bits d (b / 8) → is_set least m b ≡ nat_lt b d
 bits_are m d b bytes is low byte =
-    ap (λ k. bit_at (get_or (m k) (b % 8192 / 8) 0) (b % 8) == 1) block
-    ∙ ap (λ i. bit_at (get_or (m 18) i 0) (b % 8) == 1) place
+    ap (λ k. bit_at (get_or (m k) (b % 8192 / 8) 0) (b % 8) == 1) {x = 18 + b / 8192} {y = 18} (omega arith)
+    ∙ ap (λ i. bit_at (get_or (m 18) i 0) (b % 8) == 1) {x = b % 8192 / 8} {y = b / 8} (omega arith)
     ∙ ap (λ (xs : List ℕ). bit_at (get_or xs (b / 8) 0) (b % 8) == 1) is
     ∙ ap (λ x. bit_at x (b % 8) == 1) byte
     ∙ bit_of_first d b
-  where
-    block : 18 + b / 8192 ≡ 18
-    block = omega arith
-
-    place : b % 8192 / 8 ≡ b / 8
-    place = omega arith
 
 -- before the record the bits are those of the first 23 blocks
 pub set_before : (m : Blocks) → m 18 ≡ first_bits_block 23 0 → (b : ℕ) → b < 64 → is_set least m b ≡ nat_lt b 23
@@ -74,10 +65,7 @@ live_before m is b live =
 
 -- so every data block is dead
 pub dead_before : (m : Blocks) → m 18 ≡ first_bits_block 23 0 → (b : ℕ) → 23 ≤ b → is_live least m b ≡ false
-dead_before m is b from = ⊎_elim (λ live. absurd (high (live_before m is b live))) (λ dead. dead) (cases_Bool (is_live least m b))
-  where
-    high : b < 23 → ⊥
-    high lt = omega arith
+dead_before m is b from = ⊎_elim (λ live. absurd (omega (arith, live_before m is b live))) (λ dead. dead) (cases_Bool (is_live least m b))
 
 -- what lies between the journal and the data is live
 pub live_between : (m : Blocks) (b : ℕ) → 18 ≤ b → b < 23 → is_live least m b ≡ true
@@ -91,7 +79,4 @@ live_after m is = set_after m is 23 (omega arith)
 pub lived_before : (m : Blocks) → m 18 ≡ first_bitmap → (b : ℕ) → b ≢ 23 → is_live least m b ≡ true → (18 ≤ b) × (b < 23)
 lived_before m is b apart live =
     let parts = live_parts m b live in
-    (parts.0, ⊎_elim (λ lt. lt) (λ on. below (ltb-true b 24 (sym (set_after m is b parts.1) ∙ on))) parts.2)
-  where
-    below : b < 24 → b < 23
-    below lt = omega arith
+    (parts.0, ⊎_elim (λ lt. lt) (λ on. omega (arith, (ltb-true b 24 (sym (set_after m is b parts.1) ∙ on)))) parts.2)

@@ -62,17 +62,11 @@ module _ (cells : ℕ → Cell) (same : (b : ℕ) → 1 ≢ b → latest (cells 
 
   -- the bitmap block is still the formatted one
   bitmap_before : before 18 ≡ first_bits_block 23 0
-  bitmap_before = same 18 (λ e. one e) ∙ bitmap_stands
-    where
-      one : ◌≡◌ {A = ℕ} 1 18 → ⊥
-      one e = omega arith
+  bitmap_before = same 18 (λ e. omega arith) ∙ bitmap_stands
 
   -- the first record frees no block
   pub first_frees : AreFreed l (first_record x) (first_map x) []
-  first_frees b from live dead = absurd (late (live_before before bitmap_before b live))
-    where
-      late : b < 23 → ⊥
-      late lt = omega arith
+  first_frees b from live dead = absurd (omega (arith, live_before before bitmap_before b live))
 
   -- its fresh block
   by_fresh : (P : ℕ → Entry → Type 0) → P 0 fresh_entry → (i : ℕ) (e : Entry) → slice_get (first_says x).fresh i ≡ Some e → P i e
@@ -110,7 +104,4 @@ module _ (cells : ℕ → Cell) (same : (b : ℕ) → 1 ≢ b → latest (cells 
       rest : (b : ℕ) → 18 ≢ b → 23 ≢ b → IsTrue (is_live least (first_map x) b) → IsTrue (is_live least before b) × (first_map x b ≡ before b)
       rest b apart other live =
           let there = lived_before (first_map x) refl b (λ e. other (sym e)) live in
-          (live_between before b there.0 there.1, other_block x b apart other ∙ sym (same b (low there.0)))
-        where
-          low : 18 ≤ b → 1 ≢ b
-          low le e = omega arith
+          (live_between before b there.0 there.1, other_block x b apart other ∙ sym (same b (λ e. omega (arith, there.0))))

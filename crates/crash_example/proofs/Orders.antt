@@ -54,27 +54,23 @@ amid_noticed old new adds = record { more = notices adds.tickets; log = adds.log
 pub amid_waited : (b : ℕ) (x : List ℕ) (old new : List Event) → AddsWaited b x old new → AddsAmidNotices ((b, x) ∷ []) [] old new
 amid_waited b x old new w = amid_then ((b, x) ∷ []) [] [] [] old (old ++ Wrote w.ticket b x ∷ []) new (record { more = Wrote w.ticket b x ∷ []; log = refl; are_accepted = refl; are_lost = refl }) (amid_noticed _ new w.waited)
 
--- a write that failed
-pub prefix_write : (b : ℕ) (x : List ℕ) (e : DiskFault) (old new : List Event) → AddsWrite b x (Err e) old new → AddsPrefix ((b, x) ∷ []) old new
-prefix_write b x e old new adds = record {
+-- a write that wasn't accepted
+prefix_one : (b : ℕ) (x : List ℕ) (old new : List Event) → (new ≡ old) ⊎ (new ≡ old ++ Lost b x ∷ []) → AddsPrefix ((b, x) ∷ []) old new
+prefix_one b x old new a = record {
   front = [];
   rest = (b, x) ∷ [];
   split = refl;
-  ends = ⊎_elim (λ same. inl (subst (AddsAmidNotices [] [] old) (sym same) (amid_none old))) (λ lost. inr ((b, x), [], refl, record { more = Lost b x ∷ []; log = lost; are_accepted = refl; are_lost = refl })) adds;
+  ends = ⊎_elim (λ same. inl (subst (AddsAmidNotices [] [] old) (sym same) (amid_none old))) (λ lost. inr ((b, x), [], refl, record { more = Lost b x ∷ []; log = lost; are_accepted = refl; are_lost = refl })) a;
 }
 
--- a write, or the wait behind it, that failed
-pub prefix_durable : (b : ℕ) (x : List ℕ) (old new : List Event) → (new ≡ old) ⊎ (new ≡ old ++ Lost b x ∷ []) ⊎ AddsWaited b x old new → AddsPrefix ((b, x) ∷ []) old new
-prefix_durable b x old new adds = ⊎_elim (λ same. prefix_one (inl same)) (λ more. ⊎_elim (λ lost. prefix_one (inr lost)) waited more) adds
-  where
-    prefix_one : (new ≡ old) ⊎ (new ≡ old ++ Lost b x ∷ []) → AddsPrefix ((b, x) ∷ []) old new
-    prefix_one a = record {
-      front = [];
-      rest = (b, x) ∷ [];
-      split = refl;
-      ends = ⊎_elim (λ same. inl (subst (AddsAmidNotices [] [] old) (sym same) (amid_none old))) (λ lost. inr ((b, x), [], refl, record { more = Lost b x ∷ []; log = lost; are_accepted = refl; are_lost = refl })) a;
-    }
+-- one that failed
+pub prefix_write : (b : ℕ) (x : List ℕ) (e : DiskFault) (old new : List Event) → AddsWrite b x (Err e) old new → AddsPrefix ((b, x) ∷ []) old new
+prefix_write b x e old new adds = prefix_one b x old new adds
 
+-- or where the wait behind it failed
+pub prefix_durable : (b : ℕ) (x : List ℕ) (old new : List Event) → (new ≡ old) ⊎ (new ≡ old ++ Lost b x ∷ []) ⊎ AddsWaited b x old new → AddsPrefix ((b, x) ∷ []) old new
+prefix_durable b x old new adds = ⊎_elim (λ same. prefix_one b x old new (inl same)) (λ more. ⊎_elim (λ lost. prefix_one b x old new (inr lost)) waited more) adds
+  where
     waited : AddsWaited b x old new → AddsPrefix ((b, x) ∷ []) old new
     waited w = record { front = (b, x) ∷ []; rest = []; split = refl; ends = inl (amid_waited b x old new w) }
 

@@ -38,10 +38,7 @@ one_more log (t ∷ ts) (suc i) lt h n = (h.0, one_more log ts i (omega arith) h
 -- after one wait more
 pub next_noticed : (log new : List Event) (ts : List ℕ) (i : ℕ) → i < length ts → AddsNotices log new → AllNoticed log (take i ts) → IsNoticed (slice_index_or ts i 0) new → AllNoticed new (take (i + 1) ts)
 next_noticed log new ts i lt adds h n =
-    subst (λ k. AllNoticed new (take k ts)) (one i) (one_more new ts i lt (subst (λ (lg : List Event). AllNoticed lg (take i ts)) (sym adds.log) (all_stay (take i ts) log _ h)) n)
-  where
-    one : (i : ℕ) → suc i ≡ i + 1
-    one i = omega arith
+    subst (λ k. AllNoticed new (take k ts)) {x = suc i} {y = i + 1} (omega arith) (one_more new ts i lt (subst (λ (lg : List Event). AllNoticed lg (take i ts)) (sym adds.log) (all_stay (take i ts) log _ h)) n)
 
 -- and after the last
 pub all_noticed : (log : List Event) (ts : List ℕ) (i : ℕ) → length ts ≤ i → AllNoticed log (take i ts) → AllNoticed log ts
@@ -49,10 +46,7 @@ all_noticed log ts i le h = subst (λ (us : List ℕ). AllNoticed log us) (take_
 
 -- where none is being written, what stands of the next number is the record's own
 idle_writing : (base : Blocks) (log : List Event) (l : Ledger) (w : WrittenRecord) → NoneIsBeingWritten (cell_of base log) l → IsBeingWritten (cell_of base log) l w
-idle_writing base log l w idle = record { each = λ place x d st is e from. absurd (strict d.number (next_number l) (idle.each place x d st is e) from) }
-  where
-    strict : (a b : ℕ) → a < b → b ≤ a → ⊥
-    strict a b lt le = omega arith
+idle_writing base log l w idle = record { each = λ place x d st is e from. absurd (omega (arith, idle.each place x d st is e)) }
 
 -- where a record begins, nothing of it is issued
 pub nothing_issued : (base : Blocks) (log : List Event) (l : Ledger) (p : PipelineData) (w : WrittenRecord) → NoneIsBeingWritten (cell_of base log) l → DataAgree base log l p → IsPartlyWritten base log l p w [] 0 1

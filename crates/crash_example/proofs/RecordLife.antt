@@ -21,11 +21,8 @@ released_failed s l w m t floor (Err e) d bad safe = safe
 pub only_record : (l : Ledger) (w : WrittenRecord) (m : Blocks) (placed : ℕ) → l.records ≡ [] → placed ≡ 0 → take 1 (drop placed (with_sure_record l w m).records) ≡ w ∷ []
 only_record l w m placed none zero =
     ap (λ n. take 1 (drop n (with_sure_record l w m).records)) zero
-    ∙ ap (λ n. take 1 (drop n (l.records ++ w ∷ []))) (same l.header.start)
+    ∙ ap (λ n. take 1 (drop n (l.records ++ w ∷ []))) {x = l.header.start + 0 - l.header.start} {y = 0} (omega arith)
     ∙ ap (λ (ws : List WrittenRecord). take 1 (ws ++ w ∷ [])) none
-  where
-    same : (n : ℕ) → n + 0 - n ≡ 0
-    same n = omega arith
 
 -- so the one block that has to be written home for it is the one of the batch
 pub one_batch : (l : Ledger) (w : WrittenRecord) (m : Blocks) (placed : ℕ) → l.records ≡ [] → placed ≡ 0 → (block : ℕ) (x : List ℕ) → NeedsCheckpoint (with_sure_record l w m) (w ∷ []) block x

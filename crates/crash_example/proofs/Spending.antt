@@ -9,14 +9,8 @@ use Rattle.crash_argument.specs.Opening.{AddsWaited}
 
 -- calls behind calls
 after_sum : (n m x : ℕ) → after_calls n (after_calls m x) ≡ after_calls (n + m) x
-after_sum zero m x = ap (λ k. after_calls k x) (none m)
-  where
-    none : (k : ℕ) → k ≡ 0 + k
-    none k = omega arith
-after_sum (suc n) m x = ap next_count (after_sum n m x) ∙ ap (λ k. after_calls k x) (one n m)
-  where
-    one : (a b : ℕ) → suc (a + b) ≡ suc a + b
-    one a b = omega arith
+after_sum zero m x = ap (λ k. after_calls k x) {x = m} {y = 0 + m} (omega arith)
+after_sum (suc n) m x = ap next_count (after_sum n m x) ∙ ap (λ k. after_calls k x) {x = suc (n + m)} {y = suc n + m} (omega arith)
 
 -- all of one row of waits, and then another row
 waits_on : (failed : Bool) (m n a b c : ℕ) → MadeUpTo false m a b → MadeUpTo failed n b c → MadeUpTo failed (n + m) a c
@@ -45,20 +39,16 @@ of_wait true a b o = record { same = o.same; faults = o.faults; read_faults = o.
 
 -- one wait more
 pub spends_one : (a b c : State) (m : ℕ) → SpendsUpTo false m a b → OnlyWaits false b c → SpendsUpTo false (m + 1) a c
-spends_one a b c m one two = subst (λ (k : ℕ). SpendsUpTo false k a c) (turn m) (spends_on false m 1 a b c one (of_wait false b c two))
-  where
-    turn : (k : ℕ) → 1 + k ≡ k + 1
-    turn k = omega arith
+spends_one a b c m one two = subst (λ (k : ℕ). SpendsUpTo false k a c) {x = 1 + m} {y = m + 1} (omega arith) (spends_on false m 1 a b c one (of_wait false b c two))
 
 -- one wait more that failed, of so many at most
 pub spends_last : (r : Bool) (a b c : State) (m most : ℕ) → r ≡ true → 1 + m ≤ most → SpendsUpTo false m a b → OnlyWaits true b c → SpendsUpTo r most a c
 spends_last r a b c m most is le one two = spends_less r (1 + m) most a c is le (spends_on true m 1 a b c one (of_wait true b c two))
 
 -- an accepted write, and the wait behind it
-pub then_waited : (block ticket : ℕ) (x : List ℕ) (old middle new : List Event) → AddsWrite {E = DiskFault} block x (Ok ticket) old middle → AddsNotices middle new → AddsWaited block x old new
+abbrev pub then_waited : (block ticket : ℕ) (x : List ℕ) (old middle new : List Event) → AddsWrite {E = DiskFault} block x (Ok ticket) old middle → AddsNotices middle new → AddsWaited block x old new
 then_waited block ticket x old middle new write waited = record { ticket = ticket; above = write.0; fresh = write.1; waited = subst (λ (l : List Event). AddsNotices l new) write.2 waited }
 
 -- which noticed its ticket
 pub then_noticed : (block ticket : ℕ) (x : List ℕ) (old middle new : List Event) → AddsWrite {E = DiskFault} block x (Ok ticket) old middle → AddsNotices middle new → IsNoticed ticket new → (w : AddsWaited block x old new) × IsNoticed w.ticket new
-unfolding then_waited
 then_noticed block ticket x old middle new write waited noticed = (then_waited block ticket x old middle new write waited, noticed)

@@ -1,6 +1,6 @@
 -- Laws of cells.
 use Rattle.std.proofs.Common.{◌≡◌, ◌≢◌, ◌⊎◌, inl, inr, ⊎_elim, ℕ, ◌<◌, max, Bool, true, false, ◌==◌, ◌||◌, if◌then◌else◌, List, [], ◌∷◌, ◌++◌, length, Some, None, refl, sym, ◌∙◌, ap, subst, arith}
-use Rattle.std.proofs.lemmas.Bool.{eqb-true, eqb-false, eq-eqb, or_cases, false≢true, cond-true, cond-false, or_left, or_right}
+use Rattle.std.proofs.lemmas.Bool.{eqb-true, eqb-false, eq-eqb, or_cases, false≢true, cond-true, cond-false, or_left, or_right, ne_eqb}
 use Rattle.std.proofs.Math.Bool.{or_assoc}
 use Rattle.base_types.specs.Seal.{Blocks}
 use Rattle.disk_contract.specs.declared.event.Event.{Event}
@@ -99,17 +99,11 @@ IsNoticed-append t (Noticed u ∷ xs) ys h =
 
 -- an event on another block
 pub other_wrote : (base : Blocks) (log : List Event) (t a b : ℕ) (x : List ℕ) → a ≢ b → cell_of base (log ++ Wrote t a x ∷ []) b ≡ cell_of base log b
-other_wrote base log t a b x apart = cell_of-append base log _ b ∙ cond-false (a == b) _ _ (neq a b apart)
-  where
-    neq : (m n : ℕ) → m ≢ n → (m == n) ≡ false
-    neq m n d = grind arith
+other_wrote base log t a b x apart = cell_of-append base log _ b ∙ cond-false (a == b) _ _ (ne_eqb a b apart)
 
 -- and a lost write to another block changes nothing either
 pub other_lost : (base : Blocks) (log : List Event) (a b : ℕ) (x : List ℕ) → a ≢ b → cell_of base (log ++ Lost a x ∷ []) b ≡ cell_of base log b
-other_lost base log a b x apart = cell_of-append base log _ b ∙ cond-false (a == b) _ _ (neq a b apart)
-  where
-    neq : (m n : ℕ) → m ≢ n → (m == n) ≡ false
-    neq m n d = grind arith
+other_lost base log a b x apart = cell_of-append base log _ b ∙ cond-false (a == b) _ _ (ne_eqb a b apart)
 
 -- a write to the block is pending on it
 pub own_wrote : (base : Blocks) (log : List Event) (t a : ℕ) (x : List ℕ) → cell_of base (log ++ Wrote t a x ∷ []) a ≡ with_write (cell_of base log a) (Some t) x
@@ -129,10 +123,7 @@ same_noticed base log b ts idle = cell_of-append base log _ b ∙ idle-notices b
 
 -- a block with nothing pending holds what is settled, in each image
 pub idle-holds : (c : Cell) (x : List ℕ) → c.pending ≡ [] → MayHold c x → x ≡ c.settled
-idle-holds c x idle h = ⊎_elim (λ e. e) (λ r. absurd (⊎_elim (λ w. subst (λ l. AreBytesOf l x) idle w) (λ torn. none (subst (λ (l : List Write). 0 < length l) idle torn.0)) r)) h
-  where
-    none : 0 < 0 → ⊥
-    none h = omega arith
+idle-holds c x idle h = ⊎_elim (λ e. e) (λ r. absurd (⊎_elim (λ w. subst (λ l. AreBytesOf l x) idle w) (λ torn. omega (arith, (subst (λ (l : List Write). 0 < length l) idle torn.0))) r)) h
 
 -- laws of the tests on a longer log
 pub is_noticed-append : (t : ℕ) (xs ys : List Event) → is_noticed t (xs ++ ys) ≡ (is_noticed t xs || is_noticed t ys)

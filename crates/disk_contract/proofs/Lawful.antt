@@ -286,10 +286,7 @@ module _ (base : Blocks) (b : ℕ) (log : List Event) (n : ℕ) (lawful : IsLawf
 -- each lawful event keeps the cell told by the newest noticed write
 told_event : (base : Blocks) (b : ℕ) (log : List Event) (e : Event) → IsLawful log → MayCome log e → Told base b log → Told base b (log ++ e ∷ [])
 told_event base b log (Wrote t d x) lawful may told = told_written base b log (Wrote t d x) (λ c. wrote_adds b t d c x) (λ u n. ⊎_elim (λ old. old) (λ none. absurd (false≢true none)) (IsNoticed-append u log (Wrote t d x ∷ []) n))
-    (λ u w n. high u t (⊎_elim (λ p. p.0) (λ none. absurd none) w) (noticed_low [] log u lawful n) may) told
-  where
-    high : (u t : ℕ) → t ≡ u → u ≤ greatest_ticket log → greatest_ticket log < t → ⊥
-    high u t e low lt = omega arith
+    (λ u w n. omega (arith, (⊎_elim (λ p. p.0) (λ none. absurd none) w), noticed_low [] log u lawful n)) told
 told_event base b log (Lost d x) lawful may told = told_written base b log (Lost d x) (λ c. lost_adds b d c x) (λ u n. ⊎_elim (λ old. old) (λ none. absurd (false≢true none)) (IsNoticed-append u log (Lost d x ∷ []) n)) (λ u w n. w) told
 told_event base b log (Noticed n) lawful may told = told_noticed base b log n lawful may.0 told
 

@@ -1,18 +1,12 @@
 -- What calls in a row spend.
-use Rattle.std.proofs.Common.{◌≡◌, ◌+◌, ℕ, zero, suc, Bool, false, refl, sym, ◌∙◌, ap, subst, arith}
+use Rattle.std.proofs.Common.{◌≡◌, ◌+◌, ℕ, zero, suc, Bool, false, ◌∙◌, ap, arith}
 use Rattle.base_types.specs.Counts.{next_count, after_call, after_calls}
-use Rattle.disk_contract.specs.Disk.{State, SameDisk, Spends}
+use Rattle.disk_contract.specs.Disk.{State, Spends}
 
 -- so many calls, and then more
 more_calls : (a b n : ℕ) → after_calls a (after_calls b n) ≡ after_calls (a + b) n
-more_calls zero b n = ap (λ k. after_calls k n) (none b)
-  where
-    none : (k : ℕ) → k ≡ 0 + k
-    none k = omega arith
-more_calls (suc a) b n = ap next_count (more_calls a b n) ∙ ap (λ k. after_calls k n) (one a b)
-  where
-    one : (x y : ℕ) → suc (x + y) ≡ suc x + y
-    one x y = omega arith
+more_calls zero b n = ap (λ k. after_calls k n) {x = b} {y = 0 + b} (omega arith)
+more_calls (suc a) b n = ap next_count (more_calls a b n) ∙ ap (λ k. after_calls k n) {x = suc (a + b)} {y = suc a + b} (omega arith)
 
 pub spends_together : (failed : Bool) (waits polls more_waits more_polls : ℕ) (old mid new : State) → Spends false waits polls old mid → Spends failed more_waits more_polls mid new → Spends failed (more_waits + waits) (more_polls + polls) old new
 spends_together failed waits polls more_waits more_polls old mid new a b = record {

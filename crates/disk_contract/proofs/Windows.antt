@@ -1,5 +1,6 @@
 -- How a window goes on.
-use Rattle.std.proofs.Common.{◌≡◌, ◌⊎◌, ⊎_elim, ℕ, ◌<◌, ◌≤◌, List, [], ◌∷◌, ◌++◌, length, take, refl, sym, ap, subst, arith, append_assoc, length-append}
+use Rattle.std.proofs.Common.{◌≡◌, ◌⊎◌, ⊎_elim, ℕ, ◌<◌, ◌≤◌, List, [], ◌∷◌, ◌++◌, length, take, sym, subst, arith, append-nil, append_assoc, length-append}
+use Rattle.std.proofs.lemmas.Bool.{cases_lt}
 use Rattle.std.proofs.lemmas.List.{take-append-le, take_all}
 use Rattle.std.proofs.Math.Seq.{take-length}
 use Rattle.base_types.specs.Seal.{Blocks}
@@ -39,18 +40,11 @@ module _ (size : ℕ) (base : Blocks) (P : Blocks → Type 0) where
       w.each k img le ge (subst (λ (l : List Event). IsHonest size base l img) (take-append-le k log (e ∷ []) ge) h) in
       let new = λ (k : ℕ) (img : Blocks) (gt : length log < k) (h : IsHonest size base (take k (log ++ e ∷ [])) img).
       here img (subst (λ (l : List Event). IsHonest size base l img) (take_all k (log ++ e ∷ []) (omega (arith, length-append log (e ∷ [])))) h) in
-      record { each = λ k img le ge h. ⊎_elim (λ low. old k img le low h) (λ high. new k img high h) (split k (length log)) }
-    where
-      split : (k n : ℕ) → (k ≤ n) ⊎ (n < k)
-      split k n = grind arith
+      record { each = λ k img le ge h. ⊎_elim (λ high. new k img high h) (λ low. old k img le low h) (cases_lt (length log) k) }
 
   -- notices add no image
   pub window_notices : (log : List Event) (t : ℕ) (ts : List ℕ) → t ≤ length log → Window size base log t P → Window size base (log ++ notices ts) t P
-  window_notices log t [] le w = subst (λ (l : List Event). Window size base l t P) (sym (append_nil log)) w
-    where
-      append_nil : (l : List Event) → l ++ [] ≡ l
-      append_nil [] = refl
-      append_nil (x ∷ xs) = ap (λ (l : List Event). x ∷ l) (append_nil xs)
+  window_notices log t [] le w = subst (λ (l : List Event). Window size base l t P) (sym (append-nil log)) w
   window_notices log t (n ∷ ts) le w =
       let one = window_more log t (Noticed n) w (λ img h. window_now log t le w img (IsHonest-notice size base log n img h)) in
       subst (λ (l : List Event). Window size base l t P) (append_assoc log (Noticed n ∷ []) (notices ts))

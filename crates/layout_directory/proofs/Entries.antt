@@ -1,16 +1,15 @@
 -- The entries of a directory, place by place: what reads as they do, and what changes of their bytes make of them.
-use Rattle.std.proofs.Common.{◌+◌, ◌-◌, ◌*◌, ◌≡◌, ◌<◌, ◌≤◌, ◌==◌, ◌&&◌, ◌⊎◌, inl, inr, ℕ, zero, suc, true, List, [], ◌∷◌, ◌++◌, length, take, drop, replicate, slice_index, slice_index_or, Option, Some, None, refl, sym, ◌∙◌, ap, ap₂, arith, bytes_eq, nat_le}
+use Rattle.std.proofs.Common.{◌+◌, ◌-◌, ◌*◌, ◌≡◌, ◌<◌, ◌≤◌, ◌==◌, ◌&&◌, ◌⊎◌, inl, inr, ℕ, zero, suc, true, List, [], ◌∷◌, ◌++◌, length, take, drop, slice_index, slice_index_or, Option, Some, None, refl, sym, ◌∙◌, ap, ap₂, arith, bytes_eq, nat_le}
 use Rattle.std.proofs.Math.ListN.{set}
 use Rattle.std.proofs.lemmas.Bool.{cases_eq, cases_lt, and_parts, leb-true, ne_eqb, eq-eqb, false_from_ne_true}
-use Rattle.std.proofs.lemmas.List.{length-set, length-take-le, length-drop, length-replicate, length-append, length_push, drop-drop, drop_all, get_or-set_same, get_or-set_other, get_or_append_left, get_or_push, get_or-take}
+use Rattle.std.proofs.lemmas.List.{length-set, length-take-le, length-drop, drop-drop, drop_all, get_or-set_same, get_or-set_other, get_or-take}
 use Rattle.std.proofs.lemmas.Slice.Eq.{bytes_eq-Decides}
 use Rattle.std.specs.List.{concat}
-use Rattle.layout_bytes.specs.Bytes.{are_zeros}
 use Rattle.layout_bytes.specs.Slot.{slot_of, slots_in, then_slot, name_in}
 use Rattle.layout_directory.specs.Slots.{Slot}
-use Rattle.layout_directory.specs.Directory.{overwrite, without_at}
-use Rattle.layout_directory.proofs.Fields.{when_parts, zeros_before}
-use Rattle.layout_directory.proofs.Written.{AreWhole, joined_length, part, part_same, part_other, behind_same, from_there}
+use Rattle.layout_directory.specs.Directory.{overwrite}
+use Rattle.layout_directory.proofs.Fields.{when_parts}
+use Rattle.layout_directory.proofs.Written.{AreWhole, joined_length, part, part_same, part_other}
 
 -- the name of a slot, where there is one
 abbrev name_of : Option Slot → List ℕ
@@ -63,21 +62,10 @@ read_by_each (suc n) b (s ∷ slots) len each =
     ap₂ then_slot (each 0 s (omega arith))
     (read_by_each n (drop 64 b) slots (omega arith) (λ i d low. ap slot_of (next_part i b) ∙ each (suc i) d (omega arith)))
 
--- one more slot that reads from its place
-pub each_more : (b : List ℕ) (place : ℕ) (slots : List Slot) (s : Slot) → length slots ≡ place
-    → ((i : ℕ) (d : Slot) → i < place → slot_of (part i b) ≡ Some (slice_index_or slots i d)) → slot_of (part place b) ≡ Some s
-    → (i : ℕ) (d : Slot) → i < place + 1 → slot_of (part i b) ≡ Some (slice_index_or (slots ++ s ∷ []) i d)
-each_more b place slots s count each here i d low = by (cases_eq i place)
-  where
-    by : ((i ≡ place) ⊎ (i ≡ place → ⊥)) → slot_of (part i b) ≡ Some (slice_index_or (slots ++ s ∷ []) i d)
-    by (inl same) = ap (λ k. slot_of (part k b)) same ∙ here ∙ ap (λ (x : Slot). Some x) (sym (get_or_push slots s d i (count ∙ sym same)))
-    by (inr apart) = each i d (omega arith) ∙ ap (λ (x : Slot). Some x) (sym (get_or_append_left slots (s ∷ []) d i (omega arith)))
-
 -- an entry that is written over is the new one
-pub entry_set : (n : ℕ) (b new : List ℕ) (at : ℕ) (slots : List Slot) (s : Slot) → length new ≡ 64 → 64 * at + 64 ≤ length b → at < n
+pub entry_set : (n : ℕ) (b new : List ℕ) (at : ℕ) (slots : List Slot) (s : Slot) → length new ≡ 64 → 64 * n ≤ length b → at < n
     → slot_of new ≡ Some s → slots_in n b ≡ Some slots → slots_in n (overwrite (64 * at) new b) ≡ Some (set slots at s)
 entry_set n b new at slots s size fits low is e =
-    let count = count_read n b slots e in
     read_by_each n (overwrite (64 * at) new b) (set slots at s) (length-set slots at s ∙ count) (λ i d lo. by i d lo (cases_eq i at))
   where
     count : length slots ≡ n
@@ -85,74 +73,17 @@ entry_set n b new at slots s size fits low is e =
 
     by : (i : ℕ) (d : Slot) → i < n → ((i ≡ at) ⊎ (i ≡ at → ⊥)) → slot_of (part i (overwrite (64 * at) new b)) ≡ Some (slice_index_or (set slots at s) i d)
     by i d lo (inl same) =
-        ap (λ k. slot_of (part k (overwrite (64 * at) new b))) same ∙ ap slot_of (part_same b new at size fits) ∙ is
+        ap (λ k. slot_of (part k (overwrite (64 * at) new b))) same ∙ ap slot_of (part_same b new at size (omega (arith, fits, low))) ∙ is
         ∙ sym (ap (λ (k : ℕ). Some (slice_index_or (set slots at s) k d)) same ∙ ap (λ (x : Slot). Some x) (get_or-set_same slots at s d (omega (arith, count))))
     by i d lo (inr apart) =
-        ap slot_of (part_other b new at i size fits apart) ∙ each_read n b slots i d e lo
+        ap slot_of (part_other b new at i size (omega (arith, fits, low)) apart) ∙ each_read n b slots i d e lo
         ∙ ap (λ (x : Slot). Some x) (sym (get_or-set_other slots at i s d apart))
-
--- an entry that is written behind the others joins them
-pub entry_added : (b new : List ℕ) (at : ℕ) (slots : List Slot) (s : Slot) → length new ≡ 64 → 64 * at + 64 ≤ length b
-    → slot_of new ≡ Some s → slots_in at b ≡ Some slots → slots_in (at + 1) (overwrite (64 * at) new b) ≡ Some (slots ++ s ∷ [])
-entry_added b new at slots s size fits is e =
-    read_by_each (at + 1) (overwrite (64 * at) new b) (slots ++ s ∷ []) (omega (arith, length_push slots s, count)) (λ i d lo. by i d lo (cases_eq i at))
-  where
-    count : length slots ≡ at
-    count = count_read at b slots e
-
-    by : (i : ℕ) (d : Slot) → i < at + 1 → ((i ≡ at) ⊎ (i ≡ at → ⊥)) → slot_of (part i (overwrite (64 * at) new b)) ≡ Some (slice_index_or (slots ++ s ∷ []) i d)
-    by i d lo (inl same) =
-        ap (λ k. slot_of (part k (overwrite (64 * at) new b))) same ∙ ap slot_of (part_same b new at size fits) ∙ is
-        ∙ sym (ap (λ (x : Slot). Some x) (get_or_push slots s d i (count ∙ sym same)))
-    by i d lo (inr apart) =
-        ap slot_of (part_other b new at i size fits apart) ∙ each_read at b slots i d e (omega arith)
-        ∙ ap (λ (x : Slot). Some x) (sym (get_or_append_left slots (s ∷ []) d i (omega (arith, count))))
 
 -- fewer entries are a front of them
 pub fewer : (n m : ℕ) (b : List ℕ) (slots : List Slot) → m ≤ n → slots_in n b ≡ Some slots → slots_in m b ≡ Some (take m slots)
 fewer n m b slots low e =
     read_by_each m b (take m slots) (length-take-le m slots (omega (arith, count_read n b slots e)))
     (λ i d lo. each_read n b slots i d e (omega arith) ∙ ap (λ (x : Slot). Some x) (sym (get_or-take m slots i d lo)))
-
--- bytes written behind some entries leave them
-pub entries_before : (n : ℕ) (b new : List ℕ) (at : ℕ) (slots : List Slot) → length new ≡ 64 → 64 * at + 64 ≤ length b → n ≤ at
-    → slots_in n b ≡ Some slots → slots_in n (overwrite (64 * at) new b) ≡ Some slots
-entries_before n b new at slots size fits low e =
-    read_by_each n (overwrite (64 * at) new b) slots (count_read n b slots e)
-    (λ i d lo. ap slot_of (part_other b new at i size fits (λ same. absurd (omega arith))) ∙ each_read n b slots i d e lo)
-
--- what is written over bytes leaves their number
-pub overwrite_length : (at : ℕ) (new b : List ℕ) → at + length new ≤ length b → length (overwrite at new b) ≡ length b
-overwrite_length at new b fits =
-    omega (arith, length-append (take at b) (new ++ drop (at + length new) b), length-append new (drop (at + length new) b), length-drop (at + length new) b, length-take-le at b (omega arith))
-
--- The last entry comes into the hole, and zeros where it was: the entries are those without the one that stood there.
-pub entry_out : (n : ℕ) (b new : List ℕ) (at : ℕ) (slots : List Slot) → length new ≡ 64 → at < n → 64 * n ≤ length b → slots_in n b ≡ Some slots
-    → slots_in (n - 1) (overwrite (64 * (n - 1)) new (overwrite (64 * at) (part (n - 1) b) b)) ≡ Some (without_at at slots)
-entry_out n b new at slots size low fits e =
-    let blank : Slot = record { node = 0; name = [] } in
-    let last = slice_index_or slots (n - 1) blank in
-    let count = count_read n b slots e in
-    let moved : length (part (n - 1) b) ≡ 64 = length-take-le 64 (drop (64 * (n - 1)) b) (omega (arith, length-drop (64 * (n - 1)) b)) in
-    let whole : length (overwrite (64 * at) (part (n - 1) b) b) ≡ length b = overwrite_length (64 * at) (part (n - 1) b) b (omega (arith, moved)) in
-    let filled : slots_in n (overwrite (64 * at) (part (n - 1) b) b) ≡ Some (set slots at last) =
-    entry_set n b (part (n - 1) b) at slots last moved (omega arith) low (each_read n b slots (n - 1) blank e (omega arith)) e in
-    let front : slots_in (n - 1) (overwrite (64 * at) (part (n - 1) b) b) ≡ Some (take (n - 1) (set slots at last)) =
-    fewer n (n - 1) (overwrite (64 * at) (part (n - 1) b) b) (set slots at last) (omega arith) filled in
-    entries_before (n - 1) (overwrite (64 * at) (part (n - 1) b) b) new (n - 1) (take (n - 1) (set slots at last)) size (omega (arith, whole)) (omega arith) front
-    ∙ ap (λ k. Some (take (k - 1) (set slots at (slice_index_or slots (k - 1) blank)))) (sym count)
-
--- and behind the entries that are left the bytes are zeros where they were behind all of them
-pub clear_out : (n : ℕ) (b moved : List ℕ) (at : ℕ) → length moved ≡ 64 → at < n → 64 * n ≤ length b
-    → are_zeros (drop (64 * (n - 1)) (overwrite (64 * (n - 1)) (replicate 64 0) (overwrite (64 * at) moved b))) ≡ are_zeros (drop (64 * n) b)
-clear_out n b moved at size low fits =
-    let filled = overwrite (64 * at) moved b in
-    let whole : length filled ≡ length b = overwrite_length (64 * at) moved b (omega (arith, size)) in
-    let zeros = length-replicate {A = ℕ} 64 0 in
-    ap are_zeros (from_there filled (replicate 64 0) (n - 1) (omega (arith, whole))
-    ∙ ap (λ k. replicate 64 0 ++ drop k filled) {x = 64 * (n - 1) + length {A = ℕ} (replicate 64 0)} {y = 64 * n} (omega (arith, zeros)))
-    ∙ zeros_before 64 (drop (64 * n) filled)
-    ∙ ap are_zeros (behind_same b moved at n size (omega arith) low)
 
 -- the name in a slot's bytes is this one where the lengths are alike and then the bytes
 pub name_test : (b name : List ℕ) (s : Slot) → length b ≡ 64 → slot_of b ≡ Some s

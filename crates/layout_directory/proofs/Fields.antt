@@ -1,5 +1,5 @@
 -- What follows from the definitions of fields, as far as the proofs of this crate need it.
-use Rattle.std.proofs.Common.{◌≡◌, ℕ, zero, suc, Bool, true, false, List, ◌++◌, replicate, Option, Some, refl}
+use Rattle.std.proofs.Common.{◌≡◌, ℕ, zero, suc, Bool, true, false, ◌++◌, replicate, Option, Some, refl}
 use Rattle.layout_bytes.specs.Bytes.{are_zeros, when}
 
 -- what is there under a test passed the test, and is the value under it
@@ -11,8 +11,3 @@ when_parts false o y e = cc
 pub zeros_are : (n : ℕ) → are_zeros (replicate n 0) ≡ true
 zeros_are zero = refl
 zeros_are (suc n) = zeros_are n
-
--- zeros before other bytes don't count
-pub zeros_before : (n : ℕ) (rest : List ℕ) → are_zeros (replicate n 0 ++ rest) ≡ are_zeros rest
-zeros_before zero rest = refl
-zeros_before (suc n) rest = zeros_before n rest

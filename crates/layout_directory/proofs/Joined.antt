@@ -1,14 +1,12 @@
 -- Entries behind others in bytes that have no room yet, and what bytes behind all entries leave.
 use Rattle.std.proofs.Common.{◌+◌, ◌*◌, ◌≡◌, ◌<◌, ◌≤◌, ℕ, zero, suc, List, [], ◌∷◌, ◌++◌, length, take, drop, slice_get, Some, refl, sym, ◌∙◌, ap, ap₂, arith}
-use Rattle.std.proofs.Math.ListN.{set}
 use Rattle.std.proofs.lemmas.List.{length-drop, take-append-le, drop-append-le}
 use Rattle.std.proofs.Common.{take_all}
 use Rattle.std.proofs.lemmas.Option.{slice_get_within, get_or_from_slice_get}
 use Rattle.layout_bytes.specs.Slot.{slot_of, slots_in, then_slot, slot_spelling}
 use Rattle.layout_directory.specs.Slots.{Slot, IsLawful}
-use Rattle.layout_directory.specs.Directory.{overwrite}
 use Rattle.layout_directory.proofs.Spelled.{name_short, spelling_length}
-use Rattle.layout_directory.proofs.Entries.{taken, count_read, each_read, entry_set}
+use Rattle.layout_directory.proofs.Entries.{taken, count_read, each_read}
 
 nothing : (b : List ℕ) → length b ≡ 0 → b ≡ []
 nothing [] e = refl
@@ -38,10 +36,6 @@ joins (suc n) b new slots s long size is e =
 pub each_slot : (n : ℕ) (b : List ℕ) (slots : List Slot) (i : ℕ) (s : Slot) → slots_in n b ≡ Some slots → slice_get slots i ≡ Some s → slot_of (take 64 (drop (64 * i) b)) ≡ Some s
 each_slot n b slots i s e at =
     each_read n b slots i s e (omega (arith, slice_get_within slots i s at, count_read n b slots e)) ∙ ap (λ (x : Slot). Some x) (get_or_from_slice_get slots i s s at)
-
-pub written_over : (n : ℕ) (b new : List ℕ) (at : ℕ) (slots : List Slot) (s : Slot) → length new ≡ 64 → 64 * n ≤ length b → at < n → slot_of new ≡ Some s → slots_in n b ≡ Some slots
-    → slots_in n (overwrite (64 * at) new b) ≡ Some (set slots at s)
-written_over n b new at slots s size fits low is e = entry_set n b new at slots s size (omega (arith, fits, low)) low is e
 
 pub spelled_length : (s : Slot) → IsLawful s → length (slot_spelling s) ≡ 64
 spelled_length s lawful = spelling_length s (name_short s.name lawful.name)

@@ -3,13 +3,13 @@ use Rattle.std.proofs.Common.{◌+◌, ◌*◌, ◌≡◌, ◌≢◌, ◌<◌, �
 use Rattle.std.proofs.lemmas.Bool.{cond-true, cond-false, lt-ltb, le-ltb, cases_eq, cases_lt, both_ways}
 use Rattle.std.proofs.lemmas.Slice.Eq.{bytes_eq-Decides}
 use Rattle.std.proofs.lemmas.List.{length-take-le, length-drop}
+use Rattle.std.proofs.lemmas.Option.{get_or_from_slice_get}
 use Rattle.std.proofs.lemmas.List.Sums.{position_or_len_is, fails_before_first, passes_at_first}
 use Rattle.std.specs.List.{All, concat, position_or_len, slice_get}
 use Rattle.layout_bytes.specs.Slot.{slot_of, slots_in}
 use Rattle.layout_directory.specs.Slots.{Slot}
 use Rattle.layout_directory.specs.Directory.{entries_in, slot_at, has_name, IsFirstNamed, place_of}
 use Rattle.layout_directory.proofs.Written.{AreWhole, joined_length}
-use Rattle.layout_directory.proofs.Blocks.{at_place}
 use Rattle.layout_directory.proofs.Entries.{count_read, each_read, name_test, room}
 
 -- the bytes of an entry are 64
@@ -89,14 +89,14 @@ there name slots i s e is =
     let at = place_counts name slots i e in
     let test = passes_at_first (λ (r : Slot). bytes_eq r.name name) slots s at.0 in
     (bytes_eq-Decides s.name name).0
-    (sym (ap (λ (r : Slot). bytes_eq r.name name) (ap (λ k. slice_index_or slots k s) at.1 ∙ at_place slots i s s is)) ∙ test)
+    (sym (ap (λ (r : Slot). bytes_eq r.name name) (ap (λ k. slice_index_or slots k s) at.1 ∙ get_or_from_slice_get slots i s s is)) ∙ test)
 
 -- and none before it has
 pub first : (name : List ℕ) (slots : List Slot) (i k : ℕ) (s : Slot) → place_of name slots ≡ Some i → k < i → slice_get slots k ≡ Some s → s.name ≢ name
 first name slots i k s e low is same =
     let at = place_counts name slots i e in
     let test = fails_before_first (λ (r : Slot). bytes_eq r.name name) slots k s (omega arith) in
-    both_ways (bytes_eq s.name name) (sym (ap (λ (r : Slot). bytes_eq r.name name) (at_place slots k s s is)) ∙ test) ((bytes_eq-Decides s.name name).1 same)
+    both_ways (bytes_eq s.name name) (sym (ap (λ (r : Slot). bytes_eq r.name name) (get_or_from_slice_get slots k s s is)) ∙ test) ((bytes_eq-Decides s.name name).1 same)
 
 -- where there is none, no entry has the name
 pub missing : (name : List ℕ) (slots : List Slot) → place_of name slots ≡ None → All (λ s. s.name ≢ name) slots

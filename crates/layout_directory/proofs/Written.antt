@@ -1,7 +1,6 @@
 -- Bytes written over others, in one block and in blocks that are joined.
-use Rattle.std.proofs.Common.{◌+◌, ◌-◌, ◌*◌, ◌/◌, ◌%◌, ◌≡◌, ◌<◌, ◌≤◌, ℕ, zero, suc, List, [], ◌∷◌, ◌++◌, length, take, drop, slice_index_or, refl, sym, ◌∙◌, ap, ap₂, arith, append_assoc, ◌⊎◌, inl, inr}
-use Rattle.std.proofs.Math.ListN.{set}
-use Rattle.std.proofs.Math.Seq.{drop-append_seam, take-append-add}
+use Rattle.std.proofs.Common.{◌+◌, ◌-◌, ◌*◌, ◌/◌, ◌%◌, ◌≡◌, ◌<◌, ◌≤◌, ℕ, zero, suc, List, [], ◌∷◌, ◌++◌, length, take, drop, slice_index_or, refl, sym, ◌∙◌, ap, arith, ◌⊎◌, inl, inr}
+use Rattle.std.proofs.Math.Seq.{drop-append_seam}
 use Rattle.std.proofs.lemmas.List.{length-take-le, length-drop, length-append, drop-drop, take-append-le, drop-append-le, take_at, drop_at, take-take, drop-take}
 use Rattle.std.proofs.lemmas.Bool.{cases_order}
 use Rattle.std.specs.List.{concat}
@@ -45,41 +44,6 @@ pub slot_in_block : (blocks : List (List ℕ)) (place : ℕ) → AreWhole blocks
 slot_in_block blocks place whole within =
     sym (part_of_joined blocks (place / 16) (64 * (place % 16)) 64 whole (omega arith) (omega arith))
     ∙ ap (λ i. take 64 (drop i (concat blocks))) {x = 1024 * (place / 16) + 64 * (place % 16)} {y = 64 * place} (omega arith)
-
--- what is written behind some bytes leaves them
-overwrite_behind : (xs ys new : List ℕ) (at from : ℕ) → at ≡ length xs + from → overwrite at new (xs ++ ys) ≡ xs ++ overwrite from new ys
-overwrite_behind xs ys new at from e =
-    ap₂ (λ (a b : List ℕ). a ++ (new ++ b))
-    (ap (λ n. take n (xs ++ ys)) e ∙ take-append-add xs ys from)
-    (drop_further xs ys (at + length new) (from + length new) (omega (arith, e)))
-    ∙ append_assoc xs (take from ys) (new ++ drop (from + length new) ys)
-
--- what is written within some bytes leaves those behind them
-overwrite_within : (xs ys new : List ℕ) (at : ℕ) → at + length new ≤ length xs → overwrite at new (xs ++ ys) ≡ overwrite at new xs ++ ys
-overwrite_within xs ys new at fits =
-    ap₂ (λ (a b : List ℕ). a ++ (new ++ b)) (take-append-le at xs ys (omega arith)) (drop-append-le (at + length new) xs ys fits)
-    ∙ ap (λ r. take at xs ++ r) (sym (append_assoc new (drop (at + length new) xs) ys))
-    ∙ sym (append_assoc (take at xs) (new ++ drop (at + length new) xs) ys)
-
--- a write into one block is a write into the joined ones
-pub written_joined : (blocks : List (List ℕ)) (k from : ℕ) (new : List ℕ) → AreWhole blocks → k < length blocks → from + length new ≤ 1024
-    → concat (set blocks k (overwrite from new (slice_index_or blocks k []))) ≡ overwrite (1024 * k + from) new (concat blocks)
-written_joined [] k from new whole low fits = absurd (omega arith)
-written_joined (x ∷ xs) zero from new whole low fits =
-    sym (ap (λ i. overwrite i new (x ++ concat xs)) {x = 1024 * 0 + from} {y = from} (omega arith)
-    ∙ overwrite_within x (concat xs) new from (omega (arith, whole 0 (omega arith))))
-written_joined (x ∷ xs) (suc k) from new whole low fits =
-    ap (λ r. x ++ r) (written_joined xs k from new (whole_rest x xs whole) (omega arith) fits)
-    ∙ sym (overwrite_behind x (concat xs) new (1024 * suc k + from) (1024 * k + from) (omega (arith, whole 0 (omega arith))))
-
--- the same for a slot at its place
-pub slot_written : (blocks : List (List ℕ)) (place : ℕ) (new block : List ℕ) → AreWhole blocks → length new ≡ 64 → 64 * place + 64 ≤ 1024 * length blocks
-    → block ≡ overwrite (64 * (place % 16)) new (slice_index_or blocks (place / 16) [])
-    → concat (set blocks (place / 16) block) ≡ overwrite (64 * place) new (concat blocks)
-slot_written blocks place new block whole size within is =
-    ap (λ b. concat (set blocks (place / 16) b)) is
-    ∙ written_joined blocks (place / 16) (64 * (place % 16)) new whole (omega arith) (omega (arith, size))
-    ∙ ap (λ i. overwrite i new (concat blocks)) {x = 1024 * (place / 16) + 64 * (place % 16)} {y = 64 * place} (omega arith)
 
 -- 64 bytes in a row, by their place
 abbrev pub part : ℕ → List ℕ → List ℕ

@@ -2,7 +2,6 @@
 use Rattle.std.specs.Prelude.{◌≡◌, ◌<◌, ℕ, ◌+◌, ◌*◌, ◌==◌, ◌&&◌, Bool, true, false, List, [], ◌++◌, length, take, drop, slice_index, bytes_eq, Option, Some, None}
 use Rattle.std.specs.List.{concat, position, swap_remove}
 use Rattle.layout_bytes.specs.declared.slot.Slot.{Slot}
-use Rattle.layout_bytes.specs.Bytes.{are_zeros}
 use Rattle.layout_bytes.specs.Slot.{slot_size, slots_in}
 
 -- the first slots of a directory, if each is one: its bytes are those of its blocks in order
@@ -22,10 +21,6 @@ abbrev pub IsFirstNamed : ℕ → List (List ℕ) → List ℕ → Option ℕ �
 IsFirstNamed entries blocks name None = (k : ℕ) → k < entries → has_name (slot_at k blocks) name ≡ false
 IsFirstNamed entries blocks name (Some p) =
     (p < entries) × (has_name (slot_at p blocks) name ≡ true) × ((k : ℕ) → k < p → has_name (slot_at k blocks) name ≡ false)
-
--- every byte behind the first slots is zero
-abbrev pub is_clear_behind : ℕ → List (List ℕ) → Bool
-is_clear_behind entries blocks = are_zeros (drop (slot_size * entries) (concat blocks))
 
 -- the place of the first of these slots that has the name
 abbrev pub place_of : List ℕ → List Slot → Option ℕ

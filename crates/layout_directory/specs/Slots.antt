@@ -1,9 +1,8 @@
--- Which bytes are a slot's, and which block is one of a directory's. It is described in docs/LAYOUT.md.
-use Rattle.std.specs.Prelude.{◌≡◌, ◌<◌, ◌^◌, ℕ, true, List, length}
-use Rattle.std.specs.List.{All}
+-- Which bytes are a slot's. It is described in docs/LAYOUT.md.
+use Rattle.std.specs.Prelude.{◌≡◌, ◌<◌, ◌^◌, ℕ, true, List}
 use Rattle.base_types.specs.Name.{is_name}
 pub use Rattle.layout_bytes.specs.declared.slot.Slot.{Slot}
-pub use Rattle.layout_bytes.specs.Slot.{slot_of, slots_in, slot_spelling, slot_bytes, directory_block}
+pub use Rattle.layout_bytes.specs.Slot.{slot_of, slots_in, slot_spelling}
 
 -- a slot that has a spelling of its own: its name is one, and four bytes are enough for its number
 pub record IsLawful (s : Slot) : Type 0 where
@@ -14,9 +13,3 @@ pub record IsLawful (s : Slot) : Type 0 where
 pub record IsSlot (bytes : List ℕ) (s : Slot) : Type 0 where
   pub lawful : IsLawful s
   pub spelled : bytes ≡ slot_spelling s
-
--- the block has so many entries, which are these lawful slots from the front, and zeros behind them
-pub record IsDirBlock (block : List ℕ) (entries : ℕ) (slots : List Slot) : Type 0 where
-  pub count : length slots ≡ entries
-  pub lawful : All IsLawful slots
-  pub spelled : block ≡ directory_block slots

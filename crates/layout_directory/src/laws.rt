@@ -2,7 +2,7 @@
 
 ghost use Rattle.std.specs.Prelude.{◌≡◌, ◌≢◌, ◌<◌, ◌≤◌, ◌+◌, ◌*◌, ◌++◌, ℕ, List, [], ◌∷◌, length, take, drop, set, slice_index, slice_get, Some, None};
 ghost use Rattle.std.specs.List.{All};
-ghost use Rattle.layout_directory.specs.Slots.{Slot, IsLawful, IsSlot, IsDirBlock, slot_of, slots_in, slot_spelling};
+ghost use Rattle.layout_directory.specs.Slots.{Slot, IsLawful, IsSlot, slot_of, slots_in, slot_spelling};
 ghost use Rattle.layout_directory.specs.Directory.{place_of, overwrite};
 
 use layout_bytes::fields_tell_their_bytes;
@@ -15,12 +15,6 @@ pub fn slots_read_back()
 {
     fields_tell_their_bytes();
 }
-
-/// A block is a directory's by one list of so many slots at most, and it reads as that list.
-pub fn directory_blocks_read_back()
-    ensures one { (b : List ℕ) (n : ℕ) (slots others : List Slot) → IsDirBlock b n slots → IsDirBlock b n others → slots ≡ others }
-    ensures reads { (b : List ℕ) (n : ℕ) (slots : List Slot) → IsDirBlock b n slots → slots_in n b ≡ Some slots }
-{}
 
 /// The place of a name is that of an entry with that name, and no entry before it has the name; where it
 /// has no place, no entry has it.

@@ -22,7 +22,7 @@ pub(crate) const NAME_AT: usize = 5;
 /// The bytes of a slot as far as they are written.
 type Text = ArrayVec<u8, SLOT_LENGTH>;
 
-/// The bytes are no slot's, or no directory block's with so many entries.
+/// The bytes are no slot's.
 #[derive(Clone, Copy, Debug)]
 pub struct BadSlot;
 

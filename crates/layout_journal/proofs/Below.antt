@@ -23,10 +23,7 @@ turned n img other alike b low = sym (alike b low)
 
 -- each ring place is a block of the disk
 ring_below : (g : Geometry) (p : ℕ) → IsSized g → ring_block g p < g.n
-ring_below g p size = omega (arith, mod_below p g.j (some g size), size.room)
-  where
-    some : (g : Geometry) → IsSized g → 0 < g.j
-    some g size = omega (arith, size.ring_from)
+ring_below g p size = omega (arith, mod_below p g.j (omega (arith, size.ring_from)), size.room)
 
 -- so is each block of the bitmap
 bits_below : (g : Geometry) (b : ℕ) → IsSized g → b < g.n → bitmap_start g + b / 8192 < g.n

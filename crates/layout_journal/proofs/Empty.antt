@@ -22,18 +22,12 @@ letter_o e = omega arith
 -- behind the first header and before the bitmap the formatted disk has zeros
 zeros_stand : (g : Geometry) (b : ℕ) → 0 < b → b < bitmap_start g → formatted g b ≡ replicate 1024 0
 zeros_stand g b some low =
-    cond-false (b == 0) _ _ (ne_eqb b 0 behind)
+    cond-false (b == 0) _ _ (ne_eqb b 0 (λ e. omega arith))
     ∙ cond-false (nat_le (bitmap_start g) b && nat_lt b (table_start g)) _ _ (ap (λ t. t && nat_lt b (table_start g)) (not_from (bitmap_start g) b low))
-    ∙ cond-false (b == table_start g) _ _ (ne_eqb b (table_start g) before)
+    ∙ cond-false (b == table_start g) _ _ (ne_eqb b (table_start g) (λ e. omega arith))
   where
-    behind : b ≡ 0 → ⊥
-    behind e = omega arith
-
     not_from : (a b : ℕ) → b < a → nat_le a b ≡ false
     not_from a b low = lt-leb a b low
-
-    before : b ≡ table_start g → ⊥
-    before e = omega arith
 
 -- a small number fits in eight bytes
 small8 : (v : ℕ) → v ≤ 1 → fits_in 8 v
@@ -65,10 +59,7 @@ first_newest g fits ring = record {
 -- no record begins in the ring, which has zeros
 none_follows : (g : Geometry) → 0 < g.j → (r : Record) → CanFollow (formatted g) (empty_header g 1 1) [] r → ⊥
 none_follows g ring r f =
-    letter_o (zeros_no_tag _ (commit_tag g _ _ (sym (ap (commit_of g) (zeros_stand g (ring_block g r.place) (behind (ring_block g r.place) (ring_behind_slots g r.place)) (omega (arith, mod_below r.place g.j ring)))) ∙ f.whole.commit)))
-  where
-    behind : (b : ℕ) → 2 ≤ b → 0 < b
-    behind b low = omega arith
+    letter_o (zeros_no_tag _ (commit_tag g _ _ (sym (ap (commit_of g) (zeros_stand g (ring_block g r.place) (omega (arith, ring_behind_slots g r.place)) (omega (arith, mod_below r.place g.j ring)))) ∙ f.whole.commit)))
 
 -- so its run is empty
 empty_run : (g : Geometry) → 0 < g.j → IsRun (formatted g) (empty_header g 1 1) []

@@ -12,30 +12,18 @@ chunks zero [] (y ∷ ys) len low same = absurd (omega arith)
 chunks zero (x ∷ xs) ys len low same = absurd (omega arith)
 chunks (suc fuel) xs ys len low same =
     let first : take 24 xs ≡ take 24 ys = same 0 (omega arith) in
-    let rest : drop 24 xs ≡ drop 24 ys = chunks fuel (drop 24 xs) (drop 24 ys) (dropped xs ys len) (omega (arith, dropped_len xs)) (λ i lt. shift xs ys i (same (suc i) (omega arith))) in
+    let rest : drop 24 xs ≡ drop 24 ys = chunks fuel (drop 24 xs) (drop 24 ys) (omega (arith, length-drop 24 xs, length-drop 24 ys)) (omega (arith, length-drop 24 xs)) (λ i lt. shift xs ys i (same (suc i) (omega arith))) in
     sym (take-append-drop 24 xs) ∙ ap (λ (l : List Entry). l ++ drop 24 xs) first ∙ ap (λ (l : List Entry). take 24 ys ++ l) rest ∙ take-append-drop 24 ys
   where
-    dropped_len : (l : List Entry) → length (drop 24 l) ≡ length l - 24
-    dropped_len l = omega (arith, length-drop 24 l)
-
-    dropped : (a b : List Entry) → length a ≡ length b → length (drop 24 a) ≡ length (drop 24 b)
-    dropped a b e = omega (arith, length-drop 24 a, length-drop 24 b)
-
     twice : (l : List Entry) (i : ℕ) → drop (24 * i) (drop 24 l) ≡ drop (24 * suc i) l
-    twice l i = drop-drop (24 * i) 24 l ∙ ap (λ n. drop n l) (num i)
-      where
-        num : (i : ℕ) → 24 + 24 * i ≡ 24 * suc i
-        num i = omega arith
+    twice l i = drop-drop (24 * i) 24 l ∙ ap (λ n. drop n l) (omega arith)
 
     shift : (a b : List Entry) (i : ℕ) → take 24 (drop (24 * suc i) a) ≡ take 24 (drop (24 * suc i) b) → take 24 (drop (24 * i) (drop 24 a)) ≡ take 24 (drop (24 * i) (drop 24 b))
     shift a b i e = ap (take 24) (twice a i) ∙ e ∙ sym (ap (take 24) (twice b i))
 
 -- so entries that agree in what each descriptor has are the same
 pub same_entries : (xs ys : List Entry) → length xs ≡ length ys → ((i : ℕ) → i < descriptor_count (length xs) → take 24 (drop (24 * i) xs) ≡ take 24 (drop (24 * i) ys)) → xs ≡ ys
-same_entries xs ys len same = chunks (descriptor_count (length xs)) xs ys len (enough (length xs)) same
-  where
-    enough : (n : ℕ) → n ≤ 24 * ((n + 23) / 24)
-    enough n = omega arith
+same_entries xs ys len same = chunks (descriptor_count (length xs)) xs ys len (omega arith) same
 
 -- two parts, the first ones as long
 pub same_parts : {A : Type 0} (ks bs xs ys : List A) → length ks ≡ length xs → ks ++ bs ≡ xs ++ ys → (ks ≡ xs) × (bs ≡ ys)

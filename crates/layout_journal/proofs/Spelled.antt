@@ -173,12 +173,9 @@ zeros_by a z xs rest count is = rw (count, is) (zeros_first z rest)
 -- behind its entries a written descriptor has zeros
 behind_entries : (g : Geometry) (d : Descriptor) → AreEntries g d.entries → has_zeros (descriptor_block d) (32 + 40 * length d.entries) 992 ≡ true
 behind_entries g d are =
-    zeros_by (992 - (32 + 40 * length d.entries)) (960 - 40 * length d.entries) (drop (32 + 40 * length d.entries) (descriptor_block d)) (sha256 (descriptor_body d)) (room (length d.entries))
+    zeros_by (992 - (32 + 40 * length d.entries)) (960 - 40 * length d.entries) (drop (32 + 40 * length d.entries) (descriptor_block d)) (sha256 (descriptor_body d)) (omega arith)
     (sym (drop-drop (40 * length d.entries) 32 (descriptor_block d)) ∙ ap (drop (40 * length d.entries)) (behind_head d)
     ∙ drop_front (40 * length d.entries) (all_entry_bytes d.entries) (replicate (960 - 40 * length d.entries) 0 ++ sha256 (descriptor_body d)) (all_length g d.entries are))
-  where
-    room : (n : ℕ) → 992 - (32 + 40 * n) ≡ 960 - 40 * n
-    room n = omega arith
 
 -- a written descriptor fits
 descriptor_may : (g : Geometry) (d : Descriptor) → field (descriptor_block d) 28 4 ≡ length d.entries → 0 < length d.entries → length d.entries ≤ 24 → AreEntries g d.entries → descriptor_fits (descriptor_block d) ≡ true

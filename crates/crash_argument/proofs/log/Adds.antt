@@ -1,12 +1,12 @@
 -- One write more, accepted or lost.
 use Rattle.std.proofs.Common.{◌≡◌, ◌≢◌, ◌⊎◌, inl, inr, ⊎_elim, ℕ, true, false, ◌==◌, List, [], ◌∷◌, ◌++◌, Option, Some, None, refl, sym, ◌∙◌, ap, subst, Bool, if◌then◌else◌}
-use Rattle.std.proofs.lemmas.Bool.{cases_eq, eq-eqb, ne_eqb, cond-true, cond-false}
+use Rattle.std.proofs.lemmas.Bool.{cases_eq, eq-eqb, cond-true}
 use Rattle.base_types.specs.Seal.{Blocks}
 use Rattle.disk_contract.specs.declared.event.Event.{Event}
 use Rattle.disk_contract.specs.declared.event.Event.TheVariants.{Wrote, Lost, Noticed}
 use Rattle.disk_contract.specs.Cell.{Cell, Write, with_write, settle, from_ticket, is_ticket, after, cell_of, IsWritten}
 use Rattle.disk_contract.specs.Crash.{AreBytesOf}
-use Rattle.crash_argument.proofs.log.Events.{cell_of-append, IsWritten-append}
+use Rattle.disk_contract.proofs.Cells.{cell_of-append, IsWritten-append, other_wrote, other_lost}
 use Rattle.crash_argument.specs.Ledger.{StandsIn, IsOnDisk, latest, last_of}
 
 -- the second log is the first with a write of x to the block, accepted or lost
@@ -46,19 +46,15 @@ bytes-append (v ∷ ws) w y h = ⊎_elim (λ e. inl (inl e)) (λ r. ⊎_elim (λ
 with_write-stands : (c : Cell) (t : Option ℕ) (x y : List ℕ) → StandsIn (with_write c t x) y → StandsIn c y ⊎ (y ≡ x)
 with_write-stands c t x y h = ⊎_elim (λ e. inl (inl e)) (λ r. ⊎_elim (λ p. inl (inr p)) inr (bytes-append c.pending _ y r)) h
 
--- what the last event writes is written
-pub last_written : (log : List Event) (t b : ℕ) (x : List ℕ) → IsWritten x (log ++ Wrote t b x ∷ [])
-last_written [] t b x = inl refl
-last_written (Wrote u c y ∷ log) t b x = inr (last_written log t b x)
-last_written (Lost c y ∷ log) t b x = inr (last_written log t b x)
-last_written (Noticed u ∷ log) t b x = last_written log t b x
+-- what comes last is written
+written_behind : (x : List ℕ) (xs ys : List Event) → IsWritten x ys → IsWritten x (xs ++ ys)
+written_behind x [] ys h = h
+written_behind x (Wrote t b y ∷ xs) ys h = inr (written_behind x xs ys h)
+written_behind x (Lost b y ∷ xs) ys h = inr (written_behind x xs ys h)
+written_behind x (Noticed t ∷ xs) ys h = written_behind x xs ys h
 
--- also where the write is lost
-last_lost : (log : List Event) (b : ℕ) (x : List ℕ) → IsWritten x (log ++ Lost b x ∷ [])
-last_lost [] b x = inl refl
-last_lost (Wrote u c y ∷ log) b x = inr (last_lost log b x)
-last_lost (Lost c y ∷ log) b x = inr (last_lost log b x)
-last_lost (Noticed u ∷ log) b x = last_lost log b x
+pub last_written : (log : List Event) (t b : ℕ) (x : List ℕ) → IsWritten x (log ++ Wrote t b x ∷ [])
+last_written log t b x = written_behind x log (Wrote t b x ∷ []) (inl refl)
 
 -- an event that changes one cell, by a write to it, adds that write
 adds_to : (base : Blocks) (log : List Event) (e : Event) (block : ℕ) (t : Option ℕ) (x : List ℕ)
@@ -76,22 +72,24 @@ adds_to base log e block t x other own is = record {
 -- an accepted write does
 pub adds_wrote : (base : Blocks) (log : List Event) (t block : ℕ) (x : List ℕ) → Adds base log (log ++ Wrote t block x ∷ []) block x
 adds_wrote base log t block x = adds_to base log _ block (Some t) x
-    (λ b apart. cell_of-append base log _ b ∙ cond-false (block == b) _ _ (ne_eqb block b (λ e. apart (sym e))))
-    (cell_of-append base log _ block ∙ cond-true (block == block) _ _ (eq-eqb block block refl))
+    (λ b apart. other_wrote base log t block b x (λ e. apart (sym e))) (cell_of-append base log _ block ∙ cond-true (block == block) _ _ (eq-eqb block block refl))
     (last_written log t block x)
 
 -- and a lost one too
 pub adds_lost : (base : Blocks) (log : List Event) (block : ℕ) (x : List ℕ) → Adds base log (log ++ Lost block x ∷ []) block x
 adds_lost base log block x = adds_to base log _ block None x
-    (λ b apart. cell_of-append base log _ b ∙ cond-false (block == b) _ _ (ne_eqb block b (λ e. apart (sym e))))
-    (cell_of-append base log _ block ∙ cond-true (block == block) _ _ (eq-eqb block block refl))
-    (last_lost log block x)
+    (λ b apart. other_lost base log block b x (λ e. apart (sym e))) (cell_of-append base log _ block ∙ cond-true (block == block) _ _ (eq-eqb block block refl))
+    (written_behind x log (Lost block x ∷ []) (inl refl))
 
 -- what a notice does to a block: what stood may go, nothing comes, and what was written last stays
 pub record Settles (old new : Cell) : Type 0 where
   pub stands : (y : List ℕ) → StandsIn new y → StandsIn old y
   pub latest_is : latest new ≡ latest old
   pub idle : old.pending ≡ [] → (new.pending ≡ []) × (new.settled ≡ old.settled)
+
+-- what a write does to the others: nothing
+pub others_stay : {base : Blocks} {log new : List Event} {block : ℕ} {x : List ℕ} → Adds base log new block x → (b : ℕ) → b ≢ block → Settles (cell_of base log b) (cell_of base new b)
+others_stay {base} {log} a b apart = subst (λ (d : Cell). Settles (cell_of base log b) d) (sym (a.other b apart)) (record { stands = λ y st. st; latest_is = refl; idle = λ e. (e, refl) })
 
 -- bytes of the writes from a ticket on are bytes of all
 part : (t : ℕ) (ws : List Write) (y : List ℕ) → AreBytesOf (from_ticket t ws) y → AreBytesOf ws y

@@ -1,16 +1,21 @@
 -- Lists of records, and tests on them.
-use Rattle.std.proofs.Common.{◌≡◌, ◌≢◌, ◌⊎◌, inl, inr, ⊎_elim, ℕ, zero, suc, ◌+◌, ◌%◌, ◌<◌, ◌≤◌, true, ◌==◌, List, [], ◌∷◌, ◌++◌, length, drop, Option, Some, None, slice_get, refl, sym, ◌∙◌, ap, subst, arith, bytes_eq}
+use Rattle.std.proofs.Common.{◌≡◌, ◌≢◌, ◌⊎◌, inl, inr, ⊎_elim, ℕ, zero, suc, ◌+◌, ◌-◌, ◌%◌, ◌<◌, ◌≤◌, true, ◌==◌, List, [], ◌∷◌, ◌++◌, length, drop, Option, Some, None, slice_get, refl, sym, ◌∙◌, ap, subst, arith, bytes_eq}
 use Rattle.std.proofs.lemmas.Slice.Eq.{bytes_eq-Decides}
 use Rattle.std.proofs.lemmas.Bool.{cases_Bool, both_ways, eqb-true, cond-false}
 use Rattle.std.proofs.lemmas.Option.{same_Some}
 use Rattle.layout_journal.specs.declared.entry.Entry.{Entry}
 use Rattle.layout_journal.specs.Run.{Record, AreConsecutive, place_after, all_places, places, names_block}
-use Rattle.crash_argument.specs.Ledger.{WrittenRecord, all_say}
+use Rattle.crash_argument.specs.Ledger.{Ledger, WrittenRecord, all_say, from_start}
 
 -- an answer is nothing, or it is a value
 pub inspect : {A : Type 0} (o : Option A) → (o ≡ None) ⊎ ((x : A) × (o ≡ Some x))
 inspect None = inl refl
 inspect (Some x) = inr (x, refl)
+
+-- a list is empty, or it has a first element
+pub first_or_none : {A : Type 0} (xs : List A) → (xs ≡ []) ⊎ ((x : A) × (slice_get xs 0 ≡ Some x))
+first_or_none [] = inl refl
+first_or_none (x ∷ xs) = inr (x, refl)
 
 -- bytes are the same, or they aren't
 pub bytes_same : (xs ys : List ℕ) → (xs ≡ ys) ⊎ (xs ≢ ys)
@@ -60,38 +65,20 @@ front_get (y ∷ xs) ys (suc k) x lt e = front_get xs ys k x (omega arith) e
 
 -- an element behind a front is one of what follows it
 pub get_behind : {A : Type 0} (xs ys : List A) (k : ℕ) → slice_get (xs ++ ys) (length xs + k) ≡ slice_get ys k
-get_behind [] ys k = ap (slice_get ys) (z k)
-  where
-    z : (k : ℕ) → 0 + k ≡ k
-    z k = omega arith
-get_behind (x ∷ xs) ys k = ap (slice_get (x ∷ xs ++ ys)) (s (length xs) k) ∙ get_behind xs ys k
-  where
-    s : (n k : ℕ) → suc n + k ≡ suc (n + k)
-    s n k = omega arith
+get_behind [] ys k = ap (slice_get ys) {x = 0 + k} {y = k} (omega arith)
+get_behind (x ∷ xs) ys k = ap (slice_get (x ∷ xs ++ ys)) {x = suc (length xs) + k} {y = suc (length xs + k)} (omega arith) ∙ get_behind xs ys k
 
 -- an element of what is left of a list
 pub get_drop : {A : Type 0} (n : ℕ) (xs : List A) (k : ℕ) → slice_get (drop n xs) k ≡ slice_get xs (n + k)
-get_drop zero xs k = ap (slice_get xs) (sym (z k))
-  where
-    z : (k : ℕ) → 0 + k ≡ k
-    z k = omega arith
+get_drop zero xs k = ap (slice_get xs) {x = k} {y = 0 + k} (omega arith)
 get_drop (suc n) [] k = refl
-get_drop (suc n) (x ∷ xs) k = get_drop n xs k ∙ ap (slice_get (x ∷ xs)) (sym (s n k))
-  where
-    s : (n k : ℕ) → suc n + k ≡ suc (n + k)
-    s n k = omega arith
+get_drop (suc n) (x ∷ xs) k = get_drop n xs k ∙ ap (slice_get (x ∷ xs)) {x = suc (n + k)} {y = suc n + k} (omega arith)
 
 -- each index within a list has an element
 pub get_some : {A : Type 0} (xs : List A) (k : ℕ) → k < length xs → (x : A) × (slice_get xs k ≡ Some x)
 get_some [] k lt = absurd (omega arith)
 get_some (x ∷ xs) zero lt = (x, refl)
 get_some (x ∷ xs) (suc k) lt = get_some xs k (omega arith)
-
--- and an index with an element is within the list
-pub get_within : {A : Type 0} (xs : List A) (k : ℕ) (x : A) → slice_get xs k ≡ Some x → k < length xs
-get_within [] k x e = cc
-get_within (y ∷ xs) zero x e = omega arith
-get_within (y ∷ xs) (suc k) x e = omega (arith, get_within xs k x e)
 
 -- a block that entries name is named by one of them
 pub named_at : (es : List Entry) (b : ℕ) → names_block es b ≡ true → (i : ℕ) × (e : Entry) × (slice_get es i ≡ Some e) × (e.block ≡ b)
@@ -108,23 +95,12 @@ pub consecutive_front : (j n p : ℕ) (xs ys : List Record) → AreConsecutive j
 consecutive_front j n p [] ys h = tt
 consecutive_front j n p (x ∷ xs) ys h = (h.0, h.1, consecutive_front j (n + 1) ((p + places x) % j) xs ys h.2)
 
--- and takes no more places
-pub places_front : (xs ys : List Record) → all_places xs ≤ all_places (xs ++ ys)
-places_front [] ys = omega arith
-places_front (x ∷ xs) ys = omega (arith, places_front xs ys)
-
 -- the number and the place of the one behind a front
 pub consecutive_at : (j n p : ℕ) (ws : List WrittenRecord) (r : Record) (rest : List Record) → AreConsecutive j n p (all_say ws ++ r ∷ rest) → (r.number ≡ n + length ws) × (r.place ≡ place_after j p (all_say ws))
-consecutive_at j n p [] r rest h = (h.0 ∙ z n, h.1)
-  where
-    z : (k : ℕ) → k ≡ k + 0
-    z k = omega arith
+consecutive_at j n p [] r rest h = (h.0 ∙ omega arith, h.1)
 consecutive_at j n p (w ∷ ws) r rest h =
     let later = consecutive_at j (n + 1) ((p + places w.says) % j) ws r rest h.2 in
-    (later.0 ∙ one n (length ws), later.1)
-  where
-    one : (n k : ℕ) → (n + 1) + k ≡ n + suc k
-    one n k = omega arith
+    (later.0 ∙ omega arith, later.1)
 
 -- each of them says one record
 pub say_length : (ws : List WrittenRecord) → length (all_say ws) ≡ length ws
@@ -142,8 +118,8 @@ places_append [] ys = omega arith
 places_append (x ∷ xs) ys = omega (arith, places_append xs ys)
 
 -- the last of a longer list, or one before it
-pub in_longer : (ws : List WrittenRecord) (w v : WrittenRecord) (k : ℕ) → slice_get (ws ++ w ∷ []) k ≡ Some v → (slice_get ws k ≡ Some v) ⊎ ((v ≡ w) × (k ≡ length ws))
-in_longer [] w v zero e = inr (cc, refl)
+pub in_longer : {A : Type 0} (ws : List A) (w v : A) (k : ℕ) → slice_get (ws ++ w ∷ []) k ≡ Some v → (slice_get ws k ≡ Some v) ⊎ ((v ≡ w) × (k ≡ length ws))
+in_longer [] w v zero e = inr (sym (same_Some _ _ e), refl)
 in_longer [] w v (suc k) e = cc
 in_longer (u ∷ ws) w v zero e = inl e
 in_longer (u ∷ ws) w v (suc k) e = ⊎_elim inl (λ p. inr (p.0, omega (arith, p.1))) (in_longer ws w v k e)
@@ -152,3 +128,11 @@ in_longer (u ∷ ws) w v (suc k) e = ⊎_elim inl (λ p. inr (p.0, omega (arith,
 pub empty_parts : (xs ys : List WrittenRecord) → [] ≡ xs ++ ys → (xs ≡ []) × (ys ≡ [])
 empty_parts [] ys e = (refl, sym e)
 empty_parts (x ∷ xs) ys e = cc
+
+-- one more at the end of a list
+pub last_or : {A : Type 0} (xs : List A) (y : A) (k : ℕ) (z : A) → slice_get (xs ++ y ∷ []) k ≡ Some z → (slice_get xs k ≡ Some z) ⊎ (y ≡ z)
+last_or xs y k z is = ⊎_elim inl (λ p. inr (sym p.0)) (in_longer xs y z k is)
+
+-- from the durable header's start on there are all records
+pub whole_list : (l : Ledger) → from_start l l.header ≡ l.records
+whole_list l = ap (λ n. drop n l.records) {x = l.header.start - l.header.start} {y = 0} (omega arith)

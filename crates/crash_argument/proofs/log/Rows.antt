@@ -1,12 +1,12 @@
 -- Writes join a log one by one.
-use Rattle.std.proofs.Common.{◌≡◌, ◌⊎◌, ⊎_elim, inl, inr, ℕ, zero, suc, ◌+◌, ◌<◌, ◌≤◌, List, [], ◌∷◌, ◌++◌, length, take, drop, slice_get, slice_index_or, Some, Result, Ok, Err, IsErr, refl, sym, ◌∙◌, ap, subst, arith, append_assoc, append-nil, take_all}
+use Rattle.std.proofs.Common.{◌≡◌, ◌⊎◌, ⊎_elim, inl, inr, ℕ, ◌+◌, ◌<◌, ◌≤◌, List, [], ◌∷◌, ◌++◌, length, take, drop, slice_get, Some, refl, sym, ◌∙◌, ap, subst, append_assoc, append-nil, take_all}
 use Rattle.std.proofs.lemmas.Bool.{false≢true}
 use Rattle.std.proofs.lemmas.List.{take-append-drop, take_more, drop_more}
 use Rattle.std.proofs.lemmas.Option.{slice_get_within, get_or_from_slice_get}
 use Rattle.disk_contract.specs.declared.event.Event.{Event}
 use Rattle.disk_contract.specs.declared.event.Event.TheVariants.{Wrote, Lost}
 use Rattle.disk_contract.specs.Cell.{greatest_ticket, IsNoticed}
-use Rattle.crash_argument.specs.Writes.{AddsWrites, AddsFront, AddsAll, HasWritten, row_writes}
+use Rattle.crash_argument.specs.Writes.{AddsWrites, AddsFront, HasWritten}
 
 -- writes behind others
 adds_then : (vs ws : List (ℕ × List ℕ)) (ts us : List ℕ) (old mid new : List Event) → AddsWrites vs ts old mid → AddsWrites ws us mid new → AddsWrites (vs ++ ws) (ts ++ us) old new
@@ -43,19 +43,3 @@ front_lost ws k b x start now old mid new is so_far a = record {
   accepted = so_far.2;
   ends = ⊎_elim (λ same. inl same) (λ lost. inr (b, x, drop (k + 1) ws, drop_more ws k (b, x) (slice_get_within ws k (b, x) is) ∙ ap (λ (w : ℕ × List ℕ). w ∷ drop (k + 1) ws) (get_or_from_slice_get ws k (b, x) (b, x) is), lost)) a;
 }
-
-pub front_written : {A E : Type 0} (ws : List (ℕ × List ℕ)) (k b : ℕ) (x : List ℕ) (r : Result A E) (start now next : List ℕ) (old mid new : List Event) → IsErr r → slice_get ws k ≡ Some (b, x) → HasWritten ws k start now old mid → (new ≡ mid) ⊎ (new ≡ mid ++ Lost b x ∷ [])
-    → AddsAll ws r start next old new
-front_written ws k b x (Ok a) start now next old mid new e is so_far a2 = absurd (false≢true e)
-front_written ws k b x (Err e2) start now next old mid new e is so_far a = front_lost ws k b x start now old mid new is so_far a
-
--- a block of a row is written where it says
-pub row_write_is : (b : ℕ) (xs : List (List ℕ)) (k c : ℕ) → k < length xs → c ≡ b + k → slice_get (row_writes b xs) k ≡ Some (c, slice_index_or xs k [])
-row_write_is b [] k c lt at = absurd (omega (arith, lt))
-row_write_is b (x ∷ xs) zero c lt at = ap (λ n. Some (n, x)) (omega (arith, at))
-row_write_is b (x ∷ xs) (suc k) c lt at = row_write_is (b + 1) xs k c (omega (arith, lt)) (omega (arith, at))
-
--- and there are as many writes as blocks
-pub length_row_writes : (b : ℕ) (xs : List (List ℕ)) → length (row_writes b xs) ≡ length xs
-length_row_writes b [] = refl
-length_row_writes b (x ∷ xs) = omega (arith, length_row_writes (b + 1) xs)

@@ -5,7 +5,7 @@ use Rattle.base_types.specs.Seal.{Blocks}
 use Rattle.disk_contract.specs.declared.event.Event.{Event}
 use Rattle.disk_contract.specs.declared.event.Event.TheVariants.{Wrote, Lost, Noticed}
 use Rattle.disk_contract.specs.Cell.{Cell, Write, with_write, is_ticket, from_ticket, settle, after, after_all, cell_of, greatest_ticket, IsNoticed}
-use Rattle.crash_argument.proofs.log.Events.{after_all-append, IsNoticed-append}
+use Rattle.disk_contract.proofs.Cells.{after_all-append, IsNoticed-append}
 use Rattle.crash_argument.specs.LastWrites.{AvoidsBlock, IsLastWrite}
 use Rattle.crash_argument.specs.PipelineData.{IsSettledIn}
 
@@ -41,10 +41,7 @@ lacks_all t b c [] low e = e
 lacks_all t b c (Wrote u d x ∷ log) low e = lacks_all t b (if d == b then with_write c (Some u) x else c) log (omega arith) (by (d == b))
   where
     by : (v : Bool) → LacksTicket t (if v then with_write c (Some u) x else c).pending
-    by true = lacks_more t c.pending _ e (ne_eqb u t (λ s. strict s))
-      where
-        strict : u ≡ t → ⊥
-        strict s = omega arith
+    by true = lacks_more t c.pending _ e (ne_eqb u t (λ s. omega arith))
     by false = e
 lacks_all t b c (Lost d x ∷ log) low e = lacks_all t b (if d == b then with_write c None x else c) log low (by (d == b))
   where

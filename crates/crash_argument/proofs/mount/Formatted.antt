@@ -64,10 +64,7 @@ module _ (reads : (h : Header) → IsHeader h → header_of h.geom.n (header_blo
 
   -- the ring is zeros
   on_ring : (p : ℕ) → (cell_of base (mount_events g ticket) (ring_block g p)).settled ≡ replicate 1024 0
-  on_ring p = ap (λ (c : Cell). c.settled) (other (ring_block g p) (apart (p % g.j))) ∙ zeros g (ring_block g p) (omega arith) (in_ring g p sizes.0)
-    where
-      apart : (q : ℕ) → 1 ≢ 2 + q
-      apart q e = omega arith
+  on_ring p = ap (λ (c : Cell). c.settled) (other (ring_block g p) (λ e. omega arith)) ∙ zeros g (ring_block g p) (omega arith) (in_ring g p sizes.0)
 
   -- so the disk is mounted with that header
   pub formatted_mounts : IsMounted (cell_of base (mount_events g ticket)) g 1 (empty_header g 2 2)
@@ -87,10 +84,7 @@ module _ (reads : (h : Header) → IsHeader h → header_of h.geom.n (header_blo
   }
     where
       first : header_of g.n (cell_of base (mount_events g ticket) 0).settled ≡ Some (empty_header g 1 1)
-      first = ap (λ (c : Cell). header_of g.n c.settled) (other 0 (λ e. one e)) ∙ reads (empty_header g 1 1) (empty_is g 1 1 fits sizes.0 (omega arith) (omega arith) (omega arith) (omega arith))
-        where
-          one : ◌≡◌ {A = ℕ} 1 0 → ⊥
-          one e = omega arith
+      first = ap (λ (c : Cell). header_of g.n c.settled) (other 0 (λ e. omega arith)) ∙ reads (empty_header g 1 1) (empty_is g 1 1 fits sizes.0 (omega arith) (omega arith) (omega arith) (omega arith))
 
       idle_at : (b : ℕ) (v : Bool) → (1 == b) ≡ v → (cell_of base (mount_events g ticket) b).pending ≡ []
       idle_at b true e = ap (λ (c : Cell). c.pending) (ap (cell_of base (mount_events g ticket)) (sym (Rattle.std.proofs.lemmas.Bool.eqb-true 1 b e)) ∙ own)

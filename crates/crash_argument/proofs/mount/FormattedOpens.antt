@@ -14,10 +14,7 @@ use Rattle.crash_argument.proofs.theorem.Images.{in_ring}
 
 -- the slot beside the header is zeros
 beside : HasZeros → (g : Geometry) → formatted g 1 ≡ replicate 1024 0
-beside zeros g = zeros g 1 (omega arith) (low g.j)
-  where
-    low : (j : ℕ) → 1 < j + 2
-    low j = omega arith
+beside zeros g = zeros g 1 (omega arith) (omega arith)
 
 -- and so is the ring
 on_ring : HasZeros → (g : Geometry) (p : ℕ) → 0 < g.j → formatted g (ring_block g p) ≡ replicate 1024 0

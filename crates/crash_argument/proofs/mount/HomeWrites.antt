@@ -12,7 +12,7 @@ use Rattle.layout_journal.specs.Run.{Record, AreWhole, heads, payload_from, name
 use Rattle.crash_argument.specs.JournalLaws.{JournalLaws}
 use Rattle.crash_argument.specs.LastWrites.{AvoidsBlock}
 use Rattle.crash_argument.specs.ReplayMade.{home_write, home_events}
-use Rattle.crash_argument.proofs.log.Events.{after_all-append}
+use Rattle.disk_contract.proofs.Cells.{after_all-append}
 use Rattle.crash_argument.proofs.log.LastWrites.{avoids_append}
 
 -- a block that is settled in these bytes, with nothing pending
@@ -70,10 +70,7 @@ avoids_own t a b (Some x) is = cc
 pub before_home : (left : ℕ → Option (List ℕ)) (t block more b : ℕ) → b < block → AvoidsBlock b (home_events left t block more)
 before_home left t block zero b low = tt
 before_home left t block (suc more) b low =
-    avoids_append b (home_write t block (left block)) (home_events left (t + 1) (block + 1) more) (avoids_other t block b (left block) (apart block b low)) (before_home left (t + 1) (block + 1) more b (omega arith))
-  where
-    apart : (a b : ℕ) → b < a → a ≢ b
-    apart a b lt e = omega arith
+    avoids_append b (home_write t block (left block)) (home_events left (t + 1) (block + 1) more) (avoids_other t block b (left block) (λ e. omega arith)) (before_home left (t + 1) (block + 1) more b (omega arith))
 
 -- nor is a block that none belong in
 pub uncovered_home : (left : ℕ → Option (List ℕ)) (t block more b : ℕ) → left b ≡ None → AvoidsBlock b (home_events left t block more)
@@ -85,10 +82,7 @@ uncovered_home left t block (suc more) b none =
 
 -- and each of the others is at home
 pub at_home : (left : ℕ → Option (List ℕ)) (t block more b : ℕ) (s x : List ℕ) → left b ≡ Some x → block ≤ b → b < block + more → after_all b (idle s) (home_events left t block more) ≡ idle x
-at_home left t block zero b s x is low high = absurd (none block b low (omega arith))
-  where
-    none : (a b : ℕ) → a ≤ b → b < a → ⊥
-    none a b le lt = omega arith
+at_home left t block zero b s x is low high = absurd (omega arith)
 at_home left t block (suc more) b s x is low high = ⊎_elim here (λ apart. passed apart ∙ at_home left (t + 1) (block + 1) more b s x is (above block b low apart) (omega arith)) (cases_eq block b)
   where
     above : (a b : ℕ) → a ≤ b → a ≢ b → a + 1 ≤ b
@@ -112,10 +106,7 @@ at_home left t block (suc more) b s x is low high = ⊎_elim here (λ apart. pas
 none_from : (g : Geometry) (img : Blocks) (place : ℕ) (es : List Entry) (b : ℕ) → ((i : ℕ) (e : Entry) → slice_get es i ≡ Some e → e.block < b) → payload_from g img place es b ≡ None
 none_from g img place [] b low = refl
 none_from g img place (e ∷ es) b low =
-    cond-false (e.block == b) _ _ (ne_eqb e.block b (apart e.block b (low 0 e refl))) ∙ none_from g img (place + 1) es b (λ i f is. low (suc i) f is)
-  where
-    apart : (a b : ℕ) → a < b → a ≢ b
-    apart a b lt same = omega arith
+    cond-false (e.block == b) _ _ (ne_eqb e.block b (λ same. omega (arith, low 0 e refl))) ∙ none_from g img (place + 1) es b (λ i f is. low (suc i) f is)
 
 -- nothing stays nothing
 nothing : (v : Bool) → ◌≡◌ {A = Option (List ℕ)} (if v then None else None) None
@@ -127,9 +118,6 @@ pub none_behind : JournalLaws → (img : Blocks) (h : Header) (rs : List Record)
 none_behind laws img h [] b whole high = refl
 none_behind laws img h (r ∷ rs) b whole high =
     ap (λ (o : Option (List ℕ)). covered_by h.geom img (or_else o (if names_block r.fresh b then None else None)) rs b)
-    (none_from h.geom img (r.place + heads r) r.payloads b (λ i e is. below e.block h.geom.n b (laws.payload_in_disk h.geom r i e whole.0.fit is).1 high))
+    (none_from h.geom img (r.place + heads r) r.payloads b (λ i e is. omega (arith, (laws.payload_in_disk h.geom r i e whole.0.fit is).1)))
     ∙ ap (λ (o : Option (List ℕ)). covered_by h.geom img o rs b) (nothing (names_block r.fresh b))
     ∙ none_behind laws img h rs b whole.1 high
-  where
-    below : (a n b : ℕ) → a < n → n ≤ b → a < b
-    below a n b lt le = omega arith

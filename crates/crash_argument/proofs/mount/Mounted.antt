@@ -1,5 +1,5 @@
 -- A mounted disk begins with point 0; and the last point is what has been issued.
-use Rattle.std.proofs.Common.{◌≡◌, inl, ℕ, zero, suc, ◌+◌, ◌-◌, ◌<◌, ◌≤◌, List, [], length, map, take, drop, refl, sym, ◌∙◌, ap, subst, arith}
+use Rattle.std.proofs.Common.{◌≡◌, inl, ℕ, ◌+◌, ◌-◌, ◌<◌, ◌≤◌, List, [], length, map, take, refl, sym, ◌∙◌, ap, subst, arith}
 use Rattle.std.proofs.lemmas.List.{take_all, drop_all}
 use Rattle.std.specs.List.{filter}
 use Rattle.base_types.specs.Seal.{Blocks}
@@ -37,22 +37,9 @@ mounted_safe laws base log g slot h mounted = record {
   keeps = keeps;
   points = points;
   low = omega arith;
-  window = subst (λ (t : ℕ). StandsBetween (session_at_mount g h log) base log (length log) t (next_number l - h.start)) (same h.start) (between_start laws (session_at_mount g h log) base log l keeps points);
+  window = subst (λ (t : ℕ). StandsBetween (session_at_mount g h log) base log (length log) t (next_number l - h.start)) {x = h.start - h.start} {y = 0} (omega arith) (between_start laws (session_at_mount g h log) base log l keeps points);
 }
   where
-    none_past : (n start : ℕ) → start ≤ n → n ≤ start + 0 → n - start ≡ 0
-    none_past n start low high = omega (arith, low, high)
-
-    no_more : (n p : ℕ) → 0 < p → p ≤ n - n → ⊥
-    no_more n p some le = omega arith
-
-    same : (n : ℕ) → n - n ≡ 0
-    same n = omega arith
-
-    none_left : (k : ℕ) → map (commit_says h.epoch) (all_say (drop k [])) ≡ []
-    none_left zero = refl
-    none_left (suc k) = refl
-
     l : Ledger
     l = ledger_at_mount (cell_of base log) g slot h
 
@@ -66,9 +53,9 @@ mounted_safe laws base log g slot h mounted = record {
       first = omega arith;
       late = omega arith;
       count = omega (arith, no_points g h log);
-      told = λ n from. ap (λ es. filter (is_from n) (commits_told g h.epoch es)) (drop_all (length log) log (omega arith)) ∙ sym (none_left (n - h.start));
-      each = λ n low high. subst (λ (p : ℕ). IsPoint (session_at_mount g h log) base log p (live_part g (l.map_before n))) (sym (none_past n h.start low high)) (first_point base log g h (live_part g (l.map_before n)) (issued_holds laws base log l keeps));
-      noticed = λ p some le. absurd (no_more h.start p some le);
+      told = λ n from. ap (λ es. filter (is_from n) (commits_told g h.epoch es)) (drop_all (length log) log (omega arith)) ∙ sym (ap (λ ws. map (commit_says h.epoch) (all_say ws)) (drop_all (n - h.start) [] (omega arith)));
+      each = λ n low high. subst (λ (p : ℕ). IsPoint (session_at_mount g h log) base log p (live_part g (l.map_before n))) (sym (omega arith)) (first_point base log g h (live_part g (l.map_before n)) (issued_holds laws base log l keeps));
+      noticed = λ p some le. absurd (omega arith);
     }
 
 -- what has been issued to a safe disk holds the newest map
@@ -78,8 +65,5 @@ safe_holds laws s base log l t floor safe = issued_holds laws base log l safe.ke
 -- the last point counts the commit blocks of the session
 pub safe_last : (s : MountedSession) (base : Blocks) (log : List Event) (l : Ledger) (t floor : ℕ) → IsSafe s base log l t floor → IsPoint s base log (points_in s log) (live_part l.geom (l.map_before (next_number l)))
 safe_last s base log l t floor safe =
-    subst (λ (p : ℕ). IsPoint s base log p (live_part l.geom (l.map_before (next_number l)))) (counted s.first (points_in s log) (next_number l) safe.points.count)
+    subst (λ (p : ℕ). IsPoint s base log p (live_part l.geom (l.map_before (next_number l)))) (omega (arith, safe.points.count, safe.points.count))
     (safe.points.each (next_number l) safe.keeps.known (omega arith))
-  where
-    counted : (first made next : ℕ) → first + made ≡ next → next - first ≡ made
-    counted first made next e = omega (arith, e)

@@ -1,13 +1,12 @@
 -- While the header that opens a journal without records is written, each honest image holds what was there.
-use Rattle.std.proofs.Common.{◌≡◌, ◌≢◌, ◌⊎◌, inl, inr, ⊎_elim, ℕ, ◌+◌, ◌-◌, ◌^◌, ◌<◌, ◌≤◌, List, [], ◌∷◌, ◌++◌, length, Some, Err, refl, sym, ◌∙◌, ap, subst, arith, append-nil, append_assoc, length-append}
-use Rattle.std.proofs.lemmas.List.{take-append-le, take_all}
-use Rattle.std.proofs.lemmas.Bool.{cases_lt, cases_eq}
+use Rattle.std.proofs.Common.{◌≡◌, ◌≢◌, ◌⊎◌, inl, inr, ⊎_elim, ℕ, ◌+◌, ◌-◌, ◌^◌, ◌<◌, ◌≤◌, List, [], ◌∷◌, ◌++◌, length, Some, Err, refl, sym, ◌∙◌, ap, subst, arith}
+use Rattle.std.proofs.lemmas.Bool.{cases_eq}
 use Rattle.std.proofs.lemmas.Option.{same_Some}
 use Rattle.base_types.specs.Seal.{Blocks}
 use Rattle.disk_contract.specs.declared.event.Event.{Event}
-use Rattle.disk_contract.specs.declared.event.Event.TheVariants.{Wrote, Lost, Noticed}
+use Rattle.disk_contract.specs.declared.event.Event.TheVariants.{Noticed}
 use Rattle.disk_contract.specs.declared.disk.DiskFault.{DiskFault}
-use Rattle.disk_contract.specs.Cell.{Cell, cell_of, notices, IsNoticed}
+use Rattle.disk_contract.specs.Cell.{Cell, cell_of, IsNoticed}
 use Rattle.disk_contract.specs.Crash.{IsHonest, Window}
 use Rattle.disk_contract.specs.Disk.{AddsWrite}
 use Rattle.layout_geometry.specs.Geometry.{Geometry, ring_block, bitmap_start}
@@ -21,10 +20,11 @@ use Rattle.crash_argument.specs.Mounting.{IsReplayedUpTo}
 use Rattle.crash_argument.specs.PipelineData.{IsSettledIn}
 use Rattle.crash_argument.specs.Replay.{IsFound, found_map, IsAsFound, IsReplayed, IsOpening, Closes, IsClosing, IsReplaying}
 use Rattle.crash_argument.specs.Opening.{opening_header, closed_header, last_number, settled, IsReadyToOpen, AddsWaited}
-use Rattle.crash_argument.proofs.log.Adds.{Adds, adds_wrote, adds_lost, settles_one, stands_settled}
+use Rattle.crash_argument.proofs.log.Adds.{Adds, Settles, others_stay, settles_one, stands_settled}
 use Rattle.crash_argument.proofs.theorem.Core.{live_part_same, live_from, live_below}
 use Rattle.crash_argument.proofs.theorem.Images.{honest_stands, ring_within, slot_within}
 use Rattle.crash_argument.proofs.log.Lists.{inspect}
+use Rattle.crash_argument.proofs.mount.Moments.{moments_waited, moments_failed}
 use Rattle.crash_argument.proofs.mount.OpeningSteps.{opening_is, IsLeft, own_settled, other_left}
 use Rattle.crash_argument.proofs.mount.ReplayStages.{IsGeometryOf, header_geometry, run_stays, idle_is, opening_holds, closing_holds}
 
@@ -40,31 +40,16 @@ being_begins cells slot x idle = record {
   beside = λ y st. inl (stands_settled _ y (idle (1 - slot)) st);
 }
 
--- and so it stays with the write, accepted or lost
-being_written : (base : Blocks) (log new : List Event) (at : Blocks) (slot : ℕ) (x : List ℕ) → Adds base log new (1 - slot) x → IsBeingOpened (cell_of base log) at slot x → IsBeingOpened (cell_of base new) at slot x
-being_written base log new at slot x a o = record {
-  rest = λ b apart. let same = a.other b (λ e. apart (sym e)) in let old = o.rest b apart in record { settled = ap (λ (c : Cell). c.settled) same ∙ old.settled; idle = ap (λ (c : Cell). c.pending) same ∙ old.idle };
-  beside = λ y st. ⊎_elim (λ before. o.beside y before) (λ own. inr own) (a.stands y st);
+-- and so it stays, where the other blocks do, and nothing else comes beside
+being_stays : (old new : ℕ → Cell) (at : Blocks) (slot : ℕ) (x : List ℕ) → ((b : ℕ) → b ≢ 1 - slot → Settles (old b) (new b)) → ((y : List ℕ) → StandsIn (new (1 - slot)) y → StandsIn (old (1 - slot)) y ⊎ (y ≡ x)) → IsBeingOpened old at slot x → IsBeingOpened new at slot x
+being_stays old new at slot x others beside o = record {
+  rest = λ b apart. let was = o.rest b apart in let one = (others b (λ e. apart (sym e))).idle was.idle in record { settled = one.1 ∙ was.settled; idle = one.0 };
+  beside = λ y st. ⊎_elim (λ before. o.beside y before) inr (beside y st);
 }
 
--- and with a notice
-being_noticed : (base : Blocks) (log : List Event) (at : Blocks) (slot ticket : ℕ) (x : List ℕ) → IsBeingOpened (cell_of base log) at slot x → IsBeingOpened (cell_of base (log ++ Noticed ticket ∷ [])) at slot x
-being_noticed base log at slot ticket x o = record {
-  rest = λ b apart. let old = o.rest b apart in let one = (settles_one base log ticket b).idle old.idle in record { settled = one.1 ∙ old.settled; idle = one.0 };
-  beside = λ y st. o.beside y ((settles_one base log ticket (1 - slot)).stands y st);
-}
-
--- a statement on each moment begins with the images of now
-pub window_begins : (n : ℕ) (base : Blocks) (log : List Event) (P : Blocks → Type 0) → ((img : Blocks) → IsHonest n base log img → P img) → Window n base log (length log) P
-window_begins n base log P now = record { each = λ k img from upto honest. now img (subst (λ (l : List Event). IsHonest n base l img) (take_all k log from) honest) }
-
--- and goes on with those after one more event
-pub window_goes_on : (n : ℕ) (base : Blocks) (log : List Event) (e : Event) (t : ℕ) (P : Blocks → Type 0) → Window n base log t P → ((img : Blocks) → IsHonest n base (log ++ e ∷ []) img → P img) → Window n base (log ++ e ∷ []) t P
-window_goes_on n base log e t P w now = record {
-  each = λ k img from upto honest. ⊎_elim (λ late. now img (subst (λ (l : List Event). IsHonest n base l img) (take_all k (log ++ e ∷ []) (omega (arith, late, length-append log (e ∷ [])))) honest))
-      (λ early. w.each k img from early (subst (λ (l : List Event). IsHonest n base l img) (take-append-le k log (e ∷ []) early) honest))
-      (cases_lt (length log) k);
-}
+-- these bytes were written beside a header and waited for, or the write failed
+abbrev pub IsTried : List Event → ℕ → List ℕ → List Event → Type 0
+IsTried log slot block new = AddsWaited (1 - slot) block log new ⊎ ((x : List ℕ) × (e : DiskFault) × (x ≡ block) × AddsWrite (1 - slot) x (Err e) log new)
 
 -- The moments of writing these bytes beside a header and waiting for them, where each image that is honest meanwhile is of some kind.
 module _ (n : ℕ) (base : Blocks) (log : List Event) (slot : ℕ) (block : List ℕ) (idle : (b : ℕ) → (cell_of base log b).pending ≡ []) (Holds : Blocks → Type 0)
@@ -73,39 +58,16 @@ module _ (n : ℕ) (base : Blocks) (log : List Event) (slot : ℕ) (block : List
   abbrev Being : List Event → Type 0
   Being later = IsBeingOpened (cell_of base later) (settled (cell_of base log)) slot block
 
-  -- each moment so far
-  record AreMoments (later : List Event) : Type 0 where
-    pub being : Being later
-    pub window : Window n base later (length log) Holds
+  with_write : (later new : List Event) → Adds base later new (1 - slot) block → Being later → Being new
+  with_write later new a o = being_stays (cell_of base later) (cell_of base new) (settled (cell_of base log)) slot block (others_stay a) a.stands o
 
-  -- so they begin
-  begins : AreMoments log
-  begins = record { being = first; window = window_begins n base log Holds (λ img honest. now log img first honest) }
-    where
-      first : Being log
-      first = being_begins (cell_of base log) slot block idle
+  with_notice : (later : List Event) (t : ℕ) → Being later → Being (later ++ Noticed t ∷ [])
+  with_notice later t o = being_stays (cell_of base later) (cell_of base (later ++ Noticed t ∷ [])) (settled (cell_of base log)) slot block (λ b apart. settles_one base later t b) (λ y st. inl ((settles_one base later t (1 - slot)).stands y st)) o
 
-  -- they go on with one more event
-  goes_on : (later : List Event) (e : Event) → AreMoments later → Being (later ++ e ∷ []) → AreMoments (later ++ e ∷ [])
-  goes_on later e m o = record { being = o; window = window_goes_on n base later e (length log) Holds m.window (λ img honest. now (later ++ e ∷ []) img o honest) }
-
-  -- and with notices
-  noticed : (later : List Event) (ts : List ℕ) → AreMoments later → AreMoments (later ++ notices ts)
-  noticed later [] m = subst AreMoments (sym (append-nil later)) m
-  noticed later (t ∷ ts) m = subst AreMoments (append_assoc later (Noticed t ∷ []) (notices ts)) (noticed (later ++ Noticed t ∷ []) ts (goes_on later (Noticed t) m (being_noticed base later (settled (cell_of base log)) slot t block m.being)))
-
-  -- after the write and the wait
-  window_waited : (new : List Event) → AddsWaited (1 - slot) block log new → Window n base new (length log) Holds
-  window_waited new w =
-      let wrote = goes_on log (Wrote w.ticket (1 - slot) block) begins (being_written base log _ (settled (cell_of base log)) slot block (adds_wrote base log w.ticket (1 - slot) block) begins.being) in
-      subst (λ (l : List Event). Window n base l (length log) Holds) (sym w.waited.log) (noticed (log ++ Wrote w.ticket (1 - slot) block ∷ []) w.waited.tickets wrote).window
-
-  -- after a write that failed
-  window_failed : (new : List Event) (x : List ℕ) (e : DiskFault) → x ≡ block → AddsWrite (1 - slot) x (Err e) log new → Window n base new (length log) Holds
-  window_failed new x e same adds =
-      let lost = goes_on log (Lost (1 - slot) block) begins (being_written base log _ (settled (cell_of base log)) slot block (adds_lost base log (1 - slot) block) begins.being) in
-      ⊎_elim (λ none. subst (λ (l : List Event). Window n base l (length log) Holds) (sym none) begins.window)
-      (λ is. subst (λ (l : List Event). Window n base l (length log) Holds) (sym (is ∙ ap (λ (z : List ℕ). log ++ Lost (1 - slot) z ∷ []) same)) lost.window) adds
+  -- after the write and the wait, or a write that failed
+  window : (new : List Event) → IsTried log slot block new → Window n base new (length log) Holds
+  window new tried = ⊎_elim (λ w. (moments_waited n base (1 - slot) block Being Holds now with_write with_notice log new (being_begins (cell_of base log) slot block idle) w).1)
+      (λ f. (moments_failed n base (1 - slot) block Being Holds now with_write with_notice log new f.0 f.1 f.2 (being_begins (cell_of base log) slot block idle) f.3).1) tried
 
 -- what the laws of the journal's blocks say: a header that can be written reads back
 module _ (laws : JournalLaws) (reads : (h : Header) → IsHeader h → header_of h.geom.n (header_block h) ≡ Some h)
@@ -141,10 +103,7 @@ module _ (laws : JournalLaws) (reads : (h : Header) → IsHeader h → header_of
     same b apart within = (idle_is laws) n base later img honest b within (o.rest b apart).idle ∙ (o.rest b apart).settled
 
     high : (b : ℕ) → 2 ≤ b → b < n → img b ≡ at b
-    high b from within = same b (λ e. apart e) within
-      where
-        apart : 1 - slot ≡ b → ⊥
-        apart e = omega arith
+    high b from within = same b (λ e. omega arith) within
 
     ring : (p : ℕ) → img (ring_block newest.geom p) ≡ at (ring_block newest.geom p)
     ring p = high (ring_block newest.geom p) (omega arith) (ring_within newest.geom p lies.ring lies.shape)
@@ -152,11 +111,8 @@ module _ (laws : JournalLaws) (reads : (h : Header) → IsHeader h → header_of
     here : header_of n (img slot) ≡ Some newest
     here = ap (header_of n) (same slot apart (slot_within newest.geom slot lies.shape ready.is_newest.is_slot)) ∙ ready.is_newest.stands
       where
-        differ : (s : ℕ) → s < 2 → 1 - s ≢ s
-        differ s lt e = omega arith
-
         apart : 1 - slot ≢ slot
-        apart = differ slot ready.is_newest.is_slot
+        apart = λ e. omega (arith, ready.is_newest.is_slot)
 
     is_same : Newest n img slot newest → Holds img
     is_same is = record {
@@ -179,44 +135,30 @@ module _ (laws : JournalLaws) (reads : (h : Header) → IsHeader h → header_of
         header = opening_header newest last epoch;
         run = [];
         newest = is;
-        is_run = record { consecutive = tt; whole = tt; let_in = tt; within = omega arith; longest = λ q can. strict (ready.epochs.commits q.place (commit_says (epoch + 1) q) (sym (ap (commit_of newest.geom) (ring q.place)) ∙ can.whole.commit)) };
+        is_run = record { consecutive = tt; whole = tt; let_in = tt; within = omega arith; longest = λ q can. omega (arith, ready.epochs.commits q.place (commit_says (epoch + 1) q) (sym (ap (commit_of newest.geom) (ring q.place)) ∙ can.whole.commit)) };
         each = λ b. live_part_same newest.geom at img lies.shape (λ c live. high c (omega (arith, live_from newest.geom at c live)) (live_below newest.geom at c live)) b;
       };
     }
-      where
-        strict : epoch + 1 ≤ epoch → ⊥
-        strict le = omega arith
 
     now : Holds img
     now = ⊎_elim (λ none. is_same (record { is_slot = ready.is_newest.is_slot; stands = here; other = λ k is. cc })) some (inspect (header_of n (img (1 - slot))))
       where
-        back : 1 - (1 - slot) ≡ slot
-        back = omega (arith, ready.is_newest.is_slot)
-
         some : (k : Header) × (header_of n (img (1 - slot)) ≡ Some k) → Holds img
         some p =
             let stands = ⊎_elim (λ s. s) (λ q. absurd (q.1 (laws.header_sealed n _ p.0 p.1))) (honest_stands n base later img honest (1 - slot) (slot_within newest.geom (1 - slot) lies.shape (omega arith))) in
             ⊎_elim (λ old. is_same (record { is_slot = ready.is_newest.is_slot; stands = here; other = λ k is. ready.is_newest.other k (sym (ap (header_of n) old) ∙ is) }))
-            (λ new. is_new (record { is_slot = omega arith; stands = ap (header_of n) new ∙ own; other = λ k is. inl (subst (λ (f : Header). f.turn < newest.turn + 1) (same_Some _ _ (sym here ∙ ap (λ s. header_of n (img s)) (sym back) ∙ is)) (omega arith)) }))
+            (λ new. is_new (record { is_slot = omega arith; stands = ap (header_of n) new ∙ own; other = λ k is. inl (subst (λ (f : Header). f.turn < newest.turn + 1) (same_Some _ _ (sym here ∙ ap (λ s. header_of n (img s)) (sym (omega (arith, ready.is_newest.is_slot))) ∙ is)) (omega arith)) }))
             (o.beside _ stands)
 
-  -- so each moment holds it after the write and the wait
-  pub holds_waited : IsRun (settled (cell_of base log)) newest [] → (new : List Event) → AddsWaited (1 - slot) block log new → Window n base new (length log) Holds
-  holds_waited run new w = window_waited n base log slot block ready.idle Holds (now run) new w
-
-  -- and after a write that failed
-  pub holds_failed : IsRun (settled (cell_of base log)) newest [] → (new : List Event) (x : List ℕ) (e : DiskFault) → x ≡ block → AddsWrite (1 - slot) x (Err e) log new → Window n base new (length log) Holds
-  holds_failed run new x e same adds = window_failed n base log slot block ready.idle Holds (now run) new x e same adds
+  -- so each moment holds it
+  pub holds : IsRun (settled (cell_of base log)) newest [] → (new : List Event) → IsTried log slot block new → Window n base new (length log) Holds
+  holds run = window n base log slot block ready.idle Holds (now run)
 
   -- where a run was found and replayed, the newest header closes it
   module _ (was : Blocks) (old_slot : ℕ) (h : Header) (run : List Record) (found : IsFound n was old_slot h run) (r : IsReplayed (cell_of base log) was h newest run) where
     -- an image holds what was found before
     abbrev HoldsFound : Blocks → Type 0
     HoldsFound img = HoldsUnder n h.geom img (found_map was h run)
-
-    -- the slots are two
-    apart_from : (s : ℕ) → s < 2 → 1 - s ≢ s
-    apart_from s lt e = omega arith
 
     -- at each moment the journal is being opened
     opening_now : (later : List Event) → IsBeingOpened (cell_of base later) at slot block → IsOpening n (cell_of base later) was slot h newest (opening_header newest last epoch) run
@@ -228,8 +170,8 @@ module _ (laws : JournalLaws) (reads : (h : Header) → IsHeader h → header_of
       };
       headers = record {
         is_slot = ready.is_newest.is_slot;
-        stands = ap (header_of n) (o.rest slot (apart_from slot ready.is_newest.is_slot)).settled ∙ ready.is_newest.stands;
-        alone = (o.rest slot (apart_from slot ready.is_newest.is_slot)).idle;
+        stands = ap (header_of n) (o.rest slot (λ e. omega (arith, ready.is_newest.is_slot))).settled ∙ ready.is_newest.stands;
+        alone = (o.rest slot (λ e. omega (arith, ready.is_newest.is_slot))).idle;
         other = λ x k st is. ⊎_elim (λ old. inl (ready.is_newest.other k (sym (ap (header_of n) old) ∙ is))) (λ new. inr (same_Some _ _ (sym is ∙ ap (header_of n) new ∙ own))) (o.beside x st);
         newer = omega arith;
       };
@@ -240,23 +182,16 @@ module _ (laws : JournalLaws) (reads : (h : Header) → IsHeader h → header_of
         above : (a : ℕ) → a ≤ epoch → a < epoch + 1
         above a le = omega arith
 
-        not_beside : (b : ℕ) → 2 ≤ b → 1 - slot ≢ b
-        not_beside b high e = omega arith
-
         kept : (b : ℕ) → 2 ≤ b → (x : List ℕ) → at b ≡ x → ((cell_of base later b).settled ≡ x) × ((cell_of base later b).pending ≡ [])
-        kept b high x is = let k = o.rest b (not_beside b high) in (k.settled ∙ is, k.idle)
+        kept b high x is = let k = o.rest b (λ e. omega arith) in (k.settled ∙ is, k.idle)
 
     -- so each honest image holds it
     now_found : (later : List Event) (img : Blocks) → IsBeingOpened (cell_of base later) at slot block → IsHonest n base later img → HoldsFound img
     now_found later img o honest = opening_holds laws n base later img honest slot old_slot was h newest (opening_header newest last epoch) run found (opening_now later o)
 
-    -- after the write and the wait
-    pub found_waited : (new : List Event) → AddsWaited (1 - slot) block log new → Window n base new (length log) HoldsFound
-    found_waited new w = window_waited n base log slot block ready.idle HoldsFound now_found new w
-
-    -- and after a write that failed
-    pub found_failed : (new : List Event) (x : List ℕ) (e : DiskFault) → x ≡ block → AddsWrite (1 - slot) x (Err e) log new → Window n base new (length log) HoldsFound
-    found_failed new x e same adds = window_failed n base log slot block ready.idle HoldsFound now_found new x e same adds
+    -- at each moment
+    pub holds_found : (new : List Event) → IsTried log slot block new → Window n base new (length log) HoldsFound
+    holds_found = window n base log slot block ready.idle HoldsFound now_found
 
 -- the same of the header that closes a run
 module _ (laws : JournalLaws) (reads : (h : Header) → IsHeader h → header_of h.geom.n (header_block h) ≡ Some h)
@@ -272,48 +207,33 @@ module _ (laws : JournalLaws) (reads : (h : Header) → IsHeader h → header_of
 
   -- and closes the run
   pub it_closes : Closes h (closed_header h last) run
-  it_closes = record { geom = refl; epoch = refl; start = refl; place = refl; is_closed = refl; sure = ends h.start (length run) last (laws.header_bounds h.geom.n _ h found.newest.stands).first is_last }
-    where
-      ends : (a b l : ℕ) → 0 < a → l ≡ a + b - 1 → l + 1 ≡ a + b
-      ends a b l some e = omega (arith, e)
+  it_closes = record { geom = refl; epoch = refl; start = refl; place = refl; is_closed = refl; sure = (omega (arith, (laws.header_bounds h.geom.n _ h found.newest.stands).first)) }
 
   -- an image holds what was found
   abbrev HoldsIt : Blocks → Type 0
   HoldsIt img = HoldsUnder h.geom.n h.geom img (found_map (settled (cell_of base log)) h run)
-
-  -- the slots are two
-  not_this : (s : ℕ) → s < 2 → 1 - s ≢ s
-  not_this s lt e = omega arith
-
-  -- and no block behind them is one
-  not_slot : (b : ℕ) → 2 ≤ b → 1 - slot ≢ b
-  not_slot b high e = omega arith
 
   -- at each moment the run is being closed
   closing_now : (later : List Event) → IsBeingOpened (cell_of base later) (settled (cell_of base log)) slot its_block → IsClosing h.geom.n (cell_of base later) (settled (cell_of base log)) slot h (closed_header h last) run
   closing_now later o = record {
     headers = record {
       is_slot = found.newest.is_slot;
-      stands = ap (header_of h.geom.n) (o.rest slot (not_this slot found.newest.is_slot)).settled ∙ found.newest.stands;
-      alone = (o.rest slot (not_this slot found.newest.is_slot)).idle;
+      stands = ap (header_of h.geom.n) (o.rest slot (λ e. omega (arith, found.newest.is_slot))).settled ∙ found.newest.stands;
+      alone = (o.rest slot (λ e. omega (arith, found.newest.is_slot))).idle;
       other = λ x k st is. ⊎_elim (λ old. inl (found.newest.other k (sym (ap (header_of h.geom.n) old) ∙ is))) (λ new. inr (same_Some _ _ (sym is ∙ ap (header_of h.geom.n) new ∙ reads_back))) (o.beside x st);
       newer = omega arith;
     };
     closes = it_closes;
-    rest = λ b high. o.rest b (not_slot b high);
+    rest = λ b high. o.rest b (λ e. omega arith);
   }
 
   -- so each honest image holds it
   it_holds : (later : List Event) (img : Blocks) → IsBeingOpened (cell_of base later) (settled (cell_of base log)) slot its_block → IsHonest h.geom.n base later img → HoldsIt img
   it_holds later img o honest = closing_holds laws h.geom.n base later img honest slot (settled (cell_of base log)) h (closed_header h last) run found (closing_now later o)
 
-  -- after the write and the wait
-  pub closed_waited : (new : List Event) → AddsWaited (1 - slot) its_block log new → Window h.geom.n base new (length log) HoldsIt
-  closed_waited new w = window_waited h.geom.n base log slot its_block idle HoldsIt it_holds new w
-
-  -- and after a write that failed
-  pub closed_failed : (new : List Event) (x : List ℕ) (e : DiskFault) → x ≡ its_block → AddsWrite (1 - slot) x (Err e) log new → Window h.geom.n base new (length log) HoldsIt
-  closed_failed new x e same adds = window_failed h.geom.n base log slot its_block idle HoldsIt it_holds new x e same adds
+  -- at each moment
+  pub holds_closed : (new : List Event) → IsTried log slot its_block new → Window h.geom.n base new (length log) HoldsIt
+  holds_closed = window h.geom.n base log slot its_block idle HoldsIt it_holds
 
   -- with its notice the run may be replayed
   pub closed_done : (new : List Event) (w : AddsWaited (1 - slot) its_block log new) → IsNoticed w.ticket new → IsReplaying h.geom.n (cell_of base new) (settled (cell_of base log)) (1 - slot) h (closed_header h last) run
@@ -333,16 +253,13 @@ module _ (laws : JournalLaws) (reads : (h : Header) → IsHeader h → header_of
       back : 1 - (1 - slot) ≡ slot
       back = omega (arith, found.newest.is_slot)
 
-      apart : 1 - slot ≢ 1 - (1 - slot)
-      apart e = not_this slot found.newest.is_slot (e ∙ back)
-
       there : IsLeft (cell_of base log (1 - (1 - slot))) (cell_of base new (1 - (1 - slot)))
-      there = other_left base log new (1 - slot) (1 - (1 - slot)) its_block w apart (idle (1 - (1 - slot)))
+      there = other_left base log new (1 - slot) (1 - (1 - slot)) its_block w (λ e. omega (arith, found.newest.is_slot)) (idle (1 - (1 - slot)))
 
       as_it_was : (b : ℕ) → 2 ≤ b → IsAsFound (cell_of base new) (settled (cell_of base log)) b
-      as_it_was b high = let k = other_left base log new (1 - slot) b its_block w (not_slot b high) (idle b) in record { settled = k.settled; idle = k.idle }
+      as_it_was b high = let k = other_left base log new (1 - slot) b its_block w (λ e. omega arith) (idle b) in record { settled = k.settled; idle = k.idle }
 
-  -- block by block from the first behind the journal on
+  -- block by block from the (being_begins (cell_of base log) slot block idle) behind the journal on
   pub closed_upto : (new : List Event) (w : AddsWaited (1 - slot) its_block log new) → IsNoticed w.ticket new → IsReplayedUpTo h.geom.n (cell_of base new) (settled (cell_of base log)) (1 - slot) h (closed_header h last) run (bitmap_start h.geom)
   closed_upto new w noticed = record {
     replaying = closed_done new w noticed;

@@ -19,7 +19,7 @@ use Rattle.crash_argument.specs.PipelineData.{IsSettledIn}
 use Rattle.crash_argument.specs.Points.{IsMounted}
 use Rattle.crash_argument.specs.Opening.{opening_header, closed_header, IsReadyToOpen, AddsWaited, AddsDurable}
 use Rattle.crash_argument.proofs.log.Adds.{settles_one}
-use Rattle.crash_argument.proofs.log.Events.{other_wrote}
+use Rattle.disk_contract.proofs.Cells.{other_wrote}
 use Rattle.crash_argument.proofs.log.LastWrites.{last_new, last_stays}
 use Rattle.crash_argument.proofs.log.Tickets.{noticed_done}
 
@@ -54,13 +54,17 @@ other_left base log new block b x w apart idle =
     subst (λ (l : List Event). IsLeft (cell_of base log b) (cell_of base l b)) (sym w.waited.log)
     (subst (λ (c : Cell). IsLeft c (cell_of base ((log ++ Wrote w.ticket block x ∷ []) ++ notices w.waited.tickets) b)) same (left_by_notices base (log ++ Wrote w.ticket block x ∷ []) b w.waited.tickets (ap (λ (c : Cell). c.pending) same ∙ idle)))
 
+-- eight bytes hold a number
+in8 : (v : ℕ) → v < 2 ^ 64 → Rattle.layout_journal.specs.Spelling.fits_in 8 v
+in8 v lt = omega arith
+
 -- the opening header can be written
 pub opening_is : (newest : Header) (last epoch n : ℕ) → IsWithinDisk n newest → epoch < 2 ^ 64 - 1 → newest.turn < 2 ^ 64 - 1 → last < 2 ^ 64 - 1 → IsHeader (opening_header newest last epoch)
 opening_is newest last epoch n within low turn sure = record {
-  epoch = next8 epoch low;
-  turn = next8 newest.turn turn;
-  first = next8 last sure;
-  sure = own8 last sure;
+  epoch = in8 (epoch + 1) (omega (arith, low));
+  turn = in8 (newest.turn + 1) (omega (arith, turn));
+  first = in8 (last + 1) (omega (arith, sure));
+  sure = in8 last (omega (arith, sure));
   epoch_from = omega arith;
   turn_from = omega arith;
   start_from = omega arith;
@@ -68,20 +72,14 @@ opening_is newest last epoch n within low turn sure = record {
   at = omega (arith, within.at);
   geom = within.geom;
 }
-  where
-    next8 : (v : ℕ) → v < 2 ^ 64 - 1 → Rattle.layout_journal.specs.Spelling.fits_in 8 (v + 1)
-    next8 v lt = omega arith
-
-    own8 : (v : ℕ) → v < 2 ^ 64 - 1 → Rattle.layout_journal.specs.Spelling.fits_in 8 v
-    own8 v lt = omega arith
 
 -- and so can the one that closes a run
 pub closing_is : (h : Header) (last count n : ℕ) → IsWithinDisk n h → last ≡ h.start + count - 1 → h.epoch < 2 ^ 64 → h.turn < 2 ^ 64 - 1 → h.start < 2 ^ 64 → last < 2 ^ 64 → IsHeader (closed_header h last)
 closing_is h last count n within is epoch turn start sure = record {
-  epoch = own8 h.epoch epoch;
-  turn = next8 h.turn turn;
-  first = own8 h.start start;
-  sure = own8 last sure;
+  epoch = in8 h.epoch (omega (arith, epoch));
+  turn = in8 (h.turn + 1) (omega (arith, turn));
+  first = in8 h.start (omega (arith, start));
+  sure = in8 last (omega (arith, sure));
   epoch_from = within.epoch;
   turn_from = omega arith;
   start_from = within.first;
@@ -89,12 +87,6 @@ closing_is h last count n within is epoch turn start sure = record {
   at = within.at;
   geom = within.geom;
 }
-  where
-    next8 : (v : ℕ) → v < 2 ^ 64 - 1 → Rattle.layout_journal.specs.Spelling.fits_in 8 (v + 1)
-    next8 v lt = omega arith
-
-    own8 : (v : ℕ) → v < 2 ^ 64 → Rattle.layout_journal.specs.Spelling.fits_in 8 v
-    own8 v lt = omega arith
 
 -- what the laws of the journal's blocks say: a header that can be written reads back
 module _ (laws : JournalLaws) (reads : (h : Header) → IsHeader h → header_of h.geom.n (header_block h) ≡ Some h)
@@ -119,10 +111,7 @@ module _ (laws : JournalLaws) (reads : (h : Header) → IsHeader h → header_of
 
   -- the ring is as it was
   ring : (p : ℕ) → (cell_of base new (ring_block shape p)).settled ≡ (cell_of base log (ring_block shape p)).settled
-  ring p = (other (ring_block shape p) (apart (ring_block shape p) (omega arith))).settled
-    where
-      apart : (b : ℕ) → 2 ≤ b → 1 - slot ≢ b
-      apart b high e = omega arith
+  ring p = (other (ring_block shape p) (λ e. omega arith)).settled
 
   -- nothing is pending on any block
   idle : (b : ℕ) → (cell_of base new b).pending ≡ []
@@ -148,14 +137,8 @@ module _ (laws : JournalLaws) (reads : (h : Header) → IsHeader h → header_of
       below : (n : ℕ) → n ≤ epoch → n < epoch + 1
       below n le = omega arith
 
-      two : (s : ℕ) → s < 2 → 1 - (1 - s) ≡ s
-      two s lt = omega arith
-
-      differ : (s : ℕ) → s < 2 → 1 - s ≢ s
-      differ s lt e = omega arith
-
       before : (cell_of base new (1 - (1 - slot))).settled ≡ (cell_of base log slot).settled
-      before = ap (λ b. (cell_of base new b).settled) (two slot ready.is_newest.is_slot) ∙ (other slot (differ slot ready.is_newest.is_slot)).settled
+      before = ap (λ b. (cell_of base new b).settled) (omega (arith, ready.is_newest.is_slot)) ∙ (other slot (λ e. omega (arith, ready.is_newest.is_slot))).settled
 
 -- a write that was accepted, and a wait behind it
 pub then_waited : (block ticket : ℕ) (x y : List ℕ) (old middle new : List Event) → y ≡ x → AddsWrite {E = DiskFault} block y (Ok ticket) old middle → AddsNotices middle new → AddsWaited block x old new

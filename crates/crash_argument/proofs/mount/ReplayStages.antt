@@ -1,5 +1,5 @@
 -- While a mount replays, each honest image holds what was found.
-use Rattle.std.proofs.Common.{◌≡◌, ◌⊎◌, inl, inr, ⊎_elim, ℕ, suc, ◌+◌, ◌-◌, ◌%◌, ◌<◌, ◌≤◌, IsTrue, if◌then◌else◌, ◌==◌, List, [], ◌∷◌, ◌++◌, length, slice_get, Option, Some, None, refl, sym, ◌∙◌, ap, subst, arith}
+use Rattle.std.proofs.Common.{◌≡◌, ◌⊎◌, inl, inr, ⊎_elim, ℕ, ◌+◌, ◌-◌, ◌%◌, ◌<◌, ◌≤◌, IsTrue, if◌then◌else◌, ◌==◌, List, [], ◌∷◌, ◌++◌, length, slice_get, Option, Some, None, refl, sym, ◌∙◌, ap, subst, arith}
 use Rattle.std.proofs.lemmas.Option.{same_Some}
 use Rattle.base_types.specs.Seal.{Blocks, sha256}
 use Rattle.disk_contract.specs.declared.event.Event.{Event}
@@ -63,14 +63,8 @@ module _ (laws : JournalLaws) (one two : Blocks) (h : Header) (ring : (p : ℕ) 
 
 -- the number behind consecutive records
 number_behind : (j n p : ℕ) (rs : List Record) (r : Record) → AreConsecutive j n p (rs ++ r ∷ []) → r.number ≡ n + length rs
-number_behind j n p [] r c = c.0 ∙ z n
-  where
-    z : (n : ℕ) → n ≡ n + 0
-    z n = omega arith
-number_behind j n p (q ∷ rs) r c = number_behind j (n + 1) ((p + places q) % j) rs r c.2 ∙ s n (length rs)
-  where
-    s : (n k : ℕ) → n + 1 + k ≡ n + suc k
-    s n k = omega arith
+number_behind j n p [] r c = c.0 ∙ omega arith
+number_behind j n p (q ∷ rs) r c = number_behind j (n + 1) ((p + places q) % j) rs r c.2 ∙ omega arith
 
 -- the same header over an image that agrees outside the slots
 pub run_stays : JournalLaws → (at img : Blocks) (h : Header) (run : List Record) → ((p : ℕ) → ring_block h.geom p < h.geom.n) → ((b : ℕ) → 2 ≤ b → b < h.geom.n → img b ≡ at b) → IsRun at h run → IsRun img h run
@@ -155,14 +149,11 @@ module _ (laws : JournalLaws) (n : ℕ) (base : Blocks) (log : List Event) (img 
       none : header_of n (img (1 - slot)) ≡ None → Newest n img slot h ⊎ Newest n img (1 - slot) next
       none e = inl (record { is_slot = a.is_slot; stands = here; other = λ k is. cc })
 
-      back : 1 - (1 - slot) ≡ slot
-      back = omega (arith, a.is_slot)
-
       some : (k : Header) × (header_of n (img (1 - slot)) ≡ Some k) → Newest n img slot h ⊎ Newest n img (1 - slot) next
       some p =
           let stands = ⊎_elim (λ s. s) (λ q. absurd (q.1 (laws.header_sealed n _ p.0 p.1))) (honest_stands n base log img honest (1 - slot) (low (1 - slot) (omega arith))) in
           ⊎_elim (λ old. inl (record { is_slot = a.is_slot; stands = here; other = λ k is. subst (λ (f : Header). IsOlder slot h f) (same_Some _ _ (sym p.1 ∙ is)) old }))
-          (λ new. inr (record { is_slot = omega arith; stands = p.1 ∙ ap (λ (f : Header). Some f) new; other = λ k is. inl (subst (λ (f : Header). f.turn < next.turn) (same_Some _ _ (sym here ∙ ap (λ s. header_of n (img s)) (sym back) ∙ is)) a.newer) }))
+          (λ new. inr (record { is_slot = omega arith; stands = p.1 ∙ ap (λ (f : Header). Some f) new; other = λ k is. inl (subst (λ (f : Header). f.turn < next.turn) (same_Some _ _ (sym here ∙ ap (λ s. header_of n (img s)) (sym (omega (arith, a.is_slot))) ∙ is)) a.newer) }))
           (a.other _ p.0 stands p.1)
 
   -- where the journal lies
@@ -241,10 +232,7 @@ module _ (laws : JournalLaws) (n : ℕ) (base : Blocks) (log : List Event) (img 
           header = fresh;
           run = [];
           newest = newest;
-          is_run = record { consecutive = tt; whole = tt; let_in = tt; within = omega arith; longest = λ q can. strict fresh.epoch fresh.epoch (c.new_epoch q.place (commit_says fresh.epoch q) (sym (ap (λ (g : Geometry). commit_of g (img (ring_block g q.place))) c.geom ∙ ap (commit_of h.geom) (ring q.place)) ∙ can.whole.commit)) refl };
+          is_run = record { consecutive = tt; whole = tt; let_in = tt; within = omega arith; longest = λ q can. omega (arith, c.new_epoch q.place (commit_says fresh.epoch q) (sym (ap (λ (g : Geometry). commit_of g (img (ring_block g q.place))) c.geom ∙ ap (commit_of h.geom) (ring q.place)) ∙ can.whole.commit)) };
           each = λ b. subst (λ (g : Geometry). found_map at h run b ≡ live_part g (replayed g img []) b) (sym c.geom) (live_part_same h.geom (replayed h.geom at run) img g.shape (λ b live. at_home b (live_from h.geom (replayed h.geom at run) b live) (live_below h.geom (replayed h.geom at run) b live)) b);
         };
       }
-        where
-          strict : (a b : ℕ) → a < b → a ≡ b → ⊥
-          strict a b lt e = omega arith

@@ -1,6 +1,6 @@
 -- A replay block by block: from the header that closes the run to the journal that may be opened.
 use Rattle.std.proofs.Common.{◌≡◌, ◌≢◌, ◌⊎◌, inl, inr, ⊎_elim, ℕ, ◌+◌, ◌-◌, ◌<◌, ◌≤◌, List, [], Option, Some, None, refl, sym, ◌∙◌, ap, subst, arith}
-use Rattle.std.proofs.lemmas.Bool.{cases_eq}
+use Rattle.std.proofs.lemmas.Bool.{cases_eq, cases_lt}
 use mathlib.Core.Path.{fun_ext}
 use Rattle.base_types.specs.Seal.{Blocks}
 use Rattle.disk_contract.specs.declared.event.Event.{Event}
@@ -59,10 +59,6 @@ upto_passes n cells at slot b h closed run r none = record {
 -- A block that the run covers, written and noticed.
 module _ (laws : JournalLaws) (n : ℕ) (base at : Blocks) (slot old_slot : ℕ) (h closed : Header) (run : List Record) (found : IsFound n at old_slot h run)
     (block : ℕ) (x : List ℕ) (low : bitmap_start h.geom ≤ block) (covered : covered_by h.geom at None run block ≡ Some x) where
-  -- no slot is the block
-  slot_apart : (s j : ℕ) → s < 2 → j + 2 ≤ block → block ≢ s
-  slot_apart s j lt le e = omega arith
-
   -- the replay goes on behind it
   pub upto_waited : (log new : List Event) → IsReplayedUpTo n (cell_of base log) at slot h closed run block → (w : AddsWaited block x log new) → IsNoticed w.ticket new → IsReplayedUpTo n (cell_of base new) at slot h closed run (block + 1)
   upto_waited log new r w noticed = record {
@@ -70,7 +66,7 @@ module _ (laws : JournalLaws) (n : ℕ) (base at : Blocks) (slot old_slot : ℕ)
     idle = λ b. ⊎_elim (λ same. ap (λ c. (cell_of base new c).pending) (sym same) ∙ own.pending) (λ apart. (left b apart).idle) (cases_eq block b);
     placed = λ b from lt. ⊎_elim (λ same. ap (λ c. (cell_of base new c).settled) (sym same) ∙ own.settled ∙ sym (ap (λ (o : Option (List ℕ)). otherwise o (at block)) covered) ∙ ap (replayed h.geom at run) same)
         (λ apart. (left b apart).settled ∙ r.placed b from (omega (arith, lt, apart))) (cases_eq block b);
-    headers = λ s k two is. r.headers s k two (sym (ap (header_of n) (left s (slot_apart s h.geom.j two low)).settled) ∙ is);
+    headers = λ s k two is. r.headers s k two (sym (ap (header_of n) (left s (λ e. omega arith)).settled) ∙ is);
   }
     where
       own : IsSettledIn (cell_of base new block) x
@@ -84,11 +80,8 @@ pub upto_ends : JournalLaws → (n : ℕ) (cells : ℕ → Cell) (at : Blocks) (
 upto_ends laws n cells at slot old_slot upto h closed run found r all = record {
   closes = r.replaying.closes;
   ring = r.replaying.ring;
-  home = λ b low. (⊎_elim (λ lt. r.placed b low lt) (λ past. in_place n cells at slot b h closed run r.replaying low (none_behind laws at h run b found.is_run.whole (omega (arith, past, all)))) (split b upto), r.idle b);
+  home = λ b low. (⊎_elim (λ lt. r.placed b low lt) (λ past. in_place n cells at slot b h closed run r.replaying low (none_behind laws at h run b found.is_run.whole (omega (arith, past, all)))) (cases_lt b upto), r.idle b);
 }
-  where
-    split : (b u : ℕ) → (b < u) ⊎ (u ≤ b)
-    split b u = grind arith
 
 -- the journal may be opened then
 pub upto_opens : JournalLaws → (n : ℕ) (cells : ℕ → Cell) (at : Blocks) (slot old_slot upto epoch : ℕ) (h closed : Header) (run : List Record) → IsFound n at old_slot h run → IsReplayedUpTo n cells at slot h closed run upto → HasNoEpochAbove h.geom at epoch → IsReadyToOpen cells slot closed epoch

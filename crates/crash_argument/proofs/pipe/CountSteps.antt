@@ -1,12 +1,11 @@
 -- The sum stays within its bound at each kind of write.
 use Rattle.std.proofs.Common.{◌≡◌, ◌⊎◌, inl, inr, ⊎_elim, ℕ, ◌+◌, ◌<◌, ◌≤◌, List, [], ◌∷◌, ◌++◌, length, take, drop, Option, Some, None, Result, Ok, Err, refl, sym, ◌∙◌, ap, arith, length-take, take-append-drop}
-use Rattle.std.proofs.lemmas.List.{drop_all}
+use Rattle.std.proofs.lemmas.List.{drop_all, drop-append-le}
 use Rattle.disk_contract.specs.declared.event.Event.{Event}
 use Rattle.disk_contract.specs.declared.event.Event.TheVariants.{Wrote, Lost, Noticed}
 use Rattle.disk_contract.specs.Cell.{notices}
 use Rattle.disk_contract.specs.Disk.{AddsWrite, AddsPoll, AddsNotices, writes_in}
 use Rattle.crash_argument.specs.Counts.{WriteCounts, AreCounted, AreAtMost, AreWithinSum, counts_at_mount, with_point, with_part, with_home_write, without_payloads, with_header_write, MovesOn}
-use Rattle.crash_argument.proofs.steps.PointSteps.{drop_front}
 
 pub counts_begin : (last : ℕ) → AreWithinSum (counts_at_mount last)
 counts_begin last = record { sure = omega arith; start = omega arith; bound = omega arith }
@@ -55,7 +54,7 @@ counted_at_first log last = sym (ap writes_in (drop_all (length log) log (omega 
 
 -- the writes since the mount, of a log that goes on
 since : (mounted : ℕ) (log more : List Event) → mounted ≤ length log → writes_in (drop mounted (log ++ more)) ≡ writes_in (drop mounted log) + writes_in more
-since mounted log more late = ap writes_in (drop_front mounted log more late) ∙ writes_behind (drop mounted log) more
+since mounted log more late = ap writes_in (drop-append-le mounted log more late) ∙ writes_behind (drop mounted log) more
 
 -- so they go on
 pub counted_on : (mounted : ℕ) (old new more : List Event) (c now : WriteCounts) → mounted ≤ length old → new ≡ old ++ more → now.writes ≡ c.writes + writes_in more → AreCounted mounted old c → AreCounted mounted new now

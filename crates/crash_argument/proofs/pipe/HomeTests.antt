@@ -61,26 +61,17 @@ module _ (l : Ledger) (new : FreshAreNew l) (freed : List (List ℕ)) (are : Are
   -- and all of a row of records, the first of which is at place k of the ledger's
   all : (ws : List WrittenRecord) (fs : List (List ℕ)) (k n : ℕ) (g c : Option (List ℕ)) → length ws ≡ length fs → ((i : ℕ) (w : WrittenRecord) → slice_get ws i ≡ Some w → (slice_get l.records (k + i) ≡ Some w) × (w.says.number ≡ n + i))
       → ((i : ℕ) (f : List ℕ) → slice_get fs i ≡ Some f → slice_get freed (k + i) ≡ Some f) → g ≡ where_live (live n) c → goes_home g ws fs b ≡ where_live (live (n + length ws)) (cover c ws b)
-  all [] [] k n g c same members lists before = before ∙ ap (λ m. where_live (live m) c) (z n)
-    where
-      z : (n : ℕ) → n ≡ n + 0
-      z n = omega arith
+  all [] [] k n g c same members lists before = before ∙ ap (λ m. where_live (live m) c) (omega arith)
   all [] (f ∷ fs) k n g c same members lists before = absurd (omega (arith, same))
   all (w ∷ ws) [] k n g c same members lists before = absurd (omega (arith, same))
   all (w ∷ ws) (f ∷ fs) k n g c same members lists before =
       let here = members 0 w refl in
-      let number : w.says.number ≡ n = here.1 ∙ sym (z n) in
-      let at = ap (slice_get l.records) (z k) ∙ here.0 in
-      let own = ap (slice_get freed) (z k) ∙ lists 0 f refl in
-      all ws fs (k + 1) (n + 1) (goes_after g w f b) (covered c w) (omega (arith, same)) (λ i v is. let m = members (suc i) v is in (ap (slice_get l.records) (s k i) ∙ m.0, m.1 ∙ sym (s n i))) (λ i e is. ap (slice_get freed) (s k i) ∙ lists (suc i) e is)
+      let number : w.says.number ≡ n = here.1 ∙ sym (omega arith) in
+      let at = ap (slice_get l.records) (omega arith) ∙ here.0 in
+      let own = ap (slice_get freed) (omega arith) ∙ lists 0 f refl in
+      all ws fs (k + 1) (n + 1) (goes_after g w f b) (covered c w) (omega (arith, same)) (λ i v is. let m = members (suc i) v is in (ap (slice_get l.records) (omega arith) ∙ m.0, m.1 ∙ sym (omega arith))) (λ i e is. ap (slice_get freed) (omega arith) ∙ lists (suc i) e is)
       (one k w f g c at own (before ∙ ap (λ m. where_live (live m) c) (sym number)) ∙ ap (λ m. where_live (live (m + 1)) (covered c w)) number)
-      ∙ ap (λ m. where_live (live m) (cover (covered c w) ws b)) (s n (length ws))
-    where
-      z : (n : ℕ) → n ≡ n + 0
-      z n = omega arith
-
-      s : (a i : ℕ) → a + 1 + i ≡ a + suc i
-      s a i = omega arith
+      ∙ ap (λ m. where_live (live m) (cover (covered c w) ws b)) (omega arith)
 
 -- the batch's blocks, while it ends with the last sure record
 module _ (base : Blocks) (log : List Event) (l : Ledger) (keeps : IsConsistentWith base log l) (p : PipelineData) (k : DataAgree base log l p) (freed : List (List ℕ)) (are : AreFreedBy l freed) (ends : l.header.start + p.placed + p.batch ≡ l.header.sure + 1) (b : ℕ) where

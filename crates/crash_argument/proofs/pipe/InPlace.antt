@@ -1,7 +1,7 @@
 -- When a block may be written in place: a fresh one that is dead, and a home block that the batch covers.
 use Rattle.std.proofs.Common.{◌≡◌, ◌≢◌, inl, ⊎_elim, ℕ, suc, ◌+◌, ◌-◌, ◌<◌, ◌≤◌, true, false, ◌==◌, if◌then◌else◌, IsTrue, List, [], ◌∷◌, ◌++◌, length, drop, slice_get, Option, Some, None, refl, sym, ◌∙◌, ap, subst, arith, length-append, length-drop, append_assoc}
 use Rattle.std.proofs.lemmas.Bool.{both_ways, cases_Bool, cond-false}
-use Rattle.std.proofs.lemmas.Option.{none-some}
+use Rattle.std.proofs.lemmas.Option.{none-some, slice_get_within}
 use Rattle.base_types.specs.Seal.{Blocks}
 use Rattle.disk_contract.specs.declared.event.Event.{Event}
 use Rattle.disk_contract.specs.Cell.{cell_of}
@@ -12,9 +12,9 @@ use Rattle.layout_journal.specs.Run.{names_block, or_else, is_live}
 use Rattle.crash_argument.specs.Ledger.{Ledger, WrittenRecord, IsConsistentWith, from_start, cover, payload_in}
 use Rattle.crash_argument.specs.Steps.{MayWriteInPlace}
 use Rattle.crash_argument.specs.LastWrites.{IsDead, FreshAreNew, IsBatch}
-use Rattle.crash_argument.proofs.log.Lists.{get_front, get_behind, get_drop, get_within}
+use Rattle.crash_argument.proofs.log.Lists.{whole_list, get_front, get_behind, get_drop}
 use Rattle.crash_argument.proofs.theorem.Whole.{count_of}
-use Rattle.crash_argument.proofs.steps.HeaderSteps.{whole_list, number_at, cover-parts, cover-kinds}
+use Rattle.crash_argument.proofs.steps.HeaderSteps.{number_at, cover-parts, leave_or_decide, alone_leaves}
 use Rattle.std.proofs.lemmas.List.{drop-append-le}
 
 module _ (base : Blocks) (log : List Event) (l : Ledger) (k : IsConsistentWith base log l) (new : FreshAreNew l) where
@@ -24,7 +24,7 @@ module _ (base : Blocks) (log : List Event) (l : Ledger) (k : IsConsistentWith b
 
   -- and the index is within the records
   pub within : (i : ℕ) (w : WrittenRecord) → slice_get l.records i ≡ Some w → i < length l.records
-  within i w is = get_within l.records i w is
+  within i w is = slice_get_within l.records i w is
 
   -- fresh blocks are dead
   pub dead_may : (block : ℕ) → bitmap_start l.geom ≤ block → IsDead l block → MayWriteInPlace (cell_of base log) l block
@@ -76,7 +76,7 @@ module _ (base : Blocks) (log : List Event) (l : Ledger) (k : IsConsistentWith b
       late_apart i j w e is late at same = both_ways _ (new.dead i j (l.header.sure + 1) w e is (omega arith) (omega (arith, late)) at) (subst (λ b. IsTrue (is_live l.geom (l.map_before (l.header.sure + 1)) b)) (sym same) live_on)
 
       covered_whatever : (o : Option (List ℕ)) → cover o batch block ≡ Some x
-      covered_whatever o = ⊎_elim (λ p. p.1 o ∙ sym (p.1 None) ∙ covered) (λ p. absurd (none-some x (sym (p None) ∙ covered))) (cover-kinds batch block)
+      covered_whatever o = ⊎_elim (λ alone. absurd (none-some x (sym (alone_leaves batch block None alone) ∙ covered))) (λ decides. decides o ∙ covered) (leave_or_decide batch block)
 
       in_more : (h : Header) (good bad more : List WrittenRecord) → good ≡ (drop (h.start - l.header.start) placed ++ batch) ++ more → (i : ℕ) (w : WrittenRecord) → slice_get more i ≡ Some w → h.start - l.header.start ≤ length placed → from_start l h ≡ good ++ bad → slice_get l.records (length (placed ++ batch) + i) ≡ Some w
       in_more h good bad more e i w is le split =

@@ -7,9 +7,8 @@ use Rattle.disk_contract.specs.Cell.{cell_of}
 use Rattle.layout_journal.specs.Run.{is_live, otherwise}
 use Rattle.crash_argument.specs.Ledger.{Ledger, WrittenRecord, IsConsistentWith, cover, latest, last_of, next_number}
 use Rattle.crash_argument.specs.PipelineData.{PipelineData, DataAgree, StaysLive, LeavesAlone, IsSettledIn}
-use Rattle.crash_argument.proofs.log.Lists.{get_behind, get_some}
-use Rattle.crash_argument.proofs.steps.HeaderSteps.{whole_list, cover-parts}
-use Rattle.crash_argument.proofs.pipe.PipelineSteps.{leave_or_decide, alone_leaves}
+use Rattle.crash_argument.proofs.log.Lists.{whole_list, get_behind, get_some}
+use Rattle.crash_argument.proofs.steps.HeaderSteps.{cover-parts, leave_or_decide, alone_leaves}
 use Rattle.crash_argument.proofs.pipe.InPlace.{numbered}
 
 module _ (base : Blocks) (log : List Event) (l : Ledger) (keeps : IsConsistentWith base log l) (p : PipelineData) (k : DataAgree base log l p) (b : ℕ) (on : IsTrue (is_live l.geom (l.map_before (next_number l)) b)) where
@@ -27,10 +26,7 @@ module _ (base : Blocks) (log : List Event) (l : Ledger) (keeps : IsConsistentWi
 
   -- a block that no record from a place on names was live there
   live_back : ((i : ℕ) (w : WrittenRecord) → slice_get (k.batch ++ k.rest) i ≡ Some w → LeavesAlone w b) → (j : ℕ) → j ≤ length (k.batch ++ k.rest) → IsTrue (is_live l.geom (l.map_before (next_number l - j)) b)
-  live_back alone zero le = subst (λ n. IsTrue (is_live l.geom (l.map_before n) b)) (z (next_number l)) on
-    where
-      z : (n : ℕ) → n ≡ n - 0
-      z n = omega arith
+  live_back alone zero le = subst (λ n. IsTrue (is_live l.geom (l.map_before n) b)) {x = next_number l} {y = next_number l - 0} (omega arith) on
   live_back alone (suc j) le =
       let total : length l.records ≡ length k.placed + length (k.batch ++ k.rest) = ap (λ (ws : List WrittenRecord). length ws) k.is_batch.split ∙ length-append k.placed (k.batch ++ k.rest) in
       let w = get_some (k.batch ++ k.rest) (length (k.batch ++ k.rest) - suc j) (omega (arith, le)) in

@@ -1,12 +1,12 @@
 -- One pending write a block: how it is kept by each event, and that the blocks that are to be written are idle.
-use Rattle.std.proofs.Common.{◌≡◌, ◌≢◌, ◌⊎◌, inl, inr, ⊎_elim, ℕ, zero, suc, ◌+◌, ◌-◌, ◌%◌, ◌<◌, ◌≤◌, ◌==◌, Bool, true, false, if◌then◌else◌, IsTrue, List, [], ◌∷◌, ◌++◌, length, slice_get, Some, None, refl, sym, ◌∙◌, ap, subst, arith, length-append}
+use Rattle.std.proofs.Common.{◌≡◌, ◌≢◌, ◌⊎◌, inl, inr, ⊎_elim, ℕ, ◌+◌, ◌-◌, ◌%◌, ◌<◌, ◌≤◌, ◌==◌, Bool, true, false, if◌then◌else◌, IsTrue, List, [], ◌∷◌, ◌++◌, length, slice_get, Some, None, refl, sym, ◌∙◌, ap, subst, arith, length-append}
 use Rattle.std.proofs.lemmas.Bool.{cases_eq, cases_lt, cases_Bool, both_ways, eq-eqb, false≢true, cond-true, cond-false}
 use Rattle.std.proofs.lemmas.Nat.{mod_below}
 use Rattle.std.proofs.lemmas.Option.{none-some, same_Some}
 use Rattle.base_types.specs.Seal.{Blocks}
 use Rattle.disk_contract.specs.declared.event.Event.{Event}
 use Rattle.disk_contract.specs.declared.event.Event.TheVariants.{Wrote, Lost, Noticed}
-use Rattle.disk_contract.specs.Cell.{Cell, Write, with_write, settle, from_ticket, is_ticket, cell_of, greatest_ticket, IsNoticed}
+use Rattle.disk_contract.specs.Cell.{Cell, Write, settle, from_ticket, is_ticket, cell_of, greatest_ticket, IsNoticed}
 use Rattle.layout_geometry.specs.Geometry.{Geometry, ring_block, bitmap_start}
 use Rattle.layout_journal.specs.declared.header.Header.{Header}
 use Rattle.layout_journal.specs.declared.entry.Entry.{Entry}
@@ -18,11 +18,11 @@ use Rattle.crash_argument.specs.HomeTest.{is_one_of}
 use Rattle.crash_argument.specs.PipelineData.{PipelineData, DataAgree, NeedsCheckpoint, IsHomeNoticed, with_pending, with_durable, with_batch, with_home, with_sent, with_placed, with_committed}
 use Rattle.crash_argument.specs.OnePending.{IsIdle, IsFreshInNew, IsOnItsWay, HasOnePending, IsNotOnItsWay, AreOfRecord}
 use Rattle.crash_argument.specs.Points.{IsMounted, ledger_at_mount}
-use Rattle.crash_argument.proofs.log.Events.{cell_of-append, other_wrote, other_lost}
+use Rattle.disk_contract.proofs.Cells.{cell_of-append, other_wrote, other_lost}
 use Rattle.crash_argument.proofs.log.Tickets.{noticed_done}
 use Rattle.crash_argument.proofs.log.LastWrites.{last_stays, last_new}
 use Rattle.crash_argument.proofs.log.Adds.{settles_one}
-use Rattle.crash_argument.proofs.log.Lists.{get_drop, get_front, get_behind, get_some, decide_below, inspect}
+use Rattle.crash_argument.proofs.log.Lists.{get_drop, get_front, get_behind, get_some, decide_below, inspect, last_or}
 use Rattle.crash_argument.proofs.pipe.InPlace.{numbered, within}
 use Rattle.crash_argument.proofs.theorem.Core.{live_from}
 
@@ -44,10 +44,7 @@ fewer_noticed base log t b = subst (λ (c : Cell). length c.pending ≤ length (
 
 -- a write leaves one more on its block
 one_wrote : (base : Blocks) (log : List Event) (t b : ℕ) (x : List ℕ) → IsIdle (cell_of base log b) → length (cell_of base (log ++ Wrote t b x ∷ []) b).pending ≤ 1
-one_wrote base log t b x idle = subst (λ (c : Cell). length c.pending ≤ 1) (sym (cell_of-append base log (Wrote t b x ∷ []) b ∙ cond-true (b == b) _ _ (eq-eqb b b refl))) (more (cell_of base log b) idle)
-  where
-    more : (c : Cell) → c.pending ≡ [] → length (with_write c (Some t) x).pending ≤ 1
-    more c e = omega (arith, length-append c.pending (record { ticket = Some t; bytes = x } ∷ []), ap (λ (ws : List Write). length ws) e)
+one_wrote base log t b x idle = subst (λ (c : Cell). length c.pending ≤ 1) (sym (cell_of-append base log (Wrote t b x ∷ []) b ∙ cond-true (b == b) _ _ (eq-eqb b b refl))) (omega (arith, length-append (cell_of base log b).pending (record { ticket = Some t; bytes = x } ∷ []), ap (λ (ws : List Write). length ws) idle))
 
 -- a session begins with nothing pending
 pub one_begins : (base : Blocks) (log : List Event) (g : Geometry) (slot : ℕ) (h : Header) (p : PipelineData) → IsMounted (cell_of base log) g slot h → p.home ≡ [] → HasOnePending base log (ledger_at_mount (cell_of base log) g slot h) p []
@@ -72,16 +69,21 @@ module _ (base : Blocks) (log : List Event) (l : Ledger) (p : PipelineData) (uw 
     none = o.none;
   }
 
-  -- records become known
-  pub one_known : (number : ℕ) → IsConsistentWith base log l → AreNoticed (cell_of base log) l number → HasOnePending base log (with_known l number) p uw
-  one_known number keeps are = record {
+  -- where the log stays, and what is said of the blocks that aren't idle goes on
+  one_on : (known : ℕ) (q : PipelineData) → ((b : ℕ) → IsFreshInNew l b ⊎ IsOnItsWay log p b → IsIdle (cell_of base log b) ⊎ IsFreshInNew (with_known l known) b ⊎ IsOnItsWay log q b)
+      → ((k b t : ℕ) → slice_get q.home k ≡ Some (b, t) → b < q.sent) → (q.batch ≡ 0 → q.home ≡ []) → HasOnePending base log (with_known l known) q uw
+  one_on known q goes below none = record {
     one = o.one;
     slot = o.slot;
     ring = o.ring;
-    block = λ b low e. ⊎_elim inl (λ r. ⊎_elim (λ f. fresh b f) (λ w. inr (inr w)) r) (o.block b low e);
-    below = o.below;
-    none = o.none;
+    block = λ b low e. ⊎_elim inl (goes b) (o.block b low e);
+    below = below;
+    none = none;
   }
+
+  -- records become known
+  pub one_known : (number : ℕ) → IsConsistentWith base log l → AreNoticed (cell_of base log) l number → HasOnePending base log (with_known l number) p uw
+  one_known number keeps are = one_on number p (λ b r. ⊎_elim (fresh b) (λ w. inr (inr w)) r) o.below o.none
     where
       fresh : (b : ℕ) → IsFreshInNew l b → IsIdle (cell_of base log b) ⊎ IsFreshInNew (with_known l number) b ⊎ IsOnItsWay log p b
       fresh b f = ⊎_elim
@@ -90,35 +92,17 @@ module _ (base : Blocks) (log : List Event) (l : Ledger) (p : PipelineData) (uw 
 
   -- the batch is taken, and all of it is sent
   pub one_batch : (count : ℕ) → p.batch ≡ 0 → HasOnePending base log l (with_batch p count) uw
-  one_batch count none = record {
-    one = o.one;
-    slot = o.slot;
-    ring = o.ring;
-    block = λ b low e. ⊎_elim inl (λ r. ⊎_elim (λ f. inr (inl f)) (λ w. absurd (none-some (b, w.ticket) (sym (ap (λ (hs : List (ℕ × ℕ)). slice_get hs w.at) (o.none none)) ∙ w.listed))) r) (o.block b low e);
-    below = λ k b t is. absurd (none-some (b, t) is);
-    none = λ e. refl;
-  }
+  one_batch count none = one_on l.known (with_batch p count)
+      (λ b r. ⊎_elim (λ f. inr (inl f)) (λ w. absurd (none-some (b, w.ticket) (sym (ap (λ (hs : List (ℕ × ℕ)). slice_get hs w.at) (o.none none)) ∙ w.listed))) r)
+      (λ k b t is. absurd (none-some (b, t) is)) (λ e. refl)
 
   pub one_sent : (n : ℕ) → p.sent ≤ n → HasOnePending base log l (with_sent p n) uw
-  one_sent n le = record {
-    one = o.one;
-    slot = o.slot;
-    ring = o.ring;
-    block = λ b low e. ⊎_elim inl (λ r. ⊎_elim (λ f. inr (inl f)) (λ w. inr (inr (record { at = w.at; ticket = w.ticket; bytes = w.bytes; listed = w.listed; last = w.last }))) r) (o.block b low e);
-    below = λ k b t is. omega (arith, o.below k b t is, le);
-    none = o.none;
-  }
+  one_sent n le = one_on l.known (with_sent p n) (λ b r. inr (⊎_elim inl (λ w. inr (record { at = w.at; ticket = w.ticket; bytes = w.bytes; listed = w.listed; last = w.last })) r)) (λ k b t is. omega (arith, o.below k b t is, le)) o.none
 
   -- the batch is at home
   pub one_placed : IsHomeNoticed log p.home → HasOnePending base log l (with_placed p) uw
-  one_placed home = record {
-    one = o.one;
-    slot = o.slot;
-    ring = o.ring;
-    block = λ b low e. ⊎_elim inl (λ r. ⊎_elim (λ f. inr (inl f)) (λ w. inl (noticed_done base log b w.ticket w.bytes w.last (home w.at b w.ticket w.listed)).pending) r) (o.block b low e);
-    below = λ k b t is. absurd (none-some (b, t) is);
-    none = λ e. refl;
-  }
+  one_placed home = one_on l.known (with_placed p) (λ b r. ⊎_elim (λ f. inr (inl f)) (λ w. inl (noticed_done base log b w.ticket w.bytes w.last (home w.at b w.ticket w.listed)).pending) r)
+      (λ k b t is. absurd (none-some (b, t) is)) (λ e. refl)
 
   -- what may be written is idle: a free place, a block for a fresh write, and one that has to go home
   pub fresh_idle : (b : ℕ) → IsConsistentWith base log l → FreshAreNew l → bitmap_start l.geom ≤ b → is_one_of b uw ≡ false → IsDead l b → IsNotOnItsWay log p b → IsIdle (cell_of base log b)
@@ -131,11 +115,8 @@ module _ (base : Blocks) (log : List Event) (l : Ledger) (p : PipelineData) (uw 
           (subst (λ n. IsTrue (is_live l.geom (l.map_before (f.written.says.number + 1)) n)) f.own (new.live f.place f.at f.written f.entry f.is_record late f.is_entry)))
 
   pub home_idle : (k : DataAgree base log l p) (b : ℕ) (x : List ℕ) → IsConsistentWith base log l → is_one_of b uw ≡ false → p.sent ≤ b → NeedsCheckpoint l k.batch b x → IsIdle (cell_of base log b)
-  home_idle k b x keeps out from needs = ⊎_elim (λ idle. idle) (λ r. ⊎_elim fresh (λ w. absurd (less (o.below w.at b w.ticket w.listed))) r) (o.block b (live_from l.geom (l.map_before (l.header.sure + 1)) b needs.live) out)
+  home_idle k b x keeps out from needs = ⊎_elim (λ idle. idle) (λ r. ⊎_elim fresh (λ w. absurd (omega (arith, o.below w.at b w.ticket w.listed, (o.below w.at b w.ticket w.listed), from))) r) (o.block b (live_from l.geom (l.map_before (l.header.sure + 1)) b needs.live) out)
     where
-      less : b < p.sent → ⊥
-      less lt = omega (arith, lt, from)
-
       fresh : IsFreshInNew l b → IsIdle (cell_of base log b)
       fresh f =
           let late : l.header.sure < f.written.says.number = omega (arith, f.not_known, (keeps.headers.fits l.header (inl refl)).known) in
@@ -165,59 +146,38 @@ module _ (base : Blocks) (log : List Event) (l : Ledger) (p : PipelineData) (uw 
   pub one_under_way : (t b : ℕ) (x : List ℕ) → l.slot < 2 → 2 ≤ b → IsIdle (cell_of base log b) → HasOnePending base (log ++ Wrote t b x ∷ []) l p (b ∷ uw)
   one_under_way t b x small high idle = record {
     one = one_more t b x idle;
-    slot = λ e. other_idle t b (1 - l.slot) x (λ same. slot_apart l.slot b same small high) (o.slot e);
+    slot = λ e. other_idle t b (1 - l.slot) x (λ same. omega (arith, same, small, high)) (o.slot e);
     ring = λ place free e. let out = out_of b (ring_block l.geom place) uw e in other_idle t b (ring_block l.geom place) x out.0 (o.ring place free out.1);
     block = λ c low e. let out = out_of b c uw e in ⊎_elim (λ idle. inl (other_idle t b c x out.0 idle)) (λ r. inr (⊎_elim inl (λ w. inr (other_way t b c x out.0 w)) r)) (o.block c low out.1);
     below = o.below;
     none = o.none;
   }
-    where
-      slot_apart : (s b : ℕ) → b ≡ 1 - s → s < 2 → 2 ≤ b → ⊥
-      slot_apart s b e lt le = omega (arith, e, lt, le)
 
   -- the next header
   pub one_header : (t : ℕ) (x : List ℕ) (h : Header) → l.slot < 2 → l.next ≡ None → HasOnePending base (log ++ Wrote t (1 - l.slot) x ∷ []) (with_header l h) (with_pending p t) uw
   one_header t x h small none = record {
     one = one_more t (1 - l.slot) x (o.slot none);
     slot = λ e. absurd (none-some h (sym e));
-    ring = λ place free e. other_idle t (1 - l.slot) (ring_block l.geom place) x (λ same. ring_apart l.slot (place % l.geom.j) same) (o.ring place free e);
+    ring = λ place free e. other_idle t (1 - l.slot) (ring_block l.geom place) x (λ same. omega (arith, same)) (o.ring place free e);
     block = λ c low e. ⊎_elim (λ idle. inl (other_idle t (1 - l.slot) c x (apart c low) idle)) (λ r. inr (⊎_elim (λ f. inl (record { place = f.place; at = f.at; written = f.written; entry = f.entry; is_record = f.is_record; not_known = f.not_known; is_entry = f.is_entry; own = f.own })) (λ w. let v = other_way t (1 - l.slot) c x (apart c low) w in inr (record { at = v.at; ticket = v.ticket; bytes = v.bytes; listed = v.listed; last = v.last })) r)) (o.block c low e);
     below = o.below;
     none = o.none;
   }
     where
-      ring_apart : (s k : ℕ) → 1 - s ≡ 2 + k → ⊥
-      ring_apart s k e = omega (arith, e)
-
       apart : (c : ℕ) → bitmap_start l.geom ≤ c → 1 - l.slot ≢ c
-      apart c low same = slot_low l.slot c same low
-        where
-          slot_low : (s c : ℕ) → 1 - s ≡ c → l.geom.j + 2 ≤ c → ⊥
-          slot_low s c e le = omega (arith, e, le)
+      apart c low same = omega arith
 
   -- a checkpoint write
   pub one_home : (t b : ℕ) (x : List ℕ) → greatest_ticket log < t → ¬ IsNoticed t log → l.slot < 2 → 0 < l.geom.j → bitmap_start l.geom ≤ b → p.sent ≤ b → (p.batch ≡ 0 → ⊥) → IsIdle (cell_of base log b) → HasOnePending base (log ++ Wrote t b x ∷ []) l (with_home p b t) uw
   one_home t b x high new small some_ring low from some idle = record {
     one = one_more t b x idle;
-    slot = λ e. other_idle t b (1 - l.slot) x (λ same. slot_low l.slot b l.geom.j same low) (o.slot e);
-    ring = λ place free e. other_idle t b (ring_block l.geom place) x (λ same. ring_low b (place % l.geom.j) l.geom.j same (mod_below place l.geom.j some_ring) low) (o.ring place free e);
+    slot = λ e. other_idle t b (1 - l.slot) x (λ same. omega (arith, same, low)) (o.slot e);
+    ring = λ place free e. other_idle t b (ring_block l.geom place) x (λ same. omega (arith, same, mod_below place l.geom.j some_ring, low)) (o.ring place free e);
     block = λ c lo e. ⊎_elim (λ same. inr (inr (own c same))) (λ apart. ⊎_elim (λ idle. inl (other_idle t b c x apart idle)) (λ r. inr (⊎_elim inl (λ w. let v = other_way t b c x apart w in inr (record { at = v.at; ticket = v.ticket; bytes = v.bytes; listed = get_front p.home ((b, t) ∷ []) v.at (c, v.ticket) v.listed; last = v.last })) r)) (o.block c lo e)) (cases_eq b c);
     below = λ k c u is. ⊎_elim (λ old. omega (arith, o.below k c u old, from)) (λ own. omega (arith, ap (λ (q : ℕ × ℕ). q.0) own)) (last_or p.home (b, t) k (c, u) is);
     none = λ e. absurd (some e);
   }
     where
-      slot_low : (s b j : ℕ) → b ≡ 1 - s → j + 2 ≤ b → ⊥
-      slot_low s b j e le = omega (arith, e, le)
-
-      ring_low : (b k j : ℕ) → b ≡ 2 + k → k < j → j + 2 ≤ b → ⊥
-      ring_low b k j e lt le = omega (arith, e, lt, le)
-
-      last_or : (xs : List (ℕ × ℕ)) (y : ℕ × ℕ) (k : ℕ) (z : ℕ × ℕ) → slice_get (xs ++ y ∷ []) k ≡ Some z → (slice_get xs k ≡ Some z) ⊎ (y ≡ z)
-      last_or [] y zero z is = inr (same_Some _ _ is)
-      last_or [] y (suc k) z is = absurd (none-some z is)
-      last_or (v ∷ xs) y zero z is = inl is
-      last_or (v ∷ xs) y (suc k) z is = last_or xs y k z is
-
       own : (c : ℕ) → b ≡ c → IsOnItsWay (log ++ Wrote t b x ∷ []) (with_home p b t) c
       own c same = record { at = length p.home + 0; ticket = t; bytes = x; listed = get_behind p.home ((b, t) ∷ []) 0 ∙ ap (λ n. Some (n, t)) same; last = subst (λ n. IsLastWrite (log ++ Wrote t b x ∷ []) n t x) same (last_new log b t x high new) }
 
@@ -237,14 +197,11 @@ module _ (base : Blocks) (log : List Event) (l : Ledger) (p : PipelineData) (uw 
       own : slice_get (l.records ++ w ∷ []) (length l.records + 0) ≡ Some w
       own = get_behind l.records (w ∷ []) 0
 
-      ring_low : (b k j : ℕ) → b ≡ 2 + k → k < j → j + 2 ≤ b → ⊥
-      ring_low b k j e lt le = omega (arith, e, lt, le)
-
       not_fresh : (place : ℕ) → (i : ℕ) × (e : Entry) × (slice_get w.says.fresh i ≡ Some e) × (e.block ≡ ring_block l.geom place) → ⊥
-      not_fresh place f = ring_low f.1.block (place % l.geom.j) l.geom.j f.3 (mod_below place l.geom.j some_ring) (in_place f.0 f.1 f.2)
+      not_fresh place f = omega (arith, f.3, mod_below place l.geom.j some_ring, in_place f.0 f.1 f.2, f.3, (mod_below place l.geom.j some_ring), (in_place f.0 f.1 f.2))
 
       not_ring : (b : ℕ) → (i : ℕ) × (i < places w.says) × (ring_block l.geom (w.says.place + i) ≡ b) → bitmap_start l.geom ≤ b → ⊥
-      not_ring b r low = ring_low b ((w.says.place + r.0) % l.geom.j) l.geom.j (sym r.2) (mod_below (w.says.place + r.0) l.geom.j some_ring) low
+      not_ring b r low = omega (arith, sym r.2, (mod_below (w.says.place + r.0) l.geom.j some_ring), (sym r.2), (mod_below (w.says.place + r.0) l.geom.j some_ring), low)
 
 -- a place is one of a record's, or it isn't
 has_place : (g : Geometry) (w : WrittenRecord) (place : ℕ) → ((i : ℕ) → i < places w.says → ring_block g (w.says.place + i) ≢ ring_block g place) ⊎ ((i : ℕ) × (i < places w.says) × (ring_block g (w.says.place + i) ≡ ring_block g place))
@@ -267,7 +224,7 @@ module _ (base : Blocks) (log : List Event) (l : Ledger) (p : PipelineData) (uw 
   pub one_durable : (h : Header) → IsDurable (cell_of base log) l h → HasOnePending base log (with_durable_header l h) (with_durable p l h) uw
   one_durable h d = record {
     one = o.one;
-    slot = λ e. ap (λ n. (cell_of base log n).pending) (back l.slot keeps.headers.is_slot) ∙ keeps.headers.alone;
+    slot = λ e. ap (λ n. (cell_of base log n).pending) {x = 1 - (1 - l.slot)} {y = l.slot} (omega (arith, keeps.headers.is_slot)) ∙ keeps.headers.alone;
     ring = λ place free e. ⊎_elim (λ was. o.ring place was e) (λ t. ⊎_elim (λ gone. ap (λ n. (cell_of base log n).pending) (sym t.5) ∙ (keeps.each t.0 t.2 t.3).intact (old t.0 t.2 t.3 gone) t.1 t.4)
         (λ still. absurd (free (t.0 - (h.start - l.header.start)) t.1 t.2 (get_drop (h.start - l.header.start) l.records (t.0 - (h.start - l.header.start)) ∙ ap (slice_get l.records) (index t.0 (h.start - l.header.start) still) ∙ t.3) t.4 t.5)) (cases_lt t.0 (h.start - l.header.start))) (free_or_taken place);
     block = λ b low e. ⊎_elim inl (λ r. inr (⊎_elim (λ f. inl (fresh b f)) (λ v. inr (record { at = v.at; ticket = v.ticket; bytes = v.bytes; listed = v.listed; last = v.last })) r)) (o.block b low e);
@@ -275,9 +232,6 @@ module _ (base : Blocks) (log : List Event) (l : Ledger) (p : PipelineData) (uw 
     none = o.none;
   }
     where
-      back : (s : ℕ) → s < 2 → 1 - (1 - s) ≡ s
-      back s lt = omega (arith, lt)
-
       index : (k d : ℕ) → d ≤ k → d + (k - d) ≡ k
       index k d le = omega (arith, le)
 
@@ -300,8 +254,5 @@ module _ (base : Blocks) (log : List Event) (l : Ledger) (p : PipelineData) (uw 
 pub one_lost : (base : Blocks) (log : List Event) (b : ℕ) (x : List ℕ) → ((c : ℕ) → length (cell_of base log c).pending ≤ 1) → IsIdle (cell_of base log b) → (c : ℕ) → length (cell_of base (log ++ Lost b x ∷ []) c).pending ≤ 1
 one_lost base log b x one idle c = ⊎_elim (λ same. subst (λ n. length (cell_of base (log ++ Lost b x ∷ []) n).pending ≤ 1) same own) (λ apart. subst (λ (d : Cell). length d.pending ≤ 1) (sym (other_lost base log b c x apart)) (one c)) (cases_eq b c)
   where
-    more : (d : Cell) → d.pending ≡ [] → length (with_write d None x).pending ≤ 1
-    more d e = omega (arith, length-append d.pending (record { ticket = None; bytes = x } ∷ []), ap (λ (ws : List Write). length ws) e)
-
     own : length (cell_of base (log ++ Lost b x ∷ []) b).pending ≤ 1
-    own = subst (λ (d : Cell). length d.pending ≤ 1) (sym (cell_of-append base log (Lost b x ∷ []) b ∙ cond-true (b == b) _ _ (eq-eqb b b refl))) (more (cell_of base log b) idle)
+    own = subst (λ (d : Cell). length d.pending ≤ 1) (sym (cell_of-append base log (Lost b x ∷ []) b ∙ cond-true (b == b) _ _ (eq-eqb b b refl))) (omega (arith, length-append (cell_of base log b).pending (record { ticket = None; bytes = x } ∷ []), ap (λ (ws : List Write). length ws) idle))

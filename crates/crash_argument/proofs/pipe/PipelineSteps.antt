@@ -1,51 +1,29 @@
 -- The steps of what a session's data say: a notice, records that become durable, a batch that is at home, a header that is durable, and the header that may be written.
-use Rattle.std.proofs.Common.{◌≡◌, ◌⊎◌, inl, inr, ⊎_elim, ℕ, zero, suc, ◌+◌, ◌-◌, ◌%◌, ◌<◌, ◌≤◌, nat_le, ◌==◌, Bool, true, false, if◌then◌else◌, IsTrue, List, [], ◌∷◌, ◌++◌, length, take, drop, slice_get, Option, Some, None, refl, sym, ◌∙◌, ap, subst, arith, length-append, length-drop, append_assoc}
+use Rattle.std.proofs.Common.{◌≡◌, ◌⊎◌, inl, inr, ⊎_elim, ℕ, zero, suc, ◌+◌, ◌-◌, ◌%◌, ◌<◌, ◌≤◌, nat_le, ◌==◌, Bool, true, false, if◌then◌else◌, IsTrue, List, [], ◌∷◌, ◌++◌, length, take, drop, slice_get, Some, None, refl, sym, ◌∙◌, ap, subst, arith, length-append, length-drop, append_assoc}
 use Rattle.std.proofs.lemmas.Bool.{cases_lt, cases_Bool, false≢true, eqb-true, lt-leb, cond-true, cond-false}
 use Rattle.std.proofs.lemmas.Option.{none-some, same_Some}
 use Rattle.base_types.specs.Seal.{Blocks}
 use Rattle.disk_contract.specs.declared.event.Event.{Event}
 use Rattle.disk_contract.specs.declared.event.Event.TheVariants.{Noticed}
 use Rattle.disk_contract.specs.Cell.{Cell, Write, cell_of, IsNoticed}
-use Rattle.crash_argument.proofs.log.Events.{cell_of-append}
+use Rattle.disk_contract.proofs.Cells.{cell_of-append}
 use Rattle.layout_geometry.specs.Geometry.{data_start}
 use Rattle.layout_journal.specs.declared.header.Header.{Header}
 use Rattle.layout_journal.specs.Layout.{header_of}
-use Rattle.layout_journal.specs.Run.{Record, places, all_places, place_after, AreConsecutive, is_live, names_block, or_else}
-use Rattle.crash_argument.specs.Ledger.{Ledger, WrittenRecord, IsConsistentWith, FitsRecords, from_start, next_number, all_say, cover, payload_in, latest, last_of}
+use Rattle.layout_journal.specs.Run.{Record, places, all_places, place_after, AreConsecutive, is_live}
+use Rattle.crash_argument.specs.Ledger.{Ledger, WrittenRecord, IsConsistentWith, FitsRecords, from_start, next_number, all_say, cover, latest, last_of}
 use Rattle.crash_argument.specs.Steps.{AreNoticed, with_known, IsDurable, with_durable_header, MayWriteHeader, MayWriteInPlace}
 use Rattle.crash_argument.specs.LastWrites.{HasTickets, IsDead, is_among}
 use Rattle.crash_argument.specs.PipelineData.{PipelineData, DataAgree, IsSettledIn, StaysLive, LeavesAlone, AllNoticed, AreAllNoticed, AreNewlyNoticed, IsHomeNoticed, with_placed, with_durable, still_waiting, next_header}
-use Rattle.crash_argument.proofs.log.Lists.{get_some, get_drop, front_get, get_behind, say_append, say_length, places_append, place_after-append}
+use Rattle.crash_argument.proofs.log.Lists.{whole_list, get_some, get_drop, front_get, get_behind, say_append, say_length, places_append, place_after-append}
 use Rattle.crash_argument.proofs.log.Tickets.{noticed_done, done_notice}
 use Rattle.crash_argument.proofs.log.LastWrites.{last_stays}
-use Rattle.crash_argument.proofs.steps.HeaderSteps.{whole_list, cover-parts, count}
+use Rattle.crash_argument.proofs.steps.HeaderSteps.{cover-parts, leave_or_decide, alone_leaves, count}
+use Rattle.crash_argument.proofs.pipe.Agree.{knows_with, knows_under}
 use Rattle.crash_argument.proofs.pipe.InPlace.{numbered, within, home_may}
 use Rattle.crash_argument.proofs.theorem.Core.{live_from, live_below}
 use Rattle.std.proofs.lemmas.List.{drop-append-le, take-append-drop}
 use Rattle.std.proofs.Math.Seq.{take-append_seam, drop-append_seam}
-
--- these records leave the block alone, or they decide by themselves
-pub leave_or_decide : (ws : List WrittenRecord) (b : ℕ) → ((k : ℕ) (w : WrittenRecord) → slice_get ws k ≡ Some w → LeavesAlone w b) ⊎ ((o : Option (List ℕ)) → cover o ws b ≡ cover None ws b)
-leave_or_decide [] b = inl (λ k w e. cc)
-leave_or_decide (w ∷ ws) b = by (payload_in w b) (names_block w.says.fresh b) refl refl (leave_or_decide ws b)
-  where
-    alone : payload_in w b ≡ None → names_block w.says.fresh b ≡ false → ((k : ℕ) (v : WrittenRecord) → slice_get ws k ≡ Some v → LeavesAlone v b) → (k : ℕ) (v : WrittenRecord) → slice_get (w ∷ ws) k ≡ Some v → LeavesAlone v b
-    alone p f rest zero v e = subst (λ (u : WrittenRecord). LeavesAlone u b) (same_Some _ _ e) (record { paid = p; fresh = f })
-    alone p f rest (suc k) v e = rest k v e
-
-    by : (p : Option (List ℕ)) (n : Bool) → payload_in w b ≡ p → names_block w.says.fresh b ≡ n → ((k : ℕ) (v : WrittenRecord) → slice_get ws k ≡ Some v → LeavesAlone v b) ⊎ ((o : Option (List ℕ)) → cover o ws b ≡ cover None ws b)
-        → ((k : ℕ) (v : WrittenRecord) → slice_get (w ∷ ws) k ≡ Some v → LeavesAlone v b) ⊎ ((o : Option (List ℕ)) → cover (or_else (payload_in w b) (if names_block w.says.fresh b then None else o)) ws b ≡ cover (or_else (payload_in w b) (if names_block w.says.fresh b then None else None)) ws b)
-    by (Some x) n pe ne rest = inr (λ o. ap (λ q. cover (or_else q (if names_block w.says.fresh b then None else o)) ws b) pe ∙ sym (ap (λ q. cover (or_else q (if names_block w.says.fresh b then None else None)) ws b) pe))
-    by None true pe ne rest = inr (λ o. ap (λ q. cover (or_else (payload_in w b) q) ws b) (cond-true (names_block w.says.fresh b) None o ne) ∙ sym (ap (λ q. cover (or_else (payload_in w b) q) ws b) (cond-true (names_block w.says.fresh b) None None ne)))
-    by None false pe ne rest = ⊎_elim (λ all. inl (alone pe ne all))
-        (λ decide. inr (λ o. decide (or_else (payload_in w b) (if names_block w.says.fresh b then None else o)) ∙ sym (decide (or_else (payload_in w b) (if names_block w.says.fresh b then None else None))))) rest
-
--- records that leave a block alone change nothing of it
-pub alone_leaves : (ws : List WrittenRecord) (b : ℕ) (o : Option (List ℕ)) → ((k : ℕ) (w : WrittenRecord) → slice_get ws k ≡ Some w → LeavesAlone w b) → cover o ws b ≡ o
-alone_leaves [] b o all = refl
-alone_leaves (w ∷ ws) b o all =
-    let first = all 0 w refl in
-    ap (λ q. cover (or_else q (if names_block w.says.fresh b then None else o)) ws b) first.paid ∙ ap (λ q. cover q ws b) (cond-false (names_block w.says.fresh b) None o first.fresh) ∙ alone_leaves ws b o (λ k v e. all (suc k) v e)
 
 -- a ticket among noticed ones is noticed
 among_noticed : (log : List Event) (ts : List ℕ) (t : ℕ) → AllNoticed log ts → IsTrue (is_among ts t) → IsNoticed t log
@@ -66,43 +44,16 @@ module _ (base : Blocks) (log : List Event) (l : Ledger) (keeps : IsConsistentWi
 
   -- all that the data say holds on after it
   pub knows_notice : (t : ℕ) → DataAgree base (log ++ Noticed t ∷ []) l p
-  knows_notice t = record {
-    count = k.count;
-    tickets = λ i w ts is at from. tickets_stay t w ts (k.tickets i w ts is at from);
-    pending = λ h e. let o = k.pending h e in record { number = o.number; bytes = o.bytes; is_ticket = o.is_ticket; reads = o.reads; last = last_stays log (Noticed t ∷ []) _ o.number _ tt o.last };
-    not_pending = k.not_pending;
-    new = k.new;
-    placed = k.placed;
-    batch = k.batch;
-    rest = k.rest;
-    is_batch = k.is_batch;
-    placed_is = k.placed_is;
-    batch_is = k.batch_is;
-    home = λ b x sent covered on. let o = k.home b x sent covered on in (o.0, o.1, o.2, last_stays log (Noticed t ∷ []) b o.1 x tt o.3);
-    at_home = λ b x covered on. subst (λ (c : Cell). IsSettledIn c x) (sym (cell_of-append base log (Noticed t ∷ []) b)) (done_notice t (cell_of base log b) x (k.at_home b x covered on));
-    next_place = k.next_place;
-    taken = k.taken;
-    waiting = k.waiting;
-  }
+  knows_notice t = knows_with k (log ++ Noticed t ∷ []) p.tickets p.home p.sent p.waiting k.count (λ i w ts is at from. tickets_stay t w ts (k.tickets i w ts is at from))
+      (λ h e. let o = k.pending h e in record { number = o.number; bytes = o.bytes; is_ticket = o.is_ticket; reads = o.reads; last = last_stays log (Noticed t ∷ []) _ o.number _ tt o.last })
+      (λ b x sent covered on. let o = k.home b x sent covered on in (o.0, o.1, o.2, last_stays log (Noticed t ∷ []) b o.1 x tt o.3))
+      (λ b x covered on. subst (λ (c : Cell). IsSettledIn c x) (sym (cell_of-append base log (Noticed t ∷ []) b)) (done_notice t (cell_of base log b) x (k.at_home b x covered on))) k.waiting
 
   -- records of which all is noticed
   ticket_of : (i : ℕ) (w : WrittenRecord) → slice_get l.records i ≡ Some w → (ts : List ℕ) × (slice_get p.tickets i ≡ Some ts)
   ticket_of i w is = get_some p.tickets i (omega (arith, k.count, within base log l keeps k.new i w is))
 
-  -- once the tickets of all before a number are noticed, these records are
-  pub durable_noticed : (number : ℕ) → l.known ≤ number → number ≤ next_number l → AreAllNoticed log l p number → AreNoticed (cell_of base log) l number
-  durable_noticed number from upto all = record {
-    from = from;
-    upto = upto;
-    ring = λ i j w is low lt. ⊎_elim (λ old. (keeps.each i w is).intact old j lt)
-        (λ new. let ts = ticket_of i w is in let o = (k.tickets i w ts.0 is ts.1 new).ring j lt in (noticed_done base log _ o.0 _ o.2 (among_noticed log ts.0 o.0 (all i w ts.0 is ts.1 low) o.1)).pending)
-        (cases_lt w.says.number l.known);
-    fresh = λ i j w e is low late at. ⊎_elim (λ old. (keeps.each i w is).intact_fresh late old j e at)
-        (λ new. let ts = ticket_of i w is in let o = (k.tickets i w ts.0 is ts.1 new).fresh late j e at in (noticed_done base log _ o.0 _ o.2 (among_noticed log ts.0 o.0 (all i w ts.0 is ts.1 low) o.1)).pending)
-        (cases_lt w.says.number l.known);
-  }
-
-  -- of those that are known already nothing need be asked
+  -- once the tickets of the records before a number are noticed, these records are: of those that are known already nothing need be asked
   pub newly_noticed : (number : ℕ) → l.known ≤ number → number ≤ next_number l → AreNewlyNoticed log l p number → AreNoticed (cell_of base log) l number
   newly_noticed number from upto all = record {
     from = from;
@@ -115,26 +66,14 @@ module _ (base : Blocks) (log : List Event) (l : Ledger) (keeps : IsConsistentWi
         (cases_lt w.says.number l.known);
   }
 
+  -- so they are where all tickets are noticed
+  pub durable_noticed : (number : ℕ) → l.known ≤ number → number ≤ next_number l → AreAllNoticed log l p number → AreNoticed (cell_of base log) l number
+  durable_noticed number from upto all = newly_noticed number from upto (λ i w ts is at new. all i w ts is at)
+
   -- and what the data say holds on when they are known
   pub knows_known : (number : ℕ) → l.known ≤ number → DataAgree base log (with_known l number) p
-  knows_known number from = record {
-    count = k.count;
-    tickets = λ i w ts is at low. let h = k.tickets i w ts is at (omega (arith, from, low)) in record { ring = h.ring; fresh = h.fresh };
-    pending = λ h e. let o = k.pending h e in record { number = o.number; bytes = o.bytes; is_ticket = o.is_ticket; reads = o.reads; last = o.last };
-    not_pending = k.not_pending;
-    new = record { live = k.new.live; dead = k.new.dead; paid = k.new.paid; kept = k.new.kept };
-    placed = k.placed;
-    batch = k.batch;
-    rest = k.rest;
-    is_batch = record { split = k.is_batch.split; sure = k.is_batch.sure; from = k.is_batch.from };
-    placed_is = k.placed_is;
-    batch_is = k.batch_is;
-    home = λ b x sent covered on. k.home b x sent covered (record { live = on.live; alone = on.alone });
-    at_home = λ b x covered on. k.at_home b x covered (record { live = on.live; alone = on.alone });
-    next_place = k.next_place;
-    taken = k.taken;
-    waiting = record { each = k.waiting.each };
-  }
+  knows_known number from =
+      knows_under k l.next number p.pending from (λ h e. let o = k.pending h e in record { number = o.number; bytes = o.bytes; is_ticket = o.is_ticket; reads = o.reads; last = o.last }) k.not_pending k.is_batch.from
 
   -- where the records of the batch stand
   pub in_batch : (i : ℕ) (w : WrittenRecord) → slice_get l.records i ≡ Some w → l.header.start + length k.placed ≤ w.says.number → w.says.number < l.header.start + length k.placed + length k.batch → slice_get k.batch (i - length k.placed) ≡ Some w
@@ -179,19 +118,13 @@ module _ (base : Blocks) (log : List Event) (l : Ledger) (keeps : IsConsistentWi
 
   -- a block that no record from a number on names is live after it where it is live later
   live_down : (d n b : ℕ) → l.header.start ≤ n → n + d ≤ next_number l → ((i : ℕ) (w : WrittenRecord) → slice_get l.records i ≡ Some w → n ≤ w.says.number → w.says.number < n + d → LeavesAlone w b) → IsTrue (is_live l.geom (l.map_before (n + d)) b) → IsTrue (is_live l.geom (l.map_before n) b)
-  live_down zero n b low high alone live = subst (λ q. IsTrue (is_live l.geom (l.map_before q) b)) (z n) live
-    where
-      z : (n : ℕ) → n + 0 ≡ n
-      z n = omega arith
+  live_down zero n b low high alone live = subst (λ q. IsTrue (is_live l.geom (l.map_before q) b)) (omega arith) live
   live_down (suc d) n b low high alone live =
       let w = get_some l.records (n - l.header.start) (omega (arith, low, high)) in
       let number : w.0.says.number ≡ n = omega (arith, numbered base log l keeps k.new (n - l.header.start) w.0 w.1, low) in
-      let rest = live_down d (n + 1) b (omega (arith, low)) (omega (arith, high)) (λ i v is from upto. alone i v is (omega (arith, from)) (omega (arith, upto))) (subst (λ q. IsTrue (is_live l.geom (l.map_before q) b)) (s n d) live) in
+      let rest = live_down d (n + 1) b (omega (arith, low)) (omega (arith, high)) (λ i v is from upto. alone i v is (omega (arith, from)) (omega (arith, upto))) (subst (λ q. IsTrue (is_live l.geom (l.map_before q) b)) (omega arith) live) in
       let one = alone (n - l.header.start) w.0 w.1 (omega (arith, number)) (omega (arith, number)) in
       subst (λ q. IsTrue (is_live l.geom (l.map_before q) b)) number (k.new.kept (n - l.header.start) b w.0 w.1 one.paid one.fresh (subst (λ q. IsTrue (is_live l.geom (l.map_before q) b)) (omega (arith, number)) rest))
-    where
-      s : (n d : ℕ) → n + suc d ≡ n + 1 + d
-      s n d = omega arith
 
   -- a block that is dead now and doesn't wait is dead from the durable `sure` on: it may serve again
   pub reusable_dead : (b : ℕ) → data_start l.geom ≤ b → is_live l.geom (l.map_before (next_number l)) b ≡ false → ((i r : ℕ) → ¬ (slice_get p.waiting i ≡ Some (b, r))) → IsDead l b
@@ -221,10 +154,6 @@ module _ (base : Blocks) (log : List Event) (l : Ledger) (keeps : IsConsistentWi
     -- all of them are at home
     gone_placed : gone ≤ length k.placed
     gone_placed = omega (arith, k.is_batch.from h (inr d.next), fit.start)
-
-    -- the next number stays
-    same_next : h.start + length (from_start l h) ≡ next_number l
-    same_next = count base log l keeps h d
 
     -- a record from its start on was one before
     older : (i : ℕ) (w : WrittenRecord) → slice_get (from_start l h) i ≡ Some w → slice_get l.records (gone + i) ≡ Some w
@@ -292,7 +221,7 @@ module _ (base : Blocks) (log : List Event) (l : Ledger) (keeps : IsConsistentWi
       taken = ap (λ n. n - all_places (all_say (take gone l.records))) (k.taken ∙ ap all_places parts ∙ places_append (all_say (take gone l.records)) (all_say (from_start l h))) ∙ minus (all_places (all_say (take gone l.records))) (all_places (all_say (from_start l h)));
       waiting = record {
         each = λ b n high from upto live dead.
-            let o = k.waiting.each b n high (omega (arith, from, fit.sure_grows)) (omega (arith, upto, same_next)) live (subst (λ q. is_live l.geom (l.map_before q) b ≡ false) same_next dead) in
+            let o = k.waiting.each b n high (omega (arith, from, fit.sure_grows)) (omega (arith, upto, count base log l keeps h d)) live (subst (λ q. is_live l.geom (l.map_before q) b ≡ false) (count base log l keeps h d) dead) in
             let s = still_in p.waiting o.0 b o.1 o.2 (omega (arith, from, o.3)) in
             (s.0, o.1, s.1, o.3);
       };
@@ -311,17 +240,13 @@ module _ (base : Blocks) (log : List Event) (l : Ledger) (keeps : IsConsistentWi
     own : FitsRecords l l.header
     own = keeps.headers.fits l.header (inl refl)
 
-    -- the next one starts behind the placed ones
-    shift : l.header.start + length k.placed - l.header.start ≡ length k.placed
-    shift = omega arith
-
     -- the records from there on
     abbrev later : List WrittenRecord
     later = drop (l.header.start + length k.placed - l.header.start) l.records
 
     -- these are the batch and the rest
     later_is : later ≡ k.batch ++ k.rest
-    later_is = ap (λ n. drop n l.records) shift ∙ ap (λ (ws : List WrittenRecord). drop (length k.placed) ws) k.is_batch.split ∙ drop-append_seam k.placed (k.batch ++ k.rest)
+    later_is = ap (λ n. drop n l.records) (omega arith) ∙ ap (λ (ws : List WrittenRecord). drop (length k.placed) ws) k.is_batch.split ∙ drop-append_seam k.placed (k.batch ++ k.rest)
 
     -- and those before are the placed ones
     front_is : take (length k.placed) l.records ≡ k.placed
@@ -333,14 +258,8 @@ module _ (base : Blocks) (log : List Event) (l : Ledger) (keeps : IsConsistentWi
 
     -- what comes behind a front of consecutive records is consecutive
     behind : (j n q : ℕ) (xs ys : List Record) → AreConsecutive j n q (xs ++ ys) → AreConsecutive j (n + length xs) (place_after j q xs) ys
-    behind j n q [] ys c = subst (λ m. AreConsecutive j m q ys) (z n) c
-      where
-        z : (n : ℕ) → n ≡ n + 0
-        z n = omega arith
-    behind j n q (r ∷ xs) ys c = subst (λ m. AreConsecutive j m (place_after j ((q + places r) % j) xs) ys) (s n (length xs)) (behind j (n + 1) ((q + places r) % j) xs ys c.2)
-      where
-        s : (n m : ℕ) → n + 1 + m ≡ n + suc m
-        s n m = omega arith
+    behind j n q [] ys c = subst (λ m. AreConsecutive j m q ys) (omega arith) c
+    behind j n q (r ∷ xs) ys c = subst (λ m. AreConsecutive j m (place_after j ((q + places r) % j) xs) ys) (omega arith) (behind j (n + 1) ((q + places r) % j) xs ys c.2)
 
     -- the next header fits the records
     fits_next : FitsRecords l (next_header l (length k.placed))
@@ -353,7 +272,7 @@ module _ (base : Blocks) (log : List Event) (l : Ledger) (keeps : IsConsistentWi
       sure = omega (arith, own.known, k.is_batch.sure);
       last = omega (arith, own.known, keeps.known);
       known = omega (arith, own.known);
-      place = ap (λ n. place_after l.geom.j l.header.at (all_say (take n l.records))) (sym shift);
+      place = ap (λ n. place_after l.geom.j l.header.at (all_say (take n l.records))) (sym (omega arith));
       consecutive = subst (λ (ws : List WrittenRecord). AreConsecutive l.geom.j (l.header.start + length k.placed) (place_after l.geom.j l.header.at (all_say (take (length k.placed) l.records))) (all_say ws)) (sym later_is)
           (subst (λ (ws : List WrittenRecord). AreConsecutive l.geom.j (l.header.start + length k.placed) (place_after l.geom.j l.header.at (all_say ws)) (all_say (k.batch ++ k.rest))) (sym front_is)
           (subst (λ n. AreConsecutive l.geom.j (l.header.start + n) (place_after l.geom.j l.header.at (all_say k.placed)) (all_say (k.batch ++ k.rest))) (say_length k.placed)
@@ -376,7 +295,7 @@ module _ (base : Blocks) (log : List Event) (l : Ledger) (keeps : IsConsistentWi
     next_placed : (before good bad : List WrittenRecord) (b : ℕ) → l.records ≡ before ++ (good ++ bad) → length before ≡ l.header.start + length k.placed - l.header.start → l.known ≤ l.header.start + length k.placed + length good
         → IsTrue (is_live l.geom (l.map_before (l.header.start + length k.placed + length good)) b) → (y : List ℕ) → cover None good b ≡ None → cover None (before ++ good) b ≡ Some y → (latest (cell_of base log b) ≡ y) × ((cell_of base log b).pending ≡ [])
     next_placed before good bad b split len known live y none covered =
-        let parts = same_front before (good ++ bad) k.placed (k.batch ++ k.rest) (sym split ∙ k.is_batch.split) (len ∙ shift) in
+        let parts = same_front before (good ++ bad) k.placed (k.batch ++ k.rest) (sym split ∙ k.is_batch.split) (len ∙ omega arith) in
         let both : cover (cover None before b) good b ≡ Some y = sym (cover-parts before good None b) ∙ covered in
         ⊎_elim (λ all.
         let at : cover None k.placed b ≡ Some y = ap (λ (ws : List WrittenRecord). cover None ws b) (sym parts.0) ∙ sym (alone_leaves good b (cover None before b) all) ∙ both in

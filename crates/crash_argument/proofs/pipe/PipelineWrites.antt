@@ -10,7 +10,7 @@ use Rattle.layout_geometry.specs.Geometry.{Geometry, ring_block, data_start, bit
 use Rattle.layout_journal.specs.declared.header.Header.{Header}
 use Rattle.layout_journal.specs.declared.entry.Entry.{Entry}
 use Rattle.layout_journal.specs.Run.{places, all_places, place_after, is_live}
-use Rattle.crash_argument.specs.Ledger.{Ledger, WrittenRecord, IsConsistentWith, next_number, all_say}
+use Rattle.crash_argument.specs.Ledger.{Ledger, WrittenRecord, IsStanding, IsConsistentWith, next_number, all_say}
 use Rattle.crash_argument.specs.Steps.{IsFreePlace, MayWriteHeader, with_header, with_record}
 use Rattle.crash_argument.specs.Points.{IsMounted, ledger_at_mount}
 use Rattle.crash_argument.specs.LastWrites.{AvoidsBlock, HasTickets, IsDead, FreshAreNew}
@@ -19,6 +19,7 @@ use Rattle.crash_argument.proofs.log.Lists.{in_longer, get_front, front_get, get
 use Rattle.crash_argument.proofs.log.Adds.{Adds, adds_wrote}
 use Rattle.crash_argument.proofs.log.LastWrites.{last_stays, last_new}
 use Rattle.crash_argument.proofs.theorem.Images.{in_ring}
+use Rattle.crash_argument.proofs.pipe.Agree.{knows_with, knows_under}
 use Rattle.crash_argument.proofs.pipe.InPlace.{numbered, within}
 use Rattle.crash_argument.proofs.steps.Steps.{at_old, at_new}
 use Rattle.crash_argument.proofs.theorem.Core.{live_from}
@@ -51,32 +52,18 @@ module _ (base : Blocks) (log : List Event) (l : Ledger) (keeps : IsConsistentWi
       (fresh_apart : (i j : ℕ) (w : WrittenRecord) (f : Entry) → slice_get l.records i ≡ Some w → l.known ≤ w.says.number → slice_get w.says.fresh j ≡ Some f → block ≢ f.block)
       (live_apart : (b : ℕ) → IsTrue (is_live l.geom (l.map_before (l.header.sure + 1)) b) → block ≢ b) where
     -- it leaves what they say, if it leaves the header that was written last
-    knows_apart : (q : PipelineData) → q.tickets ≡ p.tickets → ((h : Header) → l.next ≡ Some h → IsPendingHeader (log ++ e ∷ []) l p.pending h) → DataAgree base (log ++ e ∷ []) l p
-    knows_apart q same pending = record {
-      count = k.count;
-      tickets = λ i w ts is at from. let h = k.tickets i w ts is at from in record {
-        ring = λ j lt. let o = h.ring j lt in (o.0, o.1, last_stays log (e ∷ []) _ o.0 _ (avoids _ (ring_apart i j w is lt)) o.2);
-        fresh = λ late j f there. let o = h.fresh late j f there in (o.0, o.1, last_stays log (e ∷ []) _ o.0 _ (avoids _ (fresh_apart i j w f is from there)) o.2);
-      };
-      pending = pending;
-      not_pending = k.not_pending;
-      new = k.new;
-      placed = k.placed;
-      batch = k.batch;
-      rest = k.rest;
-      is_batch = k.is_batch;
-      placed_is = k.placed_is;
-      batch_is = k.batch_is;
-      home = λ b y sent covered on. let o = k.home b y sent covered on in (o.0, o.1, o.2, last_stays log (e ∷ []) b o.1 y (avoids b (live_apart b on.live)) o.3);
-      at_home = λ b y covered on. subst (λ (c : Cell). IsSettledIn c y) (sym (adds.other b (λ same. live_apart b on.live (sym same)))) (k.at_home b y covered on);
-      next_place = k.next_place;
-      taken = k.taken;
-      waiting = k.waiting;
-    }
+    abbrev knows_apart : ((h : Header) → l.next ≡ Some h → IsPendingHeader (log ++ e ∷ []) l p.pending h) → DataAgree base (log ++ e ∷ []) l p
+    knows_apart pending = knows_with k (log ++ e ∷ []) p.tickets p.home p.sent p.waiting k.count
+        (λ i w ts is at from. let h = k.tickets i w ts is at from in record {
+          ring = λ j lt. let o = h.ring j lt in (o.0, o.1, last_stays log (e ∷ []) _ o.0 _ (avoids _ (ring_apart i j w is lt)) o.2);
+          fresh = λ late j f there. let o = h.fresh late j f there in (o.0, o.1, last_stays log (e ∷ []) _ o.0 _ (avoids _ (fresh_apart i j w f is from there)) o.2);
+        })
+        pending (λ b y sent covered on. let o = k.home b y sent covered on in (o.0, o.1, o.2, last_stays log (e ∷ []) b o.1 y (avoids b (live_apart b on.live)) o.3))
+        (λ b y covered on. subst (λ (c : Cell). IsSettledIn c y) (sym (adds.other b (λ same. live_apart b on.live (sym same)))) (k.at_home b y covered on)) k.waiting
 
     -- which it does outside the slot of that header
     pub knows_written : block ≢ 1 - l.slot → DataAgree base (log ++ e ∷ []) l p
-    knows_written apart = knows_apart p refl (λ h is. let o = k.pending h is in record { number = o.number; bytes = o.bytes; is_ticket = o.is_ticket; reads = o.reads; last = last_stays log (e ∷ []) _ o.number _ (avoids _ apart) o.last })
+    knows_written apart = knows_apart (λ h is. let o = k.pending h is in record { number = o.number; bytes = o.bytes; is_ticket = o.is_ticket; reads = o.reads; last = last_stays log (e ∷ []) _ o.number _ (avoids _ apart) o.last })
 
   -- live blocks lie behind the ring
   high_live : (b : ℕ) → IsTrue (is_live l.geom (l.map_before (l.header.sure + 1)) b) → bitmap_start l.geom ≤ b
@@ -103,26 +90,11 @@ module _ (base : Blocks) (log : List Event) (l : Ledger) (keeps : IsConsistentWi
   -- the next header
   pub knows_header : (t : ℕ) (x : List ℕ) (h : Header) → greatest_ticket log < t → ¬ IsNoticed t log → MayWriteHeader (cell_of base log) l x h → h.start ≤ l.header.start + length k.placed → DataAgree base (log ++ Wrote t (1 - l.slot) x ∷ []) (with_header l h) (with_pending p t)
   knows_header t x h high none may from =
-      let on = knows_apart (Wrote t (1 - l.slot) x) (1 - l.slot) x (adds_wrote base log t (1 - l.slot) x) (λ b apart. (apart, tt)) (λ i j w is lt same. omega (arith, same)) (λ i j w f is late at same. omega (arith, same, (keeps.each i w is).in_place j f at)) (λ b live same. omega (arith, same, high_live b live)) p refl
-      (λ g is. absurd (none-some g (sym may.alone ∙ is))) in
-      record {
-        count = on.count;
-        tickets = λ i w ts is at low. let o = on.tickets i w ts is at low in record { ring = o.ring; fresh = o.fresh };
-        pending = λ g e. let same : h ≡ g = same_Some _ _ e in record { number = t; bytes = x; is_ticket = refl; reads = may.reads ∙ ap (λ (q : Header). Some q) same; last = last_new log (1 - l.slot) t x high none };
-        not_pending = λ e. absurd (none-some h (sym e));
-        new = record { live = on.new.live; dead = on.new.dead; paid = on.new.paid; kept = on.new.kept };
-        placed = on.placed;
-        batch = on.batch;
-        rest = on.rest;
-        is_batch = record { split = on.is_batch.split; sure = on.is_batch.sure; from = λ g st. ⊎_elim (λ e. on.is_batch.from g (inl e)) (λ e. omega (arith, from, ap (λ (q : Header). q.start) (same_Some _ _ e))) st };
-        placed_is = on.placed_is;
-        batch_is = on.batch_is;
-        home = λ b y sent covered lives. on.home b y sent covered (record { live = lives.live; alone = lives.alone });
-        at_home = λ b y covered lives. on.at_home b y covered (record { live = lives.live; alone = lives.alone });
-        next_place = on.next_place;
-        taken = on.taken;
-        waiting = record { each = on.waiting.each };
-      }
+      let begins : (g : Header) → IsStanding (with_header l h) g → g.start ≤ l.header.start + length k.placed = λ g st. ⊎_elim (λ e. k.is_batch.from g (inl e)) (λ e. omega (arith, from, ap (λ (q : Header). q.start) (same_Some _ _ e))) st in
+      knows_under (knows_apart (Wrote t (1 - l.slot) x) (1 - l.slot) x (adds_wrote base log t (1 - l.slot) x) (λ b apart. (apart, tt)) (λ i j w is lt same. omega (arith, same)) (λ i j w f is late at same. omega (arith, same, (keeps.each i w is).in_place j f at)) (λ b live same. omega (arith, same, high_live b live))
+      (λ g is. absurd (none-some g (sym may.alone ∙ is)))) (Some h) l.known (Some t) (omega arith)
+      (λ g e. let same : h ≡ g = same_Some _ _ e in record { number = t; bytes = x; is_ticket = refl; reads = may.reads ∙ ap (λ (q : Header). Some q) same; last = last_new log (1 - l.slot) t x high none })
+      (λ e. absurd (none-some h (sym e))) begins
 
 -- a record whose blocks are all issued. The ledger before it fitted an older log: once the commit block is written it doesn't fit any more
 pub knows_recorded : (base : Blocks) (log0 log : List Event) (l : Ledger) (p : PipelineData) → IsConsistentWith base log0 l → DataAgree base log l p → (w : WrittenRecord) (m : Blocks) (ts freed : List ℕ) → w.says.number ≡ next_number l → HasTickets log (with_record l w m) w ts → FreshAreNew (with_record l w m) → AreFreed l w m freed → DataAgree base log (with_record l w m) (with_committed p l w ts freed)

@@ -1,7 +1,7 @@
 -- A record that is written block by block: each block may be written, and at the end the commit block may.
 use Rattle.std.proofs.Common.{◌≡◌, ◌≢◌, ◌⊎◌, inl, inr, ⊎_elim, ℕ, zero, suc, ◌+◌, ◌-◌, ◌%◌, ◌<◌, ◌≤◌, IsTrue, List, [], ◌∷◌, ◌++◌, length, slice_get, Some, Result, Ok, Err, refl, sym, ◌∙◌, ap, subst, arith}
 use Rattle.std.proofs.lemmas.Bool.{cases_lt}
-use Rattle.std.proofs.lemmas.Option.{none-some, same_Some}
+use Rattle.std.proofs.lemmas.Option.{none-some, same_Some, slice_get_within}
 use Rattle.base_types.specs.Seal.{Blocks}
 use Rattle.disk_contract.specs.declared.event.Event.{Event}
 use Rattle.disk_contract.specs.declared.event.Event.TheVariants.{Wrote, Lost}
@@ -21,7 +21,7 @@ use Rattle.crash_argument.specs.LastWrites.{FreshAreNew, HasTickets}
 use Rattle.crash_argument.specs.Recording.{IsNextRecord, IsPartlyWritten, IsAmongLast, PartWritten, IsInLedger, RecordWritten}
 use Rattle.crash_argument.proofs.theorem.Images.{in_ring}
 use Rattle.crash_argument.proofs.steps.Steps.{at_old, at_new}
-use Rattle.crash_argument.proofs.log.Lists.{get_some, get_within, named_at, in_longer}
+use Rattle.crash_argument.proofs.log.Lists.{get_some, named_at, in_longer}
 use Rattle.crash_argument.proofs.log.Adds.{Adds, adds_wrote}
 use Rattle.crash_argument.proofs.log.LastWrites.{last_latest, last_logged, last_new, among_stays, among_own}
 use Rattle.crash_argument.proofs.log.Places.{apart, behind_free}
@@ -38,13 +38,7 @@ module _ (laws : JournalLaws) (base : Blocks) (log : List Event) (l : Ledger) (k
 
   -- and apart from one another
   own_apart : (i k : ℕ) → i < k → k < places w.says → ring_block l.geom (w.says.place + i) ≢ ring_block l.geom (w.says.place + k)
-  own_apart i k lt within e = apart (w.says.place + i) (k - i) l.geom.j (omega arith) (omega (arith, may.within)) (same _ _ e ∙ ap (λ n. n % l.geom.j) (sum w.says.place i k lt))
-    where
-      same : (a b : ℕ) → 2 + a ≡ 2 + b → a ≡ b
-      same a b e = omega arith
-
-      sum : (p i k : ℕ) → i < k → p + k ≡ p + i + (k - i)
-      sum p i k lt = omega arith
+  own_apart i k lt within e = apart (w.says.place + i) (k - i) l.geom.j (omega arith) (omega (arith, may.within)) (omega (arith, e, ap (λ n. n % l.geom.j) {x = w.says.place + k} {y = w.says.place + i + (k - i)} (omega (arith, lt))))
 
   -- a block behind the commit block is a descriptor or a payload
   part_of : (i : ℕ) → 0 < i → i < places w.says → ((n : ℕ) × (i ≡ 1 + n) × (n < descriptor_count (length (entries w.says)))) ⊎ ((n : ℕ) × (e : Entry) × (i ≡ heads w.says + n) × (slice_get w.says.payloads n ≡ Some e))
@@ -53,7 +47,7 @@ module _ (laws : JournalLaws) (base : Blocks) (log : List Event) (l : Ledger) (k
 
   -- no record of the ledger has the next number
   not_there : (n : ℕ) (v : WrittenRecord) → n ≡ next_number l → slice_get l.records (n - l.header.start) ≡ Some v → ⊥
-  not_there n v e is = omega (arith, e, get_within l.records (n - l.header.start) v is)
+  not_there n v e is = omega (arith, e, slice_get_within l.records (n - l.header.start) v is)
 
   -- so each such block may be written to its place
   pub ring_may : (i : ℕ) → 0 < i → i < places w.says → MayWriteInRing l (w.says.place + i) (block_at w.ring i)
@@ -98,24 +92,21 @@ module _ (laws : JournalLaws) (base : Blocks) (log : List Event) (l : Ledger) (k
     place = may.place;
     within = may.within;
     spelled = may.spelled;
-    free = subst (IsFreePlace l) (z w.says.place) (place_free 0 (omega arith));
-    own = λ i some lt e. own_apart 0 i some lt (ap (ring_block l.geom) (z w.says.place) ∙ sym e);
+    free = subst (IsFreePlace l) {x = w.says.place + 0} {y = w.says.place} (omega arith) (place_free 0 (omega arith));
+    own = λ i some lt e. own_apart 0 i some lt (ap (ring_block l.geom) {x = w.says.place + 0} {y = w.says.place} (omega arith) ∙ sym e);
     ring = λ i some lt. last_latest base log _ (u.ring i some lt).0 _ (u.ring i some lt).2;
     ring_logged = λ i some lt. inl (last_logged log _ (u.ring i some lt).0 _ (u.ring i some lt).2);
     in_place = high_fresh;
     fresh = fresh_is;
-    fresh_logged = λ i e at. inl (last_logged log _ (u.fresh i e (get_within w.says.fresh i e at) at).0 _ (u.fresh i e (get_within w.says.fresh i e at) at).2);
+    fresh_logged = λ i e at. inl (last_logged log _ (u.fresh i e (slice_get_within w.says.fresh i e at) at).0 _ (u.fresh i e (slice_get_within w.says.fresh i e at) at).2);
     writing = u.writing;
     paid = may.paid;
     laid = λ b none named. let p = named_at w.says.fresh b named in ap m (sym p.3) ∙ may.laid p.0 p.1 p.2 ∙ sym (fresh_is p.0 p.1 p.2) ∙ ap (λ c. latest (cell_of base log c)) p.3;
     same = may.same;
   }
     where
-      z : (p : ℕ) → p + 0 ≡ p
-      z p = omega arith
-
       fresh_is : (i : ℕ) (e : Entry) → slice_get w.says.fresh i ≡ Some e → latest (cell_of base log e.block) ≡ block_at w.fresh i
-      fresh_is i e at = let p = u.fresh i e (get_within w.says.fresh i e at) at in last_latest base log e.block p.0 _ p.2
+      fresh_is i e at = let p = u.fresh i e (slice_get_within w.says.fresh i e at) at in last_latest base log e.block p.0 _ p.2
 
   -- one block more
   pub under_fresh : (n i issued : ℕ) (e : Entry) (tickets : List ℕ) → greatest_ticket log < n → ¬ IsNoticed n log → slice_get w.says.fresh i ≡ Some e → IsPartlyWritten base log l p w tickets i issued
@@ -183,15 +174,12 @@ module _ (laws : JournalLaws) (base : Blocks) (log : List Event) (l : Ledger) (k
       → HasTickets (log ++ Wrote n (ring_block l.geom w.says.place) (block_at w.ring 0) ∷ []) (with_record l w m) w (tickets ++ n ∷ [])
   own_tickets n tickets high none u = record {
     ring = λ i lt. first_or i lt;
-    fresh = λ late i e at. among_stays log (Wrote n (ring_block l.geom w.says.place) (block_at w.ring 0)) tickets (n ∷ []) e.block _ (λ same. fresh_ring i w.says.place e at (sym same), tt) (u.fresh i e (get_within w.says.fresh i e at) at);
+    fresh = λ late i e at. among_stays log (Wrote n (ring_block l.geom w.says.place) (block_at w.ring 0)) tickets (n ∷ []) e.block _ (λ same. fresh_ring i w.says.place e at (sym same), tt) (u.fresh i e (slice_get_within w.says.fresh i e at) at);
   }
     where
-      z : (p : ℕ) → p ≡ p + 0
-      z p = omega arith
-
       first_or : (i : ℕ) → i < places w.says → IsAmongLast (log ++ Wrote n (ring_block l.geom w.says.place) (block_at w.ring 0) ∷ []) (tickets ++ n ∷ []) (ring_block l.geom (w.says.place + i)) (block_at w.ring i)
-      first_or zero lt = subst (λ p. IsAmongLast (log ++ Wrote n (ring_block l.geom w.says.place) (block_at w.ring 0) ∷ []) (tickets ++ n ∷ []) (ring_block l.geom p) (block_at w.ring 0)) (z w.says.place) (n, among_own tickets n, last_new log _ n _ high none)
-      first_or (suc i) lt = among_stays log (Wrote n (ring_block l.geom w.says.place) (block_at w.ring 0)) tickets (n ∷ []) _ _ (λ same. own_apart 0 (suc i) (omega arith) lt (ap (ring_block l.geom) (sym (z w.says.place)) ∙ same), tt) (u.ring (suc i) (omega arith) lt)
+      first_or zero lt = subst (λ p. IsAmongLast (log ++ Wrote n (ring_block l.geom w.says.place) (block_at w.ring 0) ∷ []) (tickets ++ n ∷ []) (ring_block l.geom p) (block_at w.ring 0)) (omega arith) (n, among_own tickets n, last_new log _ n _ high none)
+      first_or (suc i) lt = among_stays log (Wrote n (ring_block l.geom w.says.place) (block_at w.ring 0)) tickets (n ∷ []) _ _ (λ same. own_apart 0 (suc i) (omega arith) lt (ap (ring_block l.geom) (sym (omega arith)) ∙ same), tt) (u.ring (suc i) (omega arith) lt)
 
 module _ (laws : JournalLaws) (s : MountedSession) (start end : State) (l : Ledger) (p : PipelineData) (w : WrittenRecord) (m : Blocks) (t floor : ℕ) (same : end.base ≡ start.base) (new : FreshAreNew l) (may : IsNextRecord l w m) (safe : IsSafe s start.base start.log l t floor) where
   -- the same under equal names

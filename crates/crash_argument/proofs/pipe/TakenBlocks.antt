@@ -1,7 +1,6 @@
 -- Blocks that may be written fresh stay so: what a crash may leave loses maps and gains none, and a checkpoint write goes to a live block.
-use Rattle.std.proofs.Common.{◌≡◌, ◌⊎◌, inl, inr, ⊎_elim, ℕ, zero, suc, ◌+◌, ◌<◌, ◌≤◌, false, List, [], ◌∷◌, ◌++◌, slice_get, Some, refl, sym, ◌∙◌, ap, arith}
+use Rattle.std.proofs.Common.{◌≡◌, ◌⊎◌, inl, inr, ⊎_elim, ℕ, ◌+◌, ◌<◌, ◌≤◌, false, List, [], ◌∷◌, ◌++◌, Some, refl, sym, ◌∙◌, ap, arith}
 use Rattle.std.proofs.lemmas.Bool.{or_cases, false≢true, or_left, or_right}
-use Rattle.std.proofs.lemmas.Option.{same_Some, none-some}
 use Rattle.base_types.specs.Seal.{Blocks}
 use Rattle.disk_contract.specs.declared.event.Event.{Event}
 use Rattle.disk_contract.specs.declared.event.Event.TheVariants.{Wrote, Lost, Noticed}
@@ -12,6 +11,7 @@ use Rattle.crash_argument.specs.Ledger.{Ledger, WrittenRecord, IsConsistentWith,
 use Rattle.crash_argument.specs.Steps.{with_known, with_header, with_durable_header}
 use Rattle.crash_argument.specs.OnePending.{MayWriteAllFresh}
 use Rattle.crash_argument.specs.PipelineData.{PipelineData, NeedsCheckpoint, with_home}
+use Rattle.crash_argument.proofs.log.Lists.{last_or}
 use Rattle.crash_argument.proofs.pipe.BetweenSteps.{same_next}
 
 -- what is noticed stays so in a longer log
@@ -33,13 +33,6 @@ stay_header log l p taken h free b own = free b own
 pub stay_durable : (base : Blocks) (log : List Event) (l : Ledger) (p : PipelineData) (taken : List ℕ) (h : Header) → IsConsistentWith base log l → l.next ≡ Some h → MayWriteAllFresh log l p taken → MayWriteAllFresh log (with_durable_header l h) p taken
 stay_durable base log l p taken h keeps is free b own = let f = free b own in
     (λ n low upto. f.0 n (omega (arith, low, (keeps.headers.fits h (inr is)).sure_grows)) (omega (arith, upto, same_next base log l h keeps is)), f.1)
-
--- one more at the end of a list
-last_or : {A : Type 0} (xs : List A) (y : A) (k : ℕ) (z : A) → slice_get (xs ++ y ∷ []) k ≡ Some z → (slice_get xs k ≡ Some z) ⊎ (y ≡ z)
-last_or [] y zero z is = inr (same_Some _ _ is)
-last_or [] y (suc k) z is = absurd (none-some z is)
-last_or (v ∷ xs) y zero z is = inl is
-last_or (v ∷ xs) y (suc k) z is = last_or xs y k z is
 
 pub stay_home : (base : Blocks) (log : List Event) (l : Ledger) (p : PipelineData) (taken : List ℕ) (batch : List WrittenRecord) (b t : ℕ) (x : List ℕ) → IsConsistentWith base log l → NeedsCheckpoint l batch b x → MayWriteAllFresh log l p taken → MayWriteAllFresh log l (with_home p b t) taken
 stay_home base log l p taken batch b t x keeps needs free c own = let f = free c own in (f.0, λ k u is. ⊎_elim (λ old. f.1 k u old) (λ e. absurd (unlike (ap (λ (q : ℕ × ℕ). q.0) e) f.0)) (last_or p.home (b, t) k (c, u) is))

@@ -20,11 +20,8 @@ use Rattle.crash_argument.proofs.log.Adds.{Adds, stood, stands_settled, settles_
 -- idle as a session begins
 pub begins_idle : (base : Blocks) (log : List Event) (g : Geometry) (slot : ℕ) (h : Header) → IsMounted (cell_of base log) g slot h → NoneIsBeingWritten (cell_of base log) (ledger_at_mount (cell_of base log) g slot h)
 begins_idle base log g slot h m = record {
-  each = λ p x d st is e. absurd (strict d.epoch h.epoch (m.no_descriptor p d (ap (descriptor_of g) (sym (stands_settled _ x (m.idle (ring_block g p)) st)) ∙ is)) e);
+  each = λ p x d st is e. absurd (omega (arith, m.no_descriptor p d (ap (descriptor_of g) (sym (stands_settled _ x (m.idle (ring_block g p)) st)) ∙ is), e));
 }
-  where
-    strict : (a b : ℕ) → a < b → a ≡ b → ⊥
-    strict a b lt e = omega arith
 
 -- and after a notice
 pub notice_idle : (base : Blocks) (log : List Event) (l : Ledger) (t : ℕ) → NoneIsBeingWritten (cell_of base log) l → NoneIsBeingWritten (cell_of base (log ++ Noticed t ∷ [])) l

@@ -1,6 +1,8 @@
 -- Points of which all is noticed: they stay so, and what a ledger knows is at most what the log says.
-use Rattle.std.proofs.Common.{◌≡◌, ◌⊎◌, inl, ⊎_elim, ℕ, zero, suc, ◌+◌, ◌-◌, ◌<◌, ◌≤◌, List, [], ◌∷◌, ◌++◌, length, take, drop, slice_get, Some, refl, sym, ◌∙◌, ap, subst, arith, length-append, take-append-drop, take-take}
+use Rattle.std.proofs.Common.{◌≡◌, ◌⊎◌, inl, ⊎_elim, ℕ, ◌+◌, ◌-◌, ◌<◌, ◌≤◌, List, [], ◌∷◌, ◌++◌, length, take, drop, slice_get, Some, refl, sym, ◌∙◌, ap, subst, arith, length-append, take-append-drop, take-take}
 use Rattle.std.proofs.Math.Seq.{take-length}
+use Rattle.std.proofs.lemmas.Bool.{cases_lt}
+use Rattle.crash_argument.proofs.log.Lists.{whole_list, get_some}
 use Rattle.std.proofs.lemmas.List.{take-append-le}
 use Rattle.base_types.specs.Seal.{Blocks}
 use Rattle.disk_contract.specs.declared.event.Event.{Event}
@@ -13,7 +15,7 @@ use Rattle.crash_argument.specs.Points.{MountedSession, IsNoticedPoint, IsKnown,
 use Rattle.crash_argument.specs.Steps.{AreNoticed}
 use Rattle.crash_argument.proofs.theorem.Core.{stands_whole}
 use Rattle.crash_argument.proofs.theorem.Images.{issued_faithful}
-use Rattle.crash_argument.proofs.steps.HeaderSteps.{whole_list, number_at}
+use Rattle.crash_argument.proofs.steps.HeaderSteps.{number_at}
 
 -- what is noticed stays so
 pub noticed_stays : (s : MountedSession) (base : Blocks) (log more : List Event) (p : ℕ) → IsNoticedPoint s base log p → IsNoticedPoint s base (log ++ more) p
@@ -30,21 +32,11 @@ noticed_stays s base log more p n =
       fresh = λ i e is. ap (λ (l : List Event). (cell_of base l e.block).pending) same ∙ n.fresh i e is;
     }
 
--- two numbers are in one order or the other
-split : (a b : ℕ) → (a ≤ b) ⊎ (b < a)
-split a b = grind arith
-
--- a record at an index that there is
-at_index : (ws : List WrittenRecord) (k : ℕ) → k < length ws → (w : WrittenRecord) × (slice_get ws k ≡ Some w)
-at_index [] k lt = absurd (omega arith)
-at_index (w ∷ ws) zero lt = (w, refl)
-at_index (w ∷ ws) (suc k) lt = at_index ws k (omega arith)
-
 -- once all records before a number are noticed, their points are
 pub all_noticed : JournalLaws → (s : MountedSession) (base : Blocks) (log : List Event) (l : Ledger) (number : ℕ) → IsConsistentWith base log l → s.geom ≡ l.geom → s.epoch ≡ l.epoch → s.mounted ≤ length log → s.first ≤ l.known
     → AreNoticed (cell_of base log) l number → ((p : ℕ) → 0 < p → p ≤ l.known - s.first → IsNoticedPoint s base log p)
     → (p : ℕ) → 0 < p → p ≤ number - s.first → IsNoticedPoint s base log p
-all_noticed laws s base log l number k geom epoch late first n old p some le = ⊎_elim (old p some) new (split p (l.known - s.first))
+all_noticed laws s base log l number k geom epoch late first n old p some le = ⊎_elim new (old p some) (cases_lt (l.known - s.first) p)
   where
     fits : FitsRecords l l.header
     fits = k.headers.fits l.header (inl refl)
@@ -53,7 +45,7 @@ all_noticed laws s base log l number k geom epoch late first n old p some le = �
     all = take-length log
 
     new : l.known - s.first < p → IsNoticedPoint s base log p
-    new past = of (s.first + p - 1 - l.header.start) (at_index l.records (s.first + p - 1 - l.header.start) (omega (arith, past, le, n.upto, first, fits.sure, fits.known, some)))
+    new past = of (s.first + p - 1 - l.header.start) (get_some l.records (s.first + p - 1 - l.header.start) (omega (arith, past, le, n.upto, first, fits.sure, fits.known, some)))
         (omega (arith, past, fits.sure, fits.known, some))
       where
         of : (i : ℕ) → (w : WrittenRecord) × (slice_get l.records i ≡ Some w) → l.header.start + i + 1 ≡ s.first + p → IsNoticedPoint s base log p
@@ -76,14 +68,14 @@ all_noticed laws s base log l number k geom epoch late first n old p some le = �
 
 -- what a ledger knows is at most what the log says at that moment
 pub known_at_most : (s : MountedSession) (base : Blocks) (log more : List Event) (l : Ledger) (t floor p : ℕ) → IsSafe s base log l t floor → IsKnown s base (log ++ more) (length log) p → l.known - s.first ≤ p
-known_at_most s base log more l t floor p safe known = ⊎_elim (λ le. le) (λ gt. absurd (known.not_next (subst (λ (lg : List Event). IsNoticedPoint s base lg (p + 1)) (sym front) (safe.points.noticed (p + 1) (omega arith) (omega (arith, gt)))))) (split (l.known - s.first) p)
+known_at_most s base log more l t floor p safe known = ⊎_elim (λ gt. absurd (known.not_next (subst (λ (lg : List Event). IsNoticedPoint s base lg (p + 1)) (sym front) (safe.points.noticed (p + 1) (omega arith) (omega (arith, gt)))))) (λ le. le) (cases_lt p (l.known - s.first))
   where
     front : take (length log) (log ++ more) ≡ log
     front = take-append-le (length log) log more (omega arith) ∙ take-length log
 
 -- and that never falls
 pub known_grows : (s : MountedSession) (base : Blocks) (log : List Event) (k i p q : ℕ) → k ≤ i → IsKnown s base log k p → IsKnown s base log i q → p ≤ q
-known_grows s base log k i p q le before now = ⊎_elim (λ low. low) (λ gt. absurd (now.not_next (subst (λ (lg : List Event). IsNoticedPoint s base lg (q + 1)) parts (noticed_stays s base (take k log) (drop k (take i log)) (q + 1) (before.upto (q + 1) (omega arith) (omega (arith, gt))))))) (split p q)
+known_grows s base log k i p q le before now = ⊎_elim (λ gt. absurd (now.not_next (subst (λ (lg : List Event). IsNoticedPoint s base lg (q + 1)) parts (noticed_stays s base (take k log) (drop k (take i log)) (q + 1) (before.upto (q + 1) (omega arith) (omega (arith, gt))))))) (λ low. low) (cases_lt q p)
   where
     parts : take k log ++ drop k (take i log) ≡ take i log
     parts = ap (λ (lg : List Event). lg ++ drop k (take i log)) (sym (take-take k i log le)) ∙ take-append-drop k (take i log)

@@ -1,5 +1,6 @@
 -- Each step is safe: the ledger and the statement on each moment go on.
 use Rattle.std.proofs.Common.{◌≡◌, inr, ⊎_elim, ℕ, ◌+◌, ◌-◌, ◌<◌, ◌≤◌, nat_le, nat_lt, ◌&&◌, Bool, true, false, if◌then◌else◌, List, [], ◌∷◌, ◌++◌, None, Some, refl, sym, ◌∙◌, ap, subst, arith, length-append, append-nil, append_assoc}
+use Rattle.std.proofs.Math.Bool.{and-false}
 use Rattle.std.proofs.lemmas.Bool.{cases_lt, le-ltb, le-leb, lt-leb, lt-ltb, eq-eqb, and_from, cond-true}
 use Rattle.base_types.specs.Seal.{Blocks}
 use Rattle.disk_contract.specs.declared.event.Event.{Event}
@@ -36,19 +37,11 @@ module _ (laws : JournalLaws) (s : MountedSession) (base : Blocks) (log : List E
 
   -- what reads as no commit block isn't counted as one
   no_commit_here : (x : List ℕ) (block : ℕ) → commit_of l.geom x ≡ None → is_commit s.geom s.epoch block x ≡ false
-  no_commit_here x block none = ap (λ g. is_commit g s.epoch block x) safe.points.geom ∙ ap (λ o. nat_le 2 block && nat_lt block (bitmap_start l.geom) && has_epoch s.epoch o) none ∙ false_last _
-    where
-      false_last : (b : Bool) → (b && false) ≡ false
-      false_last true = refl
-      false_last false = refl
+  no_commit_here x block none = ap (λ g. is_commit g s.epoch block x) safe.points.geom ∙ ap (λ o. nat_le 2 block && nat_lt block (bitmap_start l.geom) && has_epoch s.epoch o) none ∙ and-false _
 
   -- nor is what is written behind the journal
   no_commit_high : (x : List ℕ) (block : ℕ) → bitmap_start l.geom ≤ block → is_commit s.geom s.epoch block x ≡ false
-  no_commit_high x block high = ap (λ g. is_commit g s.epoch block x) safe.points.geom ∙ ap (λ b. nat_le 2 block && b && has_epoch s.epoch (commit_of l.geom x)) (le-ltb block (bitmap_start l.geom) high) ∙ false_mid _ _
-    where
-      false_mid : (a b : Bool) → (a && false && b) ≡ false
-      false_mid true b = refl
-      false_mid false b = refl
+  no_commit_high x block high = ap (λ g. is_commit g s.epoch block x) safe.points.geom ∙ ap (λ b. nat_le 2 block && b && has_epoch s.epoch (commit_of l.geom x)) (le-ltb block (bitmap_start l.geom) high) ∙ ap (λ (v : Bool). v && has_epoch s.epoch (commit_of l.geom x)) (and-false (nat_le 2 block))
 
   -- nor what is written into a slot
   no_commit_low : (x : List ℕ) (block : ℕ) → block < 2 → is_commit s.geom s.epoch block x ≡ false

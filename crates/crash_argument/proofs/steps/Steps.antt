@@ -1,20 +1,21 @@
 -- Each kind of write leaves the disk as the ledger then says.
-use Rattle.std.proofs.Common.{◌≡◌, ◌≢◌, ◌⊎◌, inl, inr, ⊎_elim, ℕ, zero, suc, ◌+◌, ◌-◌, ◌%◌, ◌<◌, ◌≤◌, nat_le, Bool, true, false, if◌then◌else◌, IsTrue, List, [], ◌∷◌, ◌++◌, length, take, slice_get, Option, Some, None, refl, sym, ◌∙◌, ap, subst, arith, length-append, length-drop}
+use Rattle.std.proofs.Common.{◌≡◌, ◌≢◌, ◌⊎◌, inl, inr, ⊎_elim, ℕ, zero, suc, ◌+◌, ◌-◌, ◌%◌, ◌<◌, ◌≤◌, nat_le, Bool, true, false, if◌then◌else◌, IsTrue, List, [], ◌∷◌, ◌++◌, length, take, slice_get, Option, Some, None, refl, sym, ◌∙◌, ap, subst, arith, length-append, length-drop, append-nil}
 use Rattle.std.proofs.lemmas.Bool.{cases_eq, both_ways, le-leb, lt-leb, cond-true, cond-false}
 use Rattle.std.proofs.lemmas.Option.{none-some, same_Some}
 use Rattle.base_types.specs.Seal.{Blocks}
 use Rattle.disk_contract.specs.declared.event.Event.{Event}
 use Rattle.disk_contract.specs.Cell.{Cell, cell_of}
-use Rattle.layout_geometry.specs.Geometry.{ring_block, bitmap_start}
+use Rattle.layout_geometry.specs.Geometry.{ring_block}
 use Rattle.layout_journal.specs.declared.header.Header.{Header}
 use Rattle.layout_journal.specs.declared.record.Commit.{Commit}
-use Rattle.layout_journal.specs.declared.entry.Entry.{Entry}
-use Rattle.layout_journal.specs.Layout.{header_of, commit_of, descriptor_of}
+use Rattle.layout_journal.specs.Layout.{commit_of, descriptor_of}
 use Rattle.layout_journal.specs.Run.{Record, places, all_places, place_after, AreConsecutive, names_block, or_else, otherwise, is_live}
 use Rattle.crash_argument.specs.JournalLaws.{JournalLaws}
-use Rattle.crash_argument.specs.Ledger.{Ledger, WrittenRecord, IsConsistentWith, IsOnDisk, IsIssued, HeadersAlternate, NumbersUsedOnce, HomeIsCovered, IsLaid, IsStanding, FitsRecords, StandsIn, latest, block_at, cover, payload_in, from_start, next_number, all_say}
+use Rattle.crash_argument.specs.Ledger.{Ledger, WrittenRecord, IsConsistentWith, IsOnDisk, IsIssued, HeadersAlternate, NumbersUsedOnce, IsLaid, IsStanding, FitsRecords, latest, block_at, cover, payload_in, from_start, next_number, all_say}
 use Rattle.crash_argument.specs.Steps.{MayWriteInPlace, MayWriteInRing, IsReadyToCommit, with_record}
-use Rattle.crash_argument.proofs.log.Adds.{Adds, on_disk, stood}
+use Rattle.crash_argument.proofs.log.Adds.{Adds, Settles, on_disk, stood, others_stay}
+use Rattle.crash_argument.proofs.steps.HeaderSteps.{cover-parts}
+use Rattle.crash_argument.proofs.steps.Kept.{same_headers, same_record, same_numbers, same_home}
 use Rattle.crash_argument.proofs.theorem.Whole.{count_of}
 use Rattle.crash_argument.proofs.theorem.Core.{live_from}
 use Rattle.crash_argument.proofs.theorem.Images.{in_ring}
@@ -23,55 +24,15 @@ use Rattle.std.proofs.lemmas.List.{take-append-drop, take-append-le, drop-append
 
 module _ (base : Blocks) (log new : List Event) (l : Ledger) (block : ℕ) (x : List ℕ) (a : Adds base log new block x) (k : IsConsistentWith base log l) where
   -- the headers, where neither slot is written
-  same_headers : 2 ≤ block → HeadersAlternate (cell_of base new) l
-  same_headers high =
-      let own = a.other l.slot (apart (omega (arith, k.headers.is_slot))) in
-      let beside = a.other (1 - l.slot) (apart (omega arith)) in
-      record {
-        is_slot = k.headers.is_slot;
-        durable = ap (λ (c : Cell). header_of l.geom.n c.settled) own ∙ k.headers.durable;
-        alone = ap (λ (c : Cell). c.pending) own ∙ k.headers.alone;
-        other = λ y h st is. k.headers.other y h (subst (λ (c : Cell). StandsIn c y) beside st) is;
-        newer = k.headers.newer;
-        fits = k.headers.fits;
-      }
-    where
-      apart : {s : ℕ} → s < block → s ≢ block
-      apart lt e = omega arith
-
-  -- a record, where neither its places nor its fresh blocks past `sure` are written
-  same_record : (w : WrittenRecord) → IsIssued base (cell_of base log) log l w → ((i : ℕ) → i < places w.says → ring_block l.geom (w.says.place + i) ≢ block)
-      → (l.header.sure < w.says.number → (i : ℕ) (e : Entry) → slice_get w.says.fresh i ≡ Some e → e.block ≢ block) → IsIssued base (cell_of base new) new l w
-  same_record w old apart apart_fresh = record {
-    spelled = old.spelled;
-    ring = λ i lt. ap latest (a.other _ (apart i lt)) ∙ old.ring i lt;
-    ring_logged = λ i lt. on_disk a _ (old.ring_logged i lt);
-    in_place = old.in_place;
-    fresh = λ late i e at. ap latest (a.other _ (apart_fresh late i e at)) ∙ old.fresh late i e at;
-    fresh_logged = λ i e at. on_disk a _ (old.fresh_logged i e at);
-    intact = λ low i lt. ap (λ (c : Cell). c.pending) (a.other _ (apart i lt)) ∙ old.intact low i lt;
-    intact_fresh = λ late low i e at. ap (λ (c : Cell). c.pending) (a.other _ (apart_fresh late i e at)) ∙ old.intact_fresh late low i e at;
-  }
-
-  -- home content, where no live block is written
-  same_home : block < bitmap_start l.geom → HomeIsCovered (cell_of base new) l
-  same_home low = record {
-    map = λ h good bad b st split sure live. ap (λ c. otherwise (cover None good b) (latest c)) (a.other b (apart b (live_from l.geom (l.map_before (h.start + length good)) b live))) ∙ k.home.map h good bad b st split sure live;
-    laid = λ h good bad b st split sure live none. ⊎_elim (λ idle. inl (ap (λ (c : Cell). c.pending) (a.other b (apart b (live_from l.geom (l.map_before (h.start + length good)) b live))) ∙ idle)) (λ f. inr f) (k.home.laid h good bad b st split sure live none);
-  }
-    where
-      apart : (b : ℕ) → bitmap_start l.geom ≤ b → b ≢ block
-      apart b high e = omega arith
+  headers_stay : 2 ≤ block → HeadersAlternate (cell_of base new) l
+  headers_stay high = same_headers base log new l k a.written (others_stay a l.slot (λ e. omega (arith, k.headers.is_slot))) (others_stay a (1 - l.slot) (λ e. omega arith))
 
   -- a write in place leaves the disk as the ledger says
   pub write_in_place : MayWriteInPlace (cell_of base log) l block → IsConsistentWith base new l
   write_in_place may = record {
-    headers = same_headers (omega (arith, may.outside));
-    each = λ n w is. same_record w (k.each n w is) (λ i lt e. clash (ring_block l.geom (w.says.place + i)) (in_ring l.geom _ k.ring) e) (λ late i e at. may.not_fresh n i w e is late at);
-    numbers = record {
-      commit = λ p y c st is e from. k.numbers.commit p y c (subst (λ (d : Cell). StandsIn d y) (a.other _ (λ same. clash (ring_block l.geom p) (in_ring l.geom p k.ring) same)) st) is e from;
-      descriptor = λ p y d w st is e from got. k.numbers.descriptor p y d w (subst (λ (c : Cell). StandsIn c y) (a.other _ (λ same. clash (ring_block l.geom p) (in_ring l.geom p k.ring) same)) st) is e from got;
-    };
+    headers = headers_stay (omega (arith, may.outside));
+    each = λ n w is. same_record base log new l k a.written w (k.each n w is) (λ i lt. ring_stays (w.says.place + i)) (λ late i e at. others_stay a e.block (may.not_fresh n i w e is late at));
+    numbers = same_numbers base log new l k a.written ring_stays;
     shape = k.shape;
     ring = k.ring;
     known = k.known;
@@ -87,15 +48,15 @@ module _ (base : Blocks) (log new : List Event) (l : Ledger) (block : ℕ) (x : 
     };
   }
     where
-      clash : (r : ℕ) → r < bitmap_start l.geom → r ≡ block → ⊥
-      clash r low e = omega (arith, may.outside)
+      ring_stays : (p : ℕ) → Settles (cell_of base log (ring_block l.geom p)) (cell_of base new (ring_block l.geom p))
+      ring_stays p = others_stay a _ (λ e. omega (arith, e, may.outside, in_ring l.geom p k.ring))
 
 module _ (laws : JournalLaws) (base : Blocks) (log new : List Event) (l : Ledger) (place : ℕ) (x : List ℕ) (a : Adds base log new (ring_block l.geom place) x) (k : IsConsistentWith base log l) where
   -- and so does a write into a free place of the ring
   pub write_in_ring : MayWriteInRing l place x → IsConsistentWith base new l
   write_in_ring may = record {
-    headers = same_headers base log new l _ x a k (omega arith);
-    each = λ n w is. same_record base log new l _ x a k w (k.each n w is) (λ i lt. may.free n i w is lt) (λ late i e at same. fresh_clash n w i e is late at same);
+    headers = headers_stay base log new l _ x a k (omega arith);
+    each = λ n w is. same_record base log new l k a.written w (k.each n w is) (λ i lt. others_stay a _ (may.free n i w is lt)) (λ late i e at. others_stay a e.block (λ same. omega (arith, same, (k.each n w is).in_place i e at, in_ring l.geom place k.ring)));
     numbers = record {
       commit = λ p y c st is e from. ⊎_elim (λ old. k.numbers.commit p y c old is e from) (λ new_one. absurd (none-some c (sym may.no_commit ∙ ap (commit_of l.geom) (sym new_one) ∙ is))) (stood a _ y st);
       descriptor = λ p y d w st is e from got. ⊎_elim (λ old. k.numbers.descriptor p y d w old is e from got) (λ new_one. absurd (may.no_descriptor d w (ap (descriptor_of l.geom) (sym new_one) ∙ is) e from got)) (stood a _ y st);
@@ -103,16 +64,8 @@ module _ (laws : JournalLaws) (base : Blocks) (log new : List Event) (l : Ledger
     shape = k.shape;
     ring = k.ring;
     known = k.known;
-    home = same_home base log new l _ x a k (in_ring l.geom place k.ring);
+    home = same_home base log new l k a.written (λ b high. others_stay a b (λ same. omega (arith, same, high, in_ring l.geom place k.ring)));
   }
-    where
-      fresh_clash : (n : ℕ) (w : WrittenRecord) (i : ℕ) (e : Entry) → slice_get l.records n ≡ Some w → l.header.sure < w.says.number → slice_get w.says.fresh i ≡ Some e → e.block ≡ ring_block l.geom place → ⊥
-      fresh_clash n w i e is late at same = omega (arith, (k.each n w is).in_place i e at, in_ring l.geom place k.ring)
-
--- what the records leave in a block, with one more
-cover-append : (ws : List WrittenRecord) (before : Option (List ℕ)) (w : WrittenRecord) (b : ℕ) → cover before (ws ++ w ∷ []) b ≡ or_else (payload_in w b) (if names_block w.says.fresh b then None else cover before ws b)
-cover-append [] before w b = refl
-cover-append (v ∷ ws) before w b = cover-append ws (or_else (payload_in v b) (if names_block v.says.fresh b then None else before)) w b
 
 -- one more record in a split list: it is the last of the second part, or the second part is empty
 split_last : (xs good bad : List WrittenRecord) (w : WrittenRecord) → xs ++ w ∷ [] ≡ good ++ bad → ((rest : List WrittenRecord) × (bad ≡ rest ++ w ∷ []) × (xs ≡ good ++ rest)) ⊎ ((bad ≡ []) × (good ≡ xs ++ w ∷ []))
@@ -129,23 +82,12 @@ split_last (x ∷ xs) (g ∷ good) bad w e =
 
 -- consecutive records are so still with the next one behind them
 consecutive_more : (j n p : ℕ) (rs : List Record) (r : Record) → AreConsecutive j n p rs → r.number ≡ n + length rs → r.place ≡ place_after j p rs → AreConsecutive j n p (rs ++ r ∷ [])
-consecutive_more j n p [] r h number place = (number ∙ z n, place, tt)
-  where
-    z : (n : ℕ) → n + 0 ≡ n
-    z n = omega arith
+consecutive_more j n p [] r h number place = (number ∙ omega arith, place, tt)
 consecutive_more j n p (x ∷ rs) r h number place = (h.0, h.1, consecutive_more j (n + 1) ((p + places x) % j) rs r h.2 (omega arith) place)
-
--- and take the places of that one more
-places_more : (rs : List Record) (r : Record) → all_places (rs ++ r ∷ []) ≡ all_places rs + places r
-places_more [] r = omega arith
-places_more (x ∷ rs) r = omega (arith, places_more rs r)
 
 -- behind the old elements there is the new one
 get_last : (ws : List WrittenRecord) (w : WrittenRecord) (k : ℕ) → k ≡ length ws → slice_get (ws ++ w ∷ []) k ≡ Some w
-get_last ws w k e = ap (slice_get (ws ++ w ∷ [])) (e ∙ z (length ws)) ∙ get_behind ws (w ∷ []) 0
-  where
-    z : (n : ℕ) → n ≡ n + 0
-    z n = omega arith
+get_last ws w k e = ap (slice_get (ws ++ w ∷ [])) {x = k} {y = length ws + 0} (omega (arith, e)) ∙ get_behind ws (w ∷ []) 0
 
 -- with a record the maps up to the next number are the old ones
 pub at_old : (l : Ledger) (w : WrittenRecord) (m : Blocks) (n : ℕ) → n ≤ next_number l → (with_record l w m).map_before n ≡ l.map_before n
@@ -195,16 +137,12 @@ module _ (laws : JournalLaws) (base : Blocks) (log new : List Event) (l : Ledger
         place = f.place ∙ ap (λ (ws : List WrittenRecord). place_after l.geom.j l.header.at (all_say ws)) (sym (take-append-le (h.start - l.header.start) l.records (w ∷ []) (start_in h st)));
         consecutive = subst (λ (rs : List Record). AreConsecutive l.geom.j h.start h.at rs) (sym says)
             (consecutive_more l.geom.j h.start h.at (all_say (from_start l h)) w.says f.consecutive (ready.number ∙ sym (from_length h st) ∙ ap (λ n. h.start + n) (sym (say_length (from_start l h)))) (place_here h st));
-        within = omega (arith, ap all_places says, places_more (all_say (from_start l h)) w.says, ready.within, ap all_places (say_parts h), places_append (all_say (take (h.start - l.header.start) l.records)) (all_say (from_start l h)));
+        within = omega (arith, ap all_places says, places_append (all_say (from_start l h)) (w.says ∷ []), ready.within, ap all_places (say_parts h), places_append (all_say (take (h.start - l.header.start) l.records)) (all_say (from_start l h)));
       }
 
   -- the headers are as they were
   old_headers : HeadersAlternate (cell_of base new) l
-  old_headers = same_headers base log new l _ _ a k (omega arith)
-
-  -- a block behind the journal isn't the commit block's
-  fresh_apart : (b : ℕ) → bitmap_start l.geom ≤ b → b ≢ ring_block l.geom w.says.place
-  fresh_apart b high same = omega (arith, in_ring l.geom w.says.place k.ring)
+  old_headers = headers_stay base log new l _ _ a k (omega arith)
 
   -- the new record is issued
   own_record : IsIssued base (cell_of base new) new (with_record l w m) w
@@ -213,17 +151,14 @@ module _ (laws : JournalLaws) (base : Blocks) (log new : List Event) (l : Ledger
     ring = own_ring;
     ring_logged = own_logged;
     in_place = ready.in_place;
-    fresh = λ late i e at. ap latest (a.other e.block (fresh_apart e.block (ready.in_place i e at))) ∙ ready.fresh i e at;
+    fresh = λ late i e at. ap latest (a.other e.block (λ same. omega (arith, ready.in_place i e at, in_ring l.geom w.says.place k.ring))) ∙ ready.fresh i e at;
     fresh_logged = λ i e at. on_disk a _ (ready.fresh_logged i e at);
     intact = λ low i lt. absurd (omega (arith, low, ready.number, k.known));
     intact_fresh = λ late low i e at. absurd (omega (arith, low, ready.number, k.known));
   }
     where
-      z : (n : ℕ) → n + 0 ≡ n
-      z n = omega arith
-
       own_ring : (i : ℕ) → i < places w.says → latest (cell_of base new (ring_block l.geom (w.says.place + i))) ≡ block_at w.ring i
-      own_ring zero lt = ap (λ p. latest (cell_of base new (ring_block l.geom p))) (z w.says.place) ∙ a.latest_is
+      own_ring zero lt = ap (λ p. latest (cell_of base new (ring_block l.geom p))) (omega arith) ∙ a.latest_is
       own_ring (suc i) lt = ap latest (a.other _ (ready.own (suc i) (omega arith) lt)) ∙ ready.ring (suc i) (omega arith) lt
 
       own_logged : (i : ℕ) → i < places w.says → IsOnDisk l.geom.n base new (block_at w.ring i)
@@ -233,7 +168,7 @@ module _ (laws : JournalLaws) (base : Blocks) (log new : List Event) (l : Ledger
   -- and the old ones are still
   old_record : (n : ℕ) (v : WrittenRecord) → slice_get l.records n ≡ Some v → IsIssued base (cell_of base new) new (with_record l w m) v
   old_record n v is =
-      let old = same_record base log new l _ _ a k v (k.each n v is) (λ i lt. ready.free n i v is lt) (λ late i e at. fresh_apart e.block ((k.each n v is).in_place i e at)) in
+      let old = same_record base log new l k a.written v (k.each n v is) (λ i lt. others_stay a _ (ready.free n i v is lt)) (λ late i e at. others_stay a e.block (λ same. omega (arith, same, (k.each n v is).in_place i e at, in_ring l.geom w.says.place k.ring))) in
       record { spelled = old.spelled; ring = old.ring; ring_logged = old.ring_logged; in_place = old.in_place; fresh = old.fresh; fresh_logged = old.fresh_logged; intact = old.intact; intact_fresh = old.intact_fresh }
 
   -- numbers are used once still
@@ -250,25 +185,13 @@ module _ (laws : JournalLaws) (base : Blocks) (log new : List Event) (l : Ledger
   }
 
   module _ (h : Header) (st : IsStanding l h) (b : ℕ) (live : IsTrue (is_live l.geom m b)) where
-    -- all records that are known are among the old ones
-    sure_all : l.known ≤ h.start + length (from_start l h)
-    sure_all = omega (arith, from_length h st, k.known)
-
-    -- with none behind them
-    none_behind : from_start l h ≡ from_start l h ++ []
-    none_behind = nil (from_start l h)
-      where
-        nil : (xs : List WrittenRecord) → xs ≡ xs ++ []
-        nil [] = refl
-        nil (x ∷ xs) = ap (λ (l : List WrittenRecord). x ∷ l) (nil xs)
-
     -- a live block for which the new record has no entry was live before
     old_live : payload_in w b ≡ None → names_block w.says.fresh b ≡ false → IsTrue (is_live l.geom (l.map_before (h.start + length (from_start l h))) b)
     old_live unpaid unlaid = subst (λ n. IsTrue (is_live l.geom (l.map_before n) b)) (sym (from_length h st)) (ready.same b unpaid unlaid live).0
 
     -- a live block is as it was
     same_cell : cell_of base new b ≡ cell_of base log b
-    same_cell = a.other b (fresh_apart b (live_from l.geom m b live))
+    same_cell = a.other b (λ same. omega (arith, live_from l.geom m b live, in_ring l.geom w.says.place k.ring))
 
     -- what is at home in it, under the old records and the new one, is the new map
     covered : (o : Option (List ℕ)) (n : Bool) → o ≡ payload_in w b → n ≡ names_block w.says.fresh b
@@ -276,7 +199,7 @@ module _ (laws : JournalLaws) (base : Blocks) (log new : List Event) (l : Ledger
     covered (Some y) n paid named = sym (ready.paid b y (sym paid))
     covered None true unpaid named = sym (ready.laid b (sym unpaid) (sym named))
     covered None false unpaid named =
-        k.home.map h (from_start l h) [] b st none_behind sure_all (old_live (sym unpaid) (sym named))
+        k.home.map h (from_start l h) [] b st (sym (append-nil (from_start l h))) (omega (arith, from_length h st, k.known)) (old_live (sym unpaid) (sym named))
         ∙ ap (λ n. l.map_before n b) (from_length h st) ∙ sym (ready.same b (sym unpaid) (sym named) live).1
 
     -- and where these don't cover it, nothing is pending on it or one of them wrote it fresh
@@ -287,7 +210,7 @@ module _ (laws : JournalLaws) (base : Blocks) (log new : List Event) (l : Ledger
         let at = named_at w.says.fresh b (sym named) in
         inr (length (from_start l h), w, at.0, at.1, get_last (from_start l h) w _ refl, omega (arith, ready.number, (k.headers.fits h st).last), at.2, at.3)
     laid_so None false unpaid named none =
-        ⊎_elim inl (λ p. inr (p.0, p.1, p.2, p.3, get_front (from_start l h) (w ∷ []) p.0 p.1 p.4, p.5, p.6, p.7)) (k.home.laid h (from_start l h) [] b st none_behind sure_all (old_live (sym unpaid) (sym named)) none)
+        ⊎_elim inl (λ p. inr (p.0, p.1, p.2, p.3, get_front (from_start l h) (w ∷ []) p.0 p.1 p.4, p.5, p.6, p.7)) (k.home.laid h (from_start l h) [] b st (sym (append-nil (from_start l h))) (omega (arith, from_length h st, k.known)) (old_live (sym unpaid) (sym named)) none)
 
   -- a commit block leaves the disk as the ledger with its record says
   pub write_commit : IsConsistentWith base new (with_record l w m)
@@ -302,11 +225,11 @@ module _ (laws : JournalLaws) (base : Blocks) (log new : List Event) (l : Ledger
       map = λ h good bad b st split sure live. ⊎_elim
           (λ p. let le = count_of base log l k h good p.0 st p.2 in
           let old_map = at_old l w m (h.start + length good) le in
-          ap (λ c. otherwise (cover None good b) (latest c)) (a.other b (fresh_apart b (live_from l.geom (l.map_before (h.start + length good)) b (subst (λ (mm : Blocks). IsTrue (is_live l.geom mm b)) old_map live))))
+          ap (λ c. otherwise (cover None good b) (latest c)) (a.other b (λ same. omega (arith, (live_from l.geom (l.map_before (h.start + length good)) b (subst (λ (mm : Blocks). IsTrue (is_live l.geom mm b)) old_map live)), in_ring l.geom w.says.place k.ring)))
           ∙ k.home.map h good p.0 b st p.2 sure (subst (λ (mm : Blocks). IsTrue (is_live l.geom mm b)) old_map live) ∙ sym (ap (λ (mm : Blocks). mm b) old_map))
           (λ p. let new_map = at_new l w m (h.start + length good) (longer h good st p.1) in
           let live_m = subst (λ (mm : Blocks). IsTrue (is_live l.geom mm b)) new_map live in
-          ap (λ (ws : List WrittenRecord). otherwise (cover None ws b) (latest (cell_of base new b))) p.1 ∙ ap (λ o. otherwise o (latest (cell_of base new b))) (cover-append (from_start l h) None w b)
+          ap (λ (ws : List WrittenRecord). otherwise (cover None ws b) (latest (cell_of base new b))) p.1 ∙ ap (λ o. otherwise o (latest (cell_of base new b))) (cover-parts (from_start l h) (w ∷ []) None b)
           ∙ ap (λ c. otherwise (or_else (payload_in w b) (if names_block w.says.fresh b then None else cover None (from_start l h) b)) (latest c)) (same_cell h st b live_m)
           ∙ covered h st b live_m (payload_in w b) (names_block w.says.fresh b) refl refl ∙ sym (ap (λ (mm : Blocks). mm b) new_map))
           (split_last (from_start l h) good bad w (sym (from_more h st) ∙ split));
@@ -314,10 +237,10 @@ module _ (laws : JournalLaws) (base : Blocks) (log new : List Event) (l : Ledger
           (λ p. let le = count_of base log l k h good p.0 st p.2 in
           let old_map = at_old l w m (h.start + length good) le in
           let live_o = subst (λ (mm : Blocks). IsTrue (is_live l.geom mm b)) old_map live in
-          ⊎_elim (λ idle. inl (ap (λ (c : Cell). c.pending) (a.other b (fresh_apart b (live_from l.geom (l.map_before (h.start + length good)) b live_o))) ∙ idle)) (λ f. inr f) (k.home.laid h good p.0 b st p.2 sure live_o none))
+          ⊎_elim (λ idle. inl (ap (λ (c : Cell). c.pending) (a.other b (λ same. omega (arith, (live_from l.geom (l.map_before (h.start + length good)) b live_o), in_ring l.geom w.says.place k.ring))) ∙ idle)) (λ f. inr f) (k.home.laid h good p.0 b st p.2 sure live_o none))
           (λ p. let new_map = at_new l w m (h.start + length good) (longer h good st p.1) in
           let live_m = subst (λ (mm : Blocks). IsTrue (is_live l.geom mm b)) new_map live in
-          let none_w = sym (cover-append (from_start l h) None w b) ∙ ap (λ (ws : List WrittenRecord). cover None ws b) (sym p.1) ∙ none in
+          let none_w = sym (cover-parts (from_start l h) (w ∷ []) None b) ∙ ap (λ (ws : List WrittenRecord). cover None ws b) (sym p.1) ∙ none in
           subst (λ (ws : List WrittenRecord). IsLaid (cell_of base new) h ws b) (sym p.1)
           (⊎_elim (λ idle. inl (ap (λ (c : Cell). c.pending) (same_cell h st b live_m) ∙ idle)) (λ f. inr f) (laid_so h st b live_m (payload_in w b) (names_block w.says.fresh b) refl refl none_w)))
           (split_last (from_start l h) good bad w (sym (from_more h st) ∙ split));

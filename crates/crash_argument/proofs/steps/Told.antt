@@ -1,5 +1,5 @@
 -- What the commit blocks of a log tell of the ledger's records, event by event.
-use Rattle.std.proofs.Common.{◌≡◌, ◌&&◌, ◌==◌, ⊎_elim, ℕ, ◌+◌, ◌-◌, ◌<◌, ◌≤◌, nat_le, nat_lt, Bool, true, false, if◌then◌else◌, List, [], ◌∷◌, ◌++◌, length, map, drop, Option, None, Some, refl, sym, ◌∙◌, ap, ap₂, subst, arith, append-nil, append_assoc, length-append}
+use Rattle.std.proofs.Common.{◌≡◌, ◌&&◌, ◌==◌, ⊎_elim, ℕ, ◌+◌, ◌-◌, ◌<◌, ◌≤◌, nat_le, nat_lt, Bool, true, false, if◌then◌else◌, List, [], ◌∷◌, ◌++◌, length, map, drop, Option, None, Some, refl, sym, ◌∙◌, ap, ap₂, arith, append-nil, append_assoc, length-append}
 use Rattle.std.proofs.lemmas.Bool.{cases_lt, le-leb, lt-leb}
 use Rattle.std.proofs.lemmas.List.{drop-append-le, drop_all, map-append}
 use Rattle.std.proofs.lemmas.List.Elements.{filter-append}
@@ -12,12 +12,12 @@ use Rattle.layout_geometry.specs.Geometry.{Geometry, bitmap_start}
 use Rattle.layout_journal.specs.declared.header.Header.{Header}
 use Rattle.layout_journal.specs.declared.record.Commit.{Commit}
 use Rattle.layout_journal.specs.Layout.{commit_of}
-use Rattle.layout_journal.specs.Run.{Record, places, all_places, places_told, places_from, commit_says}
-use Rattle.crash_argument.specs.Ledger.{Ledger, WrittenRecord, all_say, from_start, next_number}
+use Rattle.layout_journal.specs.Run.{Record, all_places, places_told, places_from, commit_says}
+use Rattle.crash_argument.specs.Ledger.{Ledger, WrittenRecord, all_say, next_number}
 use Rattle.crash_argument.specs.Points.{MountedSession, HasPoints, commits, commits_told, has_epoch, is_commit, is_from, records_told, where_told}
 use Rattle.crash_argument.specs.Steps.{with_record, with_durable_header}
-use Rattle.crash_argument.proofs.log.Lists.{say_append, places_append}
-use Rattle.crash_argument.proofs.steps.PointSteps.{drop_front, points_in-append}
+use Rattle.crash_argument.proofs.log.Lists.{say_append}
+use Rattle.crash_argument.proofs.steps.PointSteps.{points_in-append}
 
 -- a write tells as many records as it counts for
 one_counted : (epoch : ℕ) (low high : Bool) (o : Option Commit) → length (where_told (low && high && has_epoch epoch o) o) ≡ (if low && high && has_epoch epoch o then 1 else 0)
@@ -48,7 +48,7 @@ count_told g epoch (Noticed t ∷ es) = count_told g epoch es
 
 -- those of a session whose log goes on
 pub records_told-append : (s : MountedSession) (xs ys : List Event) → s.mounted ≤ length xs → records_told s (xs ++ ys) ≡ records_told s xs ++ commits_told s.geom s.epoch ys
-records_told-append s xs ys late = ap (commits_told s.geom s.epoch) (drop_front s.mounted xs ys late) ∙ commits_told-append s.geom s.epoch (drop s.mounted xs) ys
+records_told-append s xs ys late = ap (commits_told s.geom s.epoch) (drop-append-le s.mounted xs ys late) ∙ commits_told-append s.geom s.epoch (drop s.mounted xs) ys
 
 -- a write that isn't counted as a commit block tells none
 uncounted : (b : Bool) → (if b then 1 else 0) + 0 ≡ 0 → b ≡ false
@@ -84,10 +84,7 @@ tells_still s log e l late none told n from =
 pub tells_from : (s : MountedSession) (log : List Event) (l : Ledger) (h : Header) → l.header.start ≤ h.start → Tells s log l → Tells s log (with_durable_header l h)
 tells_from s log l h le told n from =
     told n (omega (arith, le, from))
-    ∙ ap (λ ws. map (commit_says s.epoch) (all_say ws)) (ap (λ k. drop k l.records) (parts n l.header.start h.start le from) ∙ sym (drop-drop (n - h.start) (h.start - l.header.start) l.records))
-  where
-    parts : (n a b : ℕ) → a ≤ b → b ≤ n → n - a ≡ (b - a) + (n - b)
-    parts n a b le from = omega (arith, le, from)
+    ∙ ap (λ ws. map (commit_says s.epoch) (all_say ws)) (ap (λ k. drop k l.records) (omega arith) ∙ sym (drop-drop (n - h.start) (h.start - l.header.start) l.records))
 
 -- the one record of a list, from a number on
 one_from : (n : ℕ) (c : Commit) → n ≤ c.number → filter (is_from n) (c ∷ []) ≡ c ∷ []
@@ -131,26 +128,6 @@ tells_more s log e l w m late one number told n from =
 
 -- What is told of a session.
 
--- a write that is counted as a commit block tells one record
-one : (g : Geometry) (epoch block : ℕ) (x : List ℕ) (cs : List Commit) (n : ℕ) → length cs ≡ n → length (where_told (is_commit g epoch block x) (commit_of g x) ++ cs) ≡ (if is_commit g epoch block x then 1 else 0) + n
-one g epoch block x cs n e = by (nat_le 2 block && nat_lt block (bitmap_start g)) (commit_of g x)
-  where
-    if_counted : (b : Bool) (c : Commit) → length (where_told b (Some c) ++ cs) ≡ (if b then 1 else 0) + n
-    if_counted true c = omega (arith, e)
-    if_counted false c = omega (arith, e)
-
-    by : (a : Bool) (o : Option Commit) → length (where_told (a && has_epoch epoch o) o ++ cs) ≡ (if a && has_epoch epoch o then 1 else 0) + n
-    by true None = omega (arith, e)
-    by false None = omega (arith, e)
-    by a (Some c) = if_counted (a && has_epoch epoch (Some c)) c
-
--- a log tells as many records as it has commit blocks
-as_many : (g : Geometry) (epoch : ℕ) (es : List Event) → length (commits_told g epoch es) ≡ commits g epoch es
-as_many g epoch [] = refl
-as_many g epoch (Wrote t b x ∷ es) = one g epoch b x (commits_told g epoch es) (commits g epoch es) (as_many g epoch es)
-as_many g epoch (Lost b x ∷ es) = one g epoch b x (commits_told g epoch es) (commits g epoch es) (as_many g epoch es)
-as_many g epoch (Noticed t ∷ es) = as_many g epoch es
-
 -- the ring places of the records from a number on
 pub places_of_all : (n : ℕ) (cs : List Commit) (epoch : ℕ) (rs : List Record) → filter (is_from n) cs ≡ map (commit_says epoch) rs → places_from n cs ≡ all_places rs
 places_of_all n cs epoch rs e = of_filter cs ∙ ap total e ∙ of_says rs
@@ -173,19 +150,13 @@ places_of_all n cs epoch rs e = of_filter cs ∙ ap total e ∙ of_says rs
 
 -- a session's log tells one record more where its ledger has one more
 pub one_more : (s : MountedSession) (base : Blocks) (log more : List Event) (l : Ledger) (w : WrittenRecord) (m : Blocks) → HasPoints s base log l → HasPoints s base (log ++ more) (with_record l w m) → records_told s (log ++ more) ≡ records_told s log ++ commit_says s.epoch w.says ∷ []
-one_more s base log more l w m old new = records_told-append s log more old.late ∙ ap (λ cs. records_told s log ++ cs) (by (commits_told s.geom s.epoch more) count told)
+one_more s base log more l w m old new = records_told-append s log more old.late ∙ ap (λ cs. records_told s log ++ cs) (by (commits_told s.geom s.epoch more) (omega (arith, count_told s.geom s.epoch more, points_in-append s log more old.late, old.count, new.count, length-append l.records (w ∷ []))) told)
   where
     next : ℕ
     next = next_number l
 
     says : Commit
     says = commit_says s.epoch w.says
-
-    behind : next - l.header.start ≡ length l.records
-    behind = omega arith
-
-    count : length (commits_told s.geom s.epoch more) ≡ 1
-    count = omega (arith, as_many s.geom s.epoch more, points_in-append s log more old.late, old.count, new.count, length-append l.records (w ∷ []))
 
     none : filter (is_from next) (records_told s log) ≡ []
     none = old.told next (omega arith) ∙ ap (λ ws. map (commit_says s.epoch) (all_say ws)) (drop_all (next - l.header.start) l.records (omega arith))
@@ -195,7 +166,7 @@ one_more s base log more l w m old new = records_told-append s log more old.late
         sym (ap (λ cs. cs ++ filter (is_from next) (commits_told s.geom s.epoch more)) none)
         ∙ sym (ap (filter (is_from next)) (records_told-append s log more old.late) ∙ filter-append (is_from next) (records_told s log) (commits_told s.geom s.epoch more))
         ∙ new.told next (omega arith)
-        ∙ ap (λ ws. map (commit_says s.epoch) (all_say ws)) (ap (λ k. drop k (l.records ++ w ∷ [])) behind ∙ drop-append_seam l.records (w ∷ []))
+        ∙ ap (λ ws. map (commit_says s.epoch) (all_say ws)) (ap (λ k. drop k (l.records ++ w ∷ [])) (omega arith) ∙ drop-append_seam l.records (w ∷ []))
 
     is_it : (b : Bool) (c : Commit) → (if b then c ∷ [] else []) ≡ says ∷ [] → c ∷ [] ≡ says ∷ []
     is_it true c e = e
@@ -208,11 +179,8 @@ one_more s base log more l w m old new = records_told-append s log more old.late
 
 -- and no other where its ledger has none more
 pub none_more : (s : MountedSession) (base : Blocks) (log more : List Event) (l k : Ledger) → HasPoints s base log l → HasPoints s base (log ++ more) k → next_number k ≡ next_number l → records_told s (log ++ more) ≡ records_told s log
-none_more s base log more l k old new same = records_told-append s log more old.late ∙ ap (λ cs. records_told s log ++ cs) (empty (commits_told s.geom s.epoch more) count) ∙ append-nil (records_told s log)
+none_more s base log more l k old new same = records_told-append s log more old.late ∙ ap (λ cs. records_told s log ++ cs) (empty (commits_told s.geom s.epoch more) (omega (arith, count_told s.geom s.epoch more, points_in-append s log more old.late, old.count, new.count, same))) ∙ append-nil (records_told s log)
   where
-    count : length (commits_told s.geom s.epoch more) ≡ 0
-    count = omega (arith, as_many s.geom s.epoch more, points_in-append s log more old.late, old.count, new.count, same)
-
     empty : (cs : List Commit) → length cs ≡ 0 → cs ≡ []
     empty [] e = refl
     empty (c ∷ cs) e = absurd (omega (arith, e))

@@ -1,5 +1,5 @@
 -- How the statement on each moment goes on, event by event.
-use Rattle.std.proofs.Common.{◌≡◌, ⊎_elim, ℕ, ◌+◌, ◌-◌, ◌≤◌, List, [], ◌∷◌, ◌++◌, length, take, sym, ◌∙◌, ap, subst, arith, length-append}
+use Rattle.std.proofs.Common.{◌≡◌, ⊎_elim, ℕ, ◌+◌, ◌-◌, ◌≤◌, List, [], ◌∷◌, ◌++◌, length, take, sym, ◌∙◌, subst, arith, length-append}
 use Rattle.std.proofs.Math.Logic.{∥∥₁_map}
 use Rattle.std.proofs.lemmas.List.{take-append-le, take_all}
 use Rattle.std.proofs.lemmas.Bool.{cases_lt}
@@ -61,14 +61,11 @@ points_stay s base log e l none p = record {
   epoch = p.epoch;
   first = p.first;
   late = omega (arith, p.late, length-append log (e ∷ []));
-  count = ap (λ n. s.first + n) (points_in-append s log (e ∷ []) p.late ∙ sum (points_in s log) (commits s.geom s.epoch (e ∷ [])) none) ∙ p.count;
+  count = omega (arith, points_in-append s log (e ∷ []) p.late, none, p.count);
   told = tells_still s log e l p.late none p.told;
   each = λ n low high. point_stays s base log (e ∷ []) (n - s.first) _ (p.each n low high);
   noticed = λ q some le. noticed_stays s base log (e ∷ []) q (p.noticed q some le);
 }
-  where
-    sum : (a b : ℕ) → b ≡ 0 → a + b ≡ a
-    sum a b e = omega arith
 
 -- the last point has the number of commit blocks
 pub last_is : (first made next : ℕ) → first + made ≡ next → next - first ≡ made

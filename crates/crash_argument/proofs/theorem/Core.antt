@@ -1,7 +1,7 @@
 -- An image stands for the map after some of the records.
 use Rattle.std.proofs.Common.{◌≡◌, ◌⊎◌, inl, inr, ⊎_elim, ℕ, zero, suc, ◌+◌, ◌-◌, ◌/◌, ◌%◌, ◌<◌, ◌≤◌, nat_le, nat_lt, ◌&&◌, ◌||◌, slice_index, Bool, true, false, IsTrue, if◌then◌else◌, ◌==◌, List, [], ◌∷◌, length, Option, Some, None, slice_get, refl, sym, ◌∙◌, ap, subst, arith, length-append}
 use Rattle.std.proofs.lemmas.Bool.{cases_lt, cases_Bool, and_from, and_parts, leb-true, ltb-true, le-leb, lt-ltb, le-ltb, cond-true, cond-false, or_left}
-use Rattle.std.proofs.lemmas.Option.{none-some, same_Some}
+use Rattle.std.proofs.lemmas.Option.{none-some, same_Some, slice_get_within}
 use Rattle.std.specs.Int.{bit_at}
 use Rattle.base_types.specs.Seal.{Blocks, sha256}
 use Rattle.disk_contract.specs.Cell.{Cell}
@@ -16,7 +16,7 @@ use Rattle.layout_bytes.specs.Bitmap.{is_set}
 use Rattle.layout_journal.specs.Run.{entries_fit, Newest, Record, entries, heads, places, commit_says, descriptor_says, Fits, IsWhole, AreConsecutive, AreWhole, AreLetIn, payload_from, payload_of, names_block, or_else, covered_by, is_live, live_part}
 use Rattle.crash_argument.specs.JournalLaws.{JournalLaws}
 use Rattle.crash_argument.specs.Ledger.{Ledger, WrittenRecord, IsIssued, IsSpelled, IsStanding, FitsRecords, HeadersAlternate, NumbersUsedOnce, block_at, all_say, payload_among, payload_in, cover}
-use Rattle.crash_argument.proofs.log.Lists.{inspect, bytes_same, decide_below, get_some, get_within}
+use Rattle.crash_argument.proofs.log.Lists.{inspect, bytes_same, decide_below, get_some}
 use Rattle.crash_argument.proofs.theorem.Images.{IsFaithful, idle_settled, idle_latest, sealed_stands}
 
 -- the newest header of the image is a standing one
@@ -42,14 +42,11 @@ module _ (laws : JournalLaws) (cells : ℕ → Cell) (l : Ledger) (img : Blocks)
       none : header_of l.geom.n (img (1 - l.slot)) ≡ None → Found l img
       none e = record { slot = l.slot; header = l.header; standing = inl refl; newest = record { is_slot = a.is_slot; stands = here; other = λ k is. cc } }
 
-      back : 1 - (1 - l.slot) ≡ l.slot
-      back = omega (arith, a.is_slot)
-
       some : (k : Header) × (header_of l.geom.n (img (1 - l.slot)) ≡ Some k) → Found l img
       some p =
           let stands = sealed_stands cells l img (1 - l.slot) (f.slots (1 - l.slot) (omega arith)) f (laws.header_sealed l.geom.n _ p.0 p.1) in
           ⊎_elim (λ old. record { slot = l.slot; header = l.header; standing = inl refl; newest = record { is_slot = a.is_slot; stands = here; other = λ k is. inl (subst (λ (h : Header). h.turn < l.header.turn) (same_Some _ _ (sym p.1 ∙ is)) old) } })
-          (λ new. record { slot = 1 - l.slot; header = p.0; standing = inr new; newest = record { is_slot = omega arith; stands = p.1; other = λ k is. inl (subst (λ (h : Header). h.turn < p.0.turn) (same_Some _ _ (sym here ∙ ap (λ s. header_of l.geom.n (img s)) (sym back) ∙ is)) (a.newer p.0 new)) } })
+          (λ new. record { slot = 1 - l.slot; header = p.0; standing = inr new; newest = record { is_slot = omega arith; stands = p.1; other = λ k is. inl (subst (λ (h : Header). h.turn < p.0.turn) (same_Some _ _ (sym here ∙ ap (λ s. header_of l.geom.n (img s)) (sym (omega (arith, a.is_slot))) ∙ is)) (a.newer p.0 new)) } })
           (a.other _ p.0 stands p.1)
 
   -- whether the bytes of a fresh entry are in the image is decided
@@ -59,7 +56,7 @@ module _ (laws : JournalLaws) (cells : ℕ → Cell) (l : Ledger) (img : Blocks)
   -- and so is whether all blocks of a record do
   pub decide_stands : (h : Header) (w : WrittenRecord) → Stands l img h w ⊎ ¬ Stands l img h w
   decide_stands h w =
-      ⊎_elim (λ ring. ⊎_elim (λ late. ⊎_elim (λ all. inl (record { ring = ring; fresh = λ _ i e is. all i (get_within w.says.fresh i e is) e is })) (λ some. inr (λ s. some.2 (λ e is. s.fresh late some.0 e is))) (decide_below (λ i. (e : Entry) → slice_get w.says.fresh i ≡ Some e → img e.block ≡ block_at w.fresh i) (decide_fresh w) (length w.says.fresh)))
+      ⊎_elim (λ ring. ⊎_elim (λ late. ⊎_elim (λ all. inl (record { ring = ring; fresh = λ _ i e is. all i (slice_get_within w.says.fresh i e is) e is })) (λ some. inr (λ s. some.2 (λ e is. s.fresh late some.0 e is))) (decide_below (λ i. (e : Entry) → slice_get w.says.fresh i ≡ Some e → img e.block ≡ block_at w.fresh i) (decide_fresh w) (length w.says.fresh)))
       (λ early. inl (record { ring = ring; fresh = λ late. absurd (omega arith) })) (cases_lt h.sure w.says.number))
       (λ some. inr (λ s. some.2 (s.ring some.0 some.1)))
       (decide_below (λ i. img (ring_block l.geom (w.says.place + i)) ≡ block_at w.ring i) (λ i. bytes_same _ _) (places w.says))
@@ -68,22 +65,13 @@ module _ (laws : JournalLaws) (cells : ℕ → Cell) (l : Ledger) (img : Blocks)
   pub stands_whole : (h : Header) (w : WrittenRecord) → h.geom ≡ l.geom → h.epoch ≡ l.epoch → IsSpelled l.geom l.epoch w → Stands l img h w → IsWhole img h w.says
   stands_whole h w geom epoch spelled s = record {
     fit = subst (λ (g : Geometry). IsTrue (entries_fit g w.says)) (sym geom) spelled.fit;
-    commit = ap (λ g. commit_of g (img (ring_block g w.says.place))) geom ∙ ap (λ p. commit_of l.geom (img (ring_block l.geom p))) (plus_zero w.says.place) ∙ ap (commit_of l.geom) (s.ring 0 (omega arith)) ∙ spelled.commit ∙ ap (λ n. Some (commit_says n w.says)) (sym epoch);
-    descriptors = λ i lt. ap (λ g. descriptor_of g (img (ring_block g (w.says.place + 1 + i)))) geom ∙ ap (λ p. descriptor_of l.geom (img (ring_block l.geom p))) (add_assoc1 w.says.place i) ∙ ap (descriptor_of l.geom) (s.ring (1 + i) (omega arith)) ∙ spelled.descriptors i lt ∙ ap (λ n. Some (descriptor_says n w.says i)) (sym epoch);
+    commit = ap (λ g. commit_of g (img (ring_block g w.says.place))) geom ∙ ap (λ p. commit_of l.geom (img (ring_block l.geom p))) {x = w.says.place} {y = w.says.place + 0} (omega arith) ∙ ap (commit_of l.geom) (s.ring 0 (omega arith)) ∙ spelled.commit ∙ ap (λ n. Some (commit_says n w.says)) (sym epoch);
+    descriptors = λ i lt. ap (λ g. descriptor_of g (img (ring_block g (w.says.place + 1 + i)))) geom ∙ ap (λ p. descriptor_of l.geom (img (ring_block l.geom p))) {x = w.says.place + 1 + i} {y = w.says.place + (1 + i)} (omega arith) ∙ ap (descriptor_of l.geom) (s.ring (1 + i) (omega arith)) ∙ spelled.descriptors i lt ∙ ap (λ n. Some (descriptor_says n w.says i)) (sym epoch);
     payloads = λ i e is.
-        let at : img (ring_block h.geom (w.says.place + heads w.says + i)) ≡ block_at w.ring (heads w.says + i) = ap (λ (g : Geometry). img (ring_block g (w.says.place + heads w.says + i))) geom ∙ ap (λ p. img (ring_block l.geom p)) (add3 w.says.place (heads w.says) i) ∙ s.ring (heads w.says + i) (omega (arith, get_within w.says.payloads i e is)) in
+        let at : img (ring_block h.geom (w.says.place + heads w.says + i)) ≡ block_at w.ring (heads w.says + i) = ap (λ (g : Geometry). img (ring_block g (w.says.place + heads w.says + i))) geom ∙ ap (λ p. img (ring_block l.geom p)) {x = w.says.place + heads w.says + i} {y = w.says.place + (heads w.says + i)} (omega arith) ∙ s.ring (heads w.says + i) (omega (arith, slice_get_within w.says.payloads i e is)) in
         subst (λ (x : List ℕ). Fits e x) (sym at) (spelled.payloads i e is);
     fresh = λ late i e is. ap sha256 (s.fresh late i e is) ∙ spelled.fresh i e is;
   }
-    where
-      plus_zero : (p : ℕ) → p ≡ p + 0
-      plus_zero p = omega arith
-
-      add_assoc1 : (p i : ℕ) → p + 1 + i ≡ p + (1 + i)
-      add_assoc1 p i = omega arith
-
-      add3 : (p k i : ℕ) → p + k + i ≡ p + (k + i)
-      add3 p k i = omega arith
 
   -- a whole record with the number and the place of one that was written is that one, and all its blocks stand
   pub whole_stands : (h : Header) (w : WrittenRecord) (r : Record) (k : ℕ) → FitsRecords l h → IsSpelled l.geom l.epoch w → NumbersUsedOnce cells l
@@ -110,11 +98,8 @@ module _ (laws : JournalLaws) (cells : ℕ → Cell) (l : Ledger) (img : Blocks)
       n_same : length r.fresh ≡ length w.says.fresh
       n_same = ap (λ (c : Commit). c.fresh) (same_Some _ _ commits)
 
-      all_same : length (entries r) ≡ length (entries w.says)
-      all_same = omega (arith, m_same, n_same, length-append r.payloads r.fresh, length-append w.says.payloads w.says.fresh)
-
       d_same : descriptor_count (length (entries r)) ≡ descriptor_count (length (entries w.says))
-      d_same = ap descriptor_count all_same
+      d_same = ap descriptor_count {x = length (entries r)} {y = length (entries w.says)} (omega (arith, m_same, n_same, length-append r.payloads r.fresh, length-append w.says.payloads w.says.fresh))
 
       heads_same : heads r ≡ heads w.says
       heads_same = ap (λ n. 1 + n) d_same
@@ -136,24 +121,15 @@ module _ (laws : JournalLaws) (cells : ℕ → Cell) (l : Ledger) (img : Blocks)
       payload j lt =
           let e = get_some w.says.payloads j lt in
           let here : img (ring_block h.geom (r.place + heads r + j)) ≡ img (ring_block l.geom (w.says.place + (heads w.says + j))) =
-          ap (λ (g : Geometry). img (ring_block g (r.place + heads r + j))) fits.geom ∙ ap (λ p. img (ring_block l.geom p)) (three r.place w.says.place (heads r) (heads w.says) j place heads_same) in
+          ap (λ (g : Geometry). img (ring_block g (r.place + heads r + j))) fits.geom ∙ ap (λ p. img (ring_block l.geom p)) {x = r.place + heads r + j} {y = w.says.place + (heads w.says + j)} (omega (arith, place, heads_same)) in
           let in_image = whole.payloads j e.0 (ap (λ (es : List Entry). slice_get es j) parts.0 ∙ e.1) in
           f.ring k (heads w.says + j) w is (omega arith) (ap sha256 (sym here) ∙ in_image.digest ∙ sym (spelled.payloads j e.0 e.1).digest)
-        where
-          three : (p q a b i : ℕ) → p ≡ q → a ≡ b → p + a + i ≡ q + (b + i)
-          three p q a b i e d = omega arith
 
       zero_in : (i : ℕ) → i ≡ 0 → img (ring_block l.geom (w.says.place + i)) ≡ block_at w.ring i
-      zero_in i e = ap (λ p. img (ring_block l.geom p)) (z r.place w.says.place i place e) ∙ first ∙ ap (block_at w.ring) (sym e)
-        where
-          z : (p q i : ℕ) → p ≡ q → i ≡ 0 → q + i ≡ p
-          z p q i e d = omega arith
+      zero_in i e = ap (λ p. img (ring_block l.geom p)) (omega arith) ∙ first ∙ ap (block_at w.ring) (sym e)
 
       head_in : (i j : ℕ) → i ≡ 1 + j → j < descriptor_count (length (entries r)) → img (ring_block l.geom (w.says.place + i)) ≡ block_at w.ring i
-      head_in i j e lt = ap (λ p. img (ring_block l.geom p)) (z r.place w.says.place i j place e) ∙ head j lt ∙ ap (block_at w.ring) (sym e)
-        where
-          z : (p q i j : ℕ) → p ≡ q → i ≡ 1 + j → q + i ≡ p + 1 + j
-          z p q i j e d = omega arith
+      head_in i j e lt = ap (λ p. img (ring_block l.geom p)) (omega arith) ∙ head j lt ∙ ap (block_at w.ring) (sym e)
 
       payload_at : (i j : ℕ) → i ≡ heads w.says + j → j < length w.says.payloads → img (ring_block l.geom (w.says.place + i)) ≡ block_at w.ring i
       payload_at i j e lt = ap (λ n. img (ring_block l.geom (w.says.place + n))) e ∙ payload j lt ∙ ap (block_at w.ring) (sym e)
@@ -180,24 +156,15 @@ module _ (laws : JournalLaws) (cells : ℕ → Cell) (l : Ledger) (img : Blocks)
   payload_same : (p i : ℕ) (blocks : List (List ℕ)) (es : List Entry) (b : ℕ) → ((j : ℕ) → j < length es → img (ring_block l.geom (p + j)) ≡ block_at blocks (i + j)) → payload_from l.geom img p es b ≡ payload_among blocks i es b
   payload_same p i blocks [] b at = refl
   payload_same p i blocks (e ∷ es) b at =
-      let first : img (ring_block l.geom p) ≡ block_at blocks i = ap (λ q. img (ring_block l.geom q)) (z p) ∙ at 0 (omega arith) ∙ ap (block_at blocks) (sym (z i)) in
+      let first : img (ring_block l.geom p) ≡ block_at blocks i = ap (λ q. img (ring_block l.geom q)) (omega arith) ∙ at 0 (omega arith) ∙ ap (block_at blocks) (sym (omega arith)) in
       ap (λ x. if e.block == b then Some (unescaped e.kind x) else payload_from l.geom img (p + 1) es b) first
       ∙ ap (λ x. if e.block == b then Some (unescaped e.kind (block_at blocks i)) else x)
-      (payload_same (p + 1) (i + 1) blocks es b (λ j lt. ap (λ q. img (ring_block l.geom q)) (s p j) ∙ at (suc j) (omega arith) ∙ ap (block_at blocks) (sym (s i j))))
-    where
-      z : (n : ℕ) → n ≡ n + 0
-      z n = omega arith
-
-      s : (n j : ℕ) → n + 1 + j ≡ n + suc j
-      s n j = omega arith
+      (payload_same (p + 1) (i + 1) blocks es b (λ j lt. ap (λ q. img (ring_block l.geom q)) (omega arith) ∙ at (suc j) (omega arith) ∙ ap (block_at blocks) (sym (omega arith))))
 
   -- so a payload of a record that stands is read as it was written
   pub payload_read : (h : Header) (w : WrittenRecord) (b : ℕ) → Stands l img h w → payload_of l.geom img w.says b ≡ payload_in w b
   payload_read h w b s = payload_same (w.says.place + heads w.says) (heads w.says) w.ring w.says.payloads b
-      (λ j lt. ap (λ q. img (ring_block l.geom q)) (three w.says.place (heads w.says) j) ∙ s.ring (heads w.says + j) (omega (arith, lt)))
-    where
-      three : (p a j : ℕ) → p + a + j ≡ p + (a + j)
-      three p a j = omega arith
+      (λ j lt. ap (λ q. img (ring_block l.geom q)) (omega arith) ∙ s.ring (heads w.says + j) (omega (arith, lt)))
 
   -- and what records that stand leave in a block is read so too
   pub cover_read : (h : Header) (ws : List WrittenRecord) (before : Option (List ℕ)) (b : ℕ) → ((k : ℕ) (w : WrittenRecord) → slice_get ws k ≡ Some w → Stands l img h w) → covered_by l.geom img before (all_say ws) b ≡ cover before ws b

@@ -79,10 +79,7 @@ issued_faithful base log l k = record {
 
 -- where nothing is pending, bytes that stand or are torn are what is settled
 pub idle_holds : (c : Cell) (x : List ℕ) → c.pending ≡ [] → StandsIn c x ⊎ ((0 < length c.pending) × ¬ IsSealed x) → x ≡ c.settled
-idle_holds c x idle h = ⊎_elim (stands_settled c x idle) (λ p. absurd (none (subst (λ (ws : List Write). 0 < length ws) idle p.0))) h
-  where
-    none : 0 < 0 → ⊥
-    none h = omega arith
+idle_holds c x idle h = ⊎_elim (stands_settled c x idle) (λ p. absurd (omega (arith, (subst (λ (ws : List Write). 0 < length ws) idle p.0)))) h
 
 -- so a faithful image holds what is settled
 pub idle_settled : (cells : ℕ → Cell) (l : Ledger) (img : Blocks) (b : ℕ) → b < l.geom.n → IsFaithful cells l img → (cells b).pending ≡ [] → img b ≡ (cells b).settled

@@ -1,5 +1,5 @@
 -- Each faithful image stands for the map after some of the records.
-use Rattle.std.proofs.Common.{◌≡◌, ◌⊎◌, inl, inr, ⊎_elim, ℕ, ◌+◌, ◌-◌, ◌≤◌, IsTrue, List, [], ◌∷◌, ◌++◌, length, Some, None, slice_get, refl, sym, ◌∙◌, ap, subst, arith, length-append, length-drop}
+use Rattle.std.proofs.Common.{◌≡◌, ◌⊎◌, ⊎_elim, ℕ, ◌+◌, ◌-◌, ◌≤◌, IsTrue, List, [], ◌∷◌, ◌++◌, length, Some, None, slice_get, sym, ◌∙◌, ap, subst, arith, length-append, length-drop}
 use Rattle.std.proofs.lemmas.Bool.{cases_lt}
 use Rattle.base_types.specs.Seal.{Blocks}
 use Rattle.disk_contract.specs.declared.event.Event.{Event}
@@ -10,7 +10,7 @@ use Rattle.layout_journal.specs.Layout.{commit_of}
 use Rattle.layout_journal.specs.Run.{Newest, Record, AreConsecutive, place_after, CanFollow, IsRun, all_places, commit_says, covered_by, otherwise, replayed, is_live, live_part}
 use Rattle.crash_argument.specs.JournalLaws.{JournalLaws}
 use Rattle.crash_argument.specs.Ledger.{Ledger, WrittenRecord, HoldsUnder, IsConsistentWith, IsStanding, FitsRecords, from_start, all_say, cover, latest}
-use Rattle.crash_argument.proofs.log.Lists.{inspect, front, get_front, get_behind, get_drop, say_append, say_length, consecutive_front, places_front, consecutive_at}
+use Rattle.crash_argument.proofs.log.Lists.{first_or_none, inspect, front, get_front, get_behind, get_drop, say_append, say_length, consecutive_front, places_append, consecutive_at}
 use Rattle.crash_argument.proofs.theorem.Images.{IsFaithful, idle_latest, sealed_stands}
 use Rattle.crash_argument.proofs.theorem.Core.{find_newest, Stands, decide_stands, stands_whole, whole_stands, known_stands, cover_read, whole_all, let_in_all, live_part_same, live_below}
 
@@ -49,10 +49,7 @@ module _ (laws : JournalLaws) (base : Blocks) (log : List Event) (l : Ledger) (i
 
     -- and where the first of the rest does
     in_bad : (w : WrittenRecord) → slice_get bad 0 ≡ Some w → slice_get l.records (h.start - l.header.start + length good) ≡ Some w
-    in_bad w is = sym (get_drop (h.start - l.header.start) l.records (length good)) ∙ ap (λ (ws : List WrittenRecord). slice_get ws (length good)) split ∙ ap (slice_get (good ++ bad)) (z (length good)) ∙ get_behind good bad 0 ∙ is
-      where
-        z : (n : ℕ) → n ≡ n + 0
-        z n = omega arith
+    in_bad w is = sym (get_drop (h.start - l.header.start) l.records (length good)) ∙ ap (λ (ws : List WrittenRecord). slice_get ws (length good)) split ∙ ap (slice_get (good ++ bad)) (omega arith) ∙ get_behind good bad 0 ∙ is
 
     -- the first of the rest has the number and the place behind the good part
     behind : (w : WrittenRecord) → slice_get bad 0 ≡ Some w → (w.says.number ≡ h.start + length good) × (w.says.place ≡ place_after l.geom.j h.at (all_say good))
@@ -71,44 +68,26 @@ module _ (laws : JournalLaws) (base : Blocks) (log : List Event) (l : Ledger) (i
         let k_is : h.start - l.header.start + length good ≡ r.number - l.header.start = omega (arith, at.0, fits.start) in
         let w = found.0 in
         let in_records : slice_get l.records (h.start - l.header.start + length good) ≡ Some w = ap (slice_get l.records) k_is ∙ found.1 in
-        let in_rest : slice_get bad 0 ≡ Some w = sym (get_behind good bad 0) ∙ ap (slice_get (good ++ bad)) (z (length good)) ∙ ap (λ (ws : List WrittenRecord). slice_get ws (length good)) (sym split) ∙ get_drop (h.start - l.header.start) l.records (length good) ∙ in_records in
+        let in_rest : slice_get bad 0 ≡ Some w = sym (get_behind good bad 0) ∙ ap (slice_get (good ++ bad)) {x = length good + 0} {y = length good} (omega arith) ∙ ap (λ (ws : List WrittenRecord). slice_get ws (length good)) (sym split) ∙ get_drop (h.start - l.header.start) l.records (length good) ∙ in_records in
         let place = behind w in_rest in
         stops w in_rest (whole_stands laws (cell_of base log) l img f h w r (h.start - l.header.start + length good) fits (keeps.each _ w in_records).spelled keeps.numbers in_records k_is from (at.0 ∙ sym place.0) (at.1 ∙ sym place.1) can.whole)
-      where
-        z : (n : ℕ) → n + 0 ≡ n
-        z n = omega arith
-
-    -- under a closed header the good part isn't past its `sure`
-    short : IsTrue h.closed → h.start + length (all_say good) ≤ h.sure + 1
-    short closed = omega (arith, fits.let_in closed, fits.start, fits.sure, fits.last, say_length good, ap (λ (ws : List WrittenRecord). length ws) split, length-append good bad, length-drop {A = WrittenRecord} (h.start - l.header.start) l.records)
 
     -- the good part is the recoverable run of the image
     is_run : IsRun img h (all_say good)
     is_run = record {
       consecutive = subst (λ (g : Geometry). AreConsecutive g.j h.start h.at (all_say good)) (sym fits.geom) (consecutive_front l.geom.j h.start h.at (all_say good) (all_say bad) (subst (λ (rs : List Record). AreConsecutive l.geom.j h.start h.at rs) say_split fits.consecutive));
       whole = whole_all laws (cell_of base log) l img f h good (λ k w is. (stands_whole laws) (cell_of base log) l img f h w fits.geom fits.epoch (keeps.each _ w (in_good k w is)).spelled (each k w is));
-      let_in = let_in_all laws (cell_of base log) l img f h l.geom.j h.start h.at (all_say good) (consecutive_front l.geom.j h.start h.at (all_say good) (all_say bad) (subst (λ (rs : List Record). AreConsecutive l.geom.j h.start h.at rs) say_split fits.consecutive)) short;
-      within = omega (arith, places_front (all_say good) (all_say bad), ap all_places say_split, fits.within, ap (λ (g : Geometry). g.j) fits.geom);
+      let_in = let_in_all laws (cell_of base log) l img f h l.geom.j h.start h.at (all_say good) (consecutive_front l.geom.j h.start h.at (all_say good) (all_say bad) (subst (λ (rs : List Record). AreConsecutive l.geom.j h.start h.at rs) say_split fits.consecutive)) (λ closed. omega (arith, fits.let_in closed, fits.start, fits.sure, fits.last, say_length good, ap (λ (ws : List WrittenRecord). length ws) split, length-append good bad, length-drop {A = WrittenRecord} (h.start - l.header.start) l.records));
+      within = omega (arith, places_append (all_say good) (all_say bad), ap all_places say_split, fits.within, ap (λ (g : Geometry). g.j) fits.geom);
       longest = longest;
     }
 
-    -- the rest is empty, or it has a first record
-    last_or_not : (bad ≡ []) ⊎ ((w : WrittenRecord) × (slice_get bad 0 ≡ Some w))
-    last_or_not = cases bad
-      where
-        cases : (ws : List WrittenRecord) → (ws ≡ []) ⊎ ((w : WrittenRecord) × (slice_get ws 0 ≡ Some w))
-        cases [] = inl refl
-        cases (w ∷ ws) = inr (w, refl)
-
     -- all records that are known are in the good part
     known : l.known ≤ h.start + length good
-    known = ⊎_elim all some last_or_not
+    known = ⊎_elim (λ e. omega (arith, keeps.known, fits.start, dropped, ap (λ (x : List WrittenRecord). length x) split, length-append good bad, ap (λ (x : List WrittenRecord). length x) e)) some (first_or_none bad)
       where
         dropped : length (from_start l h) ≡ length l.records - (h.start - l.header.start)
         dropped = length-drop (h.start - l.header.start) l.records
-
-        all : bad ≡ [] → l.known ≤ h.start + length good
-        all e = omega (arith, keeps.known, fits.start, dropped, ap (λ (x : List WrittenRecord). length x) split, length-append good bad, ap (λ (x : List WrittenRecord). length x) e)
 
         some : (w : WrittenRecord) × (slice_get bad 0 ≡ Some w) → l.known ≤ h.start + length good
         some p = ⊎_elim (λ low. absurd (stops p.0 p.1 (known_stands laws (cell_of base log) l img f base log h p.0 fits (keeps.each _ p.0 (in_bad p.0 p.1)) (omega (arith, low, (behind p.0 p.1).0))))) (λ high. high) (cases_lt (h.start + length good) l.known)

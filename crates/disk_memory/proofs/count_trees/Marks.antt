@@ -1,11 +1,13 @@
 -- The numbers whose leaf is 1: how they change with a leaf, which they are, and how many.
-use Rattle.std.proofs.Common.{◌≡◌, ◌≢◌, ℕ, zero, suc, ◌+◌, ◌<◌, ◌⊎◌, inl, inr, ◌==◌, Bool, true, false, not, ◌||◌, if◌then◌else◌, List, [], ◌∷◌, ◌++◌, length, refl, sym, ap, ap₂, ◌∙◌, arith}
+use Rattle.std.proofs.Common.{◌≡◌, ◌≢◌, ℕ, zero, suc, ◌+◌, ◌<◌, ◌⊎◌, inl, inr, ◌==◌, Bool, true, false, not, ◌||◌, ◌&&◌, if◌then◌else◌, List, [], ◌∷◌, ◌++◌, length, refl, sym, ap, ap₂, ◌∙◌, arith}
 use Rattle.std.specs.Prelude.{Some, slice_index}
 use Rattle.std.specs.List.{filter, list_any, slice_get}
+use Rattle.std.proofs.Math.Bool.{or-false, and-false, and-true}
 use Rattle.std.proofs.lemmas.Bool.{cases_eq, eq-eqb, ne_eqb, cond-true, cond-false, or_parts}
 use Rattle.std.proofs.lemmas.List.{append-nil, length-append}
 use Rattle.std.proofs.lemmas.List.Elements.{filter-append}
 use Rattle.std.proofs.lemmas.List.Folds.{list_any-append}
+use Rattle.disk_memory.proofs.log_rows.Events.{get_before, get_next}
 use Rattle.disk_memory.specs.Counts.{marked, sum_from, AreMarks}
 
 marked_on : (counts : List ℕ) (size n : ℕ) → slice_index counts (size + n) ≡ 1 → marked counts size (suc n) ≡ marked counts size n ++ (n + 1) ∷ []
@@ -63,55 +65,36 @@ marked_without old new size leaf (suc n) marks others off =
           ]
     ]
 
-or_false : (b : Bool) → (b || false) ≡ b
-or_false true = refl
-or_false false = refl
+-- whether a number is among one more of them
+any_step : (counts : List ℕ) (size n number : ℕ) → list_any (λ member. member == number) (marked counts size (suc n)) ≡ (list_any (λ member. member == number) (marked counts size n) || ((slice_index counts (size + n) == 1) && ((n + 1) == number)))
+any_step counts size n number = by (slice_index counts (size + n) == 1)
+  where
+    before : List ℕ
+    before = marked counts size n
 
-any_one : (number k : ℕ) → list_any (λ member. member == number) (k ∷ []) ≡ (k == number)
-any_one number k = or_false (k == number)
+    by : (on : Bool) → list_any (λ member. member == number) (if on then before ++ (n + 1) ∷ [] else before) ≡ (list_any (λ member. member == number) before || (on && ((n + 1) == number)))
+    by true = list_any-append (λ member. member == number) before ((n + 1) ∷ []) ∙ ap (λ (v : Bool). list_any (λ member. member == number) before || v) (or-false ((n + 1) == number))
+    by false = sym (or-false (list_any (λ member. member == number) before))
 
 -- 0 and what lies above n are none of the numbers from 1 to n
 pub none_marked : (counts : List ℕ) (size n number : ℕ) → AreMarks counts size → (k : ℕ) → ((number ≡ 0) ⊎ (n < number)) → list_any (λ member. member == number) (marked counts size n) ≡ false
 none_marked counts size zero number marks k out = refl
 none_marked counts size (suc n) number marks k out =
-    let is : ℕ → Bool = λ member. member == number in
-    let rest : list_any is (marked counts size n) ≡ false = none_marked counts size n number marks k (elim out [ inl least ↦ inl least | inr above ↦ inr (omega arith) ]) in
+    let rest = none_marked counts size n number marks k (elim out [ inl least ↦ inl least | inr above ↦ inr (omega arith) ]) in
     let apart : n + 1 ≢ number = elim out [ inl least ↦ (λ e. omega arith) | inr above ↦ (λ e. omega arith) ] in
-    elim (on_or_off counts size n marks) [
-      | inl on ↦
-          ap (list_any is) (marked_on counts size n on) ∙ list_any-append is (marked counts size n) ((n + 1) ∷ [])
-          ∙ ap₂ (λ (a b : Bool). a || b) rest (any_one number (n + 1) ∙ ne_eqb (n + 1) number apart)
-      | inr off ↦ ap (list_any is) (marked_off counts size n off) ∙ rest
-    ]
+    any_step counts size n number ∙ ap₂ (λ (a b : Bool). a || ((slice_index counts (size + n) == 1) && b)) rest (ne_eqb (n + 1) number apart) ∙ and-false (slice_index counts (size + n) == 1)
 
 -- a number is among them where its leaf is 1
 pub any_marked : (counts : List ℕ) (size leaf n : ℕ) → AreMarks counts size → leaf < n → list_any (λ member. member == leaf + 1) (marked counts size n) ≡ (slice_index counts (size + leaf) == 1)
 any_marked counts size leaf zero marks below = absurd (omega arith)
-any_marked counts size leaf (suc n) marks below =
-    let is : ℕ → Bool = λ member. member == leaf + 1 in
-    let leaf_is : Bool = slice_index counts (size + leaf) == 1 in
-    elim (cases_eq n leaf) [
-      | inl here ↦
-          let rest : list_any is (marked counts size n) ≡ false = none_marked counts size n (leaf + 1) marks 0 (inr (omega arith)) in
-          elim (on_or_off counts size n marks) [
-            | inl on ↦
-                ap (list_any is) (marked_on counts size n on) ∙ list_any-append is (marked counts size n) ((n + 1) ∷ [])
-                ∙ ap₂ (λ (a b : Bool). a || b) rest (any_one (leaf + 1) (n + 1) ∙ eq-eqb (n + 1) (leaf + 1) (omega arith))
-                ∙ sym (eq-eqb (slice_index counts (size + leaf)) 1 (ap (λ k. slice_index counts (size + k)) (sym here) ∙ on))
-            | inr off ↦
-                ap (list_any is) (marked_off counts size n off) ∙ rest
-                ∙ sym (ap (λ (k : ℕ). k == 1) (ap (λ k. slice_index counts (size + k)) (sym here) ∙ off))
-          ]
-      | inr apart ↦
-          let rest : list_any is (marked counts size n) ≡ leaf_is = any_marked counts size leaf n marks (omega arith) in
-          elim (on_or_off counts size n marks) [
-            | inl on ↦
-                ap (list_any is) (marked_on counts size n on) ∙ list_any-append is (marked counts size n) ((n + 1) ∷ [])
-                ∙ ap₂ (λ (a b : Bool). a || b) rest (any_one (leaf + 1) (n + 1) ∙ ne_eqb (n + 1) (leaf + 1) (λ e. apart (omega arith)))
-                ∙ or_false leaf_is
-            | inr off ↦ ap (list_any is) (marked_off counts size n off) ∙ rest
-          ]
-    ]
+any_marked counts size leaf (suc n) marks below = any_step counts size n (leaf + 1) ∙ elim (cases_eq n leaf) [
+  | inl here ↦
+      ap₂ (λ (a b : Bool). a || ((slice_index counts (size + n) == 1) && b)) (none_marked counts size n (leaf + 1) marks 0 (inr (omega arith))) (eq-eqb (n + 1) (leaf + 1) (omega arith))
+      ∙ and-true (slice_index counts (size + n) == 1) ∙ ap (λ k. slice_index counts (size + k) == 1) here
+  | inr apart ↦
+      ap₂ (λ (a b : Bool). a || ((slice_index counts (size + n) == 1) && b)) (any_marked counts size leaf n marks (omega arith)) (ne_eqb (n + 1) (leaf + 1) (λ e. apart (omega arith)))
+      ∙ ap (λ (v : Bool). (slice_index counts (size + leaf) == 1) || v) (and-false (slice_index counts (size + n) == 1)) ∙ or-false (slice_index counts (size + leaf) == 1)
+]
 
 -- where a number is none of a list, taking it out changes nothing
 pub filter_none : (number : ℕ) (xs : List ℕ) → list_any (λ member. member == number) xs ≡ false → filter (λ member. not (member == number)) xs ≡ xs
@@ -130,23 +113,6 @@ length_marked counts size (suc n) marks =
       | inr off ↦ ap length (marked_off counts size n off) ∙ omega (arith, rest, off)
     ]
 
-get_left : (xs ys : List ℕ) (k : ℕ) → k < length xs → slice_get (xs ++ ys) k ≡ slice_get xs k
-get_left [] ys k below = absurd (omega arith)
-get_left (x ∷ xs) ys zero below = refl
-get_left (x ∷ xs) ys (suc k) below = get_left xs ys k (omega arith)
-
-get_end : (xs : List ℕ) (x : ℕ) → slice_get (xs ++ x ∷ []) (length xs) ≡ Some x
-get_end [] x = refl
-get_end (y ∷ xs) x = get_end xs x
-
-sum_less : (counts : List ℕ) (size leaf n : ℕ) → slice_index counts (size + leaf) ≡ 1 → leaf < n → sum_from counts size leaf < sum_from counts size n
-sum_less counts size leaf zero on below = absurd (omega arith)
-sum_less counts size leaf (suc n) on below =
-    elim (cases_eq n leaf) [
-      | inl here ↦ omega (arith, ap (sum_from counts size) here, ap (λ k. slice_index counts (size + k)) here, on)
-      | inr apart ↦ omega (arith, sum_less counts size leaf n on (omega arith))
-    ]
-
 -- a number stands among them behind as many as have a leaf before its own
 pub marked_at : (counts : List ℕ) (size leaf n : ℕ) → AreMarks counts size → slice_index counts (size + leaf) ≡ 1 → leaf < n → slice_get (marked counts size n) (sum_from counts size leaf) ≡ Some (leaf + 1)
 marked_at counts size leaf zero marks on below = absurd (omega arith)
@@ -156,12 +122,11 @@ marked_at counts size leaf (suc n) marks on below =
       | inl here ↦
           let count : place ≡ length (marked counts size n) = ap (sum_from counts size) (sym here) ∙ sym (length_marked counts size n marks) in
           ap₂ (λ (xs : List ℕ) (k : ℕ). slice_get xs k) (marked_on counts size n (ap (λ k. slice_index counts (size + k)) here ∙ on)) count
-          ∙ get_end (marked counts size n) (n + 1) ∙ ap (λ k. Some (k + 1)) here
+          ∙ get_next (marked counts size n) (n + 1) [] ∙ ap (λ k. Some (k + 1)) here
       | inr apart ↦
           let rest = marked_at counts size leaf n marks on (omega arith) in
-          let less : place < length (marked counts size n) = omega (arith, length_marked counts size n marks, sum_less counts size leaf n on (omega arith)) in
           elim (on_or_off counts size n marks) [
-            | inl more ↦ ap (λ xs. slice_get xs place) (marked_on counts size n more) ∙ get_left (marked counts size n) ((n + 1) ∷ []) place less ∙ rest
+            | inl more ↦ ap (λ xs. slice_get xs place) (marked_on counts size n more) ∙ get_before (marked counts size n) ((n + 1) ∷ []) place (leaf + 1) rest
             | inr off ↦ ap (λ xs. slice_get xs place) (marked_off counts size n off) ∙ rest
           ]
     ]

@@ -21,10 +21,7 @@ unknown log k name none = none_pending (take k log) name 0 (take k log) (λ p h.
 
 -- nor is one that a write behind the moment has
 pub to_come : (log : List Event) (k p : ℕ) (name : WriteName) → IsLawful log → name_at log p ≡ Some name → k ≤ p → is_pending (take k log) name ≡ false
-to_come log k p name lawful its far = none_pending (take k log) name 0 (take k log) none
-  where
-    none : (q : ℕ) → name_at (take k log) q ≡ Some name → ⊥
-    none q h = omega (arith, same_place log p q name lawful its (name_of_front k log q name h), name_within 0 (take k log) q name h, length-take k log)
+to_come log k p name lawful its far = none_pending (take k log) name 0 (take k log) (λ q h. omega (arith, same_place log p q name lawful its (name_of_front k log q name h), name_within 0 (take k log) q name h, length-take k log))
 
 -- and one before the moment is pending by what is settled of its block
 pending_there : (n : ℕ) (log : List Event) (places : List ℕ) (k p : ℕ) (e : Event) (name : WriteName) → IsLawful log → AreWithin n log → AreSettledPlaces n (take k log) places

@@ -1,5 +1,5 @@
 -- Whether a named write is pending, by its place in the log and the settled place of its block.
-use Rattle.std.proofs.Common.{◌≡◌, ℕ, zero, suc, ◌+◌, Bool, true, false, not, ◌||◌, if◌then◌else◌, nat_lt, nat_le, List, [], ◌∷◌, length, Some, slice_get, slice_index_or, refl, sym, ◌∙◌, ap, subst, arith}
+use Rattle.std.proofs.Common.{◌≡◌, ℕ, zero, suc, ◌+◌, ◌<◌, Bool, true, false, not, ◌||◌, if◌then◌else◌, nat_lt, nat_le, List, [], ◌∷◌, ◌++◌, length, Some, slice_get, slice_index_or, refl, sym, ◌∙◌, ap, subst, arith}
 use Rattle.std.specs.List.{list_any}
 use Rattle.std.proofs.lemmas.Bool.{or_left, eq-eqb, eqb-true, false_from_ne_true, false≢true}
 use Rattle.std.proofs.lemmas.Bool.Decides.{nat_tests}
@@ -13,7 +13,7 @@ use Rattle.disk_memory.specs.Choice.{NamedWrite, same_name, writes_named, has_no
 use Rattle.disk_memory.specs.Crash.{is_past}
 use Rattle.disk_memory.specs.Log.{AreWithin}
 use Rattle.disk_memory.specs.Settled.{name_from, name_at, IsSettledPlace, AreSettledPlaces}
-use Rattle.disk_memory.proofs.crash_images.FateBehind.{named_behind, behind_drop, behind_wrote, behind_lost, behind_noticed}
+use Rattle.disk_memory.proofs.crash_images.FateBehind.{named_behind, IsThere, behind_drop, behind_at}
 use Rattle.disk_memory.proofs.crash_images.FateNames.{same_place}
 use Rattle.disk_memory.proofs.settled_places.Pending.{over}
 use Rattle.disk_memory.proofs.log_rows.Events.{write_within, lost_within}
@@ -64,14 +64,6 @@ own_in_front log w ws none = by (has_noticed log w.block (w ∷ ws))
 first : (log : List Event) (v w : NamedWrite) (ws : List NamedWrite) → v ≡ w → has_name w.name (pending_of log ws) ≡ false → has_name w.name (pending_of log (v ∷ ws)) ≡ not (has_noticed log w.block (v ∷ ws))
 first log v w ws same none = subst (λ (u : NamedWrite). has_name w.name (pending_of log (u ∷ ws)) ≡ not (has_noticed log w.block (u ∷ ws))) (sym same) (own_in_front log w ws none)
 
--- a place behind another is not the first
-apart : {p : ℕ} → suc p ≡ 0 → ⊥
-apart h = omega arith
-
--- two places behind the first are one where they are one without it
-back : {p q : ℕ} → suc p ≡ suc q → p ≡ q
-back h = omega arith
-
 -- where a name is that of one place, its write is pending exactly if it isn't over, with those behind it
 pub pending_is : (log : List Event) (name : WriteName) (lost : ℕ) (es : List Event) (p b : ℕ) (x : List ℕ) → ((q : ℕ) → name_from lost es q ≡ Some name → p ≡ q)
     → named_behind lost es p ≡ record { name = name; block = b; bytes = x } ∷ named_behind lost es (suc p)
@@ -79,16 +71,13 @@ pub pending_is : (log : List Event) (name : WriteName) (lost : ℕ) (es : List E
 pending_is log name lost [] zero b x one own = absurd (cc)
 pending_is log name lost [] (suc p) b x one own = absurd (cc)
 pending_is log name lost (Wrote t c y ∷ es) zero b x one own =
-    first log (record { name = names.Accepted t; block = c; bytes = y }) (record { name = name; block = b; bytes = x }) (writes_named lost es) (cc) (none_pending log name lost es (λ q h. apart (sym (one (suc q) h))))
+    first log (record { name = names.Accepted t; block = c; bytes = y }) (record { name = name; block = b; bytes = x }) (writes_named lost es) (cc) (none_pending log name lost es (λ q h. omega (arith, one (suc q) h)))
 pending_is log name lost (Lost c y ∷ es) zero b x one own =
-    first log (record { name = names.Lost (lost + 1); block = c; bytes = y }) (record { name = name; block = b; bytes = x }) (writes_named (lost + 1) es) (cc) (none_pending log name (lost + 1) es (λ q h. apart (sym (one (suc q) h))))
-pending_is log name lost (Noticed t ∷ es) zero b x one own = absurd (longer (record { name = name; block = b; bytes = x }) (writes_named lost es) own)
-  where
-    longer : (w : NamedWrite) (ws : List NamedWrite) → ws ≡ w ∷ ws → ⊥
-    longer w ws e = omega (arith, ap (λ (l : List NamedWrite). length l) e)
-pending_is log name lost (Wrote t c y ∷ es) (suc p) b x one own = other_in_front log name (record { name = names.Accepted t; block = c; bytes = y }) (writes_named lost es) (not (has_noticed log b (named_behind lost es p))) (λ e. apart (one 0 (ap Some e))) (pending_is log name lost es p b x (λ q h. back (one (suc q) h)) own)
-pending_is log name lost (Lost c y ∷ es) (suc p) b x one own = other_in_front log name (record { name = names.Lost (lost + 1); block = c; bytes = y }) (writes_named (lost + 1) es) (not (has_noticed log b (named_behind (lost + 1) es p))) (λ e. apart (one 0 (ap Some e))) (pending_is log name (lost + 1) es p b x (λ q h. back (one (suc q) h)) own)
-pending_is log name lost (Noticed t ∷ es) (suc p) b x one own = pending_is log name lost es p b x (λ q h. back (one (suc q) h)) own
+    first log (record { name = names.Lost (lost + 1); block = c; bytes = y }) (record { name = name; block = b; bytes = x }) (writes_named (lost + 1) es) (cc) (none_pending log name (lost + 1) es (λ q h. omega (arith, one (suc q) h)))
+pending_is log name lost (Noticed t ∷ es) zero b x one own = absurd (omega (arith, ap (λ (l : List NamedWrite). length l) own))
+pending_is log name lost (Wrote t c y ∷ es) (suc p) b x one own = other_in_front log name (record { name = names.Accepted t; block = c; bytes = y }) (writes_named lost es) (not (has_noticed log b (named_behind lost es p))) (λ e. omega (arith, one 0 (ap Some e))) (pending_is log name lost es p b x (λ q h. omega (arith, one (suc q) h)) own)
+pending_is log name lost (Lost c y ∷ es) (suc p) b x one own = other_in_front log name (record { name = names.Lost (lost + 1); block = c; bytes = y }) (writes_named (lost + 1) es) (not (has_noticed log b (named_behind (lost + 1) es p))) (λ e. omega (arith, one 0 (ap Some e))) (pending_is log name (lost + 1) es p b x (λ q h. omega (arith, one (suc q) h)) own)
+pending_is log name lost (Noticed t ∷ es) (suc p) b x one own = pending_is log name lost es p b x (λ q h. omega (arith, one (suc q) h)) own
 
 -- what isn't before a place is at it or behind it
 not_below : (p place : ℕ) → not (nat_lt p place) ≡ nat_le place p
@@ -98,20 +87,16 @@ not_below p place = grind (arith, nat_tests)
 pub over_behind : (log : List Event) (b place p : ℕ) → IsLawful log → IsSettledPlace log b place → has_noticed log b (named_behind 0 log p) ≡ nat_lt p place
 over_behind log b place p lawful settled = ap (has_noticed log b) (behind_drop 0 log p).1 ∙ over log b place p (behind_drop 0 log p).0 lawful settled
 
--- so a write is pending exactly where its place isn't before the settled place of its block
-pub pending_named : (log : List Event) (b place p : ℕ) (x : List ℕ) (name : WriteName) → IsLawful log → IsSettledPlace log b place → name_at log p ≡ Some name
-    → named_behind 0 log p ≡ record { name = name; block = b; bytes = x } ∷ named_behind 0 log (suc p) → is_pending log name ≡ nat_le place p
-pending_named log b place p x name lawful settled its own =
-    pending_is log name 0 log p b x (λ q h. same_place log p q name lawful its h) own ∙ ap not (over_behind log b place p lawful settled) ∙ not_below p place
-
 -- the write of a name is pending exactly where its place isn't before what is settled of its block
 pub pending_at : (n : ℕ) (log : List Event) (places : List ℕ) (p : ℕ) (e : Event) (name : WriteName) → IsLawful log → AreWithin n log → AreSettledPlaces n log places → slice_get log p ≡ Some e → name_at log p ≡ Some name → is_pending log name ≡ is_past places p e
-pending_at n log places p (Wrote t b x) name lawful within settled here its =
-    let write = behind_wrote 0 log p t b x here in
-    let same : names.Accepted t ≡ name = same_Some _ _ (sym write.0 ∙ its) in
-    subst (λ (m : WriteName). is_pending log m ≡ nat_le (slice_index_or places b 0) p) same (pending_named log b _ p x (names.Accepted t) lawful (settled.each b (write_within n log p t b x within here)) write.0 write.1)
-pending_at n log places p (Lost b x) name lawful within settled here its =
-    let write = behind_lost 0 log p b x here in
-    let same : write.0 ≡ name = same_Some _ _ (sym write.1 ∙ its) in
-    subst (λ (m : WriteName). is_pending log m ≡ nat_le (slice_index_or places b 0) p) same (pending_named log b _ p x write.0 lawful (settled.each b (lost_within n log p b x within here)) write.1 write.2)
-pending_at n log places p (Noticed t) name lawful within settled here its = absurd (none-some name (sym (behind_noticed 0 log p t here).0 ∙ its))
+pending_at n log places p e name lawful within settled here its = by e here (behind_at 0 log p e here)
+  where
+    named : (b : ℕ) (x : List ℕ) (own : WriteName) → b < n → name_at log p ≡ Some own → named_behind 0 log p ≡ record { name = own; block = b; bytes = x } ∷ named_behind 0 log (suc p) → is_pending log name ≡ nat_le (slice_index_or places b 0) p
+    named b x own inside is behind =
+        let same : own ≡ name = same_Some _ _ (sym is ∙ its) in
+        ap (is_pending log) (sym same) ∙ pending_is log own 0 log p b x (λ q h. same_place log p q own lawful is h) behind ∙ ap not (over_behind log b _ p lawful (settled.each b inside)) ∙ not_below p _
+
+    by : (f : Event) → slice_get log p ≡ Some f → IsThere 0 log p f → is_pending log name ≡ is_past places p f
+    by (Wrote t b x) at there = named b x (names.Accepted t) (write_within n log p t b x within at) there.1 there.2
+    by (Lost b x) at there = named b x (names.Lost (there.0 + 1)) (lost_within n log p b x within at) there.1 there.2
+    by (Noticed t) at there = absurd (none-some name (sym there.1 ∙ its))

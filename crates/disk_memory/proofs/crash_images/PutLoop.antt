@@ -1,5 +1,5 @@
 -- One step of the walk that puts pending writes, from what the code knows at a place of the whole log.
-use Rattle.std.proofs.Common.{◌≡◌, ℕ, zero, suc, ◌+◌, ◌<◌, ◌≤◌, nat_le, List, [], ◌∷◌, length, take, get_or, slice_get, slice_index_or, Option, Some, None, refl, sym, ◌∙◌, ap, subst, arith}
+use Rattle.std.proofs.Common.{◌≡◌, ℕ, ◌+◌, ◌<◌, ◌≤◌, nat_le, List, [], ◌∷◌, length, take, get_or, slice_get, slice_index_or, Option, Some, None, refl, sym, ◌∙◌, ap, subst, arith}
 use Rattle.std.proofs.lemmas.Option.{slice_get-get_or}
 use Rattle.base_types.specs.Seal.{Blocks}
 use Rattle.disk_contract.specs.declared.event.Event.{Event}
@@ -14,11 +14,9 @@ use Rattle.disk_memory.specs.Settled.{AreFates, AreSettledPlaces}
 use Rattle.disk_memory.proofs.crash_images.PutWalk.{AreLeft, settled_of, same_count, walk_skip, walk_put}
 use Rattle.disk_memory.proofs.log_rows.Events.{front_at, lawful_taken, within_front}
 
--- each place of a list has its value
-there : {A : Type 0} (xs : List A) (p : ℕ) → p < length xs → (x : A) × (slice_get xs p ≡ Some x)
-there [] p h = absurd (omega arith)
-there (x ∷ xs) zero h = (x, refl)
-there (x ∷ xs) (suc p) h = there xs p (omega arith)
+-- each place of a log has its event
+there : (log : List Event) (p : ℕ) → p < length log → (e : Event) × (slice_get log p ≡ Some e)
+there log p h = (get_or log p (Noticed 0), slice_get-get_or log p (Noticed 0) h)
 
 -- what the call for a place says: the image has what is put for its event, whatever the moment is that the settled places are of
 abbrev pub Puts : ℕ → Blocks → List Event → List ℕ → ℕ → Fate → List (List ℕ) → List (List ℕ) → Type 0

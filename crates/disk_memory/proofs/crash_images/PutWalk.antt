@@ -16,7 +16,7 @@ use Rattle.disk_memory.specs.Choice.{ChoiceState, NamedWrite, fate, left_by, lef
 use Rattle.disk_memory.specs.Crash.{put_write, put_event}
 use Rattle.disk_memory.specs.Log.{AreWithin}
 use Rattle.disk_memory.specs.Settled.{name_at, AreFates, AreSettledPlaces}
-use Rattle.disk_memory.proofs.crash_images.FateBehind.{named_behind, behind_drop, behind_wrote, behind_lost, behind_noticed}
+use Rattle.disk_memory.proofs.crash_images.FateBehind.{named_behind, IsThere, behind_drop, behind_at}
 use Rattle.disk_memory.proofs.log_rows.Events.{write_within, lost_within}
 use Rattle.disk_memory.proofs.crash_images.FatePending.{over_behind}
 use Rattle.disk_memory.proofs.crash_images.TornLeft.{left_whatever}
@@ -113,52 +113,40 @@ module _ (n : ℕ) (c : ChoiceState) (base : Blocks) (log : List Event) (places 
   is_over : (p b : ℕ) → b < n → has_noticed log b (named_behind 0 log p) ≡ nat_lt p (slice_index_or places b 0)
   is_over p b inside = over_behind log b _ p lawful (settled.each b inside)
 
+  -- a notice is none of the writes
+  over_notice : (image : List (List ℕ)) (p : ℕ) → named_behind 0 log p ≡ named_behind 0 log (suc p) → AreLeft n c base log image p → AreLeft n c base log image (suc p)
+  over_notice image p same left = record { count = left.count; each = λ b inside. ap (λ ws. left_after c b (settled_of base log b) (blocks_of image b) (pending_of log ws)) (sym same) ∙ left.each b inside }
+
   -- the walk goes over an event without a fate
   skip : (image : List (List ℕ)) (p : ℕ) (e : Event) → slice_get log p ≡ Some e → slice_get fates p ≡ Some None → AreLeft n c base log image p → AreLeft n c base log image (suc p)
-  skip image p (Wrote t b x) here none left =
-      let its = behind_wrote 0 log p t b x here in
-      let w : NamedWrite = record { name = names.Accepted t; block = b; bytes = x } in
-      over_write n c base log image image p (slice_index_or places b 0) w its.1 (is_over p b (write_within n log p t b x within here)) left.count
-      (λ k. unfated c k (settled_of base log k) w (nat_le (slice_index_or places b 0) p) (blocks_of image k) (its_fate p (names.Accepted t) None its.0 none)) left
-  skip image p (Lost b x) here none left =
-      let its = behind_lost 0 log p b x here in
-      let w : NamedWrite = record { name = its.0; block = b; bytes = x } in
-      over_write n c base log image image p (slice_index_or places b 0) w its.2 (is_over p b (lost_within n log p b x within here)) left.count
-      (λ k. unfated c k (settled_of base log k) w (nat_le (slice_index_or places b 0) p) (blocks_of image k) (its_fate p its.0 None its.1 none)) left
-  skip image p (Noticed t) here none left = record {
-    count = left.count;
-    each = λ b inside. ap (λ ws. left_after c b (settled_of base log b) (blocks_of image b) (pending_of log ws)) (sym (behind_noticed 0 log p t here).1) ∙ left.each b inside;
-  }
+  skip image p e here none left = by e here (behind_at 0 log p e here)
+    where
+      over : (w : NamedWrite) → w.block < n → name_at log p ≡ Some w.name → named_behind 0 log p ≡ w ∷ named_behind 0 log (suc p) → AreLeft n c base log image (suc p)
+      over w inside its own = over_write n c base log image image p _ w own (is_over p w.block inside) left.count
+          (λ k. unfated c k (settled_of base log k) w (nat_le (slice_index_or places w.block 0) p) (blocks_of image k) (its_fate p w.name None its none)) left
+
+      by : (f : Event) → slice_get log p ≡ Some f → IsThere 0 log p f → AreLeft n c base log image (suc p)
+      by (Wrote t b x) at there = over (record { name = names.Accepted t; block = b; bytes = x }) (write_within n log p t b x within at) there.1 there.2
+      by (Lost b x) at there = over (record { name = names.Lost (there.0 + 1); block = b; bytes = x }) (lost_within n log p b x within at) there.1 there.2
+      by (Noticed t) at there = over_notice image p there.2 left
 
   -- and over one with a fate, which is put
   put : (image : List (List ℕ)) (p : ℕ) (e : Event) (f : Fate) → slice_get log p ≡ Some e → slice_get fates p ≡ Some (Some f) → AreLeft n c base log image p → AreLeft n c base log (put_event (settled_of base log) places p e f image) (suc p)
-  put image p (Wrote t b x) f here some left =
-      let its = behind_wrote 0 log p t b x here in
-      let w : NamedWrite = record { name = names.Accepted t; block = b; bytes = x } in
-      let inside : b < length image = omega (arith, write_within n log p t b x within here, left.count) in
-      over_write n c base log image (put_event (settled_of base log) places p (Wrote t b x) f image) p (slice_index_or places b 0) w its.1 (is_over p b (write_within n log p t b x within here))
-      (same_count (nat_le (slice_index_or places b 0) p) image b _ ∙ left.count)
-      (λ k. put_each c (settled_of base log) w f (nat_le (slice_index_or places b 0) p) image k inside (its_fate p (names.Accepted t) (Some f) its.0 some)) left
-  put image p (Lost b x) f here some left =
-      let its = behind_lost 0 log p b x here in
-      let w : NamedWrite = record { name = its.0; block = b; bytes = x } in
-      let inside : b < length image = omega (arith, lost_within n log p b x within here, left.count) in
-      over_write n c base log image (put_event (settled_of base log) places p (Lost b x) f image) p (slice_index_or places b 0) w its.2 (is_over p b (lost_within n log p b x within here))
-      (same_count (nat_le (slice_index_or places b 0) p) image b _ ∙ left.count)
-      (λ k. put_each c (settled_of base log) w f (nat_le (slice_index_or places b 0) p) image k inside (its_fate p its.0 (Some f) its.1 some)) left
-  put image p (Noticed t) f here some left = record {
-    count = left.count;
-    each = λ b inside. ap (λ ws. left_after c b (settled_of base log b) (blocks_of image b) (pending_of log ws)) (sym (behind_noticed 0 log p t here).1) ∙ left.each b inside;
-  }
+  put image p e f here some left = by e here (behind_at 0 log p e here)
+    where
+      over : (w : NamedWrite) → w.block < n → name_at log p ≡ Some w.name → named_behind 0 log p ≡ w ∷ named_behind 0 log (suc p) → AreLeft n c base log (if nat_le (slice_index_or places w.block 0) p then put_write (settled_of base log) w.block w.bytes f image else image) (suc p)
+      over w inside its own = over_write n c base log image _ p _ w own (is_over p w.block inside) (same_count (nat_le (slice_index_or places w.block 0) p) image w.block _ ∙ left.count)
+          (λ k. put_each c (settled_of base log) w f (nat_le (slice_index_or places w.block 0) p) image k (omega (arith, inside, left.count)) (its_fate p w.name (Some f) its some)) left
 
-  -- the next place, written as a sum
-  next : (p : ℕ) → suc p ≡ p + 1
-  next p = omega arith
+      by : (g : Event) → slice_get log p ≡ Some g → IsThere 0 log p g → AreLeft n c base log (put_event (settled_of base log) places p g f image) (suc p)
+      by (Wrote t b x) at there = over (record { name = names.Accepted t; block = b; bytes = x }) (write_within n log p t b x within at) there.1 there.2
+      by (Lost b x) at there = over (record { name = names.Lost (there.0 + 1); block = b; bytes = x }) (lost_within n log p b x within at) there.1 there.2
+      by (Noticed t) at there = over_notice image p there.2 left
 
-  -- both with the next place written so
+  -- both with the next place written as a sum
   pub walk_skip : (image : List (List ℕ)) (p : ℕ) (e : Event) → slice_get log p ≡ Some e → slice_get fates p ≡ Some None → AreLeft n c base log image p → AreLeft n c base log image (p + 1)
-  walk_skip image p e here none left = subst (AreLeft n c base log image) (next p) (skip image p e here none left)
+  walk_skip image p e here none left = subst (AreLeft n c base log image) (omega arith) (skip image p e here none left)
 
   -- with what is put
   pub walk_put : (image : List (List ℕ)) (p : ℕ) (e : Event) (f : Fate) → slice_get log p ≡ Some e → slice_get fates p ≡ Some (Some f) → AreLeft n c base log image p → AreLeft n c base log (put_event (settled_of base log) places p e f image) (p + 1)
-  walk_put image p e f here some left = subst (AreLeft n c base log (put_event (settled_of base log) places p e f image)) (next p) (put image p e f here some left)
+  walk_put image p e f here some left = subst (AreLeft n c base log (put_event (settled_of base log) places p e f image)) (omega arith) (put image p e f here some left)

@@ -28,13 +28,10 @@ pub found_wrote : (n : ℕ) (log : List Event) (places : List ℕ) (p : ℕ) (e 
     → AreFound n (take p log) places → AreFound n (take (p + 1) log) (slice_set places b (p + 1))
 found_wrote n log places p e t b x within low at is found =
     subst (λ events. AreFound n events (slice_set places b (p + 1))) (sym (take_event log p e (read_at log p e low at) ∙ ap (λ (d : Event). take p log ++ d ∷ []) is)) (record {
-      size = wrote_length;
+      size = omega (arith, length-set places b (p + 1), found.size);
       each = λ base long. subst (λ k. AreLast base (take p log ++ Wrote t b x ∷ []) (slice_set places b (k + 1))) (length-take-le p log (omega arith))
           (last_wrote base (take p log) places t b x (omega (arith, found_within n log p e t b x within low at is)) (found.each base long));
     })
-  where
-    wrote_length : length (slice_set places b (p + 1)) ≡ n
-    wrote_length = omega (arith, length-set places b (p + 1), found.size)
 
 -- the places stay with one event more that isn't an accepted write
 behind : (n : ℕ) (log : List Event) (places : List ℕ) (e : Event) → ((t b : ℕ) (x : List ℕ) → e ≡ Wrote t b x → ⊥) → AreFound n log places → AreFound n (log ++ e ∷ []) places

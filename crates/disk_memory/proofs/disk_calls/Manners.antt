@@ -1,16 +1,16 @@
 -- A disk in memory goes by its manner: what its log is, which calls fail, and what its polls answer.
-use Rattle.std.proofs.Common.{◌≡◌, inr, ℕ, suc, ◌+◌, ◌-◌, ◌^◌, ◌<◌, ◌==◌, ◌&&◌, ◌||◌, Bool, true, false, not, nat_lt, List, [], ◌∷◌, ◌++◌, length, Option, Some, None, Result, Ok, if◌then◌else◌, refl, sym, ◌∙◌, ap, ap₂, subst, arith, append-nil, append_assoc}
-use Rattle.std.proofs.lemmas.Bool.{and_parts, false≢true, or_left, or_right, ltb-true, eqb-true}
+use Rattle.std.proofs.Common.{◌≡◌, ⊎_elim, ℕ, suc, ◌+◌, ◌-◌, ◌^◌, ◌<◌, ◌==◌, ◌&&◌, ◌||◌, Bool, true, false, nat_lt, List, [], ◌∷◌, ◌++◌, length, Option, Some, None, Result, Ok, if◌then◌else◌, refl, sym, ◌∙◌, ap, subst, arith, append-nil, append_assoc}
+use Rattle.std.proofs.lemmas.Bool.{and_parts, false_from_ne_true, false≢true, or_cases, or_left, or_right, ltb-true, eqb-true}
 use Rattle.base_types.specs.Counts.{next_count}
 use Rattle.disk_contract.specs.declared.event.Event.{Event}
 use Rattle.disk_contract.specs.declared.event.Event.TheVariants.{Wrote, Lost, Noticed}
-use Rattle.disk_contract.specs.Manner.{Manner, any_manner, MayComeBy, MayAllComeBy, GoesBy, HasFailedBy, AnswersBy}
+use Rattle.disk_contract.specs.Manner.{Manner, any_manner, MayComeBy, MayAllComeBy, GoesBy, AnswersBy}
 use Rattle.disk_memory.specs.declared.calls.DiskCall.{DiskCall}
 use Rattle.disk_memory.specs.declared.calls.DiskCall.TheVariants as calls
 use Rattle.disk_memory.specs.declared.calls.Fail.{Fail}
 use Rattle.disk_memory.specs.declared.rule.Rule.{Rule}
 use Rattle.disk_memory.specs.declared.rule.Notices.{Notices}
-use Rattle.disk_memory.specs.Log.{write_count, open_tickets}
+use Rattle.disk_memory.specs.Log.{open_tickets}
 use Rattle.disk_contract.specs.Cell.{has_lost}
 use Rattle.disk_memory.specs.MemDisk.{MemDiskState, next_call, fails_next, manner_of, same_call, is_listed, has_listed, polled, turned, turns, by_rule, manner_by, manner_known, CountsLost, GoesAsKnown}
 
@@ -39,42 +39,24 @@ known_reads room log notices fails read_faults polls (Some rule) goes some = goe
 -- a call that is listed is one of its kind
 pub listed_some : (call : DiskCall) (n : ℕ) (fails : List Fail) → is_listed call n fails ≡ true → has_listed call fails ≡ true
 listed_some call n [] is = is
-listed_some call n (f ∷ fs) is = by (listed_some call n fs) (same_call f.kind call) (f.nth == n) is
-  where
-    by : (is_listed call n fs ≡ true → has_listed call fs ≡ true) → (same nth : Bool) → ((same && nth) || is_listed call n fs) ≡ true → (same || has_listed call fs) ≡ true
-    by rest true nth e = refl
-    by rest false nth e = rest e
+listed_some call n (f ∷ fs) is = ⊎_elim (λ own. or_left (same_call f.kind call) (has_listed call fs) (and_parts (same_call f.kind call) (f.nth == n) own).0)
+    (λ rest. or_right (same_call f.kind call) (has_listed call fs) (listed_some call n fs rest)) (or_cases (same_call f.kind call && (f.nth == n)) (is_listed call n fs) is)
 
 -- where none of its kind is listed, a call isn't
 pub unlisted_none : (call : DiskCall) (n : ℕ) (fails : List Fail) → has_listed call fails ≡ false → is_listed call n fails ≡ false
-unlisted_none call n fails none = by (is_listed call n fails) refl
-  where
-    by : (v : Bool) → is_listed call n fails ≡ v → is_listed call n fails ≡ false
-    by false e = e
-    by true e = absurd (false≢true (sym none ∙ listed_some call n fails e))
+unlisted_none call n fails none = false_from_ne_true _ (λ is. false≢true (sym none ∙ listed_some call n fails is))
 
--- Which writes are lost.
+-- a log that goes on with an accepted write or a notice loses no more
+quiet : (log : List Event) (e : Event) → has_lost (e ∷ []) ≡ false → has_lost (log ++ e ∷ []) ≡ has_lost log
+quiet [] e none = none
+quiet (Wrote u c y ∷ es) e none = quiet es e none
+quiet (Lost c y ∷ es) e none = refl
+quiet (Noticed u ∷ es) e none = quiet es e none
 
-lost_not : (log : List Event) (t b : ℕ) (x : List ℕ) → has_lost (log ++ Wrote t b x ∷ []) ≡ has_lost log
-lost_not [] t b x = refl
-lost_not (Wrote u c y ∷ es) t b x = lost_not es t b x
-lost_not (Lost c y ∷ es) t b x = refl
-lost_not (Noticed u ∷ es) t b x = lost_not es t b x
-
-heard_not : (log : List Event) (t : ℕ) → has_lost (log ++ Noticed t ∷ []) ≡ has_lost log
-heard_not [] t = refl
-heard_not (Wrote u c y ∷ es) t = heard_not es t
-heard_not (Lost c y ∷ es) t = refl
-heard_not (Noticed u ∷ es) t = heard_not es t
-
--- one more write that is accepted, a notice, and a call that fails, whether it loses a write or not
-pub counts_wrote : (known : Option Rule) (faults : ℕ) (log : List Event) (t b : ℕ) (x : List ℕ) → CountsLost known faults log → CountsLost known faults (log ++ Wrote t b x ∷ [])
-counts_wrote None faults log t b x counts = tt
-counts_wrote (Some rule) faults log t b x counts = λ none. lost_not log t b x ∙ counts none
-
-pub counts_noticed : (known : Option Rule) (faults : ℕ) (log : List Event) (t : ℕ) → CountsLost known faults log → CountsLost known faults (log ++ Noticed t ∷ [])
-counts_noticed None faults log t counts = tt
-counts_noticed (Some rule) faults log t counts = λ none. heard_not log t ∙ counts none
+-- one more write that is accepted, or a notice, and a call that fails, whether it loses a write or not
+pub counts_quiet : (known : Option Rule) (faults : ℕ) (log : List Event) (e : Event) → has_lost (e ∷ []) ≡ false → CountsLost known faults log → CountsLost known faults (log ++ e ∷ [])
+counts_quiet None faults log e silent counts = tt
+counts_quiet (Some rule) faults log e silent counts = λ none. quiet log e silent ∙ counts none
 
 pub counts_fault : (known : Option Rule) (faults : ℕ) (log : List Event) → 0 < faults → CountsLost known faults log
 counts_fault None faults log some = tt
@@ -99,18 +81,10 @@ known_counts room fails None faults log counts alone none = absurd (false≢true
 known_counts room fails (Some rule) faults log counts alone none = counts none
 
 module _ (room : ℕ) (log : List Event) (notices : Notices) (fails : List Fail) (read_faults polls : ℕ) where
-  -- all goes by the rule still after a write that is accepted, one that is lost, and a notice
-  pub goes_wrote : (known : Option Rule) (t b : ℕ) (x : List ℕ) → nat_lt (write_count log) room ≡ true → is_listed calls.Write (write_count log + 1) fails ≡ false → GoesAsKnown room log notices fails read_faults polls known → GoesAsKnown room (log ++ Wrote t b x ∷ []) notices fails read_faults polls known
-  goes_wrote None t b x some unlisted goes = tt
-  goes_wrote (Some rule) t b x some unlisted goes = record { writes = goes_more (manner_by room fails rule) [] log (Wrote t b x) goes.writes (ap₂ (λ (v w : Bool). v && not w) some unlisted); reads = goes.reads; first = goes.first; turn = goes.turn }
-
-  pub goes_lost : (known : Option Rule) (b : ℕ) (x : List ℕ) → nat_lt (write_count log) room ≡ true → is_listed calls.Write (write_count log + 1) fails ≡ true → GoesAsKnown room log notices fails read_faults polls known → GoesAsKnown room (log ++ Lost b x ∷ []) notices fails read_faults polls known
-  goes_lost None b x some listed goes = tt
-  goes_lost (Some rule) b x some listed goes = record { writes = goes_more (manner_by room fails rule) [] log (Lost b x) goes.writes (ap₂ (λ (v w : Bool). v && w) some listed); reads = goes.reads; first = goes.first; turn = goes.turn }
-
-  pub goes_noticed : (known : Option Rule) (t : ℕ) → GoesAsKnown room log notices fails read_faults polls known → GoesAsKnown room (log ++ Noticed t ∷ []) notices fails read_faults polls known
-  goes_noticed None t goes = tt
-  goes_noticed (Some rule) t goes = record { writes = goes_more (manner_by room fails rule) [] log (Noticed t) goes.writes tt; reads = goes.reads; first = goes.first; turn = goes.turn }
+  -- all goes by the rule still after an event that may come by it
+  pub goes_event : (known : Option Rule) (e : Event) → ((rule : Rule) → MayComeBy (manner_by room fails rule) log e) → GoesAsKnown room log notices fails read_faults polls known → GoesAsKnown room (log ++ e ∷ []) notices fails read_faults polls known
+  goes_event None e may goes = tt
+  goes_event (Some rule) e may goes = record { writes = goes_more (manner_by room fails rule) [] log e goes.writes (may rule); reads = goes.reads; first = goes.first; turn = goes.turn }
 
   -- after a failed read, which was listed
   pub goes_unread : (known : Option Rule) (n now : ℕ) → is_listed calls.Read n fails ≡ true → GoesAsKnown room log notices fails read_faults polls known → GoesAsKnown room log notices fails now polls known
@@ -128,11 +102,8 @@ module _ (room : ℕ) (log : List Event) (notices : Notices) (fails : List Fail)
     writes = goes.writes;
     reads = goes.reads;
     first = λ none. absurd (omega (arith, none));
-    turn = λ none few. ap turned (goes.turn none (omega (arith, few))) ∙ ap (λ k. turns k (by_rule rule)) (step (omega (arith, few)));
+    turn = λ none few. ap turned (goes.turn none (omega (arith, few))) ∙ ap (λ k. turns k (by_rule rule)) {x = suc polls} {y = next_count polls} (omega (arith, few));
   }
-    where
-      step : polls < 2 ^ 64 - 1 → suc polls ≡ next_count polls
-      step few = omega (arith, few)
 
   -- a poll answers what its manner says
   pub answers_known : {E : Type 0} (known : Option Rule) (n : ℕ) (r : Result (Option ℕ) E) → (is_listed calls.Poll n fails ≡ false → r ≡ Ok (polled notices (open_tickets log))) → GoesAsKnown room log notices fails read_faults polls known → AnswersBy ((manner_known room fails known).notice polls log) r
@@ -155,12 +126,6 @@ poll_stalls room fails (Some rule) n listed = or_left _ (has_listed calls.Wait f
 pub wait_stalls : (room : ℕ) (fails : List Fail) (known : Option Rule) (n : ℕ) → is_listed calls.Wait n fails ≡ true → (manner_known room fails known).stalls ≡ true
 wait_stalls room fails None n listed = refl
 wait_stalls room fails (Some rule) n listed = or_right (has_listed calls.Poll fails) _ (listed_some calls.Wait n fails listed)
-
-pub poll_fails : (room : ℕ) (fails : List Fail) (known : Option Rule) (log : List Event) (n : ℕ) → is_listed calls.Poll n fails ≡ true → HasFailedBy (manner_known room fails known) log
-poll_fails room fails known log n listed = inr (inr (poll_stalls room fails known n listed))
-
-pub wait_fails : (room : ℕ) (fails : List Fail) (known : Option Rule) (log : List Event) (n : ℕ) → is_listed calls.Wait n fails ≡ true → HasFailedBy (manner_known room fails known) log
-wait_fails room fails known log n listed = inr (inr (wait_stalls room fails known n listed))
 
 -- another list before anything happened
 pub goes_at_first : (room : ℕ) (log : List Event) (notices : Notices) (fails list : List Fail) (read_faults polls : ℕ) (known now : Option Rule) → now ≡ (if (length log == 0) && ((polls == 0) && (read_faults == 0)) then known else None)

@@ -60,12 +60,8 @@ module _ {entries : List Entry} {written ready most most_blocks most_entries : �
   }
 
 -- the events with a write more whose bytes come last
-pub one_wrote : (blocks now : List (List ℕ)) (es new : List Entry) (t b at : ℕ) (x : List ℕ) → now ≡ blocks ++ x ∷ [] → new ≡ es ++ Wrote t b at ∷ [] → at ≡ length blocks → AreHeld (length blocks) es → events_kept now new ≡ events_kept blocks es ++ event_kept (x ∷ []) (Wrote t b 0) ∷ []
-one_wrote blocks now es new t b at x is more last held =
-    ap₂ events_kept is more ∙ one_more (blocks ++ x ∷ []) es (Wrote t b at)
-    ∙ ap₂ (λ (ds : List Event) y. ds ++ event_kept (y ∷ []) (Wrote t b 0) ∷ []) (same_events blocks (x ∷ []) es held) (ap (λ k. get_or (blocks ++ x ∷ []) k []) last ∙ get_or-append_seam blocks x [] [])
-
-pub one_lost : (blocks now : List (List ℕ)) (es new : List Entry) (b at : ℕ) (x : List ℕ) → now ≡ blocks ++ x ∷ [] → new ≡ es ++ Lost b at ∷ [] → at ≡ length blocks → AreHeld (length blocks) es → events_kept now new ≡ events_kept blocks es ++ event_kept (x ∷ []) (Lost b 0) ∷ []
-one_lost blocks now es new b at x is more last held =
-    ap₂ events_kept is more ∙ one_more (blocks ++ x ∷ []) es (Lost b at)
-    ∙ ap₂ (λ (ds : List Event) y. ds ++ event_kept (y ∷ []) (Lost b 0) ∷ []) (same_events blocks (x ∷ []) es held) (ap (λ k. get_or (blocks ++ x ∷ []) k []) last ∙ get_or-append_seam blocks x [] [])
+pub one_last : (blocks now : List (List ℕ)) (es new : List Entry) (e : ℕ → Entry) (at : ℕ) (x : List ℕ) → ((xs : List (List ℕ)) (k : ℕ) → event_kept xs (e k) ≡ event_kept (get_or xs k [] ∷ []) (e 0))
+    → now ≡ blocks ++ x ∷ [] → new ≡ es ++ e at ∷ [] → at ≡ length blocks → AreHeld (length blocks) es → events_kept now new ≡ events_kept blocks es ++ event_kept (x ∷ []) (e 0) ∷ []
+one_last blocks now es new e at x reads is more last held =
+    ap₂ events_kept is more ∙ one_more (blocks ++ x ∷ []) es (e at)
+    ∙ ap₂ (λ (ds : List Event) d. ds ++ d ∷ []) (same_events blocks (x ∷ []) es held) (reads (blocks ++ x ∷ []) at ∙ ap (λ (y : List ℕ). event_kept (y ∷ []) (e 0)) (ap (λ k. get_or (blocks ++ x ∷ []) k []) last ∙ get_or-append_seam blocks x [] []))

@@ -1,5 +1,5 @@
 -- The rows of a log fit it after one more event, and have room for it.
-use Rattle.std.proofs.Common.{◌≡◌, ℕ, ◌+◌, ◌-◌, ◌^◌, ◌<◌, ◌≤◌, ◌==◌, ◌||◌, Bool, true, false, not, List, [], ◌∷◌, ◌++◌, length, Some, refl, sym, ap, ap₂, ◌∙◌, arith, append-nil, length-append}
+use Rattle.std.proofs.Common.{◌≡◌, ℕ, ◌+◌, ◌-◌, ◌^◌, ◌<◌, ◌≤◌, ◌==◌, ◌||◌, Bool, true, false, not, List, [], ◌∷◌, ◌++◌, length, Some, refl, sym, ap, ap₂, subst, ◌∙◌, arith, append-nil, length-append}
 use Rattle.std.proofs.Math.Bool.{or-false}
 use Rattle.std.proofs.lemmas.Bool.{false_from_ne_true, ne_eqb}
 use Rattle.std.specs.List.{filter, slice_get}
@@ -9,7 +9,7 @@ use Rattle.disk_contract.specs.Cell.{greatest_ticket, is_noticed}
 use Rattle.disk_contract.specs.Disk.{IsOpen}
 use Rattle.disk_contract.specs.Lawful.{IsEventOf}
 use Rattle.disk_memory.specs.Ranks.{RanksState, with_next, without}
-use Rattle.disk_memory.specs.Log.{IsKeptLog, tickets, write_count, accepted_places, lost_places, numbers_of}
+use Rattle.disk_memory.specs.Log.{LogState, IsKeptLog, tickets, write_count, accepted_places, lost_places, numbers_of}
 use Rattle.disk_memory.proofs.log_rows.AddNumbers.{numbers_of_more, numbers_of_same, numbers_without, one_less}
 use Rattle.disk_memory.proofs.log_rows.AddRows.{accepted_places-append, lost_places-append, write_count_of_more, places_count}
 use Rattle.disk_memory.proofs.log_rows.Events.{tickets-append, greatest_wrote, greatest_lost, greatest_noticed, noticed-append, noticed_last, events_more, unnoticed_above, lawful_onto}
@@ -34,6 +34,14 @@ module _ {events : List Event} {row places lost : List ℕ} {ranks : RanksState}
       let of_places = ap length kept.places_are in
       let of_lost = ap length kept.lost_are in
       (omega (arith, counts.0), omega (arith, counts.0, counts.1))
+
+  -- one more write has room where the bytes of one are ready
+  pub more_ready : {s : LogState} → record { events = events; room = room; ready = ready } ≡ s → 0 < s.ready → write_count events + 1 ≤ room
+  more_ready is some = omega (arith, kept.few, subst (λ (s : LogState). 0 < s.ready) (sym is) some)
+
+  -- and where the log that is seen has room for it
+  pub more_room : {s : LogState} → record { events = events; room = room; ready = ready } ≡ s → write_count s.events + 1 ≤ s.room → write_count events + 1 ≤ room
+  more_room is more = subst (λ (s : LogState). write_count s.events + 1 ≤ s.room) (sym is) more
 
   -- where one more write has room, each row has room for it
   pub room_for_wrote : write_count events + 1 ≤ room → (length events < most_events) × (length row < most_tickets) × (length places < most_places) × (ranks.joined < ranks.most)

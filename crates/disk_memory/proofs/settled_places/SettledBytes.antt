@@ -1,30 +1,22 @@
 -- The settled content of a block, as it is read out of the log by its settled place.
 use Rattle.std.proofs.Common.{[], ◌∷◌, ◌≡◌, ℕ, zero, suc, ◌-◌, List, take, Option, Some, None, option_map, refl, sym, ◌∙◌, ap, arith}
-use Rattle.std.specs.Borrow.{Bor}
 use Rattle.std.specs.List.{slice_get}
 use Rattle.std.proofs.lemmas.Option.{none-some, same_Some}
 use Rattle.base_types.specs.Seal.{Blocks}
 use Rattle.disk_contract.specs.declared.event.Event.{Event}
-use Rattle.disk_contract.specs.declared.event.Event.TheVariants.{Wrote, Lost, Noticed}
+use Rattle.disk_contract.specs.declared.event.Event.TheVariants.{Wrote}
 use Rattle.disk_contract.specs.Cell.{Cell, cell_of}
 use Rattle.disk_contract.specs.Lawful.{IsLawful, writes_to, IsNewestNoticed, HasNoneNoticed}
 use Rattle.disk_memory.specs.Log.{tickets}
 use Rattle.disk_memory.specs.Settled.{IsSettledPlace}
 use Rattle.disk_memory.specs.declared.logged.Logged.{Logged}
-use Rattle.disk_memory.specs.declared.logged.Logged.TheVariants as logged
 use Rattle.disk_memory.specs.Logged.{event_of}
 use Rattle.disk_memory.proofs.settled_places.SettledCells.{cell_at_zero, cell_at_suc}
 use Rattle.disk_memory.proofs.log_rows.Events.{get_taken, lawful_taken}
 
 -- which event it is that was looked up
-pub looked_write : (found : Option Logged) (l : Logged) (t b : ℕ) (x : Bor (List ℕ)) → found ≡ Some l → l ≡ logged.Wrote t b x → option_map event_of found ≡ Some (Wrote t b x.now)
-looked_write found l t b x is one = ap (option_map event_of) (is ∙ ap Some one)
-
-pub looked_lost : (found : Option Logged) (l : Logged) (b : ℕ) (x : Bor (List ℕ)) → found ≡ Some l → l ≡ logged.Lost b x → option_map event_of found ≡ Some (Lost b x.now)
-looked_lost found l b x is one = ap (option_map event_of) (is ∙ ap Some one)
-
-pub looked_notice : (found : Option Logged) (l : Logged) (t : ℕ) → found ≡ Some l → l ≡ logged.Noticed t → option_map event_of found ≡ Some (Noticed t)
-looked_notice found l t is one = ap (option_map event_of) (is ∙ ap Some one)
+pub looked : (found : Option Logged) (l m : Logged) → found ≡ Some l → l ≡ m → option_map event_of found ≡ Some (event_of m)
+looked found l m is one = ap (option_map event_of) (is ∙ ap Some one)
 
 module _ (noticed : (base : Blocks) (log later : List Event) (b t : ℕ) (x : List ℕ) → IsLawful log → IsNewestNoticed log b t x later → cell_of base log b ≡ record { settled = x; pending = writes_to b later })
     (none : (base : Blocks) (log : List Event) (b : ℕ) → IsLawful log → HasNoneNoticed log b → cell_of base log b ≡ record { settled = base b; pending = writes_to b log }) where

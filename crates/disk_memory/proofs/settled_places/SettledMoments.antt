@@ -13,7 +13,7 @@ use Rattle.disk_memory.specs.Settled.{IsSettledPlace, AreSettledPlaces, name_at}
 use Rattle.disk_memory.proofs.settled_places.SettledWrites.{accepted_place, once}
 use Rattle.disk_memory.proofs.settled_places.SettledSteps.{settled_wrote, settled_lost, settled_other, settled_later, settled_here}
 use Rattle.disk_memory.proofs.log_rows.Events.{take_event, get_taken, lawful_behind, lawful_taken}
-use Rattle.disk_memory.proofs.crash_images.FateBehind.{behind_wrote, name_there}
+use Rattle.disk_memory.proofs.crash_images.FateBehind.{behind_at, name_there}
 
 -- at first no write is settled
 pub places_start : (n : ℕ) → AreSettledPlaces n [] (replicate n 0)
@@ -45,7 +45,7 @@ stands_before log k t h event =
 pub notice_has_place : (log : List Event) (k t : ℕ) → IsLawful log → slice_get log k ≡ Some (Noticed t) → ((p : ℕ) → name_at log p ≡ Some (names.Accepted t) → ⊥) → ⊥
 notice_has_place log k t h event none =
     let there = stands_before log k t h event in
-    none there.1 (behind_wrote 0 log there.1 t there.0 there.2 (get_taken log k there.1 (Wrote t there.0 there.2) there.3)).0
+    none there.1 (behind_at 0 log there.1 (Wrote t there.0 there.2) (get_taken log k there.1 (Wrote t there.0 there.2) there.3)).1
 
 -- a notice, and the place of the write of its ticket
 module _ (log : List Event) (k n t p d : ℕ) (x : List ℕ) (old : List ℕ) (h : IsLawful log) (event : slice_get log k ≡ Some (Noticed t)) (at : slice_get log p ≡ Some (Wrote t d x)) (s : AreSettledPlaces n (take k log) old) where

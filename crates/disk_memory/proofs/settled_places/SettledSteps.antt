@@ -14,26 +14,20 @@ use Rattle.disk_memory.proofs.log_rows.Events.{get_before, split_at, lawful_fron
 settled_at : (log : List Event) (b place t : ℕ) (x : List ℕ) → slice_get log place ≡ Some (Wrote t b x) → IsNoticed t log → ((u : ℕ) → IsWriteOf u b log → IsNoticed u log → u ≤ t) → IsSettledPlace log b (suc place)
 settled_at log b place t x at noticed greatest = (t, x, at, record { before = take place log; split = split_at log place (Wrote t b x) at; noticed = noticed; greatest = greatest })
 
--- an event that brings no notice, and no write that is noticed, leaves the settled place
+-- an event behind which each noticed write to the block was one before leaves the settled place
+settled_stays : (log : List Event) (e : Event) (b place : ℕ) → ((u : ℕ) → IsWriteOf u b (log ++ e ∷ []) → IsNoticed u (log ++ e ∷ []) → IsWriteOf u b log × IsNoticed u log) → IsSettledPlace log b place → IsSettledPlace (log ++ e ∷ []) b place
+settled_stays log e b zero old none = λ u w n. let o = old u w n in none u o.0 o.1
+settled_stays log e b (suc place) old s = settled_at (log ++ e ∷ []) b place s.0 s.1 (get_before log (e ∷ []) place _ s.2) (noticed_before s.0 log (e ∷ []) s.3.noticed) (λ u w n. let o = old u w n in s.3.greatest u o.0 o.1)
+
+-- so does one that brings no notice, and no write that is noticed
 settled_quiet : (log : List Event) (e : Event) (b place : ℕ) → ((u : ℕ) → ¬ IsNoticed u (e ∷ [])) → ((u : ℕ) → IsWriteOf u b (e ∷ []) → ¬ IsNoticed u log) → IsSettledPlace log b place → IsSettledPlace (log ++ e ∷ []) b place
-settled_quiet log e b zero quiet fresh none = λ u w n. old u w (⊎_elim (λ before. before) (λ now. absurd (quiet u now)) (noticed_parts u log (e ∷ []) n))
-  where
-    old : (u : ℕ) → IsWriteOf u b (log ++ e ∷ []) → ¬ IsNoticed u log
-    old u w n = ⊎_elim (λ before. none u before n) (λ now. fresh u now n) (write_parts u b log (e ∷ []) w)
-settled_quiet log e b (suc place) quiet fresh s =
-    settled_at (log ++ e ∷ []) b place s.0 s.1 (get_before log (e ∷ []) place _ s.2) (noticed_before s.0 log (e ∷ []) s.3.noticed)
-    (λ u w n. old u w (⊎_elim (λ before. before) (λ now. absurd (quiet u now)) (noticed_parts u log (e ∷ []) n)))
-  where
-    old : (u : ℕ) → IsWriteOf u b (log ++ e ∷ []) → IsNoticed u log → u ≤ s.0
-    old u w n = ⊎_elim (λ before. s.3.greatest u before n) (λ now. absurd (fresh u now n)) (write_parts u b log (e ∷ []) w)
+settled_quiet log e b place quiet fresh = settled_stays log e b place (λ u w n. ⊎_elim
+    (λ before. ⊎_elim (λ was. (was, before)) (λ now. absurd (fresh u now before)) (write_parts u b log (e ∷ []) w)) (λ now. absurd (quiet u now)) (noticed_parts u log (e ∷ []) n))
 
 -- a write leaves the settled place of each block
 pub settled_wrote : (log : List Event) (b place t d : ℕ) (x : List ℕ) → IsLawful (log ++ Wrote t d x ∷ []) → IsSettledPlace log b place → IsSettledPlace (log ++ Wrote t d x ∷ []) b place
 settled_wrote log b place t d x h s = settled_quiet log (Wrote t d x) b place (λ u n. false≢true n)
-    (λ u w n. ⊎_elim (λ is. above u is.0 (noticed_low log u (lawful_front [] log (Wrote t d x ∷ []) h) n) (lawful_behind [] log (Wrote t d x ∷ []) h).0) (λ none. none) w) s
-  where
-    above : (u : ℕ) → t ≡ u → u ≤ greatest_ticket log → greatest_ticket log < t → ⊥
-    above u is low lt = omega arith
+    (λ u w n. ⊎_elim (λ is. omega (arith, is.0, (noticed_low log u (lawful_front [] log (Wrote t d x ∷ []) h) n), (lawful_behind [] log (Wrote t d x ∷ []) h).0)) (λ none. none) w) s
 
 -- and so does a lost one
 pub settled_lost : (log : List Event) (b place d : ℕ) (x : List ℕ) → IsSettledPlace log b place → IsSettledPlace (log ++ Lost d x ∷ []) b place
@@ -60,20 +54,14 @@ module _ (log : List Event) (n d q : ℕ) (y : List ℕ) (h : IsLawful log) (at 
 
   -- the settled place of another block stays
   pub settled_other : (b place : ℕ) → (b ≡ d → ⊥) → IsSettledPlace log b place → IsSettledPlace (log ++ Noticed n ∷ []) b place
-  settled_other b zero apart none = λ u w told. ⊎_elim (λ before. none u (write_old u b w) before) (λ own. apart (block_is u b own (write_old u b w))) (noticed_now u told)
-  settled_other b (suc place) apart s =
-      settled_at (log ++ Noticed n ∷ []) b place s.0 s.1 (get_before log (Noticed n ∷ []) place _ s.2) (noticed_before s.0 log (Noticed n ∷ []) s.3.noticed)
-      (λ u w told. ⊎_elim (λ before. s.3.greatest u (write_old u b w) before) (λ own. absurd (apart (block_is u b own (write_old u b w)))) (noticed_now u told))
+  settled_other b place apart = settled_stays log (Noticed n) b place (λ u w told. ⊎_elim (λ before. (write_old u b w, before)) (λ own. absurd (apart (block_is u b own (write_old u b w)))) (noticed_now u told))
 
   -- and so does that of the write's block, where it is past the write
   pub settled_later : (place : ℕ) → q < place → IsSettledPlace log d place → IsSettledPlace (log ++ Noticed n ∷ []) d place
   settled_later zero past s = absurd (omega arith)
   settled_later (suc place) past s =
       settled_at (log ++ Noticed n ∷ []) d place s.0 s.1 (get_before log (Noticed n ∷ []) place _ s.2) (noticed_before s.0 log (Noticed n ∷ []) s.3.noticed)
-      (λ u w told. ⊎_elim (λ before. s.3.greatest u (write_old u d w) before) (λ own. below u own) (noticed_now u told))
-    where
-      below : (u : ℕ) → u ≡ n → u ≤ s.0
-      below u own = omega (arith, no_smaller log q place n s.0 d d y s.1 h at s.2 (omega arith))
+      (λ u w told. ⊎_elim (λ before. s.3.greatest u (write_old u d w) before) (λ own. omega (arith, no_smaller log q place n s.0 d d y s.1 h at s.2 (omega arith))) (noticed_now u told))
 
   -- else it becomes the write's
   pub settled_here : (place : ℕ) → place ≤ q → IsSettledPlace log d place → IsSettledPlace (log ++ Noticed n ∷ []) d (suc q)
@@ -82,10 +70,7 @@ module _ (log : List Event) (n d q : ℕ) (y : List ℕ) (h : IsLawful log) (at 
       (λ u w told. ⊎_elim (λ before. absurd (none u (write_old u d w) before)) (λ (own : u ≡ n). omega arith) (noticed_now u told))
   settled_here (suc place) within s =
       settled_at (log ++ Noticed n ∷ []) d q n y (get_before log (Noticed n ∷ []) q _ at) (noticed_last n log)
-      (λ u w told. ⊎_elim (λ before. below u (s.3.greatest u (write_old u d w) before)) (λ (own : u ≡ n). omega arith) (noticed_now u told))
-    where
-      below : (u : ℕ) → u ≤ s.0 → u ≤ n
-      below u low = omega (arith, ascend [] log place q s.0 n d d s.1 y h s.2 at (omega arith))
+      (λ u w told. ⊎_elim (λ before. omega (arith, (s.3.greatest u (write_old u d w) before), ascend [] log place q s.0 n d d s.1 y h s.2 at (omega arith))) (λ (own : u ≡ n). omega arith) (noticed_now u told))
 
 -- a settled place goes on with one more event
 settled_event : (log : List Event) (e : Event) (b place : ℕ) → IsLawful (log ++ e ∷ []) → IsSettledPlace log b place → (next : ℕ) × IsSettledPlace (log ++ e ∷ []) b next

@@ -1,4 +1,4 @@
-use Rattle.std.proofs.Common.{◌-◌, length, ◌∙◌, sym, ap, subst}
+use Rattle.std.proofs.Common.{inl, inr, ◌-◌, length, ◌∙◌, sym, ap, subst}
 use Rattle.base_types.specs.Seal.{Blocks}
 use Rattle.disk_contract.specs.Cell.{cell_of}
 use Rattle.layout_journal.specs.Spelling.{header_block}
@@ -7,7 +7,7 @@ use Rattle.crash_argument.specs.Mounting.{IsReplayedUpTo}
 use Rattle.crash_argument.specs.Ledger.{cells_of}
 use Rattle.crash_argument.specs.Opening.{closed_header, settled}
 use Rattle.crash_argument.proofs.log.Spending.{wait_failed}
-use Rattle.crash_argument.proofs.mount.OpeningMoments.{closed_waited, closed_failed, closed_upto}
+use Rattle.crash_argument.proofs.mount.OpeningMoments.{holds_closed, closed_upto}
 use Rattle.crash_argument.proofs.mount.OpeningSteps.{closing_is, then_waited, then_noticed, failed_write, failed_wait}
 use Rattle.disk_contract.specs.declared.disk.DiskFault.{DiskFault}
 use Rattle.crash_argument.proofs.log.Given.{given_now, on_err}
@@ -26,13 +26,13 @@ pub returns-clause-log : goal.returns-clause-log
 returns-clause-log g c = λ tells. then_noticed _ c.in_ok-ticket.ticket _ _ _ _ _ (c.write_header.ensures ∙ ap header_block c.closed_header-header.ensures.is) (c.in_ok-ticket.ensures.log tells) (c.wait.ensures.log tells) (c.in_ok-wait.ensures.noticed tells)
 
 pub returns-in_err-ticket-clause-holds : goal.returns-in_err-ticket-clause-holds
-returns-in_err-ticket-clause-holds g c = λ tells run idle found is_last. closed_failed c.the_journal_is_lawful.ensures c.journal_blocks_read_back.ensures.headers _ _ c.args.slot c.args.newest.now c.args.last run idle found is_last (closing_is c.args.newest.now c.args.last (length run) _ (c.the_journal_is_lawful.ensures.header_bounds _ _ c.args.newest.now found.newest.stands) is_last c.closed_header-header.ensures.epoch c.requires.turn c.closed_header-header.ensures.start c.ranges.last.fits) _ _ c.in_err-ticket.field-0.0 (c.write_header.ensures ∙ ap header_block c.closed_header-header.ensures.is) (c.in_err-ticket.ensures.log tells)
+returns-in_err-ticket-clause-holds g c = λ tells run idle found is_last. holds_closed c.the_journal_is_lawful.ensures c.journal_blocks_read_back.ensures.headers _ _ c.args.slot c.args.newest.now c.args.last run idle found is_last (closing_is c.args.newest.now c.args.last (length run) _ (c.the_journal_is_lawful.ensures.header_bounds _ _ c.args.newest.now found.newest.stands) is_last c.closed_header-header.ensures.epoch c.requires.turn c.closed_header-header.ensures.start c.ranges.last.fits) _ (inr (_, c.in_err-ticket.field-0.0, c.write_header.ensures ∙ ap header_block c.closed_header-header.ensures.is, c.in_err-ticket.ensures.log tells))
 
 pub returns-in_err-wait-clause-holds : goal.returns-in_err-wait-clause-holds
-returns-in_err-wait-clause-holds g c = λ tells run idle found is_last. closed_waited c.the_journal_is_lawful.ensures c.journal_blocks_read_back.ensures.headers _ _ c.args.slot c.args.newest.now c.args.last run idle found is_last (closing_is c.args.newest.now c.args.last (length run) _ (c.the_journal_is_lawful.ensures.header_bounds _ _ c.args.newest.now found.newest.stands) is_last c.closed_header-header.ensures.epoch c.requires.turn c.closed_header-header.ensures.start c.ranges.last.fits) _ (then_waited _ c.in_ok-ticket.ticket _ _ _ _ _ (c.write_header.ensures ∙ ap header_block c.closed_header-header.ensures.is) (c.in_ok-ticket.ensures.log tells) (c.wait.ensures.log tells))
+returns-in_err-wait-clause-holds g c = λ tells run idle found is_last. holds_closed c.the_journal_is_lawful.ensures c.journal_blocks_read_back.ensures.headers _ _ c.args.slot c.args.newest.now c.args.last run idle found is_last (closing_is c.args.newest.now c.args.last (length run) _ (c.the_journal_is_lawful.ensures.header_bounds _ _ c.args.newest.now found.newest.stands) is_last c.closed_header-header.ensures.epoch c.requires.turn c.closed_header-header.ensures.start c.ranges.last.fits) _ (inl (then_waited _ c.in_ok-ticket.ticket _ _ _ _ _ (c.write_header.ensures ∙ ap header_block c.closed_header-header.ensures.is) (c.in_ok-ticket.ensures.log tells) (c.wait.ensures.log tells)))
 
 pub returns-clause-holds : goal.returns-clause-holds
-returns-clause-holds g c = λ tells run idle found is_last. closed_waited c.the_journal_is_lawful.ensures c.journal_blocks_read_back.ensures.headers _ _ c.args.slot c.args.newest.now c.args.last run idle found is_last (closing_is c.args.newest.now c.args.last (length run) _ (c.the_journal_is_lawful.ensures.header_bounds _ _ c.args.newest.now found.newest.stands) is_last c.closed_header-header.ensures.epoch c.requires.turn c.closed_header-header.ensures.start c.ranges.last.fits) _ (then_waited _ c.in_ok-ticket.ticket _ _ _ _ _ (c.write_header.ensures ∙ ap header_block c.closed_header-header.ensures.is) (c.in_ok-ticket.ensures.log tells) (c.wait.ensures.log tells))
+returns-clause-holds g c = λ tells run idle found is_last. holds_closed c.the_journal_is_lawful.ensures c.journal_blocks_read_back.ensures.headers _ _ c.args.slot c.args.newest.now c.args.last run idle found is_last (closing_is c.args.newest.now c.args.last (length run) _ (c.the_journal_is_lawful.ensures.header_bounds _ _ c.args.newest.now found.newest.stands) is_last c.closed_header-header.ensures.epoch c.requires.turn c.closed_header-header.ensures.start c.ranges.last.fits) _ (inl (then_waited _ c.in_ok-ticket.ticket _ _ _ _ _ (c.write_header.ensures ∙ ap header_block c.closed_header-header.ensures.is) (c.in_ok-ticket.ensures.log tells) (c.wait.ensures.log tells)))
 
 pub returns-clause-closed : goal.returns-clause-closed
 returns-clause-closed g c = λ tells run idle found is_last.

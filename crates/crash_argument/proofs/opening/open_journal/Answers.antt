@@ -1,7 +1,7 @@
-use Rattle.std.proofs.Common.{◌-◌, ◌∙◌, ap}
+use Rattle.std.proofs.Common.{inl, inr, ◌-◌, ◌∙◌, ap}
 use Rattle.layout_journal.specs.Spelling.{header_block}
 use Rattle.crash_argument.specs.Opening.{opening_header}
-use Rattle.crash_argument.proofs.mount.OpeningMoments.{holds_waited, holds_failed, found_waited, found_failed}
+use Rattle.crash_argument.proofs.mount.OpeningMoments.{holds, holds_found}
 use Rattle.crash_argument.proofs.mount.OpeningSteps.{opened, then_waited, then_noticed, failed_write, failed_wait, is_low}
 use Rattle.crash_argument.proofs.mount.OnlyWrite.{one_written, stopped_writing, stopped_waiting}
 use Rattle.crash_argument.proofs.mount.Mounted.{mounted_safe}
@@ -33,33 +33,33 @@ returns-clause-opened g c = λ tells ready.
 
 pub returns-in_err-ticket-clause-holds : goal.returns-in_err-ticket-clause-holds
 returns-in_err-ticket-clause-holds g c = λ tells ready run.
-    holds_failed c.the_journal_is_lawful.ensures c.journal_blocks_read_back.ensures.headers _ _ c.args.slot c.args.newest.now c.args.last c.args.greatest_epoch c.requires.epoch c.requires.turn c.requires.last ready run _ _ c.in_err-ticket.field-0.0
-    (c.write_header.ensures ∙ ap header_block c.opening_header-header.ensures) (c.in_err-ticket.ensures.log tells)
+    holds c.the_journal_is_lawful.ensures c.journal_blocks_read_back.ensures.headers _ _ c.args.slot c.args.newest.now c.args.last c.args.greatest_epoch c.requires.epoch c.requires.turn c.requires.last ready run _
+    (inr (_, c.in_err-ticket.field-0.0, c.write_header.ensures ∙ ap header_block c.opening_header-header.ensures, c.in_err-ticket.ensures.log tells))
 
 pub returns-in_err-ticket-clause-replayed : goal.returns-in_err-ticket-clause-replayed
 returns-in_err-ticket-clause-replayed g c = λ tells was old_slot h run ready found done.
-    found_failed c.the_journal_is_lawful.ensures c.journal_blocks_read_back.ensures.headers _ _ c.args.slot c.args.newest.now c.args.last c.args.greatest_epoch c.requires.epoch c.requires.turn c.requires.last ready was old_slot h run found done _ _ c.in_err-ticket.field-0.0
-    (c.write_header.ensures ∙ ap header_block c.opening_header-header.ensures) (c.in_err-ticket.ensures.log tells)
+    holds_found c.the_journal_is_lawful.ensures c.journal_blocks_read_back.ensures.headers _ _ c.args.slot c.args.newest.now c.args.last c.args.greatest_epoch c.requires.epoch c.requires.turn c.requires.last ready was old_slot h run found done _
+    (inr (_, c.in_err-ticket.field-0.0, c.write_header.ensures ∙ ap header_block c.opening_header-header.ensures, c.in_err-ticket.ensures.log tells))
 
 pub returns-in_err-wait-clause-holds : goal.returns-in_err-wait-clause-holds
 returns-in_err-wait-clause-holds g c = λ tells ready run.
-    holds_waited c.the_journal_is_lawful.ensures c.journal_blocks_read_back.ensures.headers _ _ c.args.slot c.args.newest.now c.args.last c.args.greatest_epoch c.requires.epoch c.requires.turn c.requires.last ready run _
-    (then_waited _ c.in_ok-ticket.ticket _ _ _ _ _ (c.write_header.ensures ∙ ap header_block c.opening_header-header.ensures) (c.in_ok-ticket.ensures.log tells) (c.wait.ensures.log tells))
+    holds c.the_journal_is_lawful.ensures c.journal_blocks_read_back.ensures.headers _ _ c.args.slot c.args.newest.now c.args.last c.args.greatest_epoch c.requires.epoch c.requires.turn c.requires.last ready run _
+    (inl (then_waited _ c.in_ok-ticket.ticket _ _ _ _ _ (c.write_header.ensures ∙ ap header_block c.opening_header-header.ensures) (c.in_ok-ticket.ensures.log tells) (c.wait.ensures.log tells)))
 
 pub returns-in_err-wait-clause-replayed : goal.returns-in_err-wait-clause-replayed
 returns-in_err-wait-clause-replayed g c = λ tells was old_slot h run ready found done.
-    found_waited c.the_journal_is_lawful.ensures c.journal_blocks_read_back.ensures.headers _ _ c.args.slot c.args.newest.now c.args.last c.args.greatest_epoch c.requires.epoch c.requires.turn c.requires.last ready was old_slot h run found done _
-    (then_waited _ c.in_ok-ticket.ticket _ _ _ _ _ (c.write_header.ensures ∙ ap header_block c.opening_header-header.ensures) (c.in_ok-ticket.ensures.log tells) (c.wait.ensures.log tells))
+    holds_found c.the_journal_is_lawful.ensures c.journal_blocks_read_back.ensures.headers _ _ c.args.slot c.args.newest.now c.args.last c.args.greatest_epoch c.requires.epoch c.requires.turn c.requires.last ready was old_slot h run found done _
+    (inl (then_waited _ c.in_ok-ticket.ticket _ _ _ _ _ (c.write_header.ensures ∙ ap header_block c.opening_header-header.ensures) (c.in_ok-ticket.ensures.log tells) (c.wait.ensures.log tells)))
 
 pub returns-clause-holds : goal.returns-clause-holds
 returns-clause-holds g c = λ tells ready run.
-    holds_waited c.the_journal_is_lawful.ensures c.journal_blocks_read_back.ensures.headers _ _ c.args.slot c.args.newest.now c.args.last c.args.greatest_epoch c.requires.epoch c.requires.turn c.requires.last ready run _
-    (then_waited _ c.in_ok-ticket.ticket _ _ _ _ _ (c.write_header.ensures ∙ ap header_block c.opening_header-header.ensures) (c.in_ok-ticket.ensures.log tells) (c.wait.ensures.log tells))
+    holds c.the_journal_is_lawful.ensures c.journal_blocks_read_back.ensures.headers _ _ c.args.slot c.args.newest.now c.args.last c.args.greatest_epoch c.requires.epoch c.requires.turn c.requires.last ready run _
+    (inl (then_waited _ c.in_ok-ticket.ticket _ _ _ _ _ (c.write_header.ensures ∙ ap header_block c.opening_header-header.ensures) (c.in_ok-ticket.ensures.log tells) (c.wait.ensures.log tells)))
 
 pub returns-clause-replayed : goal.returns-clause-replayed
 returns-clause-replayed g c = λ tells was old_slot h run ready found done.
-    found_waited c.the_journal_is_lawful.ensures c.journal_blocks_read_back.ensures.headers _ _ c.args.slot c.args.newest.now c.args.last c.args.greatest_epoch c.requires.epoch c.requires.turn c.requires.last ready was old_slot h run found done _
-    (then_waited _ c.in_ok-ticket.ticket _ _ _ _ _ (c.write_header.ensures ∙ ap header_block c.opening_header-header.ensures) (c.in_ok-ticket.ensures.log tells) (c.wait.ensures.log tells))
+    holds_found c.the_journal_is_lawful.ensures c.journal_blocks_read_back.ensures.headers _ _ c.args.slot c.args.newest.now c.args.last c.args.greatest_epoch c.requires.epoch c.requires.turn c.requires.last ready was old_slot h run found done _
+    (inl (then_waited _ c.in_ok-ticket.ticket _ _ _ _ _ (c.write_header.ensures ∙ ap header_block c.opening_header-header.ensures) (c.in_ok-ticket.ensures.log tells) (c.wait.ensures.log tells)))
 
 pub returns-clause-log : goal.returns-clause-log
 returns-clause-log g c = λ tells.

@@ -1,9 +1,10 @@
-use Rattle.std.proofs.Common.{◌≡◌, ◌<◌, ◌+◌, true, false, nat_lt, length, slice_set, ap, subst, sym, rules}
+use Rattle.std.proofs.Common.{◌≡◌, ◌<◌, ◌+◌, true, false, nat_lt, length, slice_set, Bool, not, ◌&&◌, ap, ap₂, subst, refl, sym, rules}
+use Rattle.disk_contract.specs.declared.event.Event.TheVariants.{Wrote}
 use Rattle.disk_memory.specs.declared.calls.DiskCall.TheVariants.{Write}
 use Rattle.disk_memory.specs.Log.{LogState, write_count}
 use Rattle.disk_memory.specs.MemDisk.{CountsLost, IsDisk, GoesAsKnown, is_listed}
 use Rattle.disk_memory.proofs.disk_calls.LastDisks.{disk_wrote}
-use Rattle.disk_memory.proofs.disk_calls.Manners.{counts_wrote, goes_wrote}
+use Rattle.disk_memory.proofs.disk_calls.Manners.{counts_quiet, goes_event}
 use Rattle.disk_memory.proofs.disk.MemDisk.accept.Goals as goal
 
 pub invariant_of-self : goal.invariant_of-self
@@ -18,7 +19,7 @@ invariant_of-self c =
       subst (λ log. IsDisk d.base log (slice_set d.last.items c.args.b place)) (sym c.add_write-ticket.ensures.state)
           (disk_wrote d.base d.log d.last.items c.add_write-ticket.result c.args.b place c.args.from.now low some at c.self.invariant.0),
       subst (λ (log : LogState). GoesAsKnown log.room log.events d.notices d.fails.items d.read_faults d.polls d.known) (sym c.add_write-ticket.ensures.state)
-          (goes_wrote d.log.room d.log.events d.notices d.fails.items d.read_faults d.polls d.known c.add_write-ticket.result c.args.b c.args.from.now room unlisted c.self.invariant.1),
+          (goes_event d.log.room d.log.events d.notices d.fails.items d.read_faults d.polls d.known (Wrote c.add_write-ticket.result c.args.b c.args.from.now) (λ rule. ap₂ (λ (v w : Bool). v && not w) room unlisted) c.self.invariant.1),
       subst (λ (log : LogState). CountsLost d.known d.faults log.events) (sym c.add_write-ticket.ensures.state)
-          (counts_wrote d.known d.faults d.log.events c.add_write-ticket.result c.args.b c.args.from.now c.self.invariant.2),
+          (counts_quiet d.known d.faults d.log.events (Wrote c.add_write-ticket.result c.args.b c.args.from.now) refl c.self.invariant.2),
     )

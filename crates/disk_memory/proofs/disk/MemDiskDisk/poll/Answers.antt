@@ -1,4 +1,4 @@
-use Rattle.std.proofs.Common.{◌≡◌, true, ◌++◌, [], ◌∷◌, Err, sym, subst, ◌∙◌, rules}
+use Rattle.std.proofs.Common.{◌≡◌, inr, true, ◌++◌, [], ◌∷◌, Err, sym, subst, ◌∙◌, rules}
 use Rattle.std.proofs.lemmas.Bool.{false≢true}
 use Rattle.base_types.specs.Counts.{next_count}
 use Rattle.disk_contract.specs.declared.event.Event.TheVariants.{Noticed}
@@ -6,7 +6,7 @@ use Rattle.disk_contract.specs.Disk.{IsOpen}
 use Rattle.disk_contract.specs.Manner.{HasFailedBy}
 use Rattle.disk_memory.specs.declared.calls.DiskCall.TheVariants.{Poll}
 use Rattle.disk_memory.specs.MemDisk.{GoesAsKnown, MemDiskState, fails_next, is_listed, manner_of, next_call}
-use Rattle.disk_memory.proofs.disk_calls.Manners.{goes_unpolled, known_answer, poll_fails}
+use Rattle.disk_memory.proofs.disk_calls.Manners.{goes_unpolled, known_answer, poll_stalls}
 use Rattle.disk_memory.proofs.disk_calls.PollTickets.{polled_open}
 use Rattle.disk_memory.proofs.disk.MemDiskDisk.poll.Goals as goal
 
@@ -29,7 +29,7 @@ pub returns-then-fails_next-clause-reason : goal.returns-then-fails_next-clause-
 returns-then-fails_next-clause-reason c =
     let d = c.self.inside in
     let listed : is_listed Poll (next_call Poll c.args.self.now) d.fails.items ≡ true = search rules in
-    subst (λ (n : MemDiskState). HasFailedBy (manner_of n) n.log) (sym c.fault.ensures.state) (poll_fails d.log.room d.fails.items d.known d.log.events (next_call Poll c.args.self.now) listed)
+    subst (λ (n : MemDiskState). HasFailedBy (manner_of n) n.log) (sym c.fault.ensures.state) (inr (inr (poll_stalls d.log.room d.fails.items d.known (next_call Poll c.args.self.now) listed)))
 
 pub returns-then-fails_next-clause-known : goal.returns-then-fails_next-clause-known
 returns-then-fails_next-clause-known c =

@@ -1,10 +1,10 @@
-use Rattle.std.proofs.Common.{◌≡◌, true, ◌++◌, [], ◌∷◌, sym, subst, rules}
+use Rattle.std.proofs.Common.{◌≡◌, inr, true, ◌++◌, [], ◌∷◌, sym, subst, rules}
 use Rattle.disk_contract.specs.declared.event.Event.TheVariants.{Noticed}
 use Rattle.disk_contract.specs.Disk.{IsOpen}
 use Rattle.disk_contract.specs.Manner.{HasFailedBy}
 use Rattle.disk_memory.specs.declared.calls.DiskCall.TheVariants.{Wait}
 use Rattle.disk_memory.specs.MemDisk.{MemDiskState, is_listed, manner_of, next_call}
-use Rattle.disk_memory.proofs.disk_calls.Manners.{wait_fails, wait_stalls}
+use Rattle.disk_memory.proofs.disk_calls.Manners.{wait_stalls}
 use Rattle.disk_memory.proofs.disk_calls.CallNotices.{noticed_now, one_notice}
 use Rattle.disk_memory.proofs.disk.MemDiskDisk.wait.Goals as goal
 
@@ -23,7 +23,7 @@ pub returns-then-listed-clause-reason : goal.returns-then-listed-clause-reason
 returns-then-listed-clause-reason c = λ given.
     let d = c.self.inside in
     let listed : is_listed Wait (next_call Wait c.args.self.now) d.fails.items ≡ true = search rules in
-    subst (λ (n : MemDiskState). HasFailedBy (manner_of n) n.log) (sym c.fault.ensures.state) (wait_fails d.log.room d.fails.items d.known d.log.events (next_call Wait c.args.self.now) listed)
+    subst (λ (n : MemDiskState). HasFailedBy (manner_of n) n.log) (sym c.fault.ensures.state) (inr (inr (wait_stalls d.log.room d.fails.items d.known (next_call Wait c.args.self.now) listed)))
 
 pub returns-then-listed-clause-stalls : goal.returns-then-listed-clause-stalls
 returns-then-listed-clause-stalls c = λ given.

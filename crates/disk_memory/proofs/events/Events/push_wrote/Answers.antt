@@ -1,9 +1,9 @@
-use Rattle.std.proofs.Common.{◌≡◌, ◌<◌, ◌-◌, ◌++◌, ◌∙◌, List, [], ◌∷◌, length, sym, ap, subst, arith, length-append}
+use Rattle.std.proofs.Common.{◌≡◌, ◌<◌, ◌-◌, ◌++◌, ◌∙◌, List, [], ◌∷◌, length, refl, sym, ap, subst, arith, length-append}
 use Rattle.disk_contract.specs.declared.event.Event.{Event}
 use Rattle.disk_contract.specs.declared.event.Event.TheVariants as events
 use Rattle.disk_memory.specs.declared.events.Entry.TheVariants.{Wrote}
 use Rattle.disk_memory.specs.Events.{EventsState}
-use Rattle.disk_memory.proofs.kept_events.Entries.{room_bytes, one_wrote}
+use Rattle.disk_memory.proofs.kept_events.Entries.{room_bytes, one_last}
 use Rattle.disk_memory.proofs.log_rows.AddRows.{pushed}
 use Rattle.disk_memory.proofs.events.Events.push_wrote.Goals as goal
 
@@ -19,6 +19,6 @@ pub returns : goal.returns
 returns c =
     let bytes : c.push.new.self.items ≡ c.self.inside.bytes.items ++ c.args.bytes.now ∷ [] = pushed _ _ _ _ _ c.unwrap.ensures c.push.ensures.items in
     let more : c.push-2.new.self.items ≡ c.self.inside.entries.items ++ Wrote c.args.ticket c.args.block c.len-at.result ∷ [] = pushed _ _ _ _ _ c.unwrap-2.ensures c.push-2.ensures.items in
-    let new = one_wrote _ _ _ _ c.args.ticket c.args.block c.len-at.result c.args.bytes.now bytes more (omega (arith, c.len-at.ensures, c.self.inside.bytes.ok)) c.self.invariant.held in
+    let new = one_last _ _ _ _ (λ k. Wrote c.args.ticket c.args.block k) c.len-at.result c.args.bytes.now (λ xs k. refl) bytes more (omega (arith, c.len-at.ensures, c.self.inside.bytes.ok)) c.self.invariant.held in
     ap (λ (es : List Event). record { events = es; ready = c.self.inside.ready - 1; most = c.self.inside.most }) new
     ∙ ap (λ (s : EventsState). record s { events = s.events ++ events.Wrote c.args.ticket c.args.block c.args.bytes.now ∷ []; ready = s.ready - 1 }) c.self.view_is

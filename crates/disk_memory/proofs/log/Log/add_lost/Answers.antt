@@ -1,18 +1,14 @@
 use Rattle.std.proofs.Common.{◌≡◌, ◌<◌, ◌-◌, ◌++◌, [], ◌∷◌, sym, subst, arith, length}
 use Rattle.disk_memory.specs.Log.{LogState}
 use Rattle.disk_memory.proofs.log_rows.AddRows.{pushed}
-use Rattle.disk_memory.proofs.log_rows.AddKept.{room_for_lost, kept_lost}
+use Rattle.disk_memory.proofs.log_rows.AddKept.{more_ready, room_for_lost, kept_lost}
 use Rattle.disk_memory.proofs.log.Log.add_lost.Goals as goal
 
 pub unwrap-requires : goal.unwrap-requires
-unwrap-requires c =
-    let some = subst (λ (s : LogState). 0 < s.ready) (sym c.self.view_is) c.requires in
-    c.push.ensures.succeeds (omega (arith, room_for_lost c.self.invariant (omega (arith, some, c.self.invariant.few)), c.self.inside.lost.ok))
+unwrap-requires c = c.push.ensures.succeeds (omega (arith, room_for_lost c.self.invariant (more_ready c.self.invariant c.self.view_is c.requires), c.self.inside.lost.ok))
 
 pub push_lost-requires-clause-room : goal.push_lost-requires-clause-room
-push_lost-requires-clause-room c =
-    let some = subst (λ (s : LogState). 0 < s.ready) (sym c.self.view_is) c.requires in
-    (room_for_lost c.self.invariant (omega (arith, some, c.self.invariant.few))).0
+push_lost-requires-clause-room c = (room_for_lost c.self.invariant (more_ready c.self.invariant c.self.view_is c.requires)).0
 
 pub invariant_of-self : goal.invariant_of-self
 invariant_of-self c =

@@ -2,29 +2,21 @@ use Rattle.std.proofs.Common.{◌≡◌, ◌<◌, ◌-◌, ◌+◌, ◌++◌, []
 use Rattle.disk_contract.specs.Lawful.{IsLawful}
 use Rattle.disk_memory.specs.Log.{LogState}
 use Rattle.disk_memory.proofs.log_rows.AddRows.{pushed}
-use Rattle.disk_memory.proofs.log_rows.AddKept.{room_for_wrote, kept_wrote}
+use Rattle.disk_memory.proofs.log_rows.AddKept.{more_ready, room_for_wrote, kept_wrote}
 use Rattle.disk_memory.proofs.log.Log.add_write.Goals as goal
 use Rattle.disk_memory.proofs.log_rows.Events.{unnoticed_above}
 
 pub unwrap-requires : goal.unwrap-requires
-unwrap-requires c =
-    let some = subst (λ (s : LogState). 0 < s.ready) (sym c.self.view_is) c.requires in
-    c.push.ensures.succeeds (omega (arith, room_for_wrote c.self.invariant (omega (arith, some, c.self.invariant.few)), c.self.inside.tickets.ok))
+unwrap-requires c = c.push.ensures.succeeds (omega (arith, room_for_wrote c.self.invariant (more_ready c.self.invariant c.self.view_is c.requires), c.self.inside.tickets.ok))
 
 pub unwrap-requires-2 : goal.unwrap-requires-2
-unwrap-requires-2 c =
-    let some = subst (λ (s : LogState). 0 < s.ready) (sym c.self.view_is) c.requires in
-    c.push-2.ensures.succeeds (omega (arith, room_for_wrote c.self.invariant (omega (arith, some, c.self.invariant.few)), c.self.inside.places.ok))
+unwrap-requires-2 c = c.push-2.ensures.succeeds (omega (arith, room_for_wrote c.self.invariant (more_ready c.self.invariant c.self.view_is c.requires), c.self.inside.places.ok))
 
 pub join-requires : goal.join-requires
-join-requires c =
-    let some = subst (λ (s : LogState). 0 < s.ready) (sym c.self.view_is) c.requires in
-    (room_for_wrote c.self.invariant (omega (arith, some, c.self.invariant.few))).3
+join-requires c = (room_for_wrote c.self.invariant (more_ready c.self.invariant c.self.view_is c.requires)).3
 
 pub push_wrote-requires-clause-room : goal.push_wrote-requires-clause-room
-push_wrote-requires-clause-room c =
-    let some = subst (λ (s : LogState). 0 < s.ready) (sym c.self.view_is) c.requires in
-    (room_for_wrote c.self.invariant (omega (arith, some, c.self.invariant.few))).0
+push_wrote-requires-clause-room c = (room_for_wrote c.self.invariant (more_ready c.self.invariant c.self.view_is c.requires)).0
 
 pub invariant_of-self : goal.invariant_of-self
 invariant_of-self c =
