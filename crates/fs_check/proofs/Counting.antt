@@ -1,5 +1,5 @@
 -- How many slots name a node, one slot and one directory more.
-use Rattle.std.proofs.Common.{◌≡◌, ℕ, zero, suc, ◌+◌, ◌-◌, ◌^◌, ◌<◌, ◌≤◌, ◌==◌, min, true, false, Bool, cond, List, [], ◌∷◌, ◌++◌, length, set, get_or, Some, slice_get, refl, sym, ap, ◌∙◌, arith, ◌⊎◌, inl, inr, subst, get_or-set_same, get_or-set_other}
+use Rattle.std.proofs.Common.{◌≡◌, ℕ, zero, suc, ◌+◌, ◌-◌, ◌^◌, ◌<◌, ◌==◌, min, true, false, Bool, cond, List, [], ◌∷◌, ◌++◌, length, set, get_or, Some, slice_get, refl, sym, ap, ◌∙◌, arith, subst, get_or-set_same, get_or-set_other, ⊎_elim}
 use Rattle.std.proofs.lemmas.Bool.{cases_eq, cases_lt, ne_eqb, eq-eqb}
 use Rattle.std.proofs.lemmas.Option.{same_Some}
 use Rattle.layout_bytes.specs.declared.slot.Slot.{Slot}
@@ -46,30 +46,23 @@ naming_other n slots s e = omega (arith, naming-append n slots (s ∷ []), one_f
 -- one slot more
 pub count_more : (slots : List Slot) (named now : List ℕ) (s : Slot) (v : ℕ) → length now ≡ length named → AreCounted slots named now → s.node < length named → v ≡ min (get_or now s.node 0 + 1) (2 ^ 64 - 1)
     → AreCounted (slots ++ s ∷ []) named (set now s.node v)
-count_more slots named now s v same counted inside is n low = by (cases_eq n s.node)
-  where
-    by : (n ≡ s.node) ⊎ (n ≡ s.node → ⊥) → get_or (set now s.node v) n 0 ≡ capped (get_or named n 0 + naming n (slots ++ s ∷ []))
-    by (inl e) =
-        ap (λ k. get_or (set now s.node v) k 0) e
-        ∙ get_or-set_same now s.node v 0 (omega (arith, same, inside))
-        ∙ capped_more (get_or now s.node 0) (get_or named n 0 + naming n slots) v (ap (λ k. get_or now k 0) (sym e) ∙ counted n low) is
-        ∙ ap capped (omega (arith, naming_same n slots s e))
-    by (inr apart) =
-        get_or-set_other now s.node n v 0 apart
-        ∙ counted n low
-        ∙ ap (λ k. capped (get_or named n 0 + k)) (sym (naming_other n slots s apart))
+count_more slots named now s v same counted inside is n low = ⊎_elim (λ e. ap (λ k. get_or (set now s.node v) k 0) e
+    ∙ get_or-set_same now s.node v 0 (omega (arith, same, inside))
+    ∙ capped_more (get_or now s.node 0) (get_or named n 0 + naming n slots) v (ap (λ k. get_or now k 0) (sym e) ∙ counted n low) is
+    ∙ ap capped (omega (arith, naming_same n slots s e)))
+    (λ apart. get_or-set_other now s.node n v 0 apart
+    ∙ counted n low
+    ∙ ap (λ k. capped (get_or named n 0 + k)) (sym (naming_other n slots s apart)))
+    (cases_eq n s.node)
 
 -- one slot more that may name what it names
 pub names_more : (nodes : List Looked) (slots : List Slot) (at : ℕ) (s : Slot) → slice_get slots at ≡ Some s → ((i : ℕ) (t : Slot) → i < at → slice_get slots i ≡ Some t → MayName nodes t.node) → MayName nodes s.node
     → (i : ℕ) (t : Slot) → i < at + 1 → slice_get slots i ≡ Some t → MayName nodes t.node
-names_more nodes slots at s here before may i t low is = by (cases_lt i at)
-  where
-    by : (i < at) ⊎ (at ≤ i) → MayName nodes t.node
-    by (inl less) = before i t less is
-    by (inr more) =
-        let e : at ≡ i = omega (arith, low, more) in
-        let same : s ≡ t = same_Some s t (sym here ∙ ap (slice_get slots) e ∙ is) in
-        subst (λ (u : Slot). MayName nodes u.node) same may
+names_more nodes slots at s here before may i t low is = ⊎_elim (λ less. before i t less is)
+    (λ more. let e : at ≡ i = omega (arith, low, more) in
+    let same : s ≡ t = same_Some s t (sym here ∙ ap (slice_get slots) e ∙ is) in
+    subst (λ (u : Slot). MayName nodes u.node) same may)
+    (cases_lt i at)
 
 pub capped_sum : (a b : ℕ) → capped (capped a + b) ≡ capped (a + b)
 capped_sum a b = omega arith

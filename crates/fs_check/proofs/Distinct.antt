@@ -1,5 +1,5 @@
 -- Names of slots that are kept in a set, one slot more.
-use Rattle.std.proofs.Common.{◌≡◌, ℕ, zero, suc, Bool, true, false, cond, not, List, [], ◌∷◌, ◌++◌, length, take, Some, slice_get, refl, sym, ap, ◌∙◌, arith, ◌⊎◌, inl, inr, length-take}
+use Rattle.std.proofs.Common.{◌≡◌, ℕ, zero, suc, Bool, true, false, cond, not, List, [], ◌∷◌, ◌++◌, length, take, Some, slice_get, refl, sym, ap, ◌∙◌, arith, ◌⊎◌, inl, inr, length-take, ⊎_elim}
 use Rattle.std.specs.declared.cmp.Ordering.{Ordering}
 use Rattle.std.specs.declared.cmp.Ordering.TheVariants.{Less, Equal, Greater}
 use Rattle.std.specs.Ordering.{nat_cmp, is_eq}
@@ -24,11 +24,9 @@ get_split : (xs : List Slot) (s t : Slot) (i : ℕ) → slice_get (xs ++ s ∷ [
 get_split [] s t zero h = inr (refl, sym (same_Some s t h))
 get_split [] s t (suc i) h = absurd cc
 get_split (x ∷ xs) s t zero h = inl h
-get_split (x ∷ xs) s t (suc i) h = on (get_split xs s t i h)
-  where
-    on : (slice_get xs i ≡ Some t) ⊎ AtEnd xs s t i → (slice_get xs i ≡ Some t) ⊎ AtEnd (x ∷ xs) s t (suc i)
-    on (inl e) = inl e
-    on (inr e) = inr (ap suc e.0, e.1)
+get_split (x ∷ xs) s t (suc i) h = ⊎_elim (λ e. inl e)
+    (λ e. inr (ap suc e.0, e.1))
+    (get_split xs s t i h)
 
 get_front : (xs : List Slot) (s t : Slot) (i : ℕ) → slice_get xs i ≡ Some t → slice_get (xs ++ s ∷ []) i ≡ Some t
 get_front [] s t i h = absurd cc
@@ -97,11 +95,9 @@ came true x e = inr refl
 came false x e = inl e
 
 pub came_from : (k q : List ℕ) (x : Bool) → cond (is_eq (slice_cmp nat_cmp k q)) true x ≡ true → (x ≡ true) ⊎ (k ≡ q)
-came_from k q x e = by (came (is_eq (slice_cmp nat_cmp k q)) x e)
-  where
-    by : (x ≡ true) ⊎ (is_eq (slice_cmp nat_cmp k q) ≡ true) → (x ≡ true) ⊎ (k ≡ q)
-    by (inl h) = inl h
-    by (inr h) = inr (exact_bytes k q (equal (slice_cmp nat_cmp k q) h))
+came_from k q x e = ⊎_elim (λ h. inl h)
+    (λ h. inr (exact_bytes k q (equal (slice_cmp nat_cmp k q) h)))
+    (came (is_eq (slice_cmp nat_cmp k q)) x e)
 
 pub not_new : (added has : Bool) → added ≡ not has → added ≡ false → has ≡ true
 not_new added true e h = refl

@@ -1,5 +1,5 @@
 -- The first look at the nodes, one node more, and all of them.
-use Rattle.std.proofs.Common.{◌≡◌, ◌≢◌, ℕ, ◌+◌, ◌/◌, ◌<◌, ◌≤◌, Bool, true, false, ◌&&◌, nat_le, List, [], ◌∷◌, ◌++◌, length, Option, None, Some, option_map, refl, sym, ap, ◌∙◌, arith, subst, ◌⊎◌, inl, inr}
+use Rattle.std.proofs.Common.{◌≡◌, ◌≢◌, ℕ, ◌+◌, ◌/◌, ◌<◌, ◌≤◌, Bool, true, false, ◌&&◌, nat_le, List, [], ◌∷◌, ◌++◌, length, Option, None, Some, option_map, refl, sym, ap, ◌∙◌, arith, subst, ⊎_elim}
 use Rattle.std.proofs.lemmas.Bool.{cases_lt, ne_eqb, lt-leb}
 use Rattle.std.proofs.lemmas.List.{get_or_append_left, get_or_push, get_or_past}
 use Rattle.std.proofs.lemmas.Option.{none-some, same_Some}
@@ -34,13 +34,10 @@ look_seen (Some x) found look e h = look_as x x.kind look (subst (λ f. IsLookOf
 -- one node more
 pub seen_push : (files : Files) (nodes : List Looked) (n : ℕ) (found : Option FileFacts) (look : Looked) → length nodes ≡ n → ((k : ℕ) → k < n → IsSeen (files k) (seen nodes k)) → found ≡ option_map facts_of (files n) → IsLookOf found look
     → (k : ℕ) → k < n + 1 → IsSeen (files k) (seen (nodes ++ look ∷ []) k)
-seen_push files nodes n found look len before e h k low = by (cases_lt k n)
-  where
-    by : (k < n) ⊎ (n ≤ k) → IsSeen (files k) (seen (nodes ++ look ∷ []) k)
-    by (inl less) = subst (IsSeen (files k)) (sym (get_or_append_left nodes (look ∷ []) Unused k (omega (arith, less, len)))) (before k less)
-    by (inr more) =
-        let same : n ≡ k = omega (arith, low, more) in
-        subst (IsSeen (files k)) (sym (get_or_push nodes look Unused k (len ∙ same))) (look_seen (files k) found look (e ∙ ap (λ j. option_map facts_of (files j)) same) h)
+seen_push files nodes n found look len before e h k low = ⊎_elim (λ less. subst (IsSeen (files k)) (sym (get_or_append_left nodes (look ∷ []) Unused k (omega (arith, less, len)))) (before k less))
+    (λ more. let same : n ≡ k = omega (arith, low, more) in
+    subst (IsSeen (files k)) (sym (get_or_push nodes look Unused k (len ∙ same))) (look_seen (files k) found look (e ∙ ap (λ j. option_map facts_of (files j)) same) h))
+    (cases_lt k n)
 
 -- the first place stays
 pub zero_push : (nodes : List Looked) (n : ℕ) (look : Looked) → length nodes ≡ n → 1 ≤ n → seen nodes 0 ≡ Unused → seen (nodes ++ look ∷ []) 0 ≡ Unused
@@ -57,11 +54,9 @@ none_above g m k h = ap (option_map (file_of m)) (none_by (nat_le 1 k) (nat_le k
 
 -- all nodes were seen
 pub all_seen : (g : Geometry) (m : Blocks) (nodes : List Looked) (n : ℕ) → length nodes ≡ n → g.i < n → ((k : ℕ) → k < n → IsSeen (files_of g m k) (seen nodes k)) → AreSeen (files_of g m) nodes
-all_seen g m nodes n len most before k = by (cases_lt k n)
-  where
-    by : (k < n) ⊎ (n ≤ k) → IsSeen (files_of g m k) (seen nodes k)
-    by (inl less) = before k less
-    by (inr more) = subst (λ o. IsSeen o (seen nodes k)) (sym (none_above g m k (omega (arith, most, more)))) (get_or_past nodes k Unused (omega (arith, len, more)))
+all_seen g m nodes n len most before k = ⊎_elim (λ less. before k less)
+    (λ more. subst (λ o. IsSeen o (seen nodes k)) (sym (none_above g m k (omega (arith, most, more)))) (get_or_past nodes k Unused (omega (arith, len, more))))
+    (cases_lt k n)
 
 wrong_inode : (x : FileNode) → x.kind ≡ kind.Dir → x.links ≢ 1 → inode_of x ≡ None
 wrong_inode x is link =

@@ -1,5 +1,5 @@
 -- The directories that the check went through, one number more.
-use Rattle.std.proofs.Common.{◌≡◌, ℕ, ◌+◌, ◌-◌, ◌<◌, ◌≤◌, List, [], length, get_or, refl, sym, ap, ◌∙◌, arith, subst, ◌⊎◌, inl, inr}
+use Rattle.std.proofs.Common.{◌≡◌, ℕ, ◌+◌, ◌-◌, ◌<◌, ◌≤◌, List, [], length, get_or, refl, sym, ap, ◌∙◌, arith, subst, ◌⊎◌, inl, inr, ⊎_elim}
 use Rattle.std.proofs.lemmas.Bool.{cases_lt}
 use Rattle.std.proofs.lemmas.List.{get_or_past}
 use Rattle.layout_bytes.specs.declared.slot.Slot.{Slot}
@@ -62,8 +62,6 @@ went_more files nodes k named new seen_all low same went by = record {
 
 -- each directory is good once all numbers were gone through
 pub good_all : (nodes : List Looked) (m : Inodes) (named : List ℕ) → WentUpTo nodes m (length nodes) named → (d : ℕ) → IsGoodDir nodes m d (seen nodes d)
-good_all nodes m named went d = by (cases_lt d (length nodes))
-  where
-    by : (d < length nodes) ⊎ (length nodes ≤ d) → IsGoodDir nodes m d (seen nodes d)
-    by (inl low) = went.dirs d low
-    by (inr high) = unused_good nodes m d (seen nodes d) (get_or_past nodes d Unused high)
+good_all nodes m named went d = ⊎_elim (λ low. went.dirs d low)
+    (λ high. unused_good nodes m d (seen nodes d) (get_or_past nodes d Unused high))
+    (cases_lt d (length nodes))

@@ -1,12 +1,10 @@
 -- What the whole check answers, from what its second part does, over plain variables.
-use Rattle.std.proofs.Common.{◌≡◌, subst, ap, ◌∙◌}
+use Rattle.std.proofs.Common.{◌≡◌, subst}
 use Rattle.base_types.specs.Seal.{Blocks}
 use Rattle.layout_geometry.specs.Geometry.{Geometry}
 use Rattle.engine_blocks.specs.State.{Bookkeeping, State}
-use Rattle.fs_check.specs.declared.damage.TreeDamage.{TreeDamage}
 use Rattle.fs_check.specs.declared.damage.TreeRefusal.{TreeRefusal}
 use Rattle.fs_check.specs.declared.damage.TreeRefusal.TheVariants as tree
-use Rattle.fs_check.specs.declared.checking.Damage.{Damage}
 use Rattle.fs_check.specs.Reading.{IfDamaged}
 use Rattle.fs_check.specs.Whole.{OnDamage, of_tree}
 

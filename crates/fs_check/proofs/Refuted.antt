@@ -1,5 +1,5 @@
 -- Where something is broken no tree stands; and where the rules hold one does.
-use Rattle.std.proofs.Common.{◌≡◌, ℕ, Option, None, Some, option_and_then, slice_get, refl, sym, ◌∙◌, arith, subst, rules}
+use Rattle.std.proofs.Common.{◌≡◌, ℕ, Option, None, Some, option_and_then, slice_get, refl, sym, ◌∙◌, arith, subst}
 use Rattle.std.proofs.lemmas.Option.{none-some}
 use Rattle.base_types.specs.Seal.{Blocks}
 use Rattle.layout_geometry.specs.Geometry.{Geometry}

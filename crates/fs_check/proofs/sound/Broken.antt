@@ -1,5 +1,5 @@
 -- Where something is broken in blocks they aren't sound.
-use Rattle.std.proofs.Common.{◌≡◌, ◌⊎◌, inl, inr, ℕ, ◌*◌, ◌<◌, ◌≤◌, Bool, true, false, not, ◌&&◌, nat_lt, nat_le, refl, sym, ◌∙◌, arith}
+use Rattle.std.proofs.Common.{◌≡◌, ◌⊎◌, inl, inr, ℕ, ◌*◌, ◌<◌, ◌≤◌, Bool, true, false, not, ◌&&◌, nat_lt, nat_le, refl, sym, ◌∙◌, arith, ⊎_elim}
 use Rattle.std.proofs.lemmas.Bool.{and_parts, or_cases, false≢true, ltb-true, leb-true}
 use Rattle.base_types.specs.Seal.{Blocks}
 use Rattle.layout_geometry.specs.Geometry.{Geometry, bitmap_blocks, data_start}
@@ -17,15 +17,11 @@ not_true false e = refl
 
 -- which bits are bad
 pub bad_cases : (g : Geometry) (m : Blocks) (b : ℕ) → is_bad_bit g m b ≡ true → ((b < data_start g) × (bit_in m b ≡ false)) ⊎ ((g.n ≤ b) × (b < 8192 * bitmap_blocks g) × (bit_in m b ≡ true))
-bad_cases g m b e = by (or_cases (nat_lt b (data_start g) && not (bit_in m b)) (nat_le g.n b && (nat_lt b (8192 * bitmap_blocks g) && bit_in m b)) e)
-  where
-    by : ((nat_lt b (data_start g) && not (bit_in m b)) ≡ true) ⊎ ((nat_le g.n b && (nat_lt b (8192 * bitmap_blocks g) && bit_in m b)) ≡ true)
-        → ((b < data_start g) × (bit_in m b ≡ false)) ⊎ ((g.n ≤ b) × (b < 8192 * bitmap_blocks g) × (bit_in m b ≡ true))
-    by (inl fixed) = let p = and_parts (nat_lt b (data_start g)) (not (bit_in m b)) fixed in inl (ltb-true b (data_start g) p.0, not_true (bit_in m b) p.1)
-    by (inr past) =
-        let p = and_parts (nat_le g.n b) (nat_lt b (8192 * bitmap_blocks g) && bit_in m b) past in
-        let q = and_parts (nat_lt b (8192 * bitmap_blocks g)) (bit_in m b) p.1 in
-        inr (leb-true g.n b p.0, ltb-true b (8192 * bitmap_blocks g) q.0, q.1)
+bad_cases g m b e = ⊎_elim (λ fixed. let p = and_parts (nat_lt b (data_start g)) (not (bit_in m b)) fixed in inl (ltb-true b (data_start g) p.0, not_true (bit_in m b) p.1))
+    (λ past. let p = and_parts (nat_le g.n b) (nat_lt b (8192 * bitmap_blocks g) && bit_in m b) past in
+    let q = and_parts (nat_lt b (8192 * bitmap_blocks g)) (bit_in m b) p.1 in
+    inr (leb-true g.n b p.0, ltb-true b (8192 * bitmap_blocks g) q.0, q.1))
+    (or_cases (nat_lt b (data_start g) && not (bit_in m b)) (nat_le g.n b && (nat_lt b (8192 * bitmap_blocks g) && bit_in m b)) e)
 
 both : (t : Bool) → t ≡ true → t ≡ false → ⊥
 both t is isnt = false≢true (sym isnt ∙ is)
@@ -35,11 +31,9 @@ not_before l j k i same (inl low) = omega (arith, same.0, low)
 not_before l j k i same (inr low) = omega (arith, same.1, low.1)
 
 pub broken_unsound : (g : Geometry) (m : Blocks) (damage : BlockDamage) → IsBroken g m damage → AreSound g m → ⊥
-broken_unsound g m (WrongBit b) bad sound = by (bad_cases g (bitmap_of g m) b bad)
-  where
-    by : ((b < data_start g) × (is_set g m b ≡ false)) ⊎ ((g.n ≤ b) × (b < 8192 * bitmap_blocks g) × (is_set g m b ≡ true)) → ⊥
-    by (inl low) = both (is_set g m b) (sound.fixed b low.0) low.1
-    by (inr high) = both (is_set g m b) high.2 (sound.past b high.0 high.1)
+broken_unsound g m (WrongBit b) bad sound = ⊎_elim (λ low. both (is_set g m b) (sound.fixed b low.0) low.1)
+    (λ high. both (is_set g m b) high.2 (sound.past b high.0 high.1))
+    (bad_cases g (bitmap_of g m) b bad)
 broken_unsound g m (BadNode k) bad sound = bad.carries (sound.free k bad.from bad.upto bad.unread)
 broken_unsound g m (Unmarked k b) bad sound =
     let is = has_data g m k bad.place b bad.has in

@@ -1,5 +1,5 @@
 -- The blocks of nodes met one by one.
-use Rattle.std.proofs.Common.{◌≡◌, ◌⊎◌, inl, inr, ℕ, ◌+◌, ◌*◌, ◌<◌, ◌≤◌, Bool, true, false, ◌==◌, if◌then◌else◌, List, length, slice_get, Some, None, refl, sym, ap, subst, ◌∙◌, arith}
+use Rattle.std.proofs.Common.{◌≡◌, ◌⊎◌, inl, inr, ℕ, ◌+◌, ◌*◌, ◌<◌, Bool, true, false, ◌==◌, if◌then◌else◌, List, length, slice_get, Some, None, refl, sym, ap, subst, ◌∙◌, arith, ⊎_elim}
 use Rattle.std.proofs.lemmas.Bool.{cases_Bool, cases_lt, eqb-true, eq-eqb, false≢true}
 use Rattle.std.proofs.lemmas.Option.{none-some, same_Some, slice_get_within}
 use Rattle.base_types.specs.Runs.{run_places}
@@ -21,11 +21,9 @@ use Rattle.fs_check.proofs.sound.Nodes.{used_is}
 -- a place before the next one is before this one, or is this one
 last : (l j k i : ℕ) → Precedes l j k (i + 1) → Precedes l j k i ⊎ ((l ≡ k) × (j ≡ i))
 last l j k i (inl low) = inl (inl low)
-last l j k i (inr same) = by (cases_lt j i)
-  where
-    by : (j < i) ⊎ (i ≤ j) → Precedes l j k i ⊎ ((l ≡ k) × (j ≡ i))
-    by (inl low) = inl (inr (same.0, low))
-    by (inr high) = inr (same.0, omega (arith, same.1, high))
+last l j k i (inr same) = ⊎_elim (λ low. inl (inr (same.0, low)))
+    (λ high. inr (same.0, omega (arith, same.1, high)))
+    (cases_lt j i)
 
 earlier : (l j k i : ℕ) → Precedes l j k i → Precedes l j k (i + 1)
 earlier l j k i (inl low) = inl low
@@ -135,11 +133,9 @@ meet_next g m met k n all so_far = record {
 
     ahead : (l j b : ℕ) → HasBlock g m l j b → Precedes l j (k + 1) 0 → Precedes l j k n
     ahead l j b has (inr same) = absurd (omega (arith, same.1))
-    ahead l j b has (inl low) = by (cases_lt l k)
-      where
-        by : (l < k) ⊎ (k ≤ l) → Precedes l j k n
-        by (inl under) = inl under
-        by (inr over) = let same : l ≡ k = omega (arith, low, over) in inr (same, all j b (subst (λ x. HasBlock g m x j b) same has))
+    ahead l j b has (inl low) = ⊎_elim (λ under. inl under)
+        (λ over. let same : l ≡ k = omega (arith, low, over) in inr (same, all j b (subst (λ x. HasBlock g m x j b) same has)))
+        (cases_lt l k)
 
 -- a node out of use has none
 pub meet_none : (g : Geometry) (m : Blocks) (met : Blocks) (k : ℕ) → used_node g m k ≡ None → HasMet g m k 0 met → HasMet g m (k + 1) 0 met

@@ -1,5 +1,5 @@
 -- A search for a name, block by block.
-use Rattle.std.proofs.Common.{◌≡◌, ◌≢◌, ◌⊎◌, inl, inr, ℕ, ◌+◌, ◌-◌, ◌<◌, ◌≤◌, min, Bool, false, IsTrue, List, length, slice_get, All, Option, None, Some, IfSome, sym, subst, ap, ◌∙◌, arith}
+use Rattle.std.proofs.Common.{◌≡◌, ◌≢◌, ◌⊎◌, inl, inr, ℕ, ◌+◌, ◌-◌, ◌<◌, ◌≤◌, min, Bool, false, IsTrue, List, length, slice_get, All, Option, None, Some, IfSome, sym, subst, ap, ◌∙◌, arith, ⊎_elim}
 use Rattle.std.proofs.lemmas.Bool.{cases_lt}
 use Rattle.std.proofs.lemmas.Option.{slice_get_within, get_or_from_slice_get, same_Some}
 use Rattle.layout_bytes.specs.declared.slot.Slot.{Slot}
@@ -22,27 +22,21 @@ use Rattle.fs_dirs.proofs.reading.Parts.{part_at, part_has, part_length}
 
 -- a place before the block, or in it
 before_or_in : (k first : ℕ) → k < first + 16 → (k < first) ⊎ ((first ≤ k) × (k - first < 16))
-before_or_in k first low = by (cases_lt k first)
-  where
-    by : (k < first) ⊎ (first ≤ k) → (k < first) ⊎ ((first ≤ k) × (k - first < 16))
-    by (inl h) = inl h
-    by (inr h) = inr (h, omega (arith, low, h))
+before_or_in k first low = ⊎_elim (λ h. inl h)
+    (λ h. inr (h, omega (arith, low, h)))
+    (cases_lt k first)
 
 -- no slot before the block has the name, and none in it
 pub misses_more : (slots : List Slot) (name : List ℕ) (first : ℕ) → MissesBefore slots name first → ((k : ℕ) (s : Slot) → slice_get (slots_from first slots) k ≡ Some s → s.name ≢ name) → MissesBefore slots name (first + 16)
-misses_more slots name first before none k s low at = by (before_or_in k first low)
-  where
-    by : (k < first) ⊎ ((first ≤ k) × (k - first < 16)) → s.name ≢ name
-    by (inl h) = before k s h at
-    by (inr h) = none (k - first) s (part_has 16 first slots (k - first) s h.1 (ap (slice_get slots) {x = first + (k - first)} {y = k} (omega (arith, h.0)) ∙ at))
+misses_more slots name first before none k s low at = ⊎_elim (λ h. before k s h at)
+    (λ h. none (k - first) s (part_has 16 first slots (k - first) s h.1 (ap (slice_get slots) {x = first + (k - first)} {y = k} (omega (arith, h.0)) ∙ at)))
+    (before_or_in k first low)
 
 -- no slot before the one that was found in the block has the name
 misses_upto : (slots : List Slot) (name : List ℕ) (first p : ℕ) → p < 16 → MissesBefore slots name first → MissesBefore (slots_from first slots) name p → MissesBefore slots name (first + p)
-misses_upto slots name first p small before none k s low at = by (before_or_in k first (omega (arith, low, small)))
-  where
-    by : (k < first) ⊎ ((first ≤ k) × (k - first < 16)) → s.name ≢ name
-    by (inl h) = before k s h at
-    by (inr h) = none (k - first) s (omega (arith, low, h.0)) (part_has 16 first slots (k - first) s h.1 (ap (slice_get slots) {x = first + (k - first)} {y = k} (omega (arith, h.0)) ∙ at))
+misses_upto slots name first p small before none k s low at = ⊎_elim (λ h. before k s h at)
+    (λ h. none (k - first) s (omega (arith, low, h.0)) (part_has 16 first slots (k - first) s h.1 (ap (slice_get slots) {x = first + (k - first)} {y = k} (omega (arith, h.0)) ∙ at)))
+    (before_or_in k first (omega (arith, low, small)))
 
 module _ (first_law : (name : List ℕ) (slots : List Slot) (i k : ℕ) (s : Slot) → place_of name slots ≡ Some i → k < i → slice_get slots k ≡ Some s → s.name ≢ name)
     (missing_law : (name : List ℕ) (slots : List Slot) → place_of name slots ≡ None → All (λ (s : Slot). s.name ≢ name) slots)

@@ -1,5 +1,5 @@
 -- A slot written behind the last one of a directory: its inode, and which blocks change.
-use Rattle.std.proofs.Common.{◌≡◌, ◌≢◌, ◌⊎◌, inl, inr, ℕ, ◌+◌, ◌-◌, ◌*◌, ◌/◌, ◌%◌, ◌≤◌, nat_le, max, min, Bool, true, false, if◌then◌else◌, List, [], ◌∷◌, ◌++◌, length, take, drop, Some, Result, Ok, Err, subst, ap, ap₂, ◌∙◌, arith}
+use Rattle.std.proofs.Common.{◌≡◌, ℕ, ◌+◌, ◌-◌, ◌*◌, ◌/◌, ◌%◌, ◌≤◌, nat_le, max, min, Bool, true, false, if◌then◌else◌, List, [], ◌∷◌, ◌++◌, length, take, drop, Some, Result, Ok, Err, subst, ap, ap₂, ◌∙◌, arith, ⊎_elim}
 use Rattle.std.specs.Prelude.{OnOk}
 use Rattle.std.proofs.lemmas.Bool.{cases_eq}
 use Rattle.std.proofs.Math.Seq.{drop-append_seam}
@@ -37,11 +37,9 @@ sets_behind old new k count offset text slots s r many at size same lawful behin
 
 -- nodes in use stay so where one became another
 pub still_used : (old new : Files) (k : ℕ) (x : FileNode) → IsWithFile old new k (Some x) → (l : ℕ) → IsUsed old l → IsUsed new l
-still_used old new k x set l used = by (cases_eq l k)
-  where
-    by : (l ≡ k) ⊎ (l ≢ k) → IsUsed new l
-    by (inl e) = (x, ap new e ∙ set.own)
-    by (inr n) = (used.0, set.others l n ∙ used.1)
+still_used old new k x set l used = ⊎_elim (λ e. (x, ap new e ∙ set.own))
+    (λ n. (used.0, set.others l n ∙ used.1))
+    (cases_eq l k)
 
 -- one number or none
 one_at_most : (b : Bool) (n : ℕ) → length (if b then [] else n ∷ []) ≤ 1

@@ -1,5 +1,5 @@
 -- The node of a directory, and what its slots are once its bytes changed.
-use Rattle.std.proofs.Common.{◌≡◌, ◌⊎◌, inl, inr, true, false, ℕ, ◌*◌, ◌%◌, ◌<◌, ◌==◌, if◌then◌else◌, List, length, Option, Some, None, option_and_then, refl, sym, subst, ap, ap₂, ◌∙◌}
+use Rattle.std.proofs.Common.{◌≡◌, ℕ, ◌*◌, ◌%◌, ◌<◌, ◌==◌, if◌then◌else◌, List, length, Option, Some, None, option_and_then, refl, sym, subst, ap, ap₂, ◌∙◌, ⊎_elim}
 use Rattle.std.proofs.lemmas.Bool.{cases_Bool, eqb-true, eqb-false}
 use Rattle.layout_bytes.specs.declared.node.NodeKind.TheVariants.{Dir}
 use Rattle.layout_bytes.specs.declared.slot.Slot.{Slot}
@@ -54,8 +54,6 @@ reads_here (Some file) x e = subst (IsInodeOf (Some file)) (sym e) e
 
 -- so each node in use still reads as an inode, where one directory has other slots
 pub still_read : (old new : Files) (k : ℕ) (slots : List Slot) → IsWithSlots old new k slots → AreInodesOf old (inodes_of old) → AreInodesOf new (inodes_of new)
-still_read old new k slots w all l = by (cases_Bool (l == k))
-  where
-    by : ((l == k) ≡ true) ⊎ ((l == k) ≡ false) → IsInodeOf (new l) (option_and_then inode_of (new l))
-    by (inl here) = subst (λ n. IsInodeOf (new n) (option_and_then inode_of (new n))) (sym (eqb-true l k here)) (reads_here (new k) (ADir slots) w.inodes.here)
-    by (inr off) = subst (λ (o : Option FileNode). IsInodeOf o (option_and_then inode_of o)) (sym (w.others l (eqb-false l k off))) (all l)
+still_read old new k slots w all l = ⊎_elim (λ here. subst (λ n. IsInodeOf (new n) (option_and_then inode_of (new n))) (sym (eqb-true l k here)) (reads_here (new k) (ADir slots) w.inodes.here))
+    (λ off. subst (λ (o : Option FileNode). IsInodeOf o (option_and_then inode_of o)) (sym (w.others l (eqb-false l k off))) (all l))
+    (cases_Bool (l == k))

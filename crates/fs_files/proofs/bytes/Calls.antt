@@ -1,6 +1,7 @@
 -- What the steps of a call make of a file's bytes, from the draft before it to the one after it. Its places were ps, with the content's `size` bytes in them, and qs are those that it takes.
 use Rattle.std.proofs.Common.{◌≡◌, ℕ, ◌+◌, ◌-◌, ◌*◌, ◌≤◌, true, false, IsTrue, List, ◌++◌, length, take, drop, replicate, min, max, sym, ap, subst, ◌∙◌, arith}
 use Rattle.std.proofs.lemmas.List.{length-take, length-replicate}
+use Rattle.std.proofs.lemmas.Bool.Decides.{nat_tests}
 use Rattle.base_types.specs.Seal.{Blocks}
 use Rattle.base_types.specs.declared.words.Class.{Class}
 use Rattle.layout_bytes.specs.Bytes.{are_zeros}
@@ -55,8 +56,7 @@ pub record WritesPast (m : Blocks) (c : Class) (ps qs : List ℕ) (size off : �
 
 past_all : (m : Blocks) (c : Class) (ps qs : List ℕ) (size off : ℕ) (ys : List ℕ) (d g e f : DraftState) → WritesPast m c ps qs size off ys d g e f
     → joined (drafted f m) (ps ++ qs) ≡ overwrite off ys (overwrite size (replicate (min off (1024 * length ps) - size) 0) (joined (drafted d m) ps) ++ replicate (1024 * length qs) 0)
-past_all m c ps qs size off ys d g e f w =
-    w.bytes ∙ ap (λ xs. overwrite off ys xs) (bytes_grown m c ps qs g e w.grows.takes w.grows.new w.grows.apart ∙ ap (λ xs. xs ++ replicate (1024 * length qs) 0) w.gap)
+past_all m c ps qs size off ys d g e f w = grind (arith, nat_tests, bytes_grown)
 
 pub past_bytes : (m : Blocks) (c : Class) (ps qs : List ℕ) (size off : ℕ) (ys : List ℕ) (d g e f : DraftState) → WritesPast m c ps qs size off ys d g e f
     → take (max size (off + length ys)) (joined (drafted f m) (ps ++ qs)) ≡ written off ys (take size (joined (drafted d m) ps))

@@ -1,5 +1,5 @@
 -- What the calls on a file make of its bytes. The file's content is the first `size` bytes of xs, the bytes of its blocks, and `room` is how many these are; n is how many bytes its new blocks have.
-use Rattle.std.proofs.Common.{◌≡◌, ℕ, ◌+◌, ◌-◌, ◌≤◌, ◌<◌, Bool, true, false, ◌==◌, if◌then◌else◌, List, ◌++◌, length, take, drop, replicate, min, max, refl, ap, ◌∙◌, arith, rules}
+use Rattle.std.proofs.Common.{◌≡◌, ℕ, ◌+◌, ◌-◌, ◌≤◌, ◌<◌, List, ◌++◌, length, take, drop, replicate, min, max, ap, ◌∙◌, arith, rules}
 use Rattle.std.proofs.lemmas.Bool.Decides.{nat_tests}
 use Rattle.std.proofs.lemmas.List.{places, same_lists}
 use Rattle.lang_tree.specs.Step.{written, resized}
@@ -38,11 +38,7 @@ cut_over size less room ys xs cuts fits keeps ends = same_lists _ _ (search (rul
 
 -- No bytes change nothing; others are written.
 pub overwritten_some : (off : ℕ) (ys xs : List ℕ) → 0 < length ys → overwritten off ys xs ≡ written off ys xs
-overwritten_some off ys xs some = by (length ys == 0) (grind (arith, nat_tests))
-  where
-    by : (t : Bool) → t ≡ false → (if t then xs else written off ys xs) ≡ written off ys xs
-    by true e = absurd cc
-    by false e = refl
+overwritten_some off ys xs some = grind (arith, nat_tests)
 
 -- how many bytes a file has then
 pub overwritten_length : (off : ℕ) (ys xs : List ℕ) → 0 < length ys → length (overwritten off ys xs) ≡ max (length xs) (off + length ys)

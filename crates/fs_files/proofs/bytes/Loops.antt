@@ -1,9 +1,10 @@
 -- The loops that read and write content: what holds once they are at some byte.
-use Rattle.std.proofs.Common.{◌≡◌, ◌≢◌, ℕ, zero, suc, ◌+◌, ◌-◌, ◌*◌, ◌/◌, ◌%◌, ◌≤◌, ◌<◌, min, Bool, true, false, IsTrue, ◌==◌, ◌||◌, List, [], ◌∷◌, ◌++◌, Some, None, is_some, length, take, drop, get_or, refl, sym, ap, ap₂, subst, ◌∙◌, arith, rules}
+use Rattle.std.proofs.Common.{◌≡◌, ◌≢◌, ℕ, zero, suc, ◌+◌, ◌-◌, ◌*◌, ◌/◌, ◌%◌, ◌≤◌, ◌<◌, min, Bool, true, false, IsTrue, List, [], ◌∷◌, ◌++◌, Some, None, is_some, length, take, drop, get_or, sym, ap, ap₂, subst, ◌∙◌, arith, rules}
 use Rattle.std.specs.List.{All, slice_get}
 use Rattle.std.proofs.lemmas.List.{places, same_lists, length-take, length-drop, append_assoc, get_or-take, get_or-drop}
 use Rattle.std.proofs.lemmas.Bool.Decides.{nat_tests}
 use Rattle.std.proofs.lemmas.Option.{slice_get_within, get_or_from_slice_get}
+use Rattle.std.proofs.lemmas.Bool.{false_from_ne_true}
 use Rattle.base_types.specs.Seal.{Blocks}
 use Rattle.base_types.specs.declared.words.Class.{Class}
 use Rattle.engine_blocks.specs.Running.{has}
@@ -23,16 +24,8 @@ use Rattle.fs_files.proofs.bytes.Pieces.{has_one, writes_more, drafted_kept, con
 -- a number that is at a place of a list is one of it
 pub has_at : (xs : List ℕ) (i : ℕ) → i < length xs → has xs (get_or xs i 0) ≡ true
 has_at [] i l = absurd (omega arith)
-has_at (x ∷ xs) zero l = by (x == x) (grind (arith, nat_tests))
-  where
-    by : (t : Bool) → t ≡ true → (t || has xs x) ≡ true
-    by true e = refl
-    by false e = absurd cc
-has_at (x ∷ xs) (suc i) l = by (get_or xs i 0 == x) (has xs (get_or xs i 0)) (has_at xs i (omega arith))
-  where
-    by : (t h : Bool) → h ≡ true → (t || h) ≡ true
-    by true h e = refl
-    by false h e = e
+has_at (x ∷ xs) zero l = grind (arith, nat_tests)
+has_at (x ∷ xs) (suc i) l = grind (arith, nat_tests, (has_at xs i (omega arith)))
 
 -- the block of a byte from `lo` to `hi` is one of those that these bytes meet
 pub met_has : (lo hi at b : ℕ) (ps : List ℕ) → lo ≤ at → at < hi → slice_get ps (at / 1024) ≡ Some b → has (met lo hi ps) b ≡ true
@@ -110,18 +103,10 @@ pub record WritesUpTo (tells : Bool) (s t : State) (class : Class) (bs : List �
 -- where one block alone got bytes over its own, each place still has 1,024 bytes
 still_whole : (m : Blocks) (class : Class) (e f : DraftState) (ps : List ℕ) (b start : ℕ) (piece : List ℕ) → All (λ q. length (drafted e m q) ≡ 1024) ps → length (drafted e m b) ≡ 1024 → start + length piece ≤ 1024
     → WritesContent class (b ∷ []) e f → drafted f m b ≡ overwrite start piece (drafted e m b) → (q : ℕ) → length (drafted e m q) ≡ 1024 → length (drafted f m q) ≡ 1024
-still_whole m class e f ps b start piece whole size fits writes own q was = by (has (b ∷ []) q) refl
-  where
-    by : (t : Bool) → has (b ∷ []) q ≡ t → length (drafted f m q) ≡ 1024
-    by true one = subst (λ x. length (drafted f m x) ≡ 1024) (sym (has_one b q one)) (ap length own ∙ length-overwrite start piece (drafted e m b) (omega (arith, size, fits)) ∙ size)
-    by false other = ap length (drafted_kept m class (b ∷ []) e f q writes other) ∙ was
+still_whole m class e f ps b start piece whole size fits writes own q was = grind (arith, nat_tests, has_one, length-overwrite, drafted_kept)
 
 not_has : (b q : ℕ) → q ≢ b → has (b ∷ []) q ≡ false
-not_has b q differs = by (has (b ∷ []) q) refl
-  where
-    by : (t : Bool) → has (b ∷ []) q ≡ t → has (b ∷ []) q ≡ false
-    by true one = absurd (differs (has_one b q one))
-    by false e = e
+not_has b q differs = false_from_ne_true (has (b ∷ []) q) (λ one. differs (has_one b q one))
 
 -- one piece more was written
 pub writes_on : (tells : Bool) (s t u : State) (class : Class) (d e f : DraftState) (ps : List ℕ) (from done count b : ℕ) (bytes : List ℕ)

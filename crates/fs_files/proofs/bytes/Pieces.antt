@@ -1,13 +1,13 @@
 -- What the pieces of a write leave of a draft, one behind the other.
-use Rattle.std.proofs.Common.{◌≡◌, ◌⊎◌, ℕ, Bool, true, false, ◌&&◌, ◌||◌, ◌==◌, if◌then◌else◌, List, [], ◌∷◌, length, Option, None, Some, is_some, get_or, inl, inr, refl, sym, ap, ap₂, ◌∙◌, arith}
+use Rattle.std.proofs.Common.{◌≡◌, ◌⊎◌, ℕ, Bool, true, false, ◌&&◌, ◌||◌, ◌==◌, if◌then◌else◌, List, [], ◌∷◌, length, Option, None, Some, is_some, inl, inr, refl, ap, ap₂, ◌∙◌, arith, rules}
 use Rattle.std.specs.List.{All}
 use Rattle.std.proofs.lemmas.Bool.Decides.{nat_tests}
-use Rattle.std.proofs.lemmas.Bool.{or_left, or_right, or_cases}
+use Rattle.std.proofs.lemmas.Bool.{or_left, or_right, or_cases, false_from_ne_true}
 use Rattle.base_types.specs.Seal.{Blocks}
 use Rattle.base_types.specs.declared.words.Class.{Class}
 use Rattle.engine_blocks.specs.Running.{has}
 use Rattle.fs_files.specs.declared.changes.Changed.{Changed}
-use Rattle.fs_files.specs.Drafts.{DraftState, change_of, drafted, bytes_or, PutsBlock}
+use Rattle.fs_files.specs.Drafts.{DraftState, change_of, drafted, PutsBlock}
 use Rattle.fs_files.specs.Content.{HasContent, HasNewBytes, WritesContent}
 
 -- Tests.
@@ -21,17 +21,12 @@ has_same b = grind (arith, nat_tests)
 
 -- what isn't in a list isn't one of it
 pub not_one : (bs : List ℕ) (b q : ℕ) → has bs b ≡ true → has bs q ≡ false → has (b ∷ []) q ≡ false
-not_one bs b q in_it out = by (has (b ∷ []) q) refl
-  where
-    by : (t : Bool) → has (b ∷ []) q ≡ t → has (b ∷ []) q ≡ false
-    by false e = e
-    by true e = let is : q ≡ b = has_one b q e in let clash : has bs q ≡ true = ap (has bs) is ∙ in_it in absurd cc
+not_one bs b q in_it out = false_from_ne_true (has (b ∷ []) q) (λ e. let is : q ≡ b = has_one b q e in let clash : has bs q ≡ true = ap (has bs) is ∙ in_it in cc)
 
 -- One put.
 
 put_apart : (f t : Bool) (x : Option Changed) (c : Changed) → f ≡ true → (if f then x else if t then Some c else x) ≡ x
-put_apart true t x c e = refl
-put_apart false t x c e = absurd cc
+put_apart f t x c e = grind (arith, nat_tests)
 
 -- it has new bytes then
 pub put_new : (b : ℕ) (c : Changed) (d e : DraftState) → PutsBlock b c d e → HasNewBytes e
@@ -45,19 +40,7 @@ put_new b c d e puts = (b, by (is_some (change_of d.fresh b)) refl)
 
 -- nothing was written
 pub writes_none : (class : Class) (bs : List ℕ) (d : DraftState) → WritesContent class bs d d
-writes_none class bs d = record {
-  others = λ q out. refl;
-  other_fresh = λ q out. refl;
-  keys = λ q some. or_right (has bs q) (is_some (change_of d.changed q)) some;
-  stays = λ q some. some;
-  fresh_keys = λ q. refl;
-  fresh_len = refl;
-  taken = refl;
-  freed = refl;
-  apart = λ q some. refl;
-  class_changed = λ q o at. inr at;
-  class_fresh = λ q o at. inr at;
-}
+writes_none class bs d = search (rules, arith)
 
 -- one more of these blocks was written
 pub writes_more : (class : Class) (bs : List ℕ) (b : ℕ) (d e f : DraftState) → WritesContent class bs d e → WritesContent class (b ∷ []) e f → has bs b ≡ true → WritesContent class bs d f
@@ -87,39 +70,19 @@ writes_more class bs b d e f first second in_it = record {
 
 -- the other blocks are the same
 pub drafted_kept : (m : Blocks) (class : Class) (bs : List ℕ) (d e : DraftState) (q : ℕ) → WritesContent class bs d e → has bs q ≡ false → drafted e m q ≡ drafted d m q
-drafted_kept m class bs d e q writes out =
-    ap (λ (fs : List ℕ). if has fs q then [] else bytes_or (bytes_or (m q) (change_of e.fresh q)) (change_of e.changed q)) writes.freed
-    ∙ ap₂ (λ (x y : Option Changed). if has d.freed q then [] else bytes_or (bytes_or (m q) x) y) (writes.other_fresh q out) (writes.others q out)
+drafted_kept m class bs d e q writes out = grind (arith, nat_tests)
 
 -- the places still have content, where they have 1,024 bytes
 pub content_kept : (m : Blocks) (class : Class) (bs : List ℕ) (d e : DraftState) (ps : List ℕ) → HasContent m d ps → WritesContent class bs d e → All (λ b. length (drafted e m b) ≡ 1024) ps → HasContent m e ps
-content_kept m class bs d e ps content writes whole = record {
-  whole = whole;
-  once = content.once;
-  apart = λ i z l some. let old = sym (writes.fresh_keys (get_or ps i z)) ∙ some in writes.apart (get_or ps i z) old ∙ content.apart i z l old;
-}
+content_kept m class bs d e ps content writes whole = grind (arith, nat_tests)
 
 -- a block that has bytes isn't freed
 pub not_freed : (m : Blocks) (d : DraftState) (q : ℕ) → length (drafted d m q) ≡ 1024 → has d.freed q ≡ false
-not_freed m d q size = by (has d.freed q) size
-  where
-    by : (t : Bool) → length (if t then [] else bytes_or (bytes_or (m q) (change_of d.fresh q)) (change_of d.changed q)) ≡ 1024 → t ≡ false
-    by true e = absurd (omega (arith, e))
-    by false e = refl
+not_freed m d q size = grind (arith, nat_tests)
 
 -- a block that was put has those bytes
 pub put_drafted : (m : Blocks) (b : ℕ) (c : Changed) (d e : DraftState) → PutsBlock b c d e → has d.freed b ≡ false → (is_some (change_of d.fresh b) ≡ true → change_of d.changed b ≡ None) → drafted e m b ≡ c.bytes
-put_drafted m b c d e puts kept apart =
-    ap (λ (fs : List ℕ). if has fs b then [] else bytes_or (bytes_or (m b) (change_of e.fresh b)) (change_of e.changed b)) puts.freed
-    ∙ ap (λ (t : Bool). if t then [] else bytes_or (bytes_or (m b) (change_of e.fresh b)) (change_of e.changed b)) kept
-    ∙ by (is_some (change_of d.fresh b)) refl
-  where
-    by : (f : Bool) → is_some (change_of d.fresh b) ≡ f → bytes_or (bytes_or (m b) (change_of e.fresh b)) (change_of e.changed b) ≡ c.bytes
-    by true some = ap₂ (λ (x y : Option Changed). bytes_or (bytes_or (m b) x) y)
-        (puts.fresh b ∙ ap₂ (λ (s t : Bool). if s && t then Some c else change_of d.fresh b) some (has_same b))
-        (puts.changed b ∙ put_apart (is_some (change_of d.fresh b)) (b == b) (change_of d.changed b) c some ∙ apart some)
-    by false none = ap (λ (y : Option Changed). bytes_or (bytes_or (m b) (change_of e.fresh b)) y)
-        (puts.changed b ∙ ap₂ (λ (s t : Bool). if s then change_of d.changed b else if t then Some c else change_of d.changed b) none (has_same b))
+put_drafted m b c d e puts kept apart = grind (arith, nat_tests, has_same, put_apart)
 
 -- where the block has content, its bytes are those that were put
 pub content_put : (m : Blocks) (b : ℕ) (c : Changed) (d e : DraftState) → HasContent m d (b ∷ []) → PutsBlock b c d e → drafted e m b ≡ c.bytes

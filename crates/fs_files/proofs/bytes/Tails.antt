@@ -57,7 +57,4 @@ past_gap size off room n ys xs zeros is fits past ends =
 
 -- a cut, once all past the new end was filled with zeros
 pub past_cut : (less room : ℕ) (xs : List ℕ) → length xs ≡ room → less ≤ room → IsTrue (are_zeros (drop less (overwrite less (replicate (room - less) 0) xs)))
-past_cut less room xs is cuts = zeros_from (drop less (overwrite less (replicate (room - less) 0) xs)) each
-  where
-    each : (k : ℕ) → k < length (drop less (overwrite less (replicate (room - less) 0) xs)) → get_or (drop less (overwrite less (replicate (room - less) 0) xs)) k 0 ≡ 0
-    each k l = grind (arith, places)
+past_cut less room xs is cuts = grind (arith, nat_tests, zeros_from, places)

@@ -1,11 +1,11 @@
 -- The blocks that came to a node, perhaps none, and what they leave of a draft.
-use Rattle.std.proofs.Common.{◌≡◌, ◌≢◌, ◌⊎◌, inl, inr, ℕ, ◌<◌, ◌≤◌, ◌||◌, true, false, List, [], ◌++◌, length, take, All, refl, sym, ap, subst, ◌∙◌, arith}
+use Rattle.std.proofs.Common.{◌≡◌, ◌≢◌, ℕ, ◌||◌, true, false, List, [], ◌++◌, length, take, All, sym, subst, ◌∙◌, arith, ⊎_elim, rules}
 use Rattle.std.specs.List.{AllPairs}
 use Rattle.std.proofs.lemmas.Bool.{cases_lt, false≢true}
 use Rattle.std.proofs.lemmas.List.{append-nil}
+use Rattle.std.proofs.lemmas.Bool.Decides.{nat_tests}
 use Rattle.base_types.specs.Seal.{Blocks}
 use Rattle.base_types.specs.declared.words.Class.{Class}
-use Rattle.base_types.specs.declared.words.Class.TheVariants.{Meta, Content}
 use Rattle.layout_geometry.specs.Geometry.{IsGeometry}
 use Rattle.engine_blocks.specs.Running.{has}
 use Rattle.engine_blocks.specs.Puts.{IsData}
@@ -18,9 +18,9 @@ use Rattle.fs_files.specs.Nodes.{class_of}
 use Rattle.fs_files.specs.Sound.{FitsBooks}
 use Rattle.fs_files.specs.Writing.{HasRoom}
 use Rattle.fs_files.proofs.bytes.Places.{AreNew}
-use Rattle.fs_files.proofs.frames.Steps.{all_of}
 use Rattle.fs_files.proofs.frames.Rules.{HasRules, no_fresh, none_of, takes_others, takes_fits, takes_unmarked, takes_marks, takes_rules, taken_not_freed}
 use Rattle.fs_files.proofs.drafts.Lists.{each_of}
+use Rattle.fs_files.proofs.frames.Places.{all_of}
 
 -- the blocks that come
 abbrev pub news : Bookkeeping → ℕ → OpenNode → List ℕ
@@ -45,43 +45,18 @@ pub record CameSound (k : Bookkeeping) (qs : List ℕ) (d e : DraftState) : Type
 -- no blocks
 
 takes_none : (class : Class) (d : DraftState) → TakesBlocks class [] d d
-takes_none Meta d = record { changed = λ q. refl; fresh = λ q. refl; fresh_len = omega arith; taken = sym (append-nil d.taken); freed = refl }
-takes_none Content d = record { changed = λ q. refl; fresh = λ q. refl; fresh_len = omega arith; taken = sym (append-nil d.taken); freed = refl }
+takes_none class d = grind (arith, nat_tests, append-nil)
 
 came_none : (k : Bookkeeping) (o : OpenNode) (d : DraftState) → FitsBooks k d → Came k o o [] d d
-came_none k o d fits = record {
-  node = ap (λ ps. record o { places = ps }) (sym (append-nil o.places));
-  takes = takes_none (class_of o.kind) d;
-  fits = fits;
-  inside = λ i x low. absurd (omega (arith, low));
-  once = λ i j x lt low. absurd (omega (arith, low));
-  others = λ m b out. refl;
-}
+came_none k o d fits = search (rules, arith, append-nil, takes_none)
 
 sound_none : (k : Bookkeeping) (d : DraftState) → HasRules k d → CameSound k [] d d
-sound_none k d rules = record {
-  rules = rules;
-  marks = λ b. refl;
-  unmarked = λ i x low. absurd (omega (arith, low));
-  new = record {
-    once = λ i j x lt low. absurd (omega (arith, low));
-    changed = λ q is. absurd (false≢true is);
-    fresh = λ q is. absurd (false≢true is);
-    freed = λ q is. absurd (false≢true is);
-  };
-}
+sound_none k d rules = search (rules, arith)
 
 -- some blocks
 module _ (k : Bookkeeping) (size : ℕ) (o p : OpenNode) (d e : DraftState) (geom : IsGeometry k.geom) (fits : FitsBooks k d) (none : d.taken ≡ []) (grows : GrowsPlaces k (more_blocks size o) o p d e) where
   came_some : Came k o p (news k size o) d e
-  came_some = record {
-    node = grows.node;
-    takes = grows.takes;
-    fits = takes_fits k (class_of o.kind) (news k size o) d e grows.takes none grows.takeable geom fits;
-    inside = λ i x low. let at = grows.takeable.each i x low in record { from = at.from; below = at.below };
-    once = grows.takeable.distinct;
-    others = takes_others k (class_of o.kind) (news k size o) d e grows.takes none grows.takeable;
-  }
+  came_some = search (rules, arith, takes_fits, takes_others)
 
   module _ (unmarked : (b : ℕ) → IsReusable k.geom k.reusable b → k.marked b ≡ false) (rules : HasRules k d) where
     clear : All (λ b. k.marked b ≡ false) (news k size o)
@@ -105,20 +80,14 @@ module _ (k : Bookkeeping) (size : ℕ) (o p : OpenNode) (d e : DraftState) (geo
 
 -- the room that a node has is blocks that came
 pub came : (k : Bookkeeping) (size : ℕ) (o p : OpenNode) (d e : DraftState) → IsGeometry k.geom → FitsBooks k d → HasRoom k size o p d e → Came k o p (news k size o) d e
-came k size o p d e geom fits room = by (cases_lt (length o.places) (blocks_for size))
-  where
-    by : (length o.places < blocks_for size) ⊎ (blocks_for size ≤ length o.places) → Came k o p (news k size o) d e
-    by (inl more) = came_some k size o p d e geom fits (room.first more) (room.grows more)
-    by (inr enough) =
-        subst (λ n. Came k o p (take n (reusable_blocks k)) d e) {x = 0} {y = more_blocks size o} (omega (arith, enough))
-        (subst (λ (x : OpenNode). Came k o x [] d e) (sym (room.same enough)) (subst (λ (x : DraftState). Came k o o [] d x) (sym (room.kept enough)) (came_none k o d fits)))
+came k size o p d e geom fits room = ⊎_elim (λ more. came_some k size o p d e geom fits (room.first more) (room.grows more))
+    (λ enough. subst (λ n. Came k o p (take n (reusable_blocks k)) d e) {x = 0} {y = more_blocks size o} (omega (arith, enough))
+    (subst (λ (x : OpenNode). Came k o x [] d e) (sym (room.same enough)) (subst (λ (x : DraftState). Came k o o [] d x) (sym (room.kept enough)) (came_none k o d fits))))
+    (cases_lt (length o.places) (blocks_for size))
 
 pub came_sound : (k : Bookkeeping) (size : ℕ) (o p : OpenNode) (d e : DraftState) → IsGeometry k.geom → FitsBooks k d → ((b : ℕ) → IsReusable k.geom k.reusable b → k.marked b ≡ false) → HasRules k d → HasRoom k size o p d e
     → CameSound k (news k size o) d e
-came_sound k size o p d e geom fits unmarked rules room = by (cases_lt (length o.places) (blocks_for size))
-  where
-    by : (length o.places < blocks_for size) ⊎ (blocks_for size ≤ length o.places) → CameSound k (news k size o) d e
-    by (inl more) = sound_some k size o p d e geom fits (room.first more) (room.grows more) unmarked rules
-    by (inr enough) =
-        subst (λ n. CameSound k (take n (reusable_blocks k)) d e) {x = 0} {y = more_blocks size o} (omega (arith, enough))
-        (subst (λ (x : DraftState). CameSound k [] d x) (sym (room.kept enough)) (sound_none k d rules))
+came_sound k size o p d e geom fits unmarked rules room = ⊎_elim (λ more. sound_some k size o p d e geom fits (room.first more) (room.grows more) unmarked rules)
+    (λ enough. subst (λ n. CameSound k (take n (reusable_blocks k)) d e) {x = 0} {y = more_blocks size o} (omega (arith, enough))
+    (subst (λ (x : DraftState). CameSound k [] d x) (sym (room.kept enough)) (sound_none k d rules)))
+    (cases_lt (length o.places) (blocks_for size))

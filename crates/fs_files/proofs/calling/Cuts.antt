@@ -1,8 +1,9 @@
 -- A cut to fewer bytes: d, then f without the places past them, then g with zeros over the rest of a directory's last block, then e with the node.
-use Rattle.std.proofs.Common.{◌≡◌, ◌≢◌, ◌⊎◌, inl, inr, ℕ, ◌+◌, ◌-◌, ◌*◌, ◌/◌, ◌%◌, ◌^◌, ◌<◌, ◌≤◌, ◌==◌, nat_le, nat_lt, Bool, true, false, not, ◌&&◌, ◌||◌, if◌then◌else◌, IsTrue, List, [], ◌∷◌, ◌++◌, length, take, drop, replicate, All, Option, Some, None, is_some, refl, sym, ap, subst, ◌∙◌, arith}
+use Rattle.std.proofs.Common.{◌≡◌, ◌≢◌, ◌⊎◌, inl, inr, ℕ, ◌-◌, ◌*◌, ◌/◌, ◌%◌, ◌^◌, ◌<◌, ◌≤◌, ◌==◌, Bool, true, false, not, ◌&&◌, ◌||◌, if◌then◌else◌, IsTrue, List, [], ◌∷◌, ◌++◌, length, take, drop, replicate, All, Option, Some, None, is_some, refl, sym, ap, subst, ◌∙◌, arith, rules}
 use Rattle.std.specs.List.{AllPairs}
-use Rattle.std.proofs.lemmas.Bool.{cases_Bool, false≢true, or_left, or_right, or_cases, and_parts, and_from, eq-eqb, le-leb, ltb-true, eqb-true}
+use Rattle.std.proofs.lemmas.Bool.{cases_Bool, false≢true, or_left, or_right, or_cases, eq-eqb, eqb-true, false_from_ne_true}
 use Rattle.std.proofs.lemmas.List.{take-append-drop, length-take}
+use Rattle.std.proofs.lemmas.Bool.Decides.{nat_tests}
 use Rattle.base_types.specs.Seal.{Blocks}
 use Rattle.base_types.specs.Runs.{run_places}
 use Rattle.base_types.specs.declared.places.Run.{Run}
@@ -11,9 +12,9 @@ use Rattle.layout_extent.specs.Runs.{AreTidy, runs_of, stretches}
 use Rattle.layout_geometry.specs.Geometry.{Geometry, IsGeometry, table_start, data_start}
 use Rattle.layout_bytes.specs.declared.node.Node.{Node}
 use Rattle.layout_bytes.specs.declared.node.NodeKind.{NodeKind}
-use Rattle.layout_bytes.specs.declared.node.NodeKind.TheVariants.{Free, Dir, File}
+use Rattle.layout_bytes.specs.declared.node.NodeKind.TheVariants.{Dir, File}
 use Rattle.layout_bytes.specs.Bytes.{are_zeros}
-use Rattle.layout_bytes.specs.Node.{node_fits, node_spelling, kind_fits, run_blocks, runs_fit, most_runs, FitsAs}
+use Rattle.layout_bytes.specs.Node.{node_fits, node_spelling, kind_fits, FitsAs}
 use Rattle.engine_blocks.specs.Puts.{IsData}
 use Rattle.engine_blocks.specs.Running.{has}
 use Rattle.engine_blocks.specs.State.{Bookkeeping, State}
@@ -42,43 +43,23 @@ use Rattle.fs_files.proofs.frames.Carry.{draft_looks, files_look, places_look}
 use Rattle.fs_files.proofs.frames.Cells.{block_from, block_below}
 use Rattle.fs_files.proofs.frames.Fits.{fits_with}
 use Rattle.fs_files.proofs.frames.Frames.{node_places}
-use Rattle.fs_files.proofs.frames.Places.{used_marked, used_whole}
+use Rattle.fs_files.proofs.frames.Places.{used_marked, used_whole, all_of, parts_fit}
 use Rattle.fs_files.proofs.frames.Puts.{put_fits, put_changed, put_changes}
 use Rattle.fs_files.proofs.frames.Rules.{HasRules, rules_of, frees_others, frees_marks, frees_fits, frees_rules, writes_others, writes_marks, writes_fits, writes_rules}
 use Rattle.fs_files.proofs.frames.Spelled.{used_some, fits_as}
-use Rattle.fs_files.proofs.frames.Steps.{all_of, used_once}
+use Rattle.fs_files.proofs.frames.Steps.{used_once}
 
 -- the first blocks, which the node keeps, and the others
 abbrev pub kept_of : ℕ → OpenNode → List ℕ
 kept_of size o = take (blocks_for size) o.places
 
 -- the rules of a kind with another size
-pub sized_kind : (kind : NodeKind) (links was size : ℕ) (old_runs new_runs : List Run) → (kind ≡ Dir → size % 64 ≡ 0) → size ≤ 2 ^ 30
+pub sized_kind : (kind : NodeKind) (links was size : ℕ) (old_runs new_runs : List Run) → (kind ≡ Dir → size % 64 ≡ 0) → (kind ≡ File → size ≤ 2 ^ 30)
     → kind_fits (record { kind = kind; links = links; size = was; runs = old_runs }) kind ≡ true → kind_fits (record { kind = kind; links = links; size = size; runs = new_runs }) kind ≡ true
-sized_kind Free links was size old_runs new_runs slots few e = refl
-sized_kind Dir links was size old_runs new_runs slots few e = eq-eqb (size % 64) 0 (slots refl)
-sized_kind File links was size old_runs new_runs slots few e =
-    and_from (nat_le links 65535) (nat_le size 1073741824) (and_parts (nat_le links 65535) (nat_le was 1073741824) e).0 (le-leb size 1073741824 (omega (arith, few)))
-
--- what a node in use that fits has: a link, and the rules of its kind
-
-pub links_some : (g : Geometry) (node : Node) → node_fits g node ≡ true → 0 < node.links
-links_some g node e = ltb-true 0 node.links (and_parts (nat_lt 0 node.links) _ e).0
-
-pub kind_of : (g : Geometry) (node : Node) → node_fits g node ≡ true → kind_fits node node.kind ≡ true
-kind_of g node e =
-    let blocks = run_blocks node.runs == (node.size + 1023) / 1024 in
-    let a = and_parts (nat_lt 0 node.links) (nat_le (length node.runs) most_runs && (runs_fit g 0 node.runs && (blocks && kind_fits node node.kind))) e in
-    let b = and_parts (nat_le (length node.runs) most_runs) (runs_fit g 0 node.runs && (blocks && kind_fits node node.kind)) a.1 in
-    let d = and_parts (runs_fit g 0 node.runs) (blocks && kind_fits node node.kind) b.1 in
-    (and_parts blocks (kind_fits node node.kind) d.1).1
+sized_kind kind links was size old_runs new_runs e h p = grind (arith, nat_tests)
 
 pub not_in : (xs : List ℕ) (b : ℕ) → (has xs b ≡ true → ⊥) → has xs b ≡ false
-not_in xs b isnt = by (cases_Bool (has xs b))
-  where
-    by : (has xs b ≡ true) ⊎ (has xs b ≡ false) → has xs b ≡ false
-    by (inl is) = absurd (isnt is)
-    by (inr out) = out
+not_in xs b isnt = false_from_ne_true (has xs b) (λ is. isnt is)
 
 -- what a cut leaves, and what is known of the steps
 pub record CutsNode (tells : Bool) (s : State) (number size : ℕ) (o : OpenNode) (node : Node) (table : List ℕ) (d f g e : DraftState) : Type 0 where
@@ -229,9 +210,9 @@ module _ (tells : Bool) (s : State) (number size : ℕ) (o : OpenNode) (node : N
         ∙ frees_others k gone d f is.frees m b (not_in gone b (λ mine. false≢true (sym out ∙ in_rest (blocks_for size) o.places b mine)))
 
     fits_new : node_fits k.geom new ≡ true
-    fits_new = fits_with k.geom o.kind o.links size kept (is.places kept) (is.count kept) (is.tidy kept) (links_some k.geom (node_of_open o) is.loaded.fits.fits) is.few kept_data
+    fits_new = fits_with k.geom o.kind o.links size kept (is.places kept) (is.count kept) (is.tidy kept) (parts_fit k.geom (node_of_open o) is.loaded.fits.fits).links is.few kept_data
         (omega (arith, length-take (blocks_for size) o.places, is.loaded.fits.count, blocks_rise size o.size (omega (arith, is.less))))
-        (sized_kind o.kind o.links o.size size (runs_of o.places) (runs_of kept) (is.slots known) is.most (kind_of k.geom (node_of_open o) is.loaded.fits.fits))
+        (sized_kind o.kind o.links o.size size (runs_of o.places) (runs_of kept) (is.slots known) (λ file. is.most) (parts_fit k.geom (node_of_open o) is.loaded.fits.fits).kind)
 
     back : ReadsBack k.geom new
     back = subst (ReadsBack k.geom) is.is (is.back (subst (λ n. FitsAs k.geom n n.kind) (sym is.is) (fits_as k.geom new is.loaded.fits.used fits_new)))
@@ -254,12 +235,7 @@ module _ (tells : Bool) (s : State) (number size : ℕ) (o : OpenNode) (node : N
         ∙ ap (λ n. overwrite size (replicate (1024 * n - size) 0) (joined (drafted f m) kept)) kept_count
 
     bytes : take size (joined (drafted g m) kept) ≡ resized size (take o.size (joined (drafted d m) o.places))
-    bytes = by (cases_Bool (is_dir o.kind))
-      where
-        by : (is_dir o.kind ≡ true) ⊎ (is_dir o.kind ≡ false) → take size (joined (drafted g m) kept) ≡ resized size (take o.size (joined (drafted d m) o.places))
-        by (inl dir) = (cut_filled m o.places o.size size d f g d_content size_fits (omega (arith, is.less)) is.frees (filled dir)).0
-        by (inr not_dir) = ap (take size) (done.bytes ∙ ap (λ t. if t then overwrite size (replicate (1024 * length kept - size) 0) (joined (drafted f m) kept) else joined (drafted f m) kept) not_dir)
-            ∙ cut_bytes m o.places o.size size d f d_content size_fits (omega (arith, is.less)) is.frees
+    bytes = grind (arith, nat_tests, cut_filled, d_content, size_fits, filled, done, cut_bytes)
 
     tail : o.kind ≡ Dir → IsTrue (are_zeros (past_content (drafted g m) new))
     tail dir = ap (λ xs. are_zeros (drop size (joined (drafted g m) xs))) (is.places kept)
@@ -294,39 +270,23 @@ module _ (tells : Bool) (s : State) (number size : ℕ) (o : OpenNode) (node : N
 
     pub cut_file : (x : FileNode) → files_of k.geom (drafted d m) number ≡ Some x
         → IsWithFile (files_of k.geom (drafted d m)) (files_of k.geom (drafted e m)) number (Some (with_bytes x (resized size x.bytes)))
-    cut_file x at =
-        let file : x ≡ file_of (drafted d m) (node_of_open o) = its_file k.geom (drafted d m) number x (node_of_open o) (is.loaded.is known) at in
-        subst (λ (y : FileNode). IsWithFile (files_of k.geom (drafted d m)) (files_of k.geom (drafted e m)) number (Some y))
-        (ap (λ xs. record { kind = o.kind; links = o.links; bytes = xs }) now_bytes ∙ ap (λ (y : FileNode). with_bytes y (resized size y.bytes)) (sym file)) all.1
+    cut_file x at = grind (arith, nat_tests, its_file, bytes, now_bytes, all)
 
     places_d : places_in s d number ≡ o.places
     places_d = ap places_or_none used ∙ ps
 
     module _ (t : State) (looks : LooksOnly tells false s t) where
       places_e : places_in t e number ≡ kept
-      places_e = ap (λ (b : Bookkeeping). places_or_none (used_node b.geom (drafted e t.map) number)) looks.books
-          ∙ ap (λ (n : Blocks). places_or_none (used_node k.geom (drafted e n) number)) (looks.map known)
-          ∙ ap places_or_none cut_node ∙ is.places kept
+      places_e = grind (arith, nat_tests, cut_node)
 
       pub cut_places : IsWithPlaces (places_in s d) (places_in t e) number (take (blocks_for size) (places_in s d number))
-      cut_places = record {
-        own = places_e ∙ ap (take (blocks_for size)) (sym places_d);
-        others = λ l other. places_look tells false s t e looks known l ∙ (node_places k.geom (drafted d m) (drafted e m) number (used_of new) stored.node_is).others l other;
-      }
+      cut_places = grind (arith, nat_tests, places_e, places_d, others, places_look, node_places, stored)
 
       pub cut_shrinks : (x : FileNode) → Shrinks x (places_in s d number) (places_in t e number) size d e
-      cut_shrinks x = record {
-        kept = places_e ∙ ap (take (blocks_for size)) (sym places_d);
-        taken = cut_taken;
-        freed = cut_freed ∙ ap (λ xs. d.freed ++ drop (blocks_for size) xs) (sym places_d);
-        fresh = cut_fresh;
-        changes = cut_some;
-      }
+      cut_shrinks x = grind (arith, nat_tests, places_e, places_d, cut_taken, cut_freed, cut_fresh, cut_some)
 
     pub cut_changes : (x : FileNode) → files_of k.geom (drafted d m) number ≡ Some x → ChangesAmong (cut_blocks k.geom number x (places_in s d number) size) d e
-    cut_changes x at =
-        let kind : o.kind ≡ x.kind = ap (λ (y : FileNode). y.kind) (sym (its_file k.geom (drafted d m) number x (node_of_open o) (is.loaded.is known) at)) in
-        subst (λ bs. ChangesAmong bs d e) (λ i. (if is_dir (kind i) then drop (size / 1024) (take (blocks_for size) (sym places_d i)) else []) ++ node_block k.geom number ∷ []) cut_among
+    cut_changes x at = grind (arith, nat_tests, its_file, places_d, cut_among)
 
 -- the steps of a cut are one
 pub cut_steps : (tells : Bool) (s : State) (number size n : ℕ) (o p : OpenNode) (node : Node) (table : List ℕ) (d f g e : DraftState) (h : Geometry) → h ≡ s.books.geom → IsGeometry h
@@ -337,33 +297,12 @@ pub cut_steps : (tells : Bool) (s : State) (number size n : ℕ) (o p : OpenNode
     → PutsBlock (node_block h number) (record { class = Meta; bytes = overwrite (node_byte number) (node_spelling node) table }) g e → (FitsAs h node node.kind → ReadsBack h node)
     → ((xs : List ℕ) → run_places (runs_of xs) ≡ xs) → ((xs : List ℕ) → length (runs_of xs) ≡ stretches xs) → ((xs : List ℕ) → AreTidy (runs_of xs))
     → CutsNode tells s number size o node table d f g e
-cut_steps tells s number size n o p node table d f g e h same geom loaded less most slots count shrinks few clears cleared node_is puts back places runs tidy =
-    let new : p ≡ record o { places = kept_of size o } = shrinks.node ∙ ap (λ j. record o { places = take j o.places }) count in
-    record {
-      geom = subst IsGeometry same geom;
-      loaded = loaded;
-      less = less;
-      most = most;
-      slots = slots;
-      few = subst (λ (q : OpenNode). stretches q.places ≤ 28) new few;
-      is = node_is ∙ ap (λ (q : OpenNode). record { kind = q.kind; links = q.links; size = size; runs = runs_of q.places }) new;
-      frees = subst (λ j. FreesBlocks (drop j o.places) d f) count shrinks.frees;
-      clears = subst (λ (q : OpenNode). ClearsRest q.kind size q.places f g) new clears;
-      cleared = subst (λ (q : OpenNode). IsTrue tells → HasContent s.map f q.places → IsCleared s.map q.kind size q.places f g) new cleared;
-      puts = subst (λ (l : Geometry). PutsBlock (node_block l number) (record { class = Meta; bytes = overwrite (node_byte number) (node_spelling node) table }) g e) same puts;
-      back = subst (λ (l : Geometry). FitsAs l node node.kind → ReadsBack l node) same back;
-      places = places;
-      count = runs;
-      tidy = tidy;
-    }
+cut_steps tells s number size n o p node table d f g e h same geom loaded less most slots count shrinks few clears cleared node_is puts back places runs tidy = search (rules, arith)
 
 -- the files are those of the map that was looked at
 pub file_looks : (tells : Bool) (s t : State) (e : DraftState) (old : Files) (number : ℕ) (x : Option FileNode) → LooksOnly tells false s t → IsTrue tells
     → IsWithFile old (files_in s e) number x → IsWithFile old (files_in t e) number x
-file_looks tells s t e old number x looks known w = record {
-  own = files_look tells false s t e looks known number ∙ w.own;
-  others = λ l away. files_look tells false s t e looks known l ∙ w.others l away;
-}
+file_looks tells s t e old number x looks known w = grind (arith, nat_tests, files_look)
 
 -- the draft after it
 pub cut_draft : (tells : Bool) (s t : State) (number size : ℕ) (o : OpenNode) (node : Node) (table : List ℕ) (d f g e : DraftState) → CutsNode tells s number size o node table d f g e → LooksOnly tells false s t → IsDraftOf tells t e

@@ -1,7 +1,7 @@
 -- A call on a file that drops its node, and one that reads its bytes.
-use Rattle.std.proofs.Common.{◌≡◌, ℕ, ◌≤◌, ◌==◌, ◌||◌, Bool, true, false, cond, List, [], ◌∷◌, All, Option, Some, None, is_some, option_map, refl, sym, ap, ◌∙◌, arith, subst, ◌⊎◌, inl, inr}
-use Rattle.std.proofs.lemmas.Bool.{cases_Bool, cond-false, false≢true, or_left, or_right, eq-eqb, eqb-true}
+use Rattle.std.proofs.Common.{◌≡◌, ℕ, ◌≤◌, List, [], All, Some, None, option_map, refl, sym, ap, ◌∙◌, arith, subst}
 use Rattle.std.proofs.lemmas.List.{append-nil}
+use Rattle.std.proofs.lemmas.Bool.Decides.{nat_tests}
 use Rattle.base_types.specs.Seal.{Blocks}
 use Rattle.base_types.specs.Runs.{run_places}
 use Rattle.base_types.specs.declared.words.Class.TheVariants.{Meta}
@@ -10,23 +10,19 @@ use Rattle.layout_extent.specs.Runs.{runs_of}
 use Rattle.layout_bytes.specs.declared.node.Node.{Node}
 use Rattle.layout_bytes.specs.Node.{node_spelling, free_node, FitsAs}
 use Rattle.engine_blocks.specs.Puts.{IsData}
-use Rattle.engine_blocks.specs.Running.{has}
 use Rattle.engine_blocks.specs.State.{Bookkeeping}
 use Rattle.crash_stands.specs.Files.{files_of, used_node}
 use Rattle.fs_files.specs.declared.changes.Changed.{Changed}
 use Rattle.fs_files.specs.declared.nodes.OpenNode.{OpenNode}
 use Rattle.fs_files.specs.Bytes.{overwrite}
 use Rattle.fs_files.specs.Calls.{IsWithFile, IsWithPlaces, SetsNode, places_or_none, places_of}
-use Rattle.fs_files.specs.Drafts.{DraftState, change_of, drafted, PutsBlock, FreesBlocks}
+use Rattle.fs_files.specs.Drafts.{DraftState, drafted, PutsBlock, FreesBlocks}
 use Rattle.fs_files.specs.Frames.{ReadsBack}
 use Rattle.fs_files.specs.Nodes.{node_of_open, node_block, node_byte}
 use Rattle.fs_files.specs.Sound.{FitsBooks, IsSoundDraft}
-use Rattle.fs_files.proofs.frames.Cells.{block_from, block_below}
 use Rattle.fs_files.proofs.frames.Dropped.{dropped_sound, dropped_file, dropped_places}
-use Rattle.fs_files.proofs.frames.Puts.{put_changed}
 use Rattle.fs_files.proofs.frames.Rules.{frees_fits}
 use Rattle.fs_files.proofs.calling.Nodes.{put_still_fits}
-use Rattle.fs_files.proofs.drafts.Lists.{has_one}
 
 -- its blocks were freed and the node put: the draft fits, also where nothing is known of the blocks
 pub drop_fits : (k : Bookkeeping) (g : Geometry) (number : ℕ) (ps : List ℕ) (c : Changed) (d f e : DraftState) → g ≡ k.geom → IsGeometry g → 1 ≤ number → number ≤ k.geom.i → FitsBooks k d → All (IsData k.geom) ps
@@ -37,35 +33,11 @@ drop_fits k g number ps c d f e same geom from upto fits inside frees puts =
 -- what changed in the draft
 drop_sets : (k : Bookkeeping) (number : ℕ) (ps : List ℕ) (c : Changed) (d f e : DraftState) → IsGeometry k.geom → 1 ≤ number → number ≤ k.geom.i → FitsBooks k f
     → FreesBlocks ps d f → PutsBlock (node_block k.geom number) c f e → SetsNode k.geom number ps d e
-drop_sets k number ps c d f e geom from upto fits frees puts = record {
-  among = λ b is. by b (cases_Bool (node_block k.geom number == b)) is;
-  taken = puts.taken ∙ frees.taken;
-  freed = puts.freed ∙ frees.freed;
-  fresh = omega (arith, puts.fresh_len, frees.fresh_len);
-}
-  where
-    at : ℕ
-    at = node_block k.geom number
-
-    changed : (b : ℕ) → change_of e.changed b ≡ cond (at == b) (Some c) (change_of f.changed b)
-    changed b = put_changed k f e at c geom (block_from k.geom number) (block_below k.geom number geom.whole_blocks from upto) fits puts b
-
-    was : (t : Bool) (o p : Option Changed) → p ≡ cond t None o → is_some p ≡ true → is_some o ≡ true
-    was true o p e is = absurd (false≢true (sym (ap is_some e) ∙ is))
-    was false o p e is = ap is_some (sym e) ∙ is
-
-    by : (b : ℕ) → ((at == b) ≡ true) ⊎ ((at == b) ≡ false) → is_some (change_of e.changed b) ≡ true → (has (at ∷ []) b || is_some (change_of d.changed b)) ≡ true
-    by b (inl here) is = or_left (has (at ∷ []) b) (is_some (change_of d.changed b)) (has_one at b ∙ eq-eqb b at (sym (eqb-true at b here)))
-    by b (inr away) is =
-        or_right (has (at ∷ []) b) (is_some (change_of d.changed b))
-        (was (has ps b) (change_of d.changed b) (change_of f.changed b) (frees.changed b) (ap is_some (sym (changed b ∙ cond-false (at == b) (Some c) (change_of f.changed b) away)) ∙ is))
+drop_sets k number ps c d f e geom from upto fits frees puts = grind (arith, nat_tests)
 
 -- and where the node alone was put
 pub put_sets : (k : Bookkeeping) (g : Geometry) (number : ℕ) (c : Changed) (d e : DraftState) → g ≡ k.geom → IsGeometry g → 1 ≤ number → number ≤ k.geom.i → FitsBooks k d → PutsBlock (node_block g number) c d e → SetsNode k.geom number [] d e
-put_sets k g number c d e same geom from upto fits puts = drop_sets k number [] c d d e (subst IsGeometry same geom) from upto fits none (subst (λ h. PutsBlock (node_block h number) c d e) same puts)
-  where
-    none : FreesBlocks [] d d
-    none = record { changed = λ q. refl; fresh = λ q. refl; fresh_len = omega arith; taken = refl; freed = sym (append-nil d.freed) }
+put_sets k g number c d e same geom from upto fits puts = grind (arith, nat_tests, drop_sets, append-nil)
 
 -- the draft is sound, the node is gone, and its blocks are freed
 pub drops : (k : Bookkeeping) (m : Blocks) (g : Geometry) (number : ℕ) (o : OpenNode) (n : Node) (table : List ℕ) (d f e : DraftState) → g ≡ k.geom → IsGeometry g → 1 ≤ number → number ≤ k.geom.i

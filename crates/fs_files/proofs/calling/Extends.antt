@@ -1,8 +1,9 @@
 -- Growth to more bytes: d, then w with zeros past the end within the node's blocks, then g with new blocks, then e with the node.
-use Rattle.std.proofs.Common.{◌≡◌, ◌⊎◌, inl, inr, ℕ, ◌+◌, ◌-◌, ◌*◌, ◌/◌, ◌%◌, ◌^◌, ◌<◌, ◌≤◌, ◌==◌, nat_le, Bool, true, false, ◌&&◌, ◌||◌, if◌then◌else◌, IsTrue, List, [], ◌∷◌, ◌++◌, length, take, drop, replicate, min, max, All, Some, is_some, refl, sym, ap, subst, ◌∙◌, arith}
-use Rattle.std.proofs.lemmas.Bool.{cases_Bool, cases_lt, or_left, or_right, or_cases, leb-true, eq-eqb, eqb-true}
+use Rattle.std.proofs.Common.{◌≡◌, ◌⊎◌, inl, inr, ℕ, ◌+◌, ◌-◌, ◌*◌, ◌%◌, ◌^◌, ◌<◌, ◌≤◌, ◌==◌, nat_le, Bool, true, false, ◌&&◌, ◌||◌, if◌then◌else◌, IsTrue, List, [], ◌∷◌, ◌++◌, length, take, drop, replicate, min, max, All, Some, is_some, refl, sym, ap, subst, ◌∙◌, arith, rules}
+use Rattle.std.proofs.lemmas.Bool.{cases_Bool, or_left, or_right, or_cases, leb-true, eq-eqb, eqb-true, false_from_ne_true}
 use Rattle.std.proofs.Math.Seq.{drop-append_seam}
 use Rattle.std.proofs.lemmas.List.{take-append-drop, append-nil, length-append, length-take-le, take_all, drop_all}
+use Rattle.std.proofs.lemmas.Bool.Decides.{nat_tests}
 use Rattle.base_types.specs.Seal.{Blocks}
 use Rattle.base_types.specs.Runs.{run_places}
 use Rattle.base_types.specs.declared.words.Class.TheVariants.{Meta}
@@ -10,7 +11,7 @@ use Rattle.layout_extent.specs.Runs.{AreTidy, runs_of, stretches}
 use Rattle.layout_geometry.specs.Geometry.{Geometry, IsGeometry, table_start, data_start}
 use Rattle.layout_bytes.specs.declared.node.Node.{Node}
 use Rattle.layout_bytes.specs.declared.node.NodeKind.{NodeKind}
-use Rattle.layout_bytes.specs.declared.node.NodeKind.TheVariants.{Free, Dir, File}
+use Rattle.layout_bytes.specs.declared.node.NodeKind.TheVariants.{Free, Dir}
 use Rattle.layout_bytes.specs.Bytes.{are_zeros}
 use Rattle.layout_bytes.specs.Node.{node_fits, node_spelling, FitsAs}
 use Rattle.engine_blocks.specs.Puts.{IsData}
@@ -33,7 +34,7 @@ use Rattle.fs_files.specs.Sound.{FitsBooks, IsSoundDraft, IsDraftOf}
 use Rattle.fs_files.specs.Writing.{FillsGap, HasRoom, WritesOpen}
 use Rattle.fs_files.proofs.bytes.Sizes.{blocks_rise}
 use Rattle.fs_files.proofs.calling.Came.{Came, news}
-use Rattle.fs_files.proofs.calling.Cuts.{sized_kind, links_some, kind_of}
+use Rattle.fs_files.proofs.calling.Cuts.{sized_kind}
 use Rattle.fs_files.proofs.calling.Nodes.{its_file}
 use Rattle.fs_files.proofs.calling.Writes.{its, all_inside, wrote_fits, wrote_rules, wrote_marks, came_unmarked, wrote_others, content_after, bytes_written, tail_written}
 use Rattle.fs_files.proofs.drafts.Lists.{none_of_table, has_append}
@@ -42,7 +43,7 @@ use Rattle.fs_files.proofs.frames.Carry.{draft_settles, files_settle, places_set
 use Rattle.fs_files.proofs.frames.Cells.{block_from, block_below}
 use Rattle.fs_files.proofs.frames.Fits.{fits_with}
 use Rattle.fs_files.proofs.frames.Frames.{node_places, same_places}
-use Rattle.fs_files.proofs.frames.Places.{used_length}
+use Rattle.fs_files.proofs.frames.Places.{used_length, parts_fit}
 use Rattle.fs_files.proofs.frames.Puts.{put_fits, put_changed, put_changes}
 use Rattle.fs_files.proofs.frames.Spelled.{used_some, fits_as}
 use Rattle.fs_files.proofs.bytes.Pieces.{writes_none}
@@ -58,16 +59,10 @@ none_written size xs past = ap (λ ys. resized size xs ++ ys) (drop_all (size + 
 
 -- the blocks that are met within those that there are
 met_within : (lo hi : ℕ) (ps : List ℕ) → met lo (min hi (1024 * length ps)) ps ≡ met lo hi ps
-met_within lo hi ps = by (cases_lt (1024 * length ps) hi)
-  where
-    by : (1024 * length ps < hi) ⊎ (hi ≤ 1024 * length ps) → met lo (min hi (1024 * length ps)) ps ≡ met lo hi ps
-    by (inr within) = ap (λ n. met lo n ps) {x = min hi (1024 * length ps)} {y = hi} (omega (arith, within))
-    by (inl past) = ap (drop (lo / 1024)) (take_all (blocks_for (min hi (1024 * length ps))) ps (omega (arith, past)) ∙ sym (take_all (blocks_for hi) ps (omega (arith, past))))
+met_within lo hi ps = grind (arith, nat_tests, take_all)
 
 dir_meta : (kind : NodeKind) → (kind ≡ Free → ⊥) → is_meta (class_of kind) ≡ is_dir kind
-dir_meta Free used = absurd (used refl)
-dir_meta Dir used = refl
-dir_meta File used = refl
+dir_meta kind e = grind (arith, nat_tests)
 
 -- the steps of a growth, all over the last state
 pub record ExtendsNode (tells : Bool) (t : State) (number size : ℕ) (o p : OpenNode) (node : Node) (table : List ℕ) (d w g e : DraftState) : Type 0 where
@@ -197,16 +192,11 @@ module _ (tells : Bool) (t : State) (number size : ℕ) (o p : OpenNode) (node :
   extend_freed = is.puts.freed ∙ came.takes.freed ∙ w_writes.freed
 
   pub extend_fresh : length e.fresh ≤ length d.fresh + (if is_dir o.kind then 0 else length extra)
-  extend_fresh = subst (λ u. length e.fresh ≤ length d.fresh + (if u then 0 else length extra)) (dir_meta o.kind is.loaded.fits.used)
-      (omega (arith, is.puts.fresh_len, came.takes.fresh_len, w_writes.fresh_len))
+  extend_fresh = grind (arith, nat_tests, dir_meta, came, w_writes)
 
   -- how many blocks it has
   enough : more_blocks size o ≤ length (reusable_blocks k)
-  enough = by (cases_lt (length o.places) (blocks_for size))
-    where
-      by : (length o.places < blocks_for size) ⊎ (blocks_for size ≤ length o.places) → more_blocks size o ≤ length (reusable_blocks k)
-      by (inl more) = (is.room.grows more).enough
-      by (inr held) = omega (arith, held)
+  enough = grind (arith, nat_tests)
 
   extra_count : length extra ≡ more_blocks size o
   extra_count = ap (λ n. length (news k n o)) (sym size_is) ∙ length-take-le (more_blocks size o) (reusable_blocks k) enough
@@ -230,9 +220,9 @@ module _ (tells : Bool) (t : State) (number size : ℕ) (o p : OpenNode) (node :
 
     fits_new : node_fits k.geom new ≡ true
     fits_new = subst (λ (q : OpenNode). node_fits k.geom (record { kind = q.kind; links = q.links; size = size; runs = runs_of q.places }) ≡ true) (sym (came.node ∙ ap (λ xs. record o { places = xs }) (sym p_places)))
-        (fits_with k.geom o.kind o.links size p.places qs (is.count p.places) (is.tidy p.places) (links_some k.geom (node_of_open o) is.loaded.fits.fits) is.few
+        (fits_with k.geom o.kind o.links size p.places qs (is.count p.places) (is.tidy p.places) (parts_fit k.geom (node_of_open o) is.loaded.fits.fits).links is.few
         (all_inside tells k m number size [] o p d g is.geom is.loaded.fits is.loaded.draft.fits write) p_count
-        (sized_kind o.kind o.links o.size size (runs_of o.places) (runs_of p.places) (is.slots known) is.most (kind_of k.geom (node_of_open o) is.loaded.fits.fits)))
+        (sized_kind o.kind o.links o.size size (runs_of o.places) (runs_of p.places) (is.slots known) (λ file. is.most) (parts_fit k.geom (node_of_open o) is.loaded.fits.fits).kind))
 
     new_used : new.kind ≡ Free → ⊥
     new_used e = is.loaded.fits.used (sym p_kind ∙ e)
@@ -299,9 +289,7 @@ module _ (tells : Bool) (t : State) (number size : ℕ) (o p : OpenNode) (node :
 
     pub extend_file : (x : FileNode) → files_of k.geom (drafted d m) number ≡ Some x
         → IsWithFile (files_of k.geom (drafted d m)) (files_of k.geom (drafted e m)) number (Some (with_bytes x (resized size x.bytes)))
-    extend_file x at =
-        subst (λ (y : FileNode). IsWithFile (files_of k.geom (drafted d m)) (files_of k.geom (drafted e m)) number (Some y))
-        ((λ i. record { kind = p_kind i; links = (came.node i).links; bytes = now_bytes i }) ∙ ap (λ (y : FileNode). with_bytes y (resized size y.bytes)) (sym (file_at x at))) all.1
+    extend_file x at = grind (arith, nat_tests, p_kind, came, now_bytes, file_at, all)
 
     places_d : places_in t d number ≡ o.places
     places_d = ap places_or_none used ∙ ps
@@ -323,16 +311,7 @@ module _ (tells : Bool) (t : State) (number size : ℕ) (o p : OpenNode) (node :
     x_extra x at = ap (λ n. news k n o) (sym size_is) ∙ ap (λ n. take n (reusable_blocks k)) (x_growth x at)
 
     pub extend_grows : (x : FileNode) → files_of k.geom (drafted d m) number ≡ Some x → Grows k x (places_in t d number) (places_in t e number) size d e
-    extend_grows x at = record {
-      enough = omega (arith, enough, x_growth x at);
-      taken = extend_taken ∙ ap (λ xs. d.taken ++ xs) (x_extra x at);
-      behind = places_e ∙ p_places ∙ (λ i. sym places_d i ++ x_extra x at i);
-      runs = subst (λ xs. stretches xs ≤ 28) (sym places_e) is.few;
-      freed = extend_freed;
-      fresh = subst (λ kind. length e.fresh ≤ length d.fresh + (if is_dir kind then 0 else growth (length x.bytes) size)) (x_kind x at)
-          (subst (λ n. length e.fresh ≤ length d.fresh + (if is_dir o.kind then 0 else n)) (extra_count ∙ x_growth x at) extend_fresh);
-      changes = extend_some;
-    }
+    extend_grows x at = search (rules, arith, enough, x_growth, extend_taken, x_extra, places_e, p_places, places_d, extend_freed, x_kind, extra_count, extend_fresh, extend_some)
 
     pub extend_places : (x : FileNode) → files_of k.geom (drafted d m) number ≡ Some x → IsWithPlaces (places_in t d) (places_in t e) number (take (blocks_for size) (places_in t d number) ++ take (growth (length x.bytes) size) (reusable_blocks k))
     extend_places x at = record {
@@ -353,11 +332,7 @@ module _ (tells : Bool) (t : State) (number size : ℕ) (o p : OpenNode) (node :
         ((λ i. met (sym (x_size x at) i) size (sym places_d i) ++ ((if is_dir (x_kind x at i) then behind_is i else []) ++ own)) ∙ ap (λ u. met (length x.bytes) size (places_in t d number) ++ ((if is_dir x.kind then drop (length (places_in t d number)) (places_in t e number) else []) ++ (if u then [] else own))) (sym (not_past x at))) extend_among
       where
         not_past : (y : FileNode) → files_of k.geom (drafted d m) number ≡ Some y → nat_le size (length y.bytes) ≡ false
-        not_past y there = by (cases_Bool (nat_le size (length y.bytes)))
-          where
-            by : (nat_le size (length y.bytes) ≡ true) ⊎ (nat_le size (length y.bytes) ≡ false) → nat_le size (length y.bytes) ≡ false
-            by (inl within) = absurd (omega (arith, leb-true size (length y.bytes) within, x_size y there, is.more))
-            by (inr past) = past
+        not_past y there = false_from_ne_true (nat_le size (length y.bytes)) (λ within. omega (arith, leb-true size (length y.bytes) within, x_size y there, is.more))
 
 -- From the state before to the one after.
 
@@ -377,12 +352,7 @@ gap_of : (tells : Bool) (s t : State) (size : ℕ) (o : OpenNode) (d w : DraftSt
     → (IsTrue tells → HasContent s.map d o.places → HasContent s.map w o.places)
     → (IsTrue tells → HasContent s.map d o.places → joined (drafted w s.map) o.places ≡ overwrite o.size (replicate (min size (1024 * length o.places) - o.size) 0) (joined (drafted d s.map) o.places))
     → FillsGap tells t.map size o d w
-gap_of tells s t size o d w map more writes content bytes = record {
-  none = λ within. absurd (omega (arith, within, more));
-  writes = λ past. writes;
-  content = λ known. subst (λ (m : Blocks). HasContent m d o.places → HasContent m w o.places) (sym (map known)) (content known);
-  bytes = λ known has past. subst (λ (m : Blocks). HasContent m d o.places → joined (drafted w m) o.places ≡ overwrite o.size (replicate (min size (1024 * length o.places) - o.size) 0) (joined (drafted d m) o.places)) (sym (map known)) (bytes known) has;
-}
+gap_of tells s t size o d w map more writes content bytes = grind (arith, nat_tests)
 
 -- the steps of a growth are one
 pub extend_steps : (tells : Bool) (s t : State) (number size : ℕ) (o p : OpenNode) (node : Node) (table : List ℕ) (d w g e : DraftState) (h : Geometry) → h ≡ s.books.geom → IsGeometry h → LooksAndSettles tells false false s t

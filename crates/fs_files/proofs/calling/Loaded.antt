@@ -1,7 +1,8 @@
 -- A write into a node that was loaded, from the state before it to the one after it.
-use Rattle.std.proofs.Common.{◌≡◌, ◌⊎◌, inl, inr, ℕ, ◌+◌, ◌%◌, ◌^◌, ◌<◌, ◌≤◌, if◌then◌else◌, Bool, true, false, IsTrue, List, [], ◌∷◌, ◌++◌, length, take, drop, max, min, Some, is_some, refl, sym, ap, subst, ◌∙◌, arith}
+use Rattle.std.proofs.Common.{◌≡◌, ℕ, ◌+◌, ◌%◌, ◌^◌, ◌<◌, ◌≤◌, if◌then◌else◌, Bool, true, false, IsTrue, List, [], ◌∷◌, ◌++◌, length, take, drop, max, min, Some, is_some, refl, sym, ap, subst, ◌∙◌, arith, ⊎_elim}
 use Rattle.std.proofs.lemmas.Bool.{cases_lt, or_cases}
 use Rattle.std.proofs.lemmas.List.{length-take-le}
+use Rattle.std.proofs.lemmas.Bool.Decides.{nat_tests}
 use Rattle.base_types.specs.Seal.{Blocks}
 use Rattle.base_types.specs.Runs.{run_places}
 use Rattle.layout_geometry.specs.Geometry.{Geometry, IsGeometry}
@@ -10,7 +11,7 @@ use Rattle.layout_bytes.specs.declared.node.NodeKind.TheVariants.{Dir}
 use Rattle.engine_blocks.specs.State.{Bookkeeping, State, reusable_blocks, IsReusable}
 use Rattle.crash_stands.specs.Files.{FileNode, files_of, used_node}
 use Rattle.fs_files.specs.declared.nodes.OpenNode.{OpenNode}
-use Rattle.fs_files.specs.Bytes.{blocks_for, overwritten}
+use Rattle.fs_files.specs.Bytes.{overwritten}
 use Rattle.fs_files.specs.Calls.{IsWithPlaces, places_of, places_or_none, is_dir, growth, written_blocks, ChangesAmong, Grows}
 use Rattle.fs_files.specs.Content.{HasNewBytes}
 use Rattle.fs_files.specs.Drafts.{DraftState, ChangesSome, change_of, drafted, TakesBlocks}
@@ -18,12 +19,12 @@ use Rattle.fs_files.specs.Effects.{LooksAndSettles}
 use Rattle.fs_files.specs.Growing.{more_blocks}
 use Rattle.fs_files.specs.Nodes.{class_of, node_block, node_of_open, IsOpen}
 use Rattle.fs_files.specs.Sound.{FitsBooks, IsSoundDraft, IsDraftOf}
-use Rattle.fs_files.specs.Writing.{FillsGap, KeepsSize, WritesFile, WritesOpen}
+use Rattle.fs_files.specs.Writing.{KeepsSize, WritesFile, WritesOpen}
 use Rattle.fs_files.proofs.bytes.Contents.{overwritten_length}
 use Rattle.fs_files.proofs.frames.Carry.{draft_settles}
 use Rattle.fs_files.proofs.frames.Puts.{put_changes}
 use Rattle.fs_files.proofs.calling.Among.{fresh_of, may_change, kept_known}
-use Rattle.fs_files.proofs.calling.Opens.{gap_taken}
+use Rattle.fs_files.proofs.calling.Opens.{gap_writes}
 use Rattle.fs_files.proofs.calling.Stores as stores
 use Rattle.fs_files.proofs.calling.Writes as writes
 
@@ -31,26 +32,14 @@ drop_behind : (xs ys : List ℕ) → drop (length xs) (xs ++ ys) ≡ ys
 drop_behind [] ys = refl
 drop_behind (x ∷ xs) ys = drop_behind xs ys
 
--- the gap leaves what is freed, and how much new content there is
-gap_freed : (tells : Bool) (m : Blocks) (off : ℕ) (node : OpenNode) (d e : DraftState) → FillsGap tells m off node d e → (e.freed ≡ d.freed) × (length e.fresh ≡ length d.fresh)
-gap_freed tells m off node d e gap = by (cases_lt node.size off)
-  where
-    by : (node.size < off) ⊎ (off ≤ node.size) → (e.freed ≡ d.freed) × (length e.fresh ≡ length d.fresh)
-    by (inl past) = ((gap.writes past).freed, (gap.writes past).fresh_len)
-    by (inr within) = (ap (λ (x : DraftState). x.freed) (gap.none within), ap (λ (x : DraftState). length x.fresh) (gap.none within))
-
--- and so does storing the node, which takes nothing either
+-- storing the node takes and frees nothing
 record StoresOnly (d e : DraftState) : Type 0 where
   taken : e.taken ≡ d.taken
   freed : e.freed ≡ d.freed
   fresh : length e.fresh ≡ length d.fresh
 
 stores_only : (g : Geometry) (number size : ℕ) (node : OpenNode) (table : List ℕ) (d e : DraftState) → KeepsSize g number size node table d e → StoresOnly d e
-stores_only g number size node table d e keeps = by (cases_lt node.size size)
-  where
-    by : (node.size < size) ⊎ (size ≤ node.size) → StoresOnly d e
-    by (inl more) = let p = keeps.puts more in record { taken = p.taken; freed = p.freed; fresh = p.fresh_len }
-    by (inr enough) = let same = keeps.same enough in record { taken = ap (λ (x : DraftState). x.taken) same; freed = ap (λ (x : DraftState). x.freed) same; fresh = ap (λ (x : DraftState). length x.fresh) same }
+stores_only g number size node table d e keeps = grind (arith, nat_tests)
 
 module _ (tells : Bool) (k : Bookkeeping) (m : Blocks) (number off : ℕ) (ys : List ℕ) (o p : OpenNode) (d f e : DraftState) (table : List ℕ) (geom : IsGeometry k.geom) (opened : IsOpen k.geom o) (fits : FitsBooks k d) (w : WritesOpen tells k m off ys o p d f)
     (from : 1 ≤ number) (upto : number ≤ k.geom.i) (keeps : KeepsSize k.geom number (max o.size (off + length ys)) p table f e)
@@ -76,11 +65,7 @@ module _ (tells : Bool) (k : Bookkeeping) (m : Blocks) (number off : ℕ) (ys : 
   after_is = stores.places_after tells k m number off ys o p d f e table geom opened fits w from upto keeps told sound free used back count tidy at_table few some slots
 
   enough : more_blocks wide o ≤ length (reusable_blocks k)
-  enough = by (cases_lt (length o.places) (blocks_for wide))
-    where
-      by : (length o.places < blocks_for wide) ⊎ (blocks_for wide ≤ length o.places) → more_blocks wide o ≤ length (reusable_blocks k)
-      by (inl more) = (w.room.grows more).enough
-      by (inr has_all) = omega (arith, has_all)
+  enough = grind (arith, nat_tests)
 
   takes : TakesBlocks (class_of o.kind) extra w.filled w.grown
   takes = (writes.its tells k m number off ys o p d f geom opened fits w).takes
@@ -90,15 +75,15 @@ module _ (tells : Bool) (k : Bookkeeping) (m : Blocks) (number off : ℕ) (ys : 
       let is = stores.file_size tells k m number off ys o p d f e table geom opened fits w from upto keeps told sound free used back count tidy at_table few some slots x at in
       let n : more_blocks wide o ≡ growth (length x.bytes) (off + length ys) = omega (arith, is.0, opened.count) in
       let only = stores_only k.geom number wide p table f e keeps in
-      let gap = gap_freed tells m off o d w.filled w.gap in
+      let gap = gap_writes tells m off o d w.filled w.gap in
       let long : length extra ≡ growth (length x.bytes) (off + length ys) = omega (arith, n, length-take-le (more_blocks wide o) (reusable_blocks k) enough) in
-      let step : length e.fresh ≤ length d.fresh + (if is_dir o.kind then 0 else length extra) = omega (arith, only.fresh, w.writes.fresh_len, takes.fresh_len, gap.1, fresh_of o.kind (length extra)) in
+      let step : length e.fresh ≤ length d.fresh + (if is_dir o.kind then 0 else length extra) = omega (arith, only.fresh, w.writes.fresh_len, takes.fresh_len, gap.fresh_len, fresh_of o.kind (length extra)) in
       record {
         enough = omega (arith, n, enough);
-        taken = only.taken ∙ w.writes.taken ∙ takes.taken ∙ ap (λ ts. ts ++ extra) (gap_taken tells m off o d w.filled w.gap) ∙ ap (λ c. d.taken ++ take c (reusable_blocks k)) n;
+        taken = only.taken ∙ w.writes.taken ∙ takes.taken ∙ ap (λ ts. ts ++ extra) gap.taken ∙ ap (λ c. d.taken ++ take c (reusable_blocks k)) n;
         behind = after_is ∙ ap (λ xs. xs ++ extra) (sym before_is) ∙ ap (λ c. before ++ take c (reusable_blocks k)) n;
         runs = subst (λ xs. stretches xs ≤ 28) (sym after_is) (stores.stretched_after tells k m number off ys o p d f e table geom opened fits w from upto keeps told sound free used back count tidy at_table few some slots);
-        freed = only.freed ∙ w.writes.freed ∙ takes.freed ∙ gap.0;
+        freed = only.freed ∙ w.writes.freed ∙ takes.freed ∙ gap.freed;
         fresh = subst (λ kind. length e.fresh ≤ length d.fresh + (if is_dir kind then 0 else growth (length x.bytes) (off + length ys))) (sym is.1) (subst (λ c. length e.fresh ≤ length d.fresh + (if is_dir o.kind then 0 else c)) long step);
         changes = changes;
       }
@@ -133,24 +118,19 @@ module _ (tells : Bool) (k : Bookkeeping) (m : Blocks) (number off : ℕ) (ys : 
 module _ (tells : Bool) (k : Bookkeeping) (m : Blocks) (number off : ℕ) (ys : List ℕ) (o p : OpenNode) (d f e : DraftState) (table : List ℕ) (geom : IsGeometry k.geom) (opened : IsOpen k.geom o) (fits : FitsBooks k d) (w : WritesOpen tells k m off ys o p d f)
     (from : 1 ≤ number) (upto : number ≤ k.geom.i) (keeps : KeepsSize k.geom number (max o.size (off + length ys)) p table f e) (some : 0 < length ys) (was : (b : ℕ) → is_some (change_of d.fresh b) ≡ true → ChangesSome d) where
   new_changes : w.grown ≡ d → HasNewBytes f → ChangesSome f
-  new_changes same (b, new) = by (or_cases (is_some (change_of f.changed b)) (is_some (change_of f.fresh b)) new)
-    where
-      by : (is_some (change_of f.changed b) ≡ true) ⊎ (is_some (change_of f.fresh b) ≡ true) → ChangesSome f
-      by (inl is) = (b, is)
-      by (inr is) =
-          let old = was b (ap (λ (x : DraftState). is_some (change_of x.fresh b)) (sym same) ∙ sym (w.writes.fresh_keys b) ∙ is) in
-          (old.0, w.writes.stays old.0 (ap (λ (x : DraftState). is_some (change_of x.changed old.0)) same ∙ old.1))
+  new_changes same (b, new) = ⊎_elim (λ is. (b, is))
+      (λ is. let old = was b (ap (λ (x : DraftState). is_some (change_of x.fresh b)) (sym same) ∙ sym (w.writes.fresh_keys b) ∙ is) in
+      (old.0, w.writes.stays old.0 (ap (λ (x : DraftState). is_some (change_of x.changed old.0)) same ∙ old.1)))
+      (or_cases (is_some (change_of f.changed b)) (is_some (change_of f.fresh b)) new)
 
   size_same : p.size ≡ o.size
   size_same = ap (λ (q : OpenNode). q.size) (writes.its tells k m number off ys o p d f geom opened fits w).node
 
   pub kept_changes : ChangesSome e
-  kept_changes = by (cases_lt p.size (max o.size (off + length ys)))
-    where
-      by : (p.size < max o.size (off + length ys)) ⊎ (max o.size (off + length ys) ≤ p.size) → ChangesSome e
-      by (inl more) = put_changes k k.geom number _ f e refl geom from upto (stores.kept_fits tells k m number off ys o p d f e table geom opened fits w from upto keeps) (keeps.puts more)
-      by (inr enough) = subst ChangesSome (sym (keeps.same enough))
-          (new_changes (w.room.kept (omega (arith, opened.count, size_same, enough)) ∙ w.gap.none (omega (arith, size_same, enough))) (w.some some))
+  kept_changes = ⊎_elim (λ more. put_changes k k.geom number _ f e refl geom from upto (stores.kept_fits tells k m number off ys o p d f e table geom opened fits w from upto keeps) (keeps.puts more))
+      (λ enough. subst ChangesSome (sym (keeps.same enough))
+      (new_changes (w.room.kept (omega (arith, opened.count, size_same, enough)) ∙ w.gap.none (omega (arith, size_same, enough))) (w.some some)))
+      (cases_lt p.size (max o.size (off + length ys)))
 
 -- From one state to the next.
 

@@ -1,5 +1,5 @@
 -- A call on a file that makes a node.
-use Rattle.std.proofs.Common.{◌≡◌, ◌≢◌, ℕ, ◌<◌, ◌≤◌, true, List, [], Option, Some, None, is_some, option_map, refl, ap, ◌∙◌, subst, ◌⊎◌, inl, inr}
+use Rattle.std.proofs.Common.{◌≡◌, ◌≢◌, ℕ, ◌<◌, ◌≤◌, true, List, [], Option, Some, None, is_some, option_map, refl, ap, ◌∙◌, subst, ⊎_elim}
 use Rattle.std.proofs.lemmas.Bool.{cases_lt, false≢true}
 use Rattle.base_types.specs.Seal.{Blocks}
 use Rattle.base_types.specs.declared.words.Class.TheVariants.{Meta}
@@ -31,11 +31,9 @@ file_there g m l is = by (used_node g m l) is refl
 
 -- those below the first number are in use, and those from it on to the number found
 pub all_used : (g : Geometry) (m : Blocks) (from upto : ℕ) → ((l : ℕ) → 1 ≤ l → l < from → IsUsed (files_of g m) l) → AreUsed g m from upto → (l : ℕ) → 1 ≤ l → l < upto → IsUsed (files_of g m) l
-all_used g m from upto below rest l low high = by (cases_lt l from)
-  where
-    by : (l < from) ⊎ (from ≤ l) → IsUsed (files_of g m) l
-    by (inl before) = below l low before
-    by (inr behind) = file_there g m l (rest l behind high)
+all_used g m from upto below rest l low high = ⊎_elim (λ before. below l low before)
+    (λ behind. file_there g m l (rest l behind high))
+    (cases_lt l from)
 
 -- a node was made of the first number that isn't in use
 pub news : (k : Bookkeeping) (m : Blocks) (g : Geometry) (from number : ℕ) (kind : NodeKind) (node : Node) (table : List ℕ) (d e : DraftState) → g ≡ k.geom → IsGeometry g → 1 ≤ number → number ≤ k.geom.i

@@ -1,14 +1,13 @@
 -- A call on a file that reads its node, and sets its links.
-use Rattle.std.proofs.Common.{◌≡◌, ℕ, ◌+◌, ◌/◌, ◌≤◌, ◌==◌, ◌&&◌, nat_lt, nat_le, Bool, true, List, length, Option, Some, None, option_map, refl, sym, ap, ◌∙◌, subst, arith, IsTrue}
-use Rattle.std.proofs.lemmas.Bool.{and_parts, and_from, le-leb, lt-ltb}
+use Rattle.std.proofs.Common.{◌≡◌, ℕ, ◌≤◌, Bool, true, List, Option, Some, None, option_map, sym, ap, ◌∙◌, subst, arith, IsTrue}
 use Rattle.std.proofs.lemmas.Option.{none-some, same_Some}
+use Rattle.std.proofs.lemmas.Bool.Decides.{nat_tests}
 use Rattle.base_types.specs.Seal.{Blocks}
 use Rattle.base_types.specs.declared.words.Class.TheVariants.{Meta}
 use Rattle.layout_geometry.specs.Geometry.{Geometry, IsGeometry}
 use Rattle.layout_bytes.specs.declared.node.Node.{Node}
 use Rattle.layout_bytes.specs.declared.node.NodeKind.{NodeKind}
-use Rattle.layout_bytes.specs.declared.node.NodeKind.TheVariants.{Free, Dir, File}
-use Rattle.layout_bytes.specs.Node.{node_fits, node_spelling, kind_fits, run_blocks, runs_fit, most_runs, FitsAs}
+use Rattle.layout_bytes.specs.Node.{node_fits, node_spelling, kind_fits, FitsAs}
 use Rattle.engine_blocks.specs.State.{Bookkeeping, State}
 use Rattle.crash_stands.specs.Files.{FileNode, file_of, files_of, used_node}
 use Rattle.fs_files.specs.declared.changes.Changed.{Changed}
@@ -44,22 +43,11 @@ its_file g m k x node is at = same_Some x (file_of m node) (sym at ∙ ap (optio
 
 -- the rules of a kind with other links
 links_kind : (node : Node) (kind : NodeKind) (links : ℕ) → links ≤ 65535 → kind_fits node kind ≡ true → kind_fits (record node { links = links }) kind ≡ true
-links_kind node Free links few e = refl
-links_kind node Dir links few e = e
-links_kind node File links few e = and_from (nat_le links 65535) (nat_le node.size 1073741824) (le-leb links 65535 few) (and_parts (nat_le node.links 65535) (nat_le node.size 1073741824) e).1
+links_kind node kind links e h = grind (arith, nat_tests)
 
 -- a node with other links fits
 pub links_fit : (g : Geometry) (node : Node) (links : ℕ) → 1 ≤ links → links ≤ 65535 → node_fits g node ≡ true → node_fits g (record node { links = links }) ≡ true
-links_fit g node links some few e =
-    let blocks = run_blocks node.runs == (node.size + 1023) / 1024 in
-    let a = and_parts (nat_lt 0 node.links) (nat_le (length node.runs) most_runs && (runs_fit g 0 node.runs && (blocks && kind_fits node node.kind))) e in
-    let b = and_parts (nat_le (length node.runs) most_runs) (runs_fit g 0 node.runs && (blocks && kind_fits node node.kind)) a.1 in
-    let d = and_parts (runs_fit g 0 node.runs) (blocks && kind_fits node node.kind) b.1 in
-    let f = and_parts blocks (kind_fits node node.kind) d.1 in
-    and_from (nat_lt 0 links) _ (lt-ltb 0 links (omega (arith, some)))
-    (and_from (nat_le (length node.runs) most_runs) _ b.0
-    (and_from (runs_fit g 0 node.runs) _ d.0
-    (and_from blocks _ f.0 (links_kind node node.kind links few f.1))))
+links_fit g node links some few e = grind (arith, nat_tests, links_kind)
 
 -- the links of a node were set, and the node put into its block
 pub links_set : (k : Bookkeeping) (m : Blocks) (g : Geometry) (number links : ℕ) (o : OpenNode) (node : Node) (x : FileNode) (table : List ℕ) (d e : DraftState) → g ≡ k.geom → IsGeometry g → 1 ≤ number → number ≤ k.geom.i
@@ -96,7 +84,4 @@ put_still_fits k g number c d e same geom from upto fits puts =
 -- what a call made of the files is so where the blocks were looked at meanwhile
 pub looked_files : (tells failed : Bool) (s t : State) (d e : DraftState) (k : ℕ) (x : Option FileNode) → LooksOnly tells failed s t → IsTrue tells
     → IsWithFile (files_of s.books.geom (drafted d s.map)) (files_of s.books.geom (drafted e s.map)) k x → IsWithFile (files_in s d) (files_in t e) k x
-looked_files tells failed s t d e k x looks known is = record {
-  own = files_look tells failed s t e looks known k ∙ is.own;
-  others = λ l off. files_look tells failed s t e looks known l ∙ is.others l off;
-}
+looked_files tells failed s t d e k x looks known is = grind (arith, nat_tests, files_look)

@@ -1,7 +1,9 @@
 -- The steps of a write into an open node: the gap, the blocks, and the bytes.
-use Rattle.std.proofs.Common.{◌≡◌, ◌⊎◌, inl, inr, ℕ, ◌+◌, ◌*◌, ◌<◌, ◌≤◌, Bool, IsTrue, List, ◌++◌, length, take, max, All, sym, ap, subst, arith}
+use Rattle.std.proofs.Common.{◌≡◌, ◌⊎◌, inl, inr, ℕ, ◌+◌, ◌*◌, ◌<◌, ◌≤◌, Bool, IsTrue, List, length, take, max, min, All, sym, subst, arith, ⊎_elim, rules}
 use Rattle.std.proofs.lemmas.Bool.{cases_lt}
 use Rattle.std.proofs.lemmas.List.{length-append, length-take-le}
+use Rattle.std.proofs.lemmas.List.Elements.{All-append}
+use Rattle.std.proofs.lemmas.Bool.Decides.{nat_tests}
 use Rattle.base_types.specs.Seal.{Blocks}
 use Rattle.layout_geometry.specs.Geometry.{Geometry}
 use Rattle.engine_blocks.specs.Puts.{IsData}
@@ -14,15 +16,13 @@ use Rattle.fs_files.specs.Drafts.{DraftState, drafted}
 use Rattle.fs_files.specs.Growing.{more_blocks}
 use Rattle.fs_files.specs.Nodes.{class_of}
 use Rattle.fs_files.specs.Writing.{FillsGap, HasRoom, WritesOpen}
-use Rattle.fs_files.proofs.bytes.Places.{all_append}
+use Rattle.fs_files.proofs.bytes.Pieces.{writes_none}
 
--- the gap takes no blocks
-pub gap_taken : (tells : Bool) (m : Blocks) (off : ℕ) (node : OpenNode) (d e : DraftState) → FillsGap tells m off node d e → e.taken ≡ d.taken
-gap_taken tells m off node d e gap = by (cases_lt node.size off)
-  where
-    by : (node.size < off) ⊎ (off ≤ node.size) → e.taken ≡ d.taken
-    by (inl past) = (gap.writes past).taken
-    by (inr within) = ap (λ (x : DraftState). x.taken) (gap.none within)
+-- the gap is content that was written, perhaps none
+pub gap_writes : (tells : Bool) (m : Blocks) (off : ℕ) (node : OpenNode) (d e : DraftState) → FillsGap tells m off node d e → WritesContent (class_of node.kind) (met node.size (min off (1024 * length node.places)) node.places) d e
+gap_writes tells m off node d e gap = ⊎_elim (λ past. gap.writes past)
+    (λ within. subst (WritesContent (class_of node.kind) (met node.size (min off (1024 * length node.places)) node.places) d) (sym (gap.none within)) (writes_none (class_of node.kind) (met node.size (min off (1024 * length node.places)) node.places) d))
+    (cases_lt node.size off)
 
 -- its blocks are data blocks
 pub room_data : (g : Geometry) (k : Bookkeeping) (size : ℕ) (o p : OpenNode) (d e : DraftState) → k.geom ≡ g → All (IsData g) o.places → HasRoom k size o p d e → All (IsData k.geom) p.places
@@ -35,27 +35,16 @@ room_data g k size o p d e geom inside room = by (cases_lt (length o.places) (bl
     by (inl more) =
         let r = room.grows more in
         let new : All (IsData k.geom) (take (more_blocks size o) (reusable_blocks k)) = λ i x low. let at = r.takeable.each i x low in record { from = at.from; below = at.below } in
-        subst (λ (q : OpenNode). All (IsData k.geom) q.places) (sym r.node) (all_append (IsData k.geom) o.places (take (more_blocks size o) (reusable_blocks k)) own new)
+        subst (λ (q : OpenNode). All (IsData k.geom) q.places) (sym r.node) (All-append (IsData k.geom) o.places (take (more_blocks size o) (reusable_blocks k)) own new)
     by (inr enough) = subst (λ (q : OpenNode). All (IsData k.geom) q.places) (sym (room.same enough)) own
 
 -- and enough for the bytes
 pub room_within : (k : Bookkeeping) (size end : ℕ) (o p : OpenNode) (d e : DraftState) → end ≤ size → HasRoom k size o p d e → end ≤ 1024 * length p.places
-room_within k size end o p d e ends room = by (cases_lt (length o.places) (blocks_for size))
-  where
-    by : (length o.places < blocks_for size) ⊎ (blocks_for size ≤ length o.places) → end ≤ 1024 * length p.places
-    by (inl more) =
-        let r = room.grows more in
-        let long : length p.places ≡ length (o.places ++ take (more_blocks size o) (reusable_blocks k)) = ap (λ (q : OpenNode). length q.places) r.node in
-        omega (arith, ends, more, long, length-append o.places (take (more_blocks size o) (reusable_blocks k)), length-take-le (more_blocks size o) (reusable_blocks k) r.enough)
-    by (inr enough) = omega (arith, ends, enough, ap (λ (q : OpenNode). length q.places) (room.same enough))
+room_within k size end o p d e ends room = grind (arith, nat_tests, length-append, length-take-le)
 
 -- its kind is as before
 pub room_kind : (k : Bookkeeping) (size : ℕ) (o p : OpenNode) (d e : DraftState) → HasRoom k size o p d e → p.kind ≡ o.kind
-room_kind k size o p d e room = by (cases_lt (length o.places) (blocks_for size))
-  where
-    by : (length o.places < blocks_for size) ⊎ (blocks_for size ≤ length o.places) → p.kind ≡ o.kind
-    by (inl more) = ap (λ (q : OpenNode). q.kind) (room.grows more).node
-    by (inr enough) = ap (λ (q : OpenNode). q.kind) (room.same enough)
+room_kind k size o p d e room = grind (arith, nat_tests)
 
 -- all three steps; the blocks of later states are those of the first where contents are known, and their bookkeeping is that of the growth
 pub wrote : (tells : Bool) (k l : Bookkeeping) (m n : Blocks) (off : ℕ) (ys : List ℕ) (o p : OpenNode) (d filled grown f : DraftState) → l ≡ k → (IsTrue tells → n ≡ m)
@@ -64,13 +53,4 @@ pub wrote : (tells : Bool) (k l : Bookkeeping) (m n : Blocks) (off : ℕ) (ys : 
     → (IsTrue tells → HasContent n grown p.places → HasContent n f p.places)
     → (IsTrue tells → HasContent n grown p.places → joined (drafted f n) p.places ≡ overwrite off ys (joined (drafted grown n) p.places))
     → WritesOpen tells l m off ys o p d f
-wrote tells k l m n off ys o p d filled grown f books map gap room writes some content bytes = record {
-  filled = filled;
-  grown = grown;
-  gap = gap;
-  room = subst (λ (x : Bookkeeping). HasRoom x (max o.size (off + length ys)) o p filled grown) (sym books) room;
-  writes = subst (λ kind. WritesContent (class_of kind) (met off (off + length ys) p.places) grown f) (room_kind k (max o.size (off + length ys)) o p filled grown room) writes;
-  some = some;
-  content = λ told. subst (λ (x : Blocks). HasContent x grown p.places → HasContent x f p.places) (map told) (content told);
-  bytes = λ told. subst (λ (x : Blocks). HasContent x grown p.places → joined (drafted f x) p.places ≡ overwrite off ys (joined (drafted grown x) p.places)) (map told) (bytes told);
-}
+wrote tells k l m n off ys o p d filled grown f books map gap room writes some content bytes = search (rules, arith, room_kind)

@@ -1,14 +1,14 @@
 -- A call on a file that reads its bytes, and one that looks up the rest of it.
 use Rattle.std.proofs.Common.{◌≡◌, ℕ, zero, suc, ◌+◌, ◌-◌, ◌*◌, ◌%◌, ◌≤◌, Bool, true, min, List, [], ◌∷◌, length, take, drop, All, Some, None, option_map, slice_get, refl, sym, ap, ◌∙◌, arith, subst, drop_of_length-le}
-use Rattle.std.proofs.lemmas.Bool.{eqb-true}
 use Rattle.std.proofs.lemmas.List.{take_all, length-take}
+use Rattle.std.proofs.lemmas.Bool.Decides.{nat_tests}
 use Rattle.base_types.specs.Seal.{Blocks}
 use Rattle.base_types.specs.Runs.{run_places}
 use Rattle.layout_extent.specs.Runs.{runs_of}
 use Rattle.layout_geometry.specs.Geometry.{Geometry}
 use Rattle.layout_bytes.specs.declared.node.Node.{Node}
 use Rattle.layout_bytes.specs.declared.node.NodeKind.{NodeKind}
-use Rattle.layout_bytes.specs.declared.node.NodeKind.TheVariants.{Free, Dir, File}
+use Rattle.layout_bytes.specs.declared.node.NodeKind.TheVariants.{Dir}
 use Rattle.layout_bytes.specs.Node.{kind_fits}
 use Rattle.engine_blocks.specs.Puts.{IsData}
 use Rattle.engine_blocks.specs.State.{Bookkeeping, State}
@@ -25,8 +25,7 @@ use Rattle.fs_files.proofs.bytes.Joins.{of_place, joined_length, joined_part}
 use Rattle.fs_files.proofs.bytes.Known.{content_known}
 use Rattle.fs_files.proofs.bytes.Sizes.{blocks_hold}
 use Rattle.fs_files.proofs.calling.Nodes.{its_file}
-use Rattle.fs_files.proofs.drafts.Opened.{parts_fit}
-use Rattle.fs_files.proofs.frames.Places.{file_node, node_file, used_fits, used_length}
+use Rattle.fs_files.proofs.frames.Places.{file_node, node_file, used_fits, used_length, parts_fit}
 
 -- a node in use is what is looked up of its file
 pub looked_up : (s : State) (d : DraftState) (number : ℕ) (o : OpenNode) → IsSoundDraft s.books s.map d → option_map node_of_open (Some o) ≡ used_node s.books.geom (drafted d s.map) number
@@ -42,9 +41,7 @@ none_up s d number none = ap (λ o. option_map facts_of (option_map (file_of (dr
 
 -- a directory's bytes are whole slots
 slots : (node : Node) (kind : NodeKind) → kind_fits node kind ≡ true → kind ≡ Dir → node.size % 64 ≡ 0
-slots node Free e is = absurd cc
-slots node Dir e is = eqb-true (node.size % 64) 0 e
-slots node File e is = absurd cc
+slots node kind e h = grind (arith, nat_tests)
 
 pub file_slots : (g : Geometry) (marks : ℕ → Bool) (m : Blocks) (k : ℕ) (x : FileNode) → AreSoundBy g marks m → files_of g m k ≡ Some x → x.kind ≡ Dir → length x.bytes % 64 ≡ 0
 file_slots g marks m k x sound at dir =
@@ -98,9 +95,7 @@ part_of_first size at xs = ap (take 1024) (drop_of_first size at xs) ∙ take_sw
 
 -- so what is behind some bytes begins with what is behind them among the first ones
 begins : (size at : ℕ) (xs block : List ℕ) → take 1024 (drop at xs) ≡ block → take (length (take 1024 (drop at (take size xs)))) block ≡ take 1024 (drop at (take size xs))
-begins size at xs block is =
-    let first : take 1024 (drop at (take size xs)) ≡ take (size - at) block = part_of_first size at xs ∙ ap (take (size - at)) is in
-    ap (λ ys. take (length ys) block) first ∙ take_length (size - at) block ∙ sym first
+begins size at xs block is = grind (arith, nat_tests, part_of_first, take_length)
 
 -- the blocks of a node in use have their bytes
 places_whole : (k : Bookkeeping) (m : Blocks) (d : DraftState) (number : ℕ) (node : Node) (ps : List ℕ) → IsSoundDraft k m d → used_node k.geom (drafted d m) number ≡ Some node → ps ≡ run_places node.runs → All (IsData k.geom) ps → All (λ q. length (drafted d m q) ≡ 1024) ps
@@ -131,9 +126,4 @@ block_begins k m d number index ps block x sound inside at ps_are b place seen =
 -- and behind its blocks a file has no bytes
 pub block_past : (k : Bookkeeping) (m : Blocks) (d : DraftState) (number index : ℕ) (ps block : List ℕ) (x : FileNode) → IsSoundDraft k m d → All (IsData k.geom) ps → files_of k.geom (drafted d m) number ≡ Some x → ps ≡ places_of k.geom (drafted d m) number
     → length ps ≤ index → take (length (block_bytes x index)) block ≡ block_bytes x index
-block_past k m d number index ps block x sound inside at ps_are past =
-    let r = file_node k.geom (marks_of d k.marked) (drafted d m) number x sound.blocks at in
-    let same : ps ≡ run_places r.0.runs = ps_are ∙ ap places_or_none r.1 in
-    let long = joined_length (drafted d m) ps (places_whole k m d number r.0 ps sound r.1 same inside) in
-    let few : length x.bytes ≤ 1024 * index = omega (arith, past, long, ap length (text_of (drafted d m) r.0 ps x r.2 same), length-take r.0.size (joined (drafted d m) ps)) in
-    subst (λ ys. take (length (take 1024 ys)) block ≡ take 1024 ys) (sym (drop_of_length-le x.bytes few)) refl
+block_past k m d number index ps block x sound inside at ps_are past = grind (arith, nat_tests, file_node, joined_length, places_whole, text_of, length-take, drop_of_length-le)

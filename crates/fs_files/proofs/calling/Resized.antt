@@ -1,9 +1,9 @@
 -- A resize: the node was read, and then it was cut, or grew, or has the size that it had.
-use Rattle.std.proofs.Common.{◌≡◌, ℕ, ◌-◌, ◌<◌, ◌≤◌, Bool, false, IsTrue, List, ◌++◌, length, take, drop, replicate, Option, Some, refl, sym, ap, subst, ◌∙◌, arith}
+use Rattle.std.proofs.Common.{◌≡◌, ℕ, ◌-◌, ◌<◌, ◌≤◌, Bool, false, IsTrue, List, ◌++◌, length, take, drop, replicate, Option, Some, refl, sym, ap, ◌∙◌, arith, rules}
 use Rattle.std.proofs.lemmas.List.{append-nil, take_all}
+use Rattle.std.proofs.lemmas.Bool.Decides.{nat_tests}
 use Rattle.base_types.specs.Runs.{run_places}
 use Rattle.layout_extent.specs.Runs.{runs_of}
-use Rattle.layout_geometry.specs.Geometry.{Geometry}
 use Rattle.engine_blocks.specs.State.{Bookkeeping, State, reusable_blocks}
 use Rattle.crash_stands.specs.Files.{FileNode, Files, used_node}
 use Rattle.lang_tree.specs.Step.{resized}
@@ -58,10 +58,7 @@ module _ (tells : Bool) (s t : State) (number size : ℕ) (o : OpenNode) (x : Fi
 
   -- it has the size that it had
   pub same_file : size ≡ o.size → IsWithFile (files_in s d) (files_in t d) number (Some (with_bytes x (resized size x.bytes)))
-  same_file same = record {
-    own = read_at ∙ ap (λ xs. Some (with_bytes x xs)) (sym (same_bytes x.bytes) ∙ ap (λ n. resized n x.bytes) (read_size ∙ sym same));
-    others = λ l away. files_look tells false s t d r.looks r.known l;
-  }
+  same_file same = grind (arith, nat_tests, read_at, same_bytes, read_size, files_look)
 
   -- the places that the node comes to have, of these
   abbrev resized_places : Bookkeeping → List ℕ → List ℕ
@@ -73,67 +70,36 @@ module _ (tells : Bool) (s t : State) (number size : ℕ) (o : OpenNode) (x : Fi
 
   -- where it gets no more bytes, none come
   first_places : (k : Bookkeeping) → size ≤ o.size → take (blocks_for size) (places_in s d number) ≡ resized_places k (places_in s d number)
-  first_places k within =
-      sym (append-nil (take (blocks_for size) (places_in s d number)))
-      ∙ ap (λ n. take (blocks_for size) (places_in s d number) ++ take n (reusable_blocks k)) {x = 0} {y = growth (length x.bytes) size} (omega (arith, within, read_size))
+  first_places k within = grind (arith, nat_tests, append-nil, read_size)
 
   pub kept_places : (k : Bookkeeping) → size ≡ o.size → IsWithPlaces (places_in s d) (places_in t d) number (resized_places k (places_in s d number))
-  kept_places k same = record {
-    own = still_there
-        ∙ sym (take_all (blocks_for size) (places_in s d number) (omega (arith, same, ap length read_places, r.fits.count)))
-        ∙ first_places k (omega (arith, same));
-    others = λ l other. places_look tells false s t d r.looks r.known l;
-  }
+  kept_places k same = grind (arith, nat_tests, still_there, take_all, read_places, first_places, places_look)
 
   pub cut_read : (new : ℕ → List ℕ) → IsWithPlaces (places_in t d) new number (take (blocks_for size) (places_in t d number)) → IsWithPlaces (places_in s d) new number (take (blocks_for size) (places_in s d number))
   cut_read new = since_places new (take (blocks_for size) (places_in t d number)) (take (blocks_for size) (places_in s d number)) (ap (take (blocks_for size)) still_there)
 
   pub cut_places : (k : Bookkeeping) (new : ℕ → List ℕ) → size < o.size → IsWithPlaces (places_in t d) new number (take (blocks_for size) (places_in t d number)) → IsWithPlaces (places_in s d) new number (resized_places k (places_in s d number))
-  cut_places k new less =
-      since_places new (take (blocks_for size) (places_in t d number)) (resized_places k (places_in s d number)) (ap (take (blocks_for size)) still_there ∙ first_places k (omega (arith, less)))
+  cut_places k new less = grind (arith, nat_tests, since_places, still_there, first_places)
 
   pub grown_places : (k : Bookkeeping) (new : ℕ → List ℕ) → IsWithPlaces (places_in t d) new number (resized_places k (places_in t d number)) → IsWithPlaces (places_in s d) new number (resized_places k (places_in s d number))
   grown_places k new = since_places new (resized_places k (places_in t d number)) (resized_places k (places_in s d number)) (ap (resized_places k) still_there)
 
   pub same_resizes : (k : Bookkeeping) (new_places : List ℕ) → size ≡ o.size → Resizes k number x (places_in s d number) new_places size d d
-  same_resizes k new_places same = record {
-    same = λ e. refl;
-    changes = λ other. absurd (other (omega (arith, same, read_size)));
-    grows = λ more. absurd (omega (arith, more, same, read_size));
-    grows_among = λ more. absurd (omega (arith, more, same, read_size));
-    shrinks = λ less. absurd (omega (arith, less, same, read_size));
-    shrinks_among = λ less. absurd (omega (arith, less, same, read_size));
-  }
+  same_resizes k new_places same = search (rules, arith, read_size)
 
   -- it was cut
   pub cut_resizes : (k : Bookkeeping) (e : DraftState) (new_places : List ℕ) → k ≡ t.books → size < o.size → Shrinks x (places_in t d number) new_places size d e → ChangesAmong (cut_blocks t.books.geom number x (places_in t d number) size) d e
       → Resizes k number x (places_in s d number) new_places size d e
-  cut_resizes k e new_places books less shrinks among = record {
-    same = λ e. absurd (omega (arith, less, e, read_size));
-    changes = λ other. shrinks.changes;
-    grows = λ more. absurd (omega (arith, more, less, read_size));
-    grows_among = λ more. absurd (omega (arith, more, less, read_size));
-    shrinks = λ l. subst (λ ps. Shrinks x ps new_places size d e) still_there shrinks;
-    shrinks_among = λ l. subst (λ (h : Geometry). ChangesAmong (cut_blocks h number x (places_in s d number) size) d e) (sym (ap (λ (b : Bookkeeping). b.geom) books))
-        (subst (λ ps. ChangesAmong (cut_blocks t.books.geom number x ps size) d e) still_there among);
-  }
+  cut_resizes k e new_places books less shrinks among = search (rules, arith, read_size, still_there)
 
   -- it grew
   pub grown_resizes : (k : Bookkeeping) (e : DraftState) (new_places : List ℕ) → o.size < size → Grows k x (places_in t d number) new_places size d e
       → ChangesAmong (written_blocks k.geom number x (places_in t d number) (drop (length (places_in t d number)) new_places) (length x.bytes) size) d e
       → Resizes k number x (places_in s d number) new_places size d e
-  grown_resizes k e new_places more grows among = record {
-    same = λ e. absurd (omega (arith, more, e, read_size));
-    changes = λ other. grows.changes;
-    grows = λ m. subst (λ ps. Grows k x ps new_places size d e) still_there grows;
-    grows_among = λ m. subst (λ ps. ChangesAmong (written_blocks k.geom number x ps (drop (length ps) new_places) (length x.bytes) size) d e) still_there among;
-    shrinks = λ less. absurd (omega (arith, more, less, read_size));
-    shrinks_among = λ less. absurd (omega (arith, more, less, read_size));
-  }
+  grown_resizes k e new_places more grows among = search (rules, arith, read_size, still_there)
 
   pub grown_refused : (new : Bookkeeping) (why : FileRefusal) → GrowthRefused (more_blocks size o) o.places t.books new why → GrowthRefused (growth (length x.bytes) size) (places_in s d number) s.books new why
-  grown_refused new why refused = subst (λ n. GrowthRefused n (places_in s d number) s.books new why) read_growth
-      (subst (λ ps. GrowthRefused (more_blocks size o) ps s.books new why) (sym read_places) (subst (λ (b : Bookkeeping). GrowthRefused (more_blocks size o) o.places b new why) r.looks.books refused))
+  grown_refused new why refused = grind (arith, nat_tests, read_growth, read_places)
 
   pub few_read : growth (length x.bytes) size ≤ length (reusable_blocks s.books) → more_blocks size o ≤ length (reusable_blocks t.books)
   few_read few = omega (arith, few, read_growth, ap (λ (b : Bookkeeping). length (reusable_blocks b)) r.looks.books)

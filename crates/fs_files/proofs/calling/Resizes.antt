@@ -1,8 +1,8 @@
 -- What the steps of a resize leave, and lists that are a part of another.
-use Rattle.std.proofs.Common.{◌≡◌, ◌≢◌, ℕ, zero, suc, ◌-◌, ◌*◌, ◌/◌, ◌≤◌, Bool, true, false, if◌then◌else◌, List, [], ◌∷◌, length, take, drop, replicate, sym, ap, subst, ◌∙◌, arith}
+use Rattle.std.proofs.Common.{◌≡◌, ◌≢◌, ℕ, zero, suc, ◌-◌, ◌*◌, ◌/◌, ◌≤◌, Bool, true, false, if◌then◌else◌, List, [], ◌∷◌, length, take, drop, replicate, ap, ◌∙◌, arith}
 use Rattle.std.specs.List.{AllPairs}
-use Rattle.std.proofs.lemmas.Bool.{false≢true}
 use Rattle.std.proofs.lemmas.List.{take-replicate}
+use Rattle.std.proofs.lemmas.Bool.Decides.{nat_tests}
 use Rattle.base_types.specs.Seal.{Blocks}
 use Rattle.base_types.specs.declared.words.Class.TheVariants.{Meta}
 use Rattle.layout_bytes.specs.declared.node.NodeKind.{NodeKind}
@@ -21,35 +21,24 @@ pub zero_part : (n k : ℕ) → n ≤ 1024 → n ≡ k → take n (replicate {A 
 zero_part n k fits is = take-replicate n 1024 0 fits ∙ ap (λ j. replicate j 0) is
 
 pub clears_none : (kind : NodeKind) (size : ℕ) (places : List ℕ) (d : DraftState) → is_dir kind ≡ false → ClearsRest kind size places d d
-clears_none kind size places d not_dir = record {
-  writes = subst (λ t. WritesContent Meta (if t then drop (size / 1024) places else []) d d) (sym not_dir) (writes_none Meta [] d);
-}
+clears_none kind size places d not_dir = grind (arith, nat_tests, writes_none)
 
 pub cleared_none : (m : Blocks) (kind : NodeKind) (size : ℕ) (places : List ℕ) (d : DraftState) → is_dir kind ≡ false → HasContent m d places → IsCleared m kind size places d d
-cleared_none m kind size places d not_dir content = record {
-  content = content;
-  bytes = sym (ap (λ t. if t then overwrite size (replicate (1024 * length places - size) 0) (joined (drafted d m) places) else joined (drafted d m) places) not_dir);
-}
+cleared_none m kind size places d not_dir content = grind (arith, nat_tests)
 
 -- zeros are written
 
 pub clears_dir : (kind : NodeKind) (size : ℕ) (places : List ℕ) (d e : DraftState) → is_dir kind ≡ true → WritesContent Meta (drop (size / 1024) places) d e → ClearsRest kind size places d e
-clears_dir kind size places d e dir writes = record {
-  writes = subst (λ t. WritesContent Meta (if t then drop (size / 1024) places else []) d e) (sym dir) writes;
-}
+clears_dir kind size places d e dir writes = grind (arith, nat_tests)
 
 pub cleared_dir : (m : Blocks) (kind : NodeKind) (size : ℕ) (places : List ℕ) (d e : DraftState) → is_dir kind ≡ true → HasContent m e places
     → joined (drafted e m) places ≡ overwrite size (replicate (1024 * length places - size) 0) (joined (drafted d m) places) → IsCleared m kind size places d e
-cleared_dir m kind size places d e dir content bytes = record {
-  content = content;
-  bytes = bytes ∙ sym (ap (λ t. if t then overwrite size (replicate (1024 * length places - size) 0) (joined (drafted d m) places) else joined (drafted d m) places) dir);
-}
+cleared_dir m kind size places d e dir content bytes = grind (arith, nat_tests)
 
 -- parts of a list
 
 pub in_cleared : (t : Bool) (n : ℕ) (xs : List ℕ) (b : ℕ) → has (if t then drop n xs else []) b ≡ true → has xs b ≡ true
-in_cleared true n xs b is = in_rest n xs b is
-in_cleared false n xs b is = absurd (false≢true is)
+in_cleared t n xs b e = grind (arith, nat_tests, in_rest)
 
 pub pairs_drop : (n : ℕ) (xs : List ℕ) → AllPairs (λ a b. a ≢ b) xs → AllPairs (λ a b. a ≢ b) (drop n xs)
 pairs_drop zero xs once = once

@@ -1,18 +1,17 @@
 -- A write whose node was stored where its size grew: the draft is one of the blocks again, and the file has the bytes.
-use Rattle.std.proofs.Common.{◌≡◌, ◌≢◌, ◌⊎◌, inl, inr, ℕ, ◌+◌, ◌/◌, ◌%◌, ◌^◌, ◌<◌, ◌≤◌, ◌==◌, ◌&&◌, nat_lt, nat_le, Bool, true, false, IsTrue, List, ◌++◌, length, take, drop, max, All, Some, refl, sym, ap, subst, ◌∙◌, arith}
-use Rattle.std.proofs.lemmas.Bool.{cases_Bool, cases_lt, false≢true, and_parts, and_from, le-leb, eq-eqb}
-use Rattle.std.proofs.lemmas.Bool.{ltb-true}
+use Rattle.std.proofs.Common.{◌≡◌, ◌≢◌, ◌⊎◌, inl, inr, ℕ, ◌+◌, ◌%◌, ◌^◌, ◌<◌, ◌≤◌, Bool, true, false, IsTrue, List, ◌++◌, length, take, drop, max, All, Some, refl, sym, ap, subst, ◌∙◌, arith, ⊎_elim}
+use Rattle.std.proofs.lemmas.Bool.{cases_lt}
 use Rattle.std.proofs.lemmas.List.{length-append, length-take-le}
+use Rattle.std.proofs.lemmas.Bool.Decides.{nat_tests}
 use Rattle.base_types.specs.Seal.{Blocks}
 use Rattle.base_types.specs.Runs.{run_places}
 use Rattle.base_types.specs.declared.words.Class.TheVariants.{Meta}
-use Rattle.layout_geometry.specs.Geometry.{Geometry, IsGeometry, table_start, data_start}
+use Rattle.layout_geometry.specs.Geometry.{IsGeometry, table_start, data_start}
 use Rattle.layout_extent.specs.Runs.{AreTidy, runs_of, stretches}
 use Rattle.layout_bytes.specs.declared.node.Node.{Node}
-use Rattle.layout_bytes.specs.declared.node.NodeKind.{NodeKind}
-use Rattle.layout_bytes.specs.declared.node.NodeKind.TheVariants.{Free, Dir, File}
+use Rattle.layout_bytes.specs.declared.node.NodeKind.TheVariants.{Free, Dir}
 use Rattle.layout_bytes.specs.Bytes.{are_zeros}
-use Rattle.layout_bytes.specs.Node.{node_fits, node_spelling, kind_fits, run_blocks, runs_fit, most_runs}
+use Rattle.layout_bytes.specs.Node.{node_fits, node_spelling, kind_fits}
 use Rattle.engine_blocks.specs.Running.{has}
 use Rattle.engine_blocks.specs.Puts.{IsData}
 use Rattle.engine_blocks.specs.State.{Bookkeeping, reusable_blocks, IsReusable}
@@ -35,38 +34,15 @@ use Rattle.fs_files.proofs.frames.After.{IsStored, stored_after, stored_grown, s
 use Rattle.fs_files.proofs.frames.Cells.{block_from, block_below}
 use Rattle.fs_files.proofs.frames.Fits.{fits_with}
 use Rattle.fs_files.proofs.frames.Frames.{node_places}
-use Rattle.fs_files.proofs.frames.Places.{used_length}
+use Rattle.fs_files.proofs.frames.Places.{used_length, parts_fit}
 use Rattle.fs_files.proofs.frames.Puts.{put_fits}
 use Rattle.fs_files.proofs.frames.Spelled.{fits_as, used_some}
 use Rattle.fs_files.proofs.frames.Steps.{file_is, file_bytes, node_kept}
 use Rattle.fs_files.proofs.frames.Written.{written_sound}
 use Rattle.fs_files.proofs.calling.Nodes.{its_file}
 use Rattle.fs_files.proofs.calling.Writes as writes
-use Rattle.fs_files.proofs.drafts.Lists.{each_of}
-
--- the rules of a kind with another size
-size_kind : (node : Node) (kind : NodeKind) (size : ℕ) → size ≤ 2 ^ 30 ⊎ (kind ≢ File) → (kind ≡ Dir → size % 64 ≡ 0) → kind_fits node kind ≡ true → kind_fits (record node { size = size }) kind ≡ true
-size_kind node Free size few slots e = refl
-size_kind node Dir size few slots e = eq-eqb (size % 64) 0 (slots refl)
-size_kind node File size (inl few) slots e = and_from (nat_le node.links 65535) (nat_le size 1073741824) (and_parts (nat_le node.links 65535) (nat_le node.size 1073741824) e).0 (le-leb size 1073741824 few)
-size_kind node File size (inr other) slots e = absurd (other refl)
-
--- what a node that fits says of its links and its kind
-linked : (g : Geometry) (node : Node) → node_fits g node ≡ true → (0 < node.links) × (kind_fits node node.kind ≡ true)
-linked g node e =
-    let blocks = run_blocks node.runs == (node.size + 1023) / 1024 in
-    let a = and_parts (nat_lt 0 node.links) (nat_le (length node.runs) most_runs && (runs_fit g 0 node.runs && (blocks && kind_fits node node.kind))) e in
-    let b = and_parts (nat_le (length node.runs) most_runs) (runs_fit g 0 node.runs && (blocks && kind_fits node node.kind)) a.1 in
-    let d = and_parts (runs_fit g 0 node.runs) (blocks && kind_fits node node.kind) b.1 in
-    (ltb-true 0 node.links a.0, (and_parts blocks (kind_fits node node.kind) d.1).1)
-
--- a block of the node table is none of some data blocks
-not_data : (g : Geometry) (xs : List ℕ) (b : ℕ) → All (IsData g) xs → b < data_start g → has xs b ≡ false
-not_data g xs b inside below = by (cases_Bool (has xs b))
-  where
-    by : (has xs b ≡ true) ⊎ (has xs b ≡ false) → has xs b ≡ false
-    by (inl is) = absurd (omega (arith, (each_of (IsData g) xs inside b is).from, below))
-    by (inr out) = out
+use Rattle.fs_files.proofs.drafts.Lists.{none_of_table}
+use Rattle.fs_files.proofs.calling.Cuts.{sized_kind}
 
 module _ (tells : Bool) (k : Bookkeeping) (m : Blocks) (number off : ℕ) (ys : List ℕ) (o p : OpenNode) (d f e : DraftState) (table : List ℕ) (geom : IsGeometry k.geom) (opened : IsOpen k.geom o) (fits : FitsBooks k d) (w : WritesOpen tells k m off ys o p d f)
     (from : 1 ≤ number) (upto : number ≤ k.geom.i) (keeps : KeepsSize k.geom number (max o.size (off + length ys)) p table f e) where
@@ -86,11 +62,9 @@ module _ (tells : Bool) (k : Bookkeeping) (m : Blocks) (number off : ℕ) (ys : 
   fits_f = writes.wrote_fits tells k m number off ys o p d f geom opened fits w
 
   pub kept_fits : FitsBooks k e
-  kept_fits = by (cases_lt p.size wide)
-    where
-      by : (p.size < wide) ⊎ (wide ≤ p.size) → FitsBooks k e
-      by (inl more) = put_fits k f e (node_block k.geom number) put geom low high fits_f (keeps.puts more)
-      by (inr enough) = subst (FitsBooks k) (sym (keeps.same enough)) fits_f
+  kept_fits = ⊎_elim (λ more. put_fits k f e (node_block k.geom number) put geom low high fits_f (keeps.puts more))
+      (λ enough. subst (FitsBooks k) (sym (keeps.same enough)) fits_f)
+      (cases_lt p.size wide)
 
   module _ (told : IsTrue tells) (sound : IsSoundDraft k m d) (free : (b : ℕ) → IsReusable k.geom k.reusable b → k.marked b ≡ false)
       (used : used_node k.geom (drafted d m) number ≡ Some (node_of_open o)) (back : (xs : List ℕ) → run_places (runs_of xs) ≡ xs) (count : (xs : List ℕ) → length (runs_of xs) ≡ stretches xs) (tidy : (xs : List ℕ) → AreTidy (runs_of xs))
@@ -118,50 +92,24 @@ module _ (tells : Bool) (k : Bookkeeping) (m : Blocks) (number off : ℕ) (ys : 
 
     -- the places fit
     stretched : stretches p.places ≤ 28
-    stretched = by (cases_lt (length o.places) (blocks_for wide))
-      where
-        by : (length o.places < blocks_for wide) ⊎ (blocks_for wide ≤ length o.places) → stretches p.places ≤ 28
-        by (inl more) = (w.room.grows more).runs
-        by (inr enough) = subst (λ (q : OpenNode). stretches q.places ≤ 28) (sym (w.room.same enough)) opened.runs
+    stretched = ⊎_elim (λ more. (w.room.grows more).runs)
+        (λ enough. subst (λ (q : OpenNode). stretches q.places ≤ 28) (sym (w.room.same enough)) opened.runs)
+        (cases_lt (length o.places) (blocks_for wide))
 
     counted : length p.places ≡ blocks_for wide
-    counted = by (cases_lt (length o.places) (blocks_for wide))
-      where
-        by : (length o.places < blocks_for wide) ⊎ (blocks_for wide ≤ length o.places) → length p.places ≡ blocks_for wide
-        by (inl more) =
-            let r = w.room.grows more in
-            let long : length p.places ≡ length (o.places ++ take (more_blocks wide o) (reusable_blocks k)) = ap (λ (q : OpenNode). length q.places) r.node in
-            omega (arith, more, long, length-append o.places (take (more_blocks wide o) (reusable_blocks k)), length-take-le (more_blocks wide o) (reusable_blocks k) r.enough)
-        by (inr enough) = omega (arith, enough, opened.count, ap (λ (q : OpenNode). length q.places) (w.room.same enough))
-
-    small : wide ≤ 2 ^ 30 ⊎ (o.kind ≢ File)
-    small = by o.kind refl
-      where
-        by : (kind : NodeKind) → o.kind ≡ kind → wide ≤ 2 ^ 30 ⊎ (kind ≢ File)
-        by Free is = inr (λ e. opened.used is)
-        by Dir is = inr dir_file
-          where
-            is_file : NodeKind → Bool
-            is_file Free = false
-            is_file Dir = false
-            is_file File = true
-
-            dir_file : Dir ≡ File → ⊥
-            dir_file e = false≢true (ap is_file e)
-        by File is = inl (omega (arith, opened.file is, few))
+    counted = ⊎_elim (λ more. let r = w.room.grows more in
+        let long : length p.places ≡ length (o.places ++ take (more_blocks wide o) (reusable_blocks k)) = ap (λ (q : OpenNode). length q.places) r.node in
+        omega (arith, more, long, length-append o.places (take (more_blocks wide o) (reusable_blocks k)), length-take-le (more_blocks wide o) (reusable_blocks k) r.enough))
+        (λ enough. omega (arith, enough, opened.count, ap (λ (q : OpenNode). length q.places) (w.room.same enough)))
+        (cases_lt (length o.places) (blocks_for wide))
 
     fit : node_fits k.geom new ≡ true
     fit =
-        let l = linked k.geom old opened.fits in
-        let kinds : kind_fits (record old { size = wide }) o.kind ≡ true = size_kind old o.kind wide small slots l.1 in
-        let linked_p : 0 < p.links = omega (arith, links_is, l.0) in
+        let l = parts_fit k.geom old opened.fits in
+        let linked_p : 0 < p.links = omega (arith, links_is, l.links) in
         fits_with k.geom p.kind p.links wide p.places (back p.places) (count p.places) (tidy p.places) linked_p stretched (writes.all_inside tells k m number off ys o p d f geom opened fits w) counted
-        (subst (λ (q : OpenNode). kind_fits (record { kind = q.kind; links = q.links; size = wide; runs = runs_of p.places }) q.kind ≡ true) (sym node_is) (by_kind o.kind o.links kinds))
-      where
-        by_kind : (kind : NodeKind) (links : ℕ) → kind_fits (record { kind = kind; links = links; size = wide; runs = runs_of o.places }) kind ≡ true → kind_fits (record { kind = kind; links = links; size = wide; runs = runs_of p.places }) kind ≡ true
-        by_kind Free links e = refl
-        by_kind Dir links e = e
-        by_kind File links e = e
+        (subst (λ (q : OpenNode). kind_fits (record { kind = q.kind; links = q.links; size = wide; runs = runs_of p.places }) q.kind ≡ true) (sym node_is)
+        (sized_kind o.kind o.links o.size wide (runs_of o.places) (runs_of p.places) slots (λ file. omega (arith, opened.file file, few)) l.kind))
 
     used_kind : p.kind ≢ Free
     used_kind e = opened.used (sym kind_is ∙ e)
@@ -169,8 +117,8 @@ module _ (tells : Bool) (k : Bookkeeping) (m : Blocks) (number off : ℕ) (ys : 
     table_same : (b : ℕ) → table_start k.geom ≤ b → b < data_start k.geom → drafted f m b ≡ drafted d m b
     table_same b above below =
         writes.wrote_others tells k m number off ys o p d f geom opened fits w told sound free used back b
-        (not_data k.geom o.places b opened.«data» below)
-        (not_data k.geom (writes.extra tells k m number off ys o p d f geom opened fits w) b (writes.its tells k m number off ys o p d f geom opened fits w).inside below)
+        (none_of_table k.geom o.places b opened.«data» below)
+        (none_of_table k.geom (writes.extra tells k m number off ys o p d f geom opened fits w) b (writes.its tells k m number off ys o p d f geom opened fits w).inside below)
 
     whole_f : All (λ b. length (drafted f m b) ≡ 1024) p.places
     whole_f = (writes.content_after tells k m number off ys o p d f geom opened fits w told sound free used back).whole
@@ -237,10 +185,7 @@ module _ (tells : Bool) (k : Bookkeeping) (m : Blocks) (number off : ℕ) (ys : 
       same_node = w.room.same none_more
 
       writes_d : WritesContent (class_of o.kind) (met off (off + length ys) o.places) d f
-      writes_d =
-          let within : off ≤ o.size = omega (arith, enough, size_is) in
-          subst (λ (q : OpenNode). WritesContent (class_of o.kind) (met off (off + length ys) q.places) d f) same_node
-          (subst (λ (x : DraftState). WritesContent (class_of o.kind) (met off (off + length ys) p.places) x f) (w.room.kept none_more ∙ w.gap.none within) w.writes)
+      writes_d = grind (arith, nat_tests, size_is, places, same_node, none_more)
 
       old_places : p.places ≡ run_places (runs_of o.places)
       old_places = ap (λ (q : OpenNode). q.places) same_node ∙ sym (back o.places)
@@ -262,11 +207,9 @@ module _ (tells : Bool) (k : Bookkeeping) (m : Blocks) (number off : ℕ) (ys : 
           )
 
     pub kept_sound : Sound
-    kept_sound = by (cases_lt p.size wide)
-      where
-        by : (p.size < wide) ⊎ (wide ≤ p.size) → Sound
-        by (inl more) = sound_more more
-        by (inr enough) = sound_enough enough
+    kept_sound = ⊎_elim (λ more. sound_more more)
+        (λ enough. sound_enough enough)
+        (cases_lt p.size wide)
 
     -- Its blocks before and after.
 
@@ -274,14 +217,11 @@ module _ (tells : Bool) (k : Bookkeeping) (m : Blocks) (number off : ℕ) (ys : 
     places_before = ap places_or_none used ∙ back o.places
 
     pub places_after : places_or_none (used_node k.geom (drafted e m) number) ≡ o.places ++ writes.extra tells k m number off ys o p d f geom opened fits w
-    places_after = by (cases_lt p.size wide)
-      where
-        by : (p.size < wide) ⊎ (wide ≤ p.size) → places_or_none (used_node k.geom (drafted e m) number) ≡ o.places ++ writes.extra tells k m number off ys o p d f geom opened fits w
-        by (inl more) = ap places_or_none ((stored more).node_is.own ∙ used_some new used_kind) ∙ back p.places ∙ places
-        by (inr enough) =
-            ap (λ (y : DraftState). places_or_none (used_node k.geom (drafted y m) number)) (keeps.same enough)
-            ∙ ap places_or_none ((node_kept k.geom (marks_of d k.marked) (drafted d m) (drafted f m) number geom.whole_blocks from upto sound.blocks table_same).own ∙ used)
-            ∙ sym (old_places enough) ∙ places
+    places_after = ⊎_elim (λ more. ap places_or_none ((stored more).node_is.own ∙ used_some new used_kind) ∙ back p.places ∙ places)
+        (λ enough. ap (λ (y : DraftState). places_or_none (used_node k.geom (drafted y m) number)) (keeps.same enough)
+        ∙ ap places_or_none ((node_kept k.geom (marks_of d k.marked) (drafted d m) (drafted f m) number geom.whole_blocks from upto sound.blocks table_same).own ∙ used)
+        ∙ sym (old_places enough) ∙ places)
+        (cases_lt p.size wide)
 
     -- and those of the other nodes are as before
     pub kept_places : IsWithPlaces (places_of k.geom (drafted d m)) (places_of k.geom (drafted e m)) number (o.places ++ writes.extra tells k m number off ys o p d f geom opened fits w)

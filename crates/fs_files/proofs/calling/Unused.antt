@@ -1,11 +1,11 @@
 -- The search for a node that isn't in use, from a number on, one block of the node table behind the other.
-use Rattle.std.proofs.Common.{◌≡◌, ◌≢◌, ℕ, ◌+◌, ◌-◌, ◌/◌, ◌%◌, ◌<◌, ◌≤◌, ◌&&◌, nat_le, Bool, true, false, List, length, drop, replicate, get_or, slice_index, Option, Some, None, is_some, refl, sym, ap, ◌∙◌, arith, subst, IsTrue, ◌⊎◌, inl, inr}
-use Rattle.std.proofs.lemmas.Bool.{cases_lt}
+use Rattle.std.proofs.Common.{◌≡◌, ◌≢◌, ℕ, ◌+◌, ◌%◌, ◌<◌, ◌≤◌, ◌&&◌, nat_le, Bool, true, false, List, length, drop, replicate, get_or, slice_index, Option, None, is_some, sym, ap, ◌∙◌, arith, IsTrue}
 use Rattle.std.proofs.lemmas.List.{get_or-drop, get_or-take}
+use Rattle.std.proofs.lemmas.Bool.Decides.{nat_tests}
+use Rattle.std.proofs.lemmas.Grind.{common_steps}
 use Rattle.base_types.specs.Seal.{Blocks}
 use Rattle.layout_geometry.specs.Geometry.{Geometry, IsGeometry}
 use Rattle.layout_bytes.specs.Bytes.{when}
-use Rattle.layout_bytes.specs.declared.node.Node.{Node}
 use Rattle.layout_bytes.specs.Node.{node_at, node_bytes, node_of, node_with, used_kind}
 use Rattle.engine_blocks.specs.State.{Bookkeeping, State}
 use Rattle.crash_stands.specs.Files.{used_node}
@@ -32,8 +32,7 @@ unfolding node_of
 no_kind g b e = ap (λ n. node_with g b (used_kind n)) e
 
 when_none : {A : Type 0} (t : Bool) (o : Option A) → o ≡ None → when t o ≡ None
-when_none true o e = e
-when_none false o e = refl
+when_none t o e = grind (arith, nat_tests)
 
 -- a node of kind byte zero isn't in use
 unused_by_kind : (g : Geometry) (m : Blocks) (k : ℕ) → kind_in (m (node_block g k)) k ≡ 0 → used_node g m k ≡ None
@@ -41,26 +40,18 @@ unused_by_kind g m k e = when_none (nat_le 1 k && nat_le k g.i) (node_at g m k) 
 
 -- one of another kind byte is, where those that aren't are zeros
 used_by_kind : (g : Geometry) (m : Blocks) (k : ℕ) → 1 ≤ k → k ≤ g.i → (node_at g m k ≡ None → node_bytes g m k ≡ replicate 256 0) → kind_in (m (node_block g k)) k ≢ 0 → is_some (used_node g m k) ≡ true
-used_by_kind g m k from upto zeros kind = ap is_some (when_true (nat_le 1 k && nat_le k g.i) (node_at g m k) (is_number g k from upto)) ∙ by (node_at g m k) refl
-  where
-    by : (o : Option Node) → node_at g m k ≡ o → is_some o ≡ true
-    by None e = absurd (kind (sym (kind_first g m k) ∙ ap (λ b. slice_index b 0) (zeros e)))
-    by (Some node) e = refl
+used_by_kind g m k from upto zeros kind = grind (arith, nat_tests, when_true, is_number, kind_first)
 
 -- One block.
 
 -- the nodes from one number on are in one block
 one_block : (g : Geometry) (number l : ℕ) → 1 ≤ number → number ≤ l → l < block_end number → node_block g l ≡ node_block g number
-one_block g number l from low high =
-    let same : (l - 1) / 4 ≡ (number - 1) / 4 = omega (arith, from, low, high) in
-    omega (arith, same)
+one_block g number l from low high = grind (arith, nat_tests)
 
 -- the block of a node as it was read
 pub block_read : (s : State) (d : DraftState) (h : Geometry) (number b : ℕ) (table : List ℕ) → h ≡ s.books.geom → IsGeometry s.books.geom → 1 ≤ number → number ≤ s.books.geom.i → IsSoundDraft s.books s.map d
     → b ≡ node_block h number → (length (drafted d s.map b) ≡ 1024 → table ≡ drafted d s.map b) → table ≡ drafted d s.map (node_block s.books.geom number)
-block_read s d h number b table same geom from upto sound block bytes =
-    let there : b ≡ node_block s.books.geom number = block ∙ ap (λ (x : Geometry). node_block x number) same in
-    bytes (ap (λ x. length (drafted d s.map x)) there ∙ has_table s d number geom from upto sound) ∙ ap (drafted d s.map) there
+block_read s d h number b table same geom from upto sound block bytes = grind (arith, nat_tests, has_table)
 
 -- all of them are nodes of the table
 in_table : (g : Geometry) (number l : ℕ) → g.i % 4 ≡ 0 → 1 ≤ number → number ≤ g.i → l < block_end number → l ≤ g.i
@@ -69,12 +60,7 @@ in_table g number l whole from upto high = omega (arith, whole, from, upto, high
 -- those of other kind bytes than zero are in use
 pub block_used : (k : Bookkeeping) (m : Blocks) (d : DraftState) (number upto : ℕ) (table : List ℕ) → k.geom.i % 4 ≡ 0 → IsSoundDraft k m d → 1 ≤ number → number ≤ k.geom.i → upto ≤ block_end number
     → table ≡ drafted d m (node_block k.geom number) → ((l : ℕ) → number ≤ l → l < upto → kind_in table l ≢ 0) → AreUsed k.geom (drafted d m) number upto
-block_used k m d number upto table whole sound from in_it end bytes kinds = λ l low high.
-    let here : l < block_end number = omega (arith, high, end) in
-    let high_l : l ≤ k.geom.i = in_table k.geom number l whole from in_it here in
-    let low_l : 1 ≤ l = omega (arith, from, low) in
-    let block : drafted d m (node_block k.geom l) ≡ table = ap (drafted d m) (one_block k.geom number l from low here) ∙ sym bytes in
-    used_by_kind k.geom (drafted d m) l low_l high_l (sound.blocks.free l low_l high_l) (λ e. kinds l low high (ap (λ b. kind_in b l) (sym block) ∙ e))
+block_used k m d number upto table whole sound from in_it end bytes kinds = grind (arith, common_steps, in_table, one_block, used_by_kind)
 
 -- and the first one of kind byte zero is the first that isn't
 pub block_first : (k : Bookkeeping) (m : Blocks) (d : DraftState) (number first : ℕ) (table : List ℕ) → k.geom.i % 4 ≡ 0 → IsSoundDraft k m d → 1 ≤ number → number ≤ k.geom.i → number ≤ first → first < block_end number
@@ -100,22 +86,13 @@ pub record SeenUpTo (tells : Bool) (s t : State) (d : DraftState) (from at : ℕ
 
 -- those from one number to another, and on to a third
 used_on : (g : Geometry) (m : Blocks) (from at end : ℕ) → AreUsed g m from at → AreUsed g m at end → AreUsed g m from end
-used_on g m from at end front rest = λ l low high. by l low high (cases_lt l at)
-  where
-    by : (l : ℕ) → from ≤ l → l < end → (l < at) ⊎ (at ≤ l) → is_some (used_node g m l) ≡ true
-    by l low high (inl before) = front l low before
-    by l low high (inr behind) = rest l behind high
+used_on g m from at end front rest = grind (arith, nat_tests)
 
 -- what is known of nodes in the state at hand is known in the first one
 was_so : (tells : Bool) (s t : State) (d : DraftState) (P : Geometry → Blocks → Type 0) → LooksOnly tells false s t → IsTrue tells → P t.books.geom (drafted d t.map) → P s.books.geom (drafted d s.map)
-was_so tells s t d P looks known is =
-    subst (λ (m : Blocks). P s.books.geom (drafted d m)) (looks.map known) (subst (λ (k : Bookkeeping). P k.geom (drafted d t.map)) looks.books is)
+was_so tells s t d P e h p = grind (arith, nat_tests)
 
 -- one more block is in use
 pub seen_more : (tells : Bool) (s t u : State) (d : DraftState) (from at end : ℕ) → SeenUpTo tells s t d from at → at ≤ end → LooksOnly tells false t u
     → (IsTrue tells → AreUsed t.books.geom (drafted d t.map) at end) → SeenUpTo tells s u d from end
-seen_more tells s t u d from at end seen ordered looks used = record {
-  low = omega (arith, seen.low, ordered);
-  looks = looks_more tells false s t u seen.looks looks;
-  used = λ known. used_on s.books.geom (drafted d s.map) from at end (seen.used known) (was_so tells s t d (λ g m. AreUsed g m at end) seen.looks known (used known));
-}
+seen_more tells s t u d from at end seen ordered looks used = grind (arith, nat_tests, looks_more, used_on, was_so)

@@ -1,7 +1,8 @@
 -- A node that was read, and then written within its bytes.
-use Rattle.std.proofs.Common.{◌≡◌, ◌⊎◌, inl, inr, ℕ, ◌+◌, ◌%◌, ◌^◌, ◌<◌, ◌≤◌, Bool, true, false, IsTrue, List, ◌++◌, length, take, max, Some, is_some, refl, sym, ap, subst, ◌∙◌, arith}
-use Rattle.std.proofs.lemmas.Bool.{or_cases, eqb-true}
+use Rattle.std.proofs.Common.{◌≡◌, ℕ, ◌+◌, ◌%◌, ◌^◌, ◌<◌, ◌≤◌, Bool, true, false, IsTrue, List, ◌++◌, length, take, max, Some, is_some, refl, sym, ap, subst, ◌∙◌, arith}
+use Rattle.std.proofs.lemmas.Bool.{eqb-true}
 use Rattle.std.proofs.lemmas.List.{append-nil}
+use Rattle.std.proofs.lemmas.Bool.Decides.{nat_tests}
 use Rattle.base_types.specs.Runs.{run_places}
 use Rattle.layout_extent.specs.Runs.{AreTidy, runs_of, stretches}
 use Rattle.layout_geometry.specs.Geometry.{IsGeometry}
@@ -20,17 +21,13 @@ use Rattle.fs_files.specs.Nodes.{IsOpen, class_of, node_block, node_of_open}
 use Rattle.fs_files.specs.Sound.{IsDraftOf, IsSoundDraft}
 use Rattle.fs_files.specs.Writing.{KeepsSize, WritesOpen}
 use Rattle.fs_files.proofs.frames.Carry.{draft_looks, looked_places}
-use Rattle.fs_files.proofs.calling.Cuts.{kind_of}
 use Rattle.fs_files.proofs.calling.Nodes.{looked_files}
 use Rattle.fs_files.proofs.calling.Stores as stores
+use Rattle.fs_files.proofs.frames.Places.{parts_fit}
 
 -- some block changed where some has new bytes: where they are new content some other had changed before
 some_changes : (bs : List ℕ) (o : OpenNode) (d e : DraftState) → WritesContent (class_of o.kind) bs d e → ((b : ℕ) → is_some (change_of d.fresh b) ≡ true → ChangesSome d) → HasNewBytes e → ChangesSome e
-some_changes bs o d e writes was (b, new) = by (or_cases (is_some (change_of e.changed b)) (is_some (change_of e.fresh b)) new)
-  where
-    by : (is_some (change_of e.changed b) ≡ true) ⊎ (is_some (change_of e.fresh b) ≡ true) → ChangesSome e
-    by (inl is) = (b, is)
-    by (inr is) = let other = was b (sym (writes.fresh_keys b) ∙ is) in (other.0, writes.stays other.0 other.1)
+some_changes bs o d e h p q = grind (arith, nat_tests)
 
 -- what is known of a write within a node that was read, from the blocks before it was read
 pub record WritesWithin (tells : Bool) (s : State) (number off : ℕ) (ys : List ℕ) (o : OpenNode) (d e : DraftState) : Type 0 where
@@ -81,15 +78,11 @@ module _ (tells : Bool) (s : State) (number off : ℕ) (ys : List ℕ) (o : Open
   }
 
   keeps : KeepsSize s.books.geom number (max o.size (off + length ys)) o table e e
-  keeps = record {
-    same = λ enough. refl;
-    puts = λ more. absurd (omega (arith, more, is.within));
-    back = λ more. absurd (omega (arith, more, is.within));
-  }
+  keeps = grind (arith, nat_tests)
 
   slots : o.kind ≡ Dir → max o.size (off + length ys) % 64 ≡ 0
   slots dir =
-      let whole : o.size % 64 ≡ 0 = eqb-true (o.size % 64) 0 (subst (λ kind. kind_fits (node_of_open o) kind ≡ true) dir (kind_of s.books.geom (node_of_open o) is.opened.fits)) in
+      let whole : o.size % 64 ≡ 0 = eqb-true (o.size % 64) 0 (subst (λ kind. kind_fits (node_of_open o) kind ≡ true) dir (parts_fit s.books.geom (node_of_open o) is.opened.fits).kind) in
       let same : max o.size (off + length ys) ≡ o.size = omega (arith, is.within) in
       ap (λ n. n % 64) same ∙ whole
 

@@ -1,13 +1,13 @@
 -- A write into a file, from the states before and after its node was loaded and written.
-use Rattle.std.proofs.Common.{◌≡◌, ℕ, ◌+◌, ◌%◌, ◌<◌, ◌≤◌, ◌==◌, if◌then◌else◌, Bool, true, false, IsTrue, List, [], ◌++◌, length, take, drop, max, min, Some, sym, ap, subst, ◌∙◌, arith}
+use Rattle.std.proofs.Common.{◌≡◌, ℕ, ◌+◌, ◌%◌, ◌<◌, ◌≤◌, ◌==◌, Bool, true, false, IsTrue, List, [], ◌++◌, length, take, drop, max, min, Some, sym, ap, subst, ◌∙◌, arith}
 use Rattle.std.proofs.lemmas.List.{append-nil}
+use Rattle.std.proofs.lemmas.Bool.Decides.{nat_tests}
 use Rattle.base_types.specs.Seal.{Blocks}
 use Rattle.base_types.specs.Runs.{run_places}
 use Rattle.layout_geometry.specs.Geometry.{Geometry}
 use Rattle.layout_extent.specs.Runs.{runs_of}
 use Rattle.layout_bytes.specs.declared.node.NodeKind.TheVariants.{Dir}
 use Rattle.engine_blocks.specs.State.{Bookkeeping, State, reusable_blocks}
-use Rattle.lang_tree.specs.Step.{written}
 use Rattle.crash_stands.specs.Files.{FileNode, file_of, files_of, used_node}
 use Rattle.fs_files.specs.declared.nodes.OpenNode.{OpenNode}
 use Rattle.fs_files.specs.declared.refusal.FileRefusal.{FileRefusal}
@@ -52,10 +52,7 @@ module _ (tells : Bool) (s t : State) (number : ℕ) (d : DraftState) (o : OpenN
 
   pub refused_then : (end : ℕ) (x : FileNode) (new : Bookkeeping) (why : FileRefusal) → ((xs : List ℕ) → run_places (runs_of xs) ≡ xs) → files_in s d number ≡ Some x
       → GrowthRefused (more_blocks (max o.size end) o) o.places t.books new why → GrowthRefused (growth (length x.bytes) end) (places_in s d number) s.books new why
-  refused_then end x new why back at h =
-      subst (λ (l : Bookkeeping). GrowthRefused (growth (length x.bytes) end) (places_in s d number) l new why) looks.books
-      (subst (λ ps. GrowthRefused (growth (length x.bytes) end) ps t.books new why) (places_then back)
-      (subst (λ n. GrowthRefused n o.places t.books new why) (grows_same x end at) h))
+  refused_then end x new why back at h = grind (arith, nat_tests, places_then, grows_same)
 
   pub few_then : (end : ℕ) (x : FileNode) → files_in s d number ≡ Some x → growth (length x.bytes) end ≤ length (reusable_blocks s.books) → more_blocks (max o.size end) o ≤ length (reusable_blocks t.books)
   few_then end x at few = omega (arith, grows_same x end at, few, ap (λ (l : Bookkeeping). length (reusable_blocks l)) looks.books)
@@ -63,10 +60,7 @@ module _ (tells : Bool) (s t : State) (number : ℕ) (d : DraftState) (o : OpenN
 -- What was written, from the state before the node was loaded on.
 module _ (s t u : State) (number off : ℕ) (ys : List ℕ) (d e : DraftState) (geom : u.books.geom ≡ s.books.geom) (first : t.map ≡ s.map) (last : t.map ≡ u.map) (w : WritesFile u.books t.map number off ys d e) where
   pub file_then : (x : FileNode) → files_in s d number ≡ Some x → IsWithFile (files_in s d) (files_in u e) number (Some (with_bytes x (overwritten off ys x.bytes)))
-  file_then =
-      subst (λ (n : Blocks). (x : FileNode) → files_in s d number ≡ Some x → IsWithFile (files_in s d) (files_of u.books.geom (drafted e n)) number (Some (with_bytes x (overwritten off ys x.bytes)))) last
-      (subst (λ (m : Blocks). (x : FileNode) → files_of s.books.geom (drafted d m) number ≡ Some x → IsWithFile (files_of s.books.geom (drafted d m)) (files_of u.books.geom (drafted e t.map)) number (Some (with_bytes x (overwritten off ys x.bytes)))) first
-      (subst (λ (g : Geometry). (x : FileNode) → files_of g (drafted d t.map) number ≡ Some x → IsWithFile (files_of g (drafted d t.map)) (files_of u.books.geom (drafted e t.map)) number (Some (with_bytes x (overwritten off ys x.bytes)))) geom w.file))
+  file_then = grind (arith, nat_tests)
 
   pub grows_then : (x : FileNode) → files_in s d number ≡ Some x → Grows u.books x (places_in s d number) (places_in u e number) (off + length ys) d e
   grows_then =
@@ -88,6 +82,4 @@ module _ (s t u : State) (number off : ℕ) (ys : List ℕ) (d e : DraftState) (
 
 -- where no bytes are written, its places are as before
 pub none_come : (ps more ys : List ℕ) (x : FileNode) (off : ℕ) → (length ys == 0) ≡ true → ps ≡ ps ++ take (growth (length x.bytes) (length (overwritten off ys x.bytes))) more
-none_come ps more ys x off none =
-    let same : growth (length x.bytes) (length (overwritten off ys x.bytes)) ≡ 0 = ap (λ t. growth (length x.bytes) (length (if t then x.bytes else written off ys x.bytes))) none ∙ omega arith in
-    sym (append-nil ps) ∙ ap (λ n. ps ++ take n more) (sym same)
+none_come ps more ys x off none = grind (arith, nat_tests, append-nil)

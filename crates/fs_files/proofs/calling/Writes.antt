@@ -1,8 +1,9 @@
 -- What a draft is after a write into an open node, and what the node's bytes are: the steps of it put together.
-use Rattle.std.proofs.Common.{◌≡◌, ◌≢◌, ◌⊎◌, inl, inr, ℕ, ◌+◌, ◌*◌, ◌<◌, ◌≤◌, ◌||◌, Bool, true, false, IsTrue, List, ◌++◌, length, take, drop, max, min, All, Some, None, is_some, sym, ap, subst, ◌∙◌, arith}
+use Rattle.std.proofs.Common.{◌≡◌, ◌≢◌, ℕ, ◌+◌, ◌*◌, ◌≤◌, ◌||◌, Bool, true, false, IsTrue, List, ◌++◌, length, take, drop, max, min, All, Some, None, is_some, sym, ap, subst, ◌∙◌, arith, ⊎_elim}
 use Rattle.std.specs.List.{AllPairs}
-use Rattle.std.proofs.lemmas.Bool.{cases_Bool, cases_lt, false≢true, or_left, or_right, or_cases, or_from}
+use Rattle.std.proofs.lemmas.Bool.{cases_lt, false≢true, or_left, or_right, or_cases, or_from, false_from_ne_true}
 use Rattle.std.proofs.lemmas.List.{length-append}
+use Rattle.std.proofs.lemmas.List.Elements.{All-append}
 use Rattle.base_types.specs.Seal.{Blocks}
 use Rattle.base_types.specs.Runs.{run_places}
 use Rattle.base_types.specs.declared.words.Class.{Class}
@@ -16,19 +17,19 @@ use Rattle.lang_tree.specs.Step.{written}
 use Rattle.crash_stands.specs.Files.{joined, used_node}
 use Rattle.fs_files.specs.declared.nodes.OpenNode.{OpenNode}
 use Rattle.fs_files.specs.Bytes.{met, overwrite}
-use Rattle.fs_files.specs.Content.{HasContent}
+use Rattle.fs_files.specs.Content.{HasContent, WritesContent}
 use Rattle.fs_files.specs.Drafts.{DraftState, change_of, drafted, marks_of}
 use Rattle.fs_files.specs.Nodes.{class_of, node_of_open, IsOpen}
 use Rattle.fs_files.specs.Sound.{FitsBooks, IsSoundDraft}
 use Rattle.fs_files.specs.Writing.{WritesOpen}
 use Rattle.fs_files.proofs.bytes.Calls.{TakesBehind, within_bytes, within_tail, past_bytes, past_tail}
-use Rattle.fs_files.proofs.bytes.Places.{met_out, content_grown, all_append}
+use Rattle.fs_files.proofs.bytes.Places.{met_out, content_grown}
 use Rattle.fs_files.proofs.frames.Met.{met_all}
-use Rattle.fs_files.proofs.frames.Places.{used_marked, used_whole}
+use Rattle.fs_files.proofs.frames.Places.{used_marked, used_whole, all_of}
 use Rattle.fs_files.proofs.frames.Rules.{HasRules, rules_of, writes_fits, writes_rules, writes_others, writes_marks}
-use Rattle.fs_files.proofs.frames.Steps.{all_of, used_once}
+use Rattle.fs_files.proofs.frames.Steps.{used_once}
 use Rattle.fs_files.proofs.calling.Came.{Came, CameSound, news, came, came_sound}
-use Rattle.fs_files.proofs.calling.Opens.{room_within}
+use Rattle.fs_files.proofs.calling.Opens.{room_within, gap_writes}
 use Rattle.fs_files.proofs.drafts.Lists.{each_of, has_append}
 
 module _ (tells : Bool) (k : Bookkeeping) (m : Blocks) (number off : ℕ) (ys : List ℕ) (o p : OpenNode) (d f : DraftState) (geom : IsGeometry k.geom) (opened : IsOpen k.geom o) (fits : FitsBooks k d) (w : WritesOpen tells k m off ys o p d f) where
@@ -45,12 +46,11 @@ module _ (tells : Bool) (k : Bookkeeping) (m : Blocks) (number off : ℕ) (ys : 
   abbrev gap_met : List ℕ
   gap_met = met o.size (min off (1024 * length o.places)) o.places
 
+  gap_wrote : WritesContent class gap_met d w.filled
+  gap_wrote = gap_writes tells m off o d w.filled w.gap
+
   filled_fits : FitsBooks k w.filled
-  filled_fits = by (cases_lt o.size off)
-    where
-      by : (o.size < off) ⊎ (off ≤ o.size) → FitsBooks k w.filled
-      by (inl past) = writes_fits k class gap_met d w.filled (w.gap.writes past) geom (met_all (IsData k.geom) o.size (min off (1024 * length o.places)) o.places opened.«data») fits
-      by (inr within) = subst (FitsBooks k) (sym (w.gap.none within)) fits
+  filled_fits = writes_fits k class gap_met d w.filled gap_wrote geom (met_all (IsData k.geom) o.size (min off (1024 * length o.places)) o.places opened.«data») fits
 
   pub its : Came k o p extra w.filled w.grown
   its = came k wide o p w.filled w.grown geom filled_fits w.room
@@ -59,7 +59,7 @@ module _ (tells : Bool) (k : Bookkeeping) (m : Blocks) (number off : ℕ) (ys : 
   its_places = ap (λ (q : OpenNode). q.places) its.node
 
   pub all_inside : All (IsData k.geom) p.places
-  all_inside = subst (All (IsData k.geom)) (sym its_places) (all_append (IsData k.geom) o.places extra opened.«data» its.inside)
+  all_inside = subst (All (IsData k.geom)) (sym its_places) (All-append (IsData k.geom) o.places extra opened.«data» its.inside)
 
   pub wrote_fits : FitsBooks k f
   wrote_fits = writes_fits k class (met off (off + length ys) p.places) w.grown f w.writes geom (met_all (IsData k.geom) off (off + length ys) p.places all_inside) its.fits
@@ -73,44 +73,26 @@ module _ (tells : Bool) (k : Bookkeeping) (m : Blocks) (number off : ℕ) (ys : 
     marked b is = used_marked k.geom (marks_of d k.marked) (drafted d m) number (node_of_open o) sound.blocks used b (own b is)
 
     filled_rules : HasRules k w.filled
-    filled_rules = by (cases_lt o.size off)
-      where
-        by : (o.size < off) ⊎ (off ≤ o.size) → HasRules k w.filled
-        by (inl past) = writes_rules k class gap_met d w.filled (w.gap.writes past)
-            (met_all (λ b. marks_of d k.marked b ≡ true) o.size (min off (1024 * length o.places)) o.places (all_of (λ b. marks_of d k.marked b ≡ true) o.places marked)) (rules_of k m d sound)
-        by (inr within) = subst (HasRules k) (sym (w.gap.none within)) (rules_of k m d sound)
+    filled_rules = writes_rules k class gap_met d w.filled gap_wrote
+        (met_all (λ b. marks_of d k.marked b ≡ true) o.size (min off (1024 * length o.places)) o.places (all_of (λ b. marks_of d k.marked b ≡ true) o.places marked)) (rules_of k m d sound)
 
     filled_marks : (b : ℕ) → marks_of w.filled k.marked b ≡ marks_of d k.marked b
-    filled_marks b = by (cases_lt o.size off)
-      where
-        by : (o.size < off) ⊎ (off ≤ o.size) → marks_of w.filled k.marked b ≡ marks_of d k.marked b
-        by (inl past) = writes_marks k class gap_met d w.filled (w.gap.writes past) k.marked b
-        by (inr within) = ap (λ (x : DraftState). marks_of x k.marked b) (w.gap.none within)
+    filled_marks = writes_marks k class gap_met d w.filled gap_wrote k.marked
 
     filled_others : (b : ℕ) → has o.places b ≡ false → drafted w.filled m b ≡ drafted d m b
-    filled_others b out = by (cases_lt o.size off)
-      where
-        by : (o.size < off) ⊎ (off ≤ o.size) → drafted w.filled m b ≡ drafted d m b
-        by (inl past) = writes_others k class gap_met d w.filled (w.gap.writes past) m b (met_out o.size (min off (1024 * length o.places)) o.places b out)
-        by (inr within) = ap (λ (x : DraftState). drafted x m b) (w.gap.none within)
+    filled_others b out = writes_others k class gap_met d w.filled gap_wrote m b (met_out o.size (min off (1024 * length o.places)) o.places b out)
 
     pub new : CameSound k extra w.filled w.grown
     new = came_sound k wide o p w.filled w.grown geom filled_fits free filled_rules w.room
 
     -- no block that came is one that it had
     pub apart : (q : ℕ) → has o.places q ≡ true → has extra q ≡ false
-    apart q is = by (cases_Bool (has extra q))
-      where
-        by : (has extra q ≡ true) ⊎ (has extra q ≡ false) → has extra q ≡ false
-        by (inl came) = absurd (false≢true (sym (each_of (λ b. marks_of w.filled k.marked b ≡ false) extra new.unmarked q came) ∙ filled_marks q ∙ marked q is))
-        by (inr out) = out
+    apart q is = false_from_ne_true (has extra q) (λ came. false≢true (sym (each_of (λ b. marks_of w.filled k.marked b ≡ false) extra new.unmarked q came) ∙ filled_marks q ∙ marked q is))
 
     grown_marked : (b : ℕ) → has p.places b ≡ true → marks_of w.grown k.marked b ≡ true
-    grown_marked b is = new.marks b ∙ by (or_cases (has o.places b) (has extra b) (sym (ap (λ xs. has xs b) its_places ∙ has_append o.places extra b) ∙ is))
-      where
-        by : (has o.places b ≡ true) ⊎ (has extra b ≡ true) → (has extra b || marks_of w.filled k.marked b) ≡ true
-        by (inl mine) = or_right (has extra b) (marks_of w.filled k.marked b) (filled_marks b ∙ marked b mine)
-        by (inr came) = or_left (has extra b) (marks_of w.filled k.marked b) came
+    grown_marked b is = new.marks b ∙ (⊎_elim (λ mine. or_right (has extra b) (marks_of w.filled k.marked b) (filled_marks b ∙ marked b mine))
+        (λ came. or_left (has extra b) (marks_of w.filled k.marked b) came)
+        (or_cases (has o.places b) (has extra b) (sym (ap (λ xs. has xs b) its_places ∙ has_append o.places extra b) ∙ is)))
 
     pub wrote_rules : HasRules k f
     wrote_rules = writes_rules k class (met off (off + length ys) p.places) w.grown f w.writes
@@ -159,20 +141,16 @@ module _ (tells : Bool) (k : Bookkeeping) (m : Blocks) (number off : ℕ) (ys : 
 
     -- the bytes are those written
     pub bytes_written : take wide (joined (drafted f m) (o.places ++ extra)) ≡ written off ys (take o.size (joined (drafted d m) o.places))
-    bytes_written = by (cases_lt o.size off)
-      where
-        by : (o.size < off) ⊎ (off ≤ o.size) → take wide (joined (drafted f m) (o.places ++ extra)) ≡ written off ys (take o.size (joined (drafted d m) o.places))
-        by (inl past) = past_bytes m class o.places extra o.size off ys d w.filled w.grown f
-            (record { content = content_before; fits = holds; past = omega (arith, past); ends = ends; gap = w.gap.bytes told content_before past; grows = behind; bytes = bytes_after })
-        by (inr within) = within_bytes m class o.places extra o.size off ys w.filled w.grown f (record { content = content_filled; fits = holds; within = within; ends = ends; grows = behind; bytes = bytes_after })
-            ∙ ap (λ (x : DraftState). written off ys (take o.size (joined (drafted x m) o.places))) (w.gap.none within)
+    bytes_written = ⊎_elim (λ past. past_bytes m class o.places extra o.size off ys d w.filled w.grown f
+        (record { content = content_before; fits = holds; past = omega (arith, past); ends = ends; gap = w.gap.bytes told content_before past; grows = behind; bytes = bytes_after }))
+        (λ within. within_bytes m class o.places extra o.size off ys w.filled w.grown f (record { content = content_filled; fits = holds; within = within; ends = ends; grows = behind; bytes = bytes_after })
+        ∙ ap (λ (x : DraftState). written off ys (take o.size (joined (drafted x m) o.places))) (w.gap.none within))
+        (cases_lt o.size off)
 
     -- and what is past them is zeros, if it was
     pub tail_written : IsTrue (are_zeros (drop o.size (joined (drafted d m) o.places))) → IsTrue (are_zeros (drop wide (joined (drafted f m) (o.places ++ extra))))
-    tail_written zeros = by (cases_lt o.size off)
-      where
-        by : (o.size < off) ⊎ (off ≤ o.size) → IsTrue (are_zeros (drop wide (joined (drafted f m) (o.places ++ extra))))
-        by (inl past) = past_tail m class o.places extra o.size off ys d w.filled w.grown f
-            (record { content = content_before; fits = holds; past = omega (arith, past); ends = ends; gap = w.gap.bytes told content_before past; grows = behind; bytes = bytes_after }) zeros
-        by (inr within) = within_tail m class o.places extra o.size off ys w.filled w.grown f (record { content = content_filled; fits = holds; within = within; ends = ends; grows = behind; bytes = bytes_after })
-            (ap (λ (x : DraftState). are_zeros (drop o.size (joined (drafted x m) o.places))) (w.gap.none within) ∙ zeros)
+    tail_written zeros = ⊎_elim (λ past. past_tail m class o.places extra o.size off ys d w.filled w.grown f
+        (record { content = content_before; fits = holds; past = omega (arith, past); ends = ends; gap = w.gap.bytes told content_before past; grows = behind; bytes = bytes_after }) zeros)
+        (λ within. within_tail m class o.places extra o.size off ys w.filled w.grown f (record { content = content_filled; fits = holds; within = within; ends = ends; grows = behind; bytes = bytes_after })
+        (ap (λ (x : DraftState). are_zeros (drop o.size (joined (drafted x m) o.places))) (w.gap.none within) ∙ zeros))
+        (cases_lt o.size off)

@@ -1,10 +1,9 @@
 -- Changes of the blocks of a list, one by one.
-use Rattle.std.proofs.Common.{◌≡◌, ℕ, ◌+◌, ◌-◌, ◌<◌, ◌≤◌, ◌==◌, Bool, true, false, cond, ◌||◌, List, [], ◌∷◌, ◌++◌, length, take, drop, get_or, slice_get, Option, None, Some, sym, ap, subst, ◌∙◌, arith, append_assoc, length-append, length-drop}
+use Rattle.std.proofs.Common.{◌≡◌, ℕ, ◌+◌, ◌-◌, ◌<◌, ◌≤◌, ◌==◌, Bool, cond, List, [], ◌∷◌, ◌++◌, length, take, drop, get_or, slice_get, Option, None, Some, sym, ap, subst, ◌∙◌, arith, append_assoc, length-append, length-drop, rules}
 use Rattle.std.proofs.lemmas.List.{take_more, get_or-drop}
 use Rattle.std.proofs.lemmas.Option.{slice_get_within, get_or_from_slice_get}
 use Rattle.std.specs.Prelude.{is_some}
-use Rattle.std.proofs.lemmas.Bool.Decides.{same_from_decides, Decides-eqb}
-use Rattle.std.proofs.lemmas.Bool.{eq-eqb, eqb-true}
+use Rattle.std.proofs.lemmas.Bool.Decides.{same_from_decides, Decides-eqb, nat_tests}
 use Rattle.base_types.specs.declared.words.Class.{Class}
 use Rattle.engine_blocks.specs.Running.{has}
 use Rattle.fs_files.specs.declared.changes.Changed.{Changed}
@@ -13,22 +12,13 @@ use Rattle.fs_files.specs.Zeros.{HaveZeros}
 use Rattle.fs_files.proofs.drafts.Lists.{has_push, has_append, merged}
 
 at_most_one : (t : Bool) → cond t 0 1 ≤ 1
-at_most_one true = omega arith
-at_most_one false = omega arith
+at_most_one t = grind (arith, nat_tests)
 
 pub zeros_more : (class : Class) (xs : List ℕ) (b : ℕ) (old mid new : List (ℕ × Changed)) → HaveZeros class xs old mid
     → ((q : ℕ) → change_of new q ≡ cond (b == q) (Some (zeros_of class)) (change_of mid q))
     → length new ≡ length mid + cond (is_some (change_of mid b)) 0 1
     → HaveZeros class (xs ++ b ∷ []) old new
-zeros_more class xs b old mid new h e n = record {
-  each = λ q.
-      e q
-      ∙ ap (λ y. cond (b == q) (Some (zeros_of class)) y) (h.each q)
-      ∙ merged (has xs q) (b == q) (Some (zeros_of class)) (change_of old q)
-      ∙ ap (λ t. cond (has xs q || t) (Some (zeros_of class)) (change_of old q)) (same_from_decides (b == q) (q == b) (Decides-eqb b q) (λ e. sym (eqb-true q b e), λ e. eq-eqb q b (sym e)))
-      ∙ ap (λ t. cond t (Some (zeros_of class)) (change_of old q)) (sym (has_push xs b q));
-  count = omega (arith, n, h.count, at_most_one (is_some (change_of mid b)), length-append xs (b ∷ []));
-}
+zeros_more class xs b old mid new h e n = search (rules, arith, merged, same_from_decides, Decides-eqb, has_push, at_most_one, length-append)
 
 -- some are freed, and then others
 frees_on : (xs ys : List ℕ) (d e f : DraftState) → FreesBlocks xs d e → FreesBlocks ys e f → FreesBlocks (xs ++ ys) d f

@@ -1,14 +1,14 @@
 -- Which numbers a list has.
 use Rattle.std.proofs.Common.{◌≡◌, ℕ, zero, suc, ◌<◌, ◌==◌, Bool, true, false, cond, ◌||◌, List, [], ◌∷◌, ◌++◌, take, drop, All, refl, sym, ap, subst, ◌∙◌, arith, ◌⊎◌, inl, inr}
-use Rattle.std.proofs.lemmas.Bool.{cases_Bool, eqb-true, false≢true, or_left, or_right, or_cases}
+use Rattle.std.proofs.lemmas.Bool.{cases_Bool, eqb-true, false≢true, or_left, or_right, or_cases, false_from_ne_true}
 use Rattle.std.proofs.Math.Bool.{or_assoc}
+use Rattle.std.proofs.lemmas.Bool.Decides.{nat_tests}
 use Rattle.layout_geometry.specs.Geometry.{Geometry, data_start}
 use Rattle.engine_blocks.specs.Puts.{IsData}
 use Rattle.engine_blocks.specs.Running.{has}
 
 or_none : (a : Bool) → (a || false) ≡ a
-or_none true = refl
-or_none false = refl
+or_none a = grind (arith, nat_tests)
 
 pub has_one : (b c : ℕ) → has (b ∷ []) c ≡ (c == b)
 has_one b c = or_none (c == b)
@@ -46,15 +46,8 @@ in_front (suc n) (x ∷ xs) c e = by (in_front n xs c) (or_cases (c == x) (has (
 
 -- a block of the table is no data block
 pub none_of_table : (g : Geometry) (bs : List ℕ) (c : ℕ) → All (IsData g) bs → c < data_start g → has bs c ≡ false
-none_of_table g bs c all low = by (cases_Bool (has bs c))
-  where
-    by : (has bs c ≡ true) ⊎ (has bs c ≡ false) → has bs c ≡ false
-    by (inl is) = absurd (omega (arith, (each_of (IsData g) bs all c is).from, low))
-    by (inr out) = out
+none_of_table g bs c all low = false_from_ne_true (has bs c) (λ is. omega (arith, (each_of (IsData g) bs all c is).from, low))
 
 -- one value for these and then for those is one value for both
 pub merged : {A : Type 0} (h t : Bool) (z o : A) → cond t z (cond h z o) ≡ cond (h || t) z o
-merged true true z o = refl
-merged true false z o = refl
-merged false true z o = refl
-merged false false z o = refl
+merged h t z o = grind (arith, nat_tests)

@@ -1,5 +1,5 @@
 -- Numbers of a list, bits of the bitmap, and calls that leave the disk alone.
-use Rattle.std.proofs.Common.{◌≡◌, ◌≢◌, ℕ, zero, suc, ◌+◌, ◌*◌, ◌/◌, ◌%◌, ◌<◌, ◌==◌, Bool, false, ◌||◌, List, [], ◌∷◌, length, take, slice_index, get_or, AllPairs, refl, sym, ap, ◌∙◌, arith}
+use Rattle.std.proofs.Common.{◌≡◌, ◌≢◌, ℕ, zero, suc, ◌+◌, ◌*◌, ◌/◌, ◌%◌, ◌<◌, ◌==◌, Bool, false, ◌||◌, List, [], ◌∷◌, length, take, slice_index, get_or, AllPairs, refl, sym, ap, ◌∙◌, arith, rules}
 use Rattle.std.proofs.lemmas.Bool.{ne_eqb}
 use Rattle.std.specs.Int.{bit_at}
 use Rattle.base_types.specs.Seal.{Blocks}
@@ -29,17 +29,7 @@ bits_alike g old new same k low = ap (λ y. bit_at (slice_index y (k % 8192 / 8)
 -- The disk.
 
 nothing_on : (old mid new : State) → IssuesNothing old mid → IssuesNothing mid new → IssuesNothing old new
-nothing_on old mid new a b = record {
-  base = b.base ∙ a.base;
-  log = b.log ∙ a.log;
-  point = λ p m. (λ is. (a.point p m).0 ((b.point p m).0 is), λ is. (b.point p m).1 ((a.point p m).1 is));
-  left = λ t m. (λ is. (a.left t m).0 ((b.left t m).0 is), λ is. (b.left t m).1 ((a.left t m).1 is));
-  holds = λ img m. (λ is. (a.holds img m).0 ((b.holds img m).0 is), λ is. (b.holds img m).1 ((a.holds img m).1 is));
-  sure = λ log p. (λ is. (a.sure log p).0 ((b.sure log p).0 is), λ is. (b.sure log p).1 ((a.sure log p).1 is));
-  records = record { told = b.records.told ∙ a.records.told; starts = λ log n. (λ is. (a.records.starts log n).0 ((b.records.starts log n).0 is), λ is. (b.records.starts log n).1 ((a.records.starts log n).1 is)) };
-  issued = λ m. (λ is. (a.issued m).0 ((b.issued m).0 is), λ is. (b.issued m).1 ((a.issued m).1 is));
-  awaits = λ p t. (λ is. (a.awaits p t).0 ((b.awaits p t).0 is), λ is. (b.awaits p t).1 ((a.awaits p t).1 is));
-}
+nothing_on old mid new a b = search (rules, arith)
 
 -- the disk is left alone, twice
 pub leaves_on : (tells : Bool) (old mid new : State) → LeavesDisk tells old mid → LeavesDisk tells mid new → LeavesDisk tells old new

@@ -1,14 +1,14 @@
 -- What the changes of a draft leave of the bookkeeping.
-use Rattle.std.proofs.Common.{◌≡◌, ℕ, zero, suc, ◌<◌, ◌==◌, Bool, true, false, cond, not, ◌&&◌, ◌||◌, List, [], ◌∷◌, length, get_or, All, Some, is_some, refl, sym, ap, ap₂, ◌∙◌, arith, ◌⊎◌, inl, inr}
-use Rattle.std.proofs.lemmas.Bool.{cases_Bool, eq-eqb, false≢true}
+use Rattle.std.proofs.Common.{◌≡◌, ℕ, zero, suc, ◌<◌, ◌==◌, Bool, true, false, cond, not, ◌&&◌, ◌||◌, List, [], ◌∷◌, length, get_or, All, Some, is_some, refl, ap, ◌∙◌, arith}
+use Rattle.std.proofs.lemmas.Bool.{eq-eqb}
 use Rattle.std.specs.Cmp.{unsigned_tied}
 use Rattle.std.specs.Ordering.{nat_cmp}
 use Rattle.std.specs.BTreeMap.{is_at}
+use Rattle.std.proofs.lemmas.Bool.Decides.{nat_tests}
 use Rattle.base_types.specs.declared.words.Class.{Class}
-use Rattle.base_types.specs.declared.words.Class.TheVariants.{Meta, Content}
 use Rattle.engine_blocks.specs.declared.role.Role.{Role}
-use Rattle.engine_blocks.specs.declared.role.Role.TheVariants.{Untouched, Changed as ChangedRole, Bare, NewMeta, Fresh}
-use Rattle.engine_blocks.specs.Running.{Spare, is_bare, put_role, has, has_bit, bit_block, with_put, HasNoBare}
+use Rattle.engine_blocks.specs.declared.role.Role.TheVariants.{Untouched, Changed as ChangedRole}
+use Rattle.engine_blocks.specs.Running.{Spare, is_bare, put_role, has, HasNoBare}
 use Rattle.engine_blocks.specs.State.{Bookkeeping, after_put, after_take, after_free}
 use Rattle.engine_blocks.specs.Puts.{after_frees}
 use Rattle.fs_files.specs.declared.changes.Changed.{Changed}
@@ -54,18 +54,12 @@ frees_same old k [] e = e
 frees_same old k (b ∷ bs) e = frees_same old (after_free k b) bs (free_same old k b e)
 
 pub draft_same : (k : Bookkeeping) (spare : Spare) (d : DraftState) → after_draft (record k { spare = spare }) d ≡ with_parts k (after_draft (record k { spare = spare }) d)
-draft_same k spare d =
-    let one = after_take (record k { spare = spare }) d.taken in
-    frees_same k (after_changes (after_changes one true d.fresh) false d.changed) d.freed
-    (changes_same k (after_changes one true d.fresh) false d.changed
-    (changes_same k one true d.fresh refl))
+draft_same k spare d = grind (arith, nat_tests, frees_same, changes_same)
 
 -- Marks.
 
 clear_by : (t h m : Bool) → (not h && cond t false m) ≡ (not (t || h) && m)
-clear_by true true m = refl
-clear_by true false m = refl
-clear_by false h m = refl
+clear_by t h m = grind (arith, nat_tests)
 
 frees_marked : (k : Bookkeeping) (bs : List ℕ) (c : ℕ) → (after_frees k bs).marked c ≡ (not (has bs c) && k.marked c)
 frees_marked k [] c = refl
@@ -109,51 +103,19 @@ by_keys P cs each i d low = let found = key_there cs i d low in each (get_or cs 
 -- Bare blocks.
 
 put_fills : (class : Class) (r : Role) → is_bare (put_role class r) ≡ false
-put_fills class Untouched = refl
-put_fills class ChangedRole = refl
-put_fills Meta Bare = refl
-put_fills Content Bare = refl
-put_fills Meta NewMeta = refl
-put_fills Content NewMeta = refl
-put_fills Meta Fresh = refl
-put_fills Content Fresh = refl
+put_fills class r = grind (arith, nat_tests)
 
 -- one that is bare after puts was so before, and nothing was put into it
 changes_bare : (k : Bookkeeping) (fresh : Bool) (cs : List (ℕ × Changed)) (c : ℕ) → is_bare ((after_changes k fresh cs).running.roles c) ≡ true → (is_some (change_of cs c) ≡ false) × (is_bare (k.running.roles c) ≡ true)
 changes_bare k fresh [] c is = (refl, is)
-changes_bare k fresh (e ∷ cs) c is = by (cases_Bool (c == e.0)) (changes_bare (after_put k e.0 (put_class fresh e.1.class)) fresh cs c is)
-  where
-    by : ((c == e.0) ≡ true) ⊎ ((c == e.0) ≡ false) → (is_some (change_of cs c) ≡ false) × (is_bare (with_put k.running.roles e.0 (put_class fresh e.1.class) c) ≡ true) → (is_some (change_of (e ∷ cs) c) ≡ false) × (is_bare (k.running.roles c) ≡ true)
-    by (inl h) rec = absurd (false≢true (sym (put_fills (put_class fresh e.1.class) (k.running.roles e.0)) ∙ sym (ap (λ t. is_bare (cond t (put_role (put_class fresh e.1.class) (k.running.roles e.0)) (k.running.roles c))) h) ∙ rec.1))
-    by (inr h) rec = (ap (λ t. is_some (cond t (Some e.1) (change_of cs c))) (key_is c e.0 ∙ h) ∙ rec.0, sym (ap (λ t. is_bare (cond t (put_role (put_class fresh e.1.class) (k.running.roles e.0)) (k.running.roles c))) h) ∙ rec.1)
+changes_bare k fresh (e ∷ cs) c is = grind (arith, nat_tests, put_fills, key_is, (changes_bare (after_put k e.0 (put_class fresh e.1.class)) fresh cs c is))
 
 freed_bare : (t u : Bool) (r : Role) → is_bare (cond t Untouched (cond u ChangedRole r)) ≡ true → (t ≡ false) × (is_bare r ≡ true)
-freed_bare true u r e = absurd (false≢true e)
-freed_bare false true r e = absurd (false≢true e)
-freed_bare false false r e = (refl, e)
+freed_bare t u r e = grind (arith, nat_tests)
 
 frees_bare : (k : Bookkeeping) (bs : List ℕ) (c : ℕ) → is_bare ((after_frees k bs).running.roles c) ≡ true → (has bs c ≡ false) × (is_bare (k.running.roles c) ≡ true)
 frees_bare k [] c is = (refl, is)
-frees_bare k (b ∷ bs) c is =
-    let rec = frees_bare (after_free k b) bs c is in
-    let one = freed_bare (c == b) (c == bit_block k.geom b) (k.running.roles c) rec.1 in
-    (ap₂ (λ x y. x || y) one.0 rec.0, one.1)
+frees_bare k (b ∷ bs) c is = grind (arith, nat_tests, freed_bare, (frees_bare (after_free k b) bs c is))
 
 pub draft_bare : (k : Bookkeeping) (d : DraftState) → HasNoBare k.running → ((b : ℕ) → has d.taken b ≡ true → is_filled d b ≡ true) → HasNoBare (after_draft k d).running
-draft_bare k d none filled c = by (cases_Bool (is_bare ((after_draft k d).running.roles c)))
-  where
-    two : Bookkeeping
-    two = after_changes (after_take k d.taken) true d.fresh
-
-    taken : (t u : Bool) → has d.taken c ≡ t → is_filled d c ≡ false → is_bare (cond t Bare (cond u ChangedRole (k.running.roles c))) ≡ true → is_bare ((after_draft k d).running.roles c) ≡ false
-    taken true u e out is = absurd (false≢true (sym out ∙ filled c e))
-    taken false true e out is = absurd (false≢true is)
-    taken false false e out is = absurd (false≢true (sym (none c) ∙ is))
-
-    by : (is_bare ((after_draft k d).running.roles c) ≡ true) ⊎ (is_bare ((after_draft k d).running.roles c) ≡ false) → is_bare ((after_draft k d).running.roles c) ≡ false
-    by (inl e) =
-        let last = frees_bare (after_changes two false d.changed) d.freed c e in
-        let mid = changes_bare two false d.changed c last.1 in
-        let first = changes_bare (after_take k d.taken) true d.fresh c mid.1 in
-        taken (has d.taken c) (has_bit k.geom d.taken c) refl (ap₂ (λ x y. x || y) last.0 (ap₂ (λ x y. x || y) mid.0 first.0)) first.1
-    by (inr e) = e
+draft_bare k d none filled c = grind (arith, nat_tests, frees_bare, changes_bare)

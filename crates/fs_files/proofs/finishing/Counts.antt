@@ -2,6 +2,7 @@
 use Rattle.std.proofs.Common.{◌≡◌, ◌≢◌, ℕ, zero, suc, ◌+◌, ◌<◌, ◌≤◌, Bool, true, false, cond, not, ◌&&◌, ◌||◌, List, [], ◌∷◌, length, filter, get_or, All, AllPairs, refl, sym, ap, ap₂, ◌∙◌, arith, ◌⊎◌, inl, inr}
 use Rattle.std.proofs.lemmas.Bool.{cases_Bool, cases_eq, eq-eqb, ne_eqb, false≢true}
 use Rattle.std.specs.List.{range_with_len}
+use Rattle.std.proofs.lemmas.Bool.Decides.{nat_tests}
 use Rattle.engine_blocks.specs.Running.{has}
 use Rattle.engine_blocks.specs.State.{Bookkeeping, after_take, after_free}
 use Rattle.engine_blocks.specs.Puts.{after_frees}
@@ -32,11 +33,7 @@ some_pass p b a (suc n) low high is = by (cases_eq a b) (cases_Bool (p a)) (λ d
 -- two tests that agree pass as many
 pub same_count : (p q : ℕ → Bool) (a n : ℕ) → ((b : ℕ) → a ≤ b → q b ≡ p b) → counted q a n ≡ counted p a n
 same_count p q a zero same = refl
-same_count p q a (suc n) same = by (cases_Bool (p a)) (same_count p q (a + 1) n (λ b from. same b (omega (arith, from))))
-  where
-    by : (p a ≡ true) ⊎ (p a ≡ false) → counted q (a + 1) n ≡ counted p (a + 1) n → counted q a (suc n) ≡ counted p a (suc n)
-    by (inl e) rec = omega (arith, passes p a n e, passes q a n (same a (omega arith) ∙ e), rec)
-    by (inr e) rec = omega (arith, fails p a n e, fails q a n (same a (omega arith) ∙ e), rec)
+same_count p q a (suc n) same = grind (arith, nat_tests, passes, fails, (same_count p q (a + 1) n (λ b from. same b (omega (arith, from)))))
 
 -- a test that passes one number more
 one_more : (p q : ℕ → Bool) (b a n : ℕ) → a ≤ b → b < a + n → p b ≡ false → q b ≡ true → ((c : ℕ) → c ≢ b → q c ≡ p c) → counted q a n ≡ counted p a n + 1

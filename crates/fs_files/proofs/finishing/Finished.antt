@@ -1,5 +1,6 @@
 -- What a finished draft leaves of the bookkeeping, as the contract of finishing says it.
-use Rattle.std.proofs.Common.{◌≡◌, ◌≢◌, ℕ, ◌<◌, ◌≤◌, Bool, IsTrue, List, length, AllPairs, refl, sym, ap, ap₂, subst, ◌∙◌}
+use Rattle.std.proofs.Common.{◌≡◌, ◌≢◌, ℕ, ◌<◌, ◌≤◌, Bool, IsTrue, List, length, AllPairs, refl, sym, ap, ap₂, subst, ◌∙◌, arith, rules}
+use Rattle.std.proofs.lemmas.Bool.Decides.{nat_tests}
 use Rattle.layout_geometry.specs.Geometry.{IsGeometry}
 use Rattle.engine_blocks.specs.Running.{Spare}
 use Rattle.engine_blocks.specs.State.{Bookkeeping, State, IsReusable}
@@ -7,7 +8,7 @@ use Rattle.engine_blocks.specs.Calls.{IsSound}
 use Rattle.engine_blocks.specs.Crashes.{IsTold}
 use Rattle.fs_files.specs.declared.changes.Changed.{Changed}
 use Rattle.fs_files.specs.Drafts.{DraftState}
-use Rattle.fs_files.specs.Sound.{FitsBooks, IsSoundDraft, IsDraftOf}
+use Rattle.fs_files.specs.Sound.{FitsBooks, IsDraftOf}
 use Rattle.fs_files.specs.Finish.{MayGoOn, BooksFinished, MapFinished}
 use Rattle.fs_files.specs.Making.{after_draft, AreDrafted, HasMade}
 use Rattle.fs_files.proofs.finishing.Few.{few_below}
@@ -45,21 +46,11 @@ abbrev pub draft_with : List (ℕ × Changed) → List (ℕ × Changed) → List
 draft_with a b t f = record { changed = a; fresh = b; taken = t; freed = f }
 
 pub same_draft : (d : DraftState) (a b : List (ℕ × Changed)) (t f : List ℕ) → a ≡ d.changed → b ≡ d.fresh → t ≡ d.taken → f ≡ d.freed → draft_with a b t f ≡ d
-same_draft d a b t f ea eb et ef =
-    ap (λ x. draft_with x b t f) ea
-    ∙ ap (λ x. draft_with d.changed x t f) eb
-    ∙ ap₂ (draft_with d.changed d.fresh) et ef
+same_draft d a b t f ea eb et ef = grind (arith, nat_tests)
 
 -- a draft is one of the same blocks after memory was made ready
 pub draft_ready : (tells : Bool) (s one : State) (d : DraftState) → IsDraftOf tells s d → one.books ≡ record s.books { spare = one.books.spare } → (IsTrue tells → one.map ≡ s.map) → IsDraftOf tells one d
-draft_ready tells s one d draft books map = record {
-  fits = subst (λ k. FitsBooks k d) (sym books) (fits_ready s.books one.books.spare d draft.fits);
-  sound = λ t.
-      let old = draft.sound t in
-      let ready : IsSoundDraft (record s.books { spare = one.books.spare }) s.map d = record { blocks = old.blocks; changed = old.changed; fresh = old.fresh; apart = old.apart; freed = old.freed; once = old.once } in
-      subst (λ m. IsSoundDraft one.books m d) (sym (map t)) (subst (λ k. IsSoundDraft k s.map d) (sym books) ready);
-  content = draft.content;
-}
+draft_ready tells s one d draft books map = search (rules, arith, fits_ready)
 
 after : (tells : Bool) (s one new : State) (d e : DraftState) → e ≡ d → one.books ≡ record s.books { spare = one.books.spare } → HasMade tells e one new → new.books ≡ after_draft (record s.books { spare = one.books.spare }) d
 after tells s one new d e same books made = made.books ∙ ap₂ after_draft books same

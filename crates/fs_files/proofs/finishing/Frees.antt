@@ -2,6 +2,7 @@
 use Rattle.std.proofs.Common.{◌≡◌, ◌≢◌, ℕ, ◌+◌, ◌-◌, ◌<◌, ◌≤◌, ◌==◌, Bool, true, false, cond, IsTrue, List, [], ◌∷◌, ◌++◌, length, take, drop, get_or, AllPairs, sym, ap, subst, ◌∙◌, arith, ◌⊎◌, inl, inr}
 use Rattle.std.proofs.lemmas.Bool.{cases_eq, eq-eqb, ne_eqb}
 use Rattle.std.proofs.lemmas.List.{drop_more, take_more}
+use Rattle.std.proofs.lemmas.Bool.Decides.{nat_tests}
 use Rattle.base_types.specs.Seal.{Blocks}
 use Rattle.layout_geometry.specs.Geometry.{Geometry, table_start}
 use Rattle.layout_bytes.specs.Bitmap.{is_set}
@@ -25,11 +26,7 @@ pub record AreFreedUpTo (tells : Bool) (start now : State) (list : List ℕ) (i 
 -- the next one's bit is set
 pub still_set : (tells : Bool) (start now : State) (list : List ℕ) (i b : ℕ) → AreFreedUpTo tells start now list i → i < length list → b ≡ get_or list i 0 → b < start.books.geom.n → AllPairs (λ a b. a ≢ b) list → IsTrue tells
     → is_set start.books.geom start.map b ≡ true → is_set now.books.geom now.map b ≡ true
-still_set tells start now list i b h low is below once t set =
-    ap (λ g. is_set g now.map b) h.geom
-    ∙ (h.map t).bits b (omega (arith, below))
-    ∙ ap (λ x. cond x false (is_set start.books.geom start.map b)) (ap (has (take i list)) is ∙ not_before list i 0 low once)
-    ∙ set
+still_set tells start now list i b h low is below once t set = grind (arith, nat_tests, not_before)
 
 freed_more : (g : Geometry) (start mid new : Blocks) (xs : List ℕ) (b : ℕ) → AreFreed g start mid xs → IsWithFreed g mid new b → b < g.n → AreFreed g start new (xs ++ b ∷ [])
 freed_more g start mid new xs b h w low = record {

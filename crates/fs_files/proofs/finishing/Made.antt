@@ -1,6 +1,8 @@
 -- All changes of a draft, one behind the other.
-use Rattle.std.proofs.Common.{◌≡◌, ℕ, suc, ◌+◌, ◌-◌, ◌*◌, ◌<◌, ◌≤◌, Bool, true, false, cond, not, ◌&&◌, ◌||◌, IsTrue, List, [], ◌∷◌, length, get_or, All, refl, sym, ap, subst, ◌∙◌, arith}
-use Rattle.std.proofs.lemmas.Bool.{ne_eqb, false≢true}
+use Rattle.std.proofs.Common.{◌≡◌, ℕ, suc, ◌+◌, ◌-◌, ◌*◌, ◌<◌, ◌≤◌, Bool, true, false, cond, not, ◌&&◌, ◌||◌, IsTrue, List, [], ◌∷◌, length, All, refl, sym, ap, subst, ◌∙◌, arith}
+use Rattle.std.proofs.lemmas.Bool.{ne_eqb}
+use Rattle.std.proofs.lemmas.Bool.Decides.{nat_tests}
+use Rattle.std.proofs.lemmas.Grind.{common_steps}
 use Rattle.layout_geometry.specs.Geometry.{Geometry, bitmap_blocks, table_start, data_start}
 use Rattle.layout_bytes.specs.Bitmap.{is_set}
 use Rattle.engine_blocks.specs.Running.{has, has_bit, bit_block}
@@ -26,12 +28,13 @@ no_bit g (b ∷ bs) c all from =
 
 puts_left : (k : Bookkeeping) (fresh : Bool) (cs : List (ℕ × Changed)) → (after_changes k fresh cs).spare.puts ≡ k.spare.puts - length cs
 puts_left k fresh [] = omega arith
-puts_left k fresh (c ∷ cs) = omega (
+puts_left k fresh (c ∷ cs) = grind (
   arith,
-  puts_left (record k {
+  common_steps,
+  (puts_left (record k {
     running = (after_changes k fresh (c ∷ [])).running;
     spare = (after_changes k fresh (c ∷ [])).spare;
-  }) fresh cs,
+  }) fresh cs),
 )
 
 -- The calls of a draft up to some step.
@@ -47,8 +50,7 @@ module _ (tells : Bool) (d : DraftState) (s one : State) (draft : IsDraftOf tell
   one_geom = ap (λ k. k.geom) took.books
 
   set_by : (t o : Bool) → (t || o) ≡ true → cond t true o ≡ true
-  set_by true o e = refl
-  set_by false o e = e
+  set_by t o e = grind (arith, nat_tests)
 
   -- what is taken or was marked is set
   set_after : IsTrue tells → IsTold s → (b : ℕ) → b < s.books.geom.n → (has d.taken b || s.books.marked b) ≡ true → is_set s.books.geom one.map b ≡ true
@@ -83,8 +85,7 @@ module _ (tells : Bool) (d : DraftState) (s one : State) (draft : IsDraftOf tell
     changed_within = by_keys (IsTableOrData two.books.geom) d.changed (λ b c is. subst (λ g. IsTableOrData g b) (sym two_geom) (record { from = (draft.fits.changed b c is).0; below = (draft.fits.changed b c is).1 }))
 
     and_last : (x y : Bool) → (x && y) ≡ true → y ≡ true
-    and_last true y e = e
-    and_last false y e = absurd (false≢true e)
+    and_last x y e = grind (arith, nat_tests)
 
     pub changed_marked : IsTrue tells → IsTold s → All (λ (e : ℕ × Changed). data_start two.books.geom ≤ e.0 → is_set two.books.geom two.map e.0 ≡ true) d.changed
     changed_marked t told = by_keys (λ b. data_start two.books.geom ≤ b → is_set two.books.geom two.map b ≡ true) d.changed (λ b c is from.
@@ -115,16 +116,10 @@ module _ (tells : Bool) (d : DraftState) (s one : State) (draft : IsDraftOf tell
       freed_data = subst (λ g. All (IsData g) d.freed) (sym three_geom) draft.fits.freed
 
       pub freed_marked : IsTrue tells → IsTold s → All (λ b. is_set three.books.geom three.map b ≡ true) d.freed
-      freed_marked t told i e low =
-          let b = get_or d.freed i e in
-          ap (λ g. is_set g three.map b) three_geom
-          ∙ three_bits t b (omega (arith, (draft.fits.freed i e low).below))
-          ∙ set_after t told b (draft.fits.freed i e low).below ((draft.sound t).freed i e low)
+      freed_marked t told i e low = grind (arith, nat_tests, three_geom, three_bits, set_after)
 
       marks_by : (f t o : Bool) → cond f false (cond t true o) ≡ (not f && (t || o))
-      marks_by true t o = refl
-      marks_by false true o = refl
-      marks_by false false o = refl
+      marks_by f t o = grind (arith, nat_tests)
 
       pub all_made : (four : State) → HasFreed tells d.freed three four → HasMade tells d s four
       all_made four frees = record {

@@ -1,11 +1,12 @@
 -- Nodes and their content are read from the node table and the data alone.
-use Rattle.std.proofs.Common.{◌≡◌, ℕ, ◌+◌, ◌-◌, ◌*◌, ◌/◌, ◌%◌, ◌<◌, ◌≤◌, take, drop, Option, Some, None, option_map, refl, ap, ◌∙◌, arith}
+use Rattle.std.proofs.Common.{◌≡◌, ℕ, ◌<◌, ◌≤◌, Some, ◌∙◌, arith}
+use Rattle.std.proofs.lemmas.Bool.Decides.{nat_tests}
 use Rattle.base_types.specs.Seal.{Blocks}
 use Rattle.base_types.specs.Runs.{run_places}
-use Rattle.layout_geometry.specs.Geometry.{Geometry, IsGeometry, table_start, nodes_in_block}
+use Rattle.layout_geometry.specs.Geometry.{Geometry, IsGeometry, table_start}
 use Rattle.layout_bytes.specs.declared.node.Node.{Node}
-use Rattle.layout_bytes.specs.Node.{node_size, node_bytes}
-use Rattle.crash_stands.specs.Files.{joined, used_node, file_of, files_of}
+use Rattle.layout_bytes.specs.Node.{node_bytes}
+use Rattle.crash_stands.specs.Files.{joined, used_node, files_of}
 use Rattle.crash_stands.specs.Stands.{HasBlock}
 use Rattle.fs_files.proofs.frames.Cells.{same_node}
 use Rattle.fs_files.proofs.frames.Places.{joined_same, used_data}
@@ -17,8 +18,7 @@ AreAlike g m w = (b : ℕ) → table_start g ≤ b → b < g.n → m b ≡ w b
 -- A node's bytes.
 
 pub bytes_alike : (g : Geometry) (m w : Blocks) → IsGeometry g → AreAlike g m w → (k : ℕ) → 1 ≤ k → k ≤ g.i → node_bytes g m k ≡ node_bytes g w k
-bytes_alike g m w geom same k from upto =
-    ap (λ y. take node_size (drop (node_size * ((k - 1) % nodes_in_block)) y)) (same (table_start g + (k - 1) / nodes_in_block) (omega arith) (omega (arith, from, upto, geom.whole_blocks, geom.data_room)))
+bytes_alike g m w geom same k from upto = grind (arith, nat_tests)
 
 pub used_alike : (g : Geometry) (m w : Blocks) → IsGeometry g → AreAlike g m w → (k : ℕ) → used_node g m k ≡ used_node g w k
 used_alike g m w geom same k = same_node g w m k (bytes_alike g m w geom same k)
@@ -26,15 +26,10 @@ used_alike g m w geom same k = same_node g w m k (bytes_alike g m w geom same k)
 -- Its content.
 
 pub joined_alike : (g : Geometry) (m w v : Blocks) (k : ℕ) (node : Node) → AreAlike g m w → used_node g v k ≡ Some node → joined m (run_places node.runs) ≡ joined w (run_places node.runs)
-joined_alike g m w v k node same used =
-    joined_same w m (run_places node.runs) (λ b is. let at = used_data g v k node used b is in same b (omega (arith, at.from)) at.below)
+joined_alike g m w v k node same used = grind (arith, nat_tests, joined_same, used_data)
 
 pub files_alike : (g : Geometry) (m w : Blocks) → IsGeometry g → AreAlike g m w → (k : ℕ) → files_of g m k ≡ files_of g w k
-files_alike g m w geom same k = ap (option_map (file_of m)) (used_alike g m w geom same k) ∙ by (used_node g w k) refl
-  where
-    by : (x : Option Node) → used_node g w k ≡ x → option_map (file_of m) x ≡ option_map (file_of w) x
-    by None e = refl
-    by (Some node) e = ap (λ ys. Some (record { kind = node.kind; links = node.links; bytes = take node.size ys })) (joined_alike g m w w k node same e)
+files_alike g m w geom same k = grind (arith, nat_tests, used_alike, joined_alike)
 
 pub has_block : (g : Geometry) (m w : Blocks) → IsGeometry g → AreAlike g m w → (k i b : ℕ) → HasBlock g w k i b → HasBlock g m k i b
 has_block g m w geom same k i b h = record { node = h.node; is_node = used_alike g m w geom same k ∙ h.is_node; place = h.place }

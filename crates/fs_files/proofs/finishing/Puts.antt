@@ -1,6 +1,7 @@
 -- Puts of new bytes, one by one.
-use Rattle.std.proofs.Common.{◌≡◌, ◌≢◌, ℕ, suc, ◌+◌, ◌<◌, ◌≤◌, ◌==◌, Bool, true, cond, IsTrue, List, ◌∷◌, length, All, Some, None, sym, ap, subst, ◌∙◌, arith, ◌⊎◌, inl, inr}
-use Rattle.std.proofs.lemmas.Bool.{cases_eq, eq-eqb, ne_eqb}
+use Rattle.std.proofs.Common.{◌≡◌, ℕ, suc, ◌+◌, ◌<◌, ◌≤◌, ◌==◌, Bool, true, cond, IsTrue, List, ◌∷◌, length, All, Some, None, sym, ap, subst, ◌∙◌, arith}
+use Rattle.std.proofs.lemmas.Bool.{ne_eqb}
+use Rattle.std.proofs.lemmas.Bool.Decides.{nat_tests}
 use Rattle.layout_geometry.specs.Geometry.{data_start, table_start}
 use Rattle.base_types.specs.Seal.{Blocks}
 use Rattle.layout_bytes.specs.Bitmap.{is_set}
@@ -54,16 +55,7 @@ may_put tells fresh start now all rest more i p h first = record {
 -- one of them is put
 lies : (old new : Blocks) (rest more : List (ℕ × Changed)) (p : ℕ × Changed) → IsWithBlock old new p.0 p.1.bytes → change_of rest p.0 ≡ Some p.1 → ((q : ℕ) → change_of more q ≡ cond (p.0 == q) None (change_of rest q))
     → (b : ℕ) → bytes_or (new b) (change_of more b) ≡ bytes_or (old b) (change_of rest b)
-lies old new rest more p w found others b = by (cases_eq p.0 b)
-  where
-    by : (p.0 ≡ b) ⊎ (p.0 ≢ b) → bytes_or (new b) (change_of more b) ≡ bytes_or (old b) (change_of rest b)
-    by (inl e) =
-        ap (λ x. bytes_or (new b) x) (others b ∙ ap (λ t. cond t None (change_of rest b)) (eq-eqb p.0 b e))
-        ∙ ap new (sym e) ∙ w.own
-        ∙ sym (ap (λ x. bytes_or (old b) x) (ap (change_of rest) (sym e) ∙ found))
-    by (inr d) =
-        ap (λ x. bytes_or (new b) x) (others b ∙ ap (λ t. cond t None (change_of rest b)) (ne_eqb p.0 b d))
-        ∙ ap (λ x. bytes_or x (change_of rest b)) (w.others b (λ e. d (sym e)))
+lies old new rest more p w found others b = grind (arith, nat_tests, ne_eqb)
 
 pub one_put : (tells fresh : Bool) (start mid new : State) (all rest more : List (ℕ × Changed)) (i : ℕ) (p : ℕ × Changed) → ArePutUpTo tells fresh start mid all rest i → rest ≡ p ∷ more → change_of rest p.0 ≡ Some p.1 → ((q : ℕ) → change_of more q ≡ cond (p.0 == q) None (change_of rest q))
     → new.books ≡ after_put mid.books p.0 (put_class fresh p.1.class) → (IsTrue tells → IsWithBlock mid.map new.map p.0 p.1.bytes) → LeavesDisk tells mid new → ArePutUpTo tells fresh start new all more (i + 1)

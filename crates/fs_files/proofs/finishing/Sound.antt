@@ -1,6 +1,7 @@
 -- The blocks are sound once the changes of a draft are made.
-use Rattle.std.proofs.Common.{◌≡◌, ℕ, suc, ◌-◌, ◌<◌, ◌≤◌, Bool, true, false, nat_lt, nat_le, not, ◌&&◌, ◌||◌, IsTrue, List, [], ◌∷◌, length, drop, All, filter, refl, sym, ap, ap₂, subst, ◌∙◌, arith}
-use Rattle.std.proofs.lemmas.Bool.{and_parts, ltb-true, ne_eqb, false≢true}
+use Rattle.std.proofs.Common.{◌≡◌, ℕ, suc, ◌-◌, ◌<◌, ◌≤◌, Bool, true, false, nat_lt, nat_le, not, ◌&&◌, ◌||◌, IsTrue, List, [], ◌∷◌, length, drop, All, filter, refl, sym, ap, subst, ◌∙◌, arith}
+use Rattle.std.proofs.lemmas.Bool.{and_parts, ltb-true, ne_eqb}
+use Rattle.std.proofs.lemmas.Bool.Decides.{nat_tests}
 use Rattle.base_types.specs.Seal.{Blocks}
 use Rattle.layout_geometry.specs.Geometry.{Geometry, IsGeometry, bitmap_start, data_start}
 use Rattle.layout_bytes.specs.Bitmap.{is_set}
@@ -28,10 +29,7 @@ abbrev is_live : Geometry → Blocks → ℕ → Bool
 is_live g m b = nat_le (bitmap_start g) b && (nat_lt b g.n && (nat_lt b (data_start g) || is_set g m b))
 
 live_by : (l n d s m b : Bool) → m ≡ s → b ≡ false → (l && (n && (d || s))) ≡ true → (l && (d || (n && (m && not b)))) ≡ true
-live_by true true true s m b same none e = refl
-live_by true true false s m b same none e = ap₂ (λ x y. x && not y) (same ∙ e) none
-live_by true false d s m b same none e = absurd (false≢true e)
-live_by false n d s m b same none e = absurd (false≢true e)
+live_by l n d s m b e h p = grind (arith, nat_tests)
 
 -- each live block has its bytes
 live_whole : (s : State) → IsTold s → HasNoBare s.books.running → (b : ℕ) → IsTrue (is_live s.books.geom s.map b) → length (s.map b) ≡ 1024
@@ -50,14 +48,10 @@ high_out g (b ∷ bs) c all high =
     ∙ high_out g bs c (λ i d l. all (suc i) d (omega (arith, l))) high
 
 set_by : (f t o : Bool) → f ≡ false → o ≡ true → (not f && (t || o)) ≡ true
-set_by true t o e is = absurd (false≢true (sym e))
-set_by false true o e is = refl
-set_by false false o e is = is
+set_by f t o e h = grind (arith, nat_tests)
 
 clear_by : (f t o : Bool) → t ≡ false → o ≡ false → (not f && (t || o)) ≡ false
-clear_by true t o e is = refl
-clear_by false true o e is = absurd (false≢true (sym e))
-clear_by false false o e is = is
+clear_by f t o e h = grind (arith, nat_tests)
 
 module _ (d : DraftState) (s new : State) (spare : Spare) (geom : IsGeometry s.books.geom) (fits : FitsBooks s.books d) (sound : IsSoundDraft s.books s.map d)
     (told : IsTold s) (told_new : IsTold new) (own : IsSound s.books) (books : new.books ≡ after_draft (record s.books { spare = spare }) d) (finished : BooksFinished d s.books new.books) (made : AreDrafted s.books.geom d s.map new.map) where

@@ -1,11 +1,12 @@
 -- A sync may follow a draft once its price is weighed.
 use Rattle.std.proofs.Common.{◌≡◌, ◌≢◌, ℕ, zero, suc, ◌+◌, ◌*◌, ◌<◌, ◌≤◌, ◌==◌, min, Bool, true, false, cond, ◌||◌, List, [], ◌∷◌, length, get_or, All, AllPairs, Option, Some, None, is_some, refl, sym, ap, subst, ◌∙◌, arith, ◌⊎◌, inl, inr}
-use Rattle.std.proofs.lemmas.Bool.{cases_Bool, cases_eq, eq-eqb, ne_eqb, false≢true}
+use Rattle.std.proofs.lemmas.Bool.{cases_eq, eq-eqb, ne_eqb, false≢true, false_from_ne_true}
+use Rattle.std.proofs.lemmas.Bool.Decides.{nat_tests}
 use Rattle.base_types.specs.declared.words.Class.{Class}
 use Rattle.base_types.specs.declared.words.Class.TheVariants.{Content}
 use Rattle.layout_geometry.specs.Geometry.{bitmap_blocks, data_start}
 use Rattle.engine_blocks.specs.declared.role.Role.{Role}
-use Rattle.engine_blocks.specs.declared.role.Role.TheVariants.{Untouched, Changed as ChangedRole, Bare, NewMeta, Fresh}
+use Rattle.engine_blocks.specs.declared.role.Role.TheVariants.{Untouched, Changed as ChangedRole, Bare}
 use Rattle.engine_blocks.specs.Running.{is_payload, is_fresh, is_bare, is_taken, has, has_bit, bit_block, put_role, payloads, fresh_blocks, count_roles}
 use Rattle.engine_blocks.specs.State.{Bookkeeping, after_put, after_take, after_free, after_weigh}
 use Rattle.engine_blocks.specs.Puts.{after_frees, IsData}
@@ -38,11 +39,7 @@ changes_grow grows k (c ∷ cs) = omega (arith, changes_grow grows (after_put k 
 
 -- a block that was taken is so after a put of content into any
 stays_taken : (k : Bookkeeping) (b c : ℕ) → is_taken (k.running.roles b) ≡ true → is_taken (k.running.roles c) ≡ true → is_taken ((after_put k b Content).running.roles c) ≡ true
-stays_taken k b c here there = by (c == b)
-  where
-    by : (t : Bool) → is_taken (cond t (put_role Content (k.running.roles b)) (k.running.roles c)) ≡ true
-    by true = ap (λ t. is_taken (cond t Fresh ChangedRole)) here
-    by false = there
+stays_taken k b c here there = grind (arith, nat_tests)
 
 content_grows : Grows → (k : Bookkeeping) (cs : List (ℕ × Changed)) → All (λ (e : ℕ × Changed). is_taken (k.running.roles e.0) ≡ true) cs → commit_weight (after_changes k true cs) ≤ commit_weight k + length cs
 content_grows grows k [] all = omega arith
@@ -139,18 +136,10 @@ put_changes k fresh (e ∷ cs) b is out = by (cases_eq b e.0) (put_changes (afte
 
 -- in a transaction with nothing for a commit no block was taken
 untaken_by : (r : Role) → is_payload r ≡ false → is_fresh r ≡ false → is_bare r ≡ false → is_taken r ≡ false
-untaken_by Untouched p f b = refl
-untaken_by ChangedRole p f b = refl
-untaken_by Bare p f b = b
-untaken_by NewMeta p f b = p
-untaken_by Fresh p f b = f
+untaken_by r e h p = grind (arith, nat_tests)
 
 none_of : (k : Bookkeeping) (test : Role → Bool) (b : ℕ) → b < k.geom.n → (1 ≤ count_roles k.geom test k.running.roles → ⊥) → test (k.running.roles b) ≡ false
-none_of k test b low none = by (cases_Bool (test (k.running.roles b)))
-  where
-    by : (test (k.running.roles b) ≡ true) ⊎ (test (k.running.roles b) ≡ false) → test (k.running.roles b) ≡ false
-    by (inl e) = absurd (none (some_pass (λ c. test (k.running.roles c)) b 0 k.geom.n (omega arith) (omega (arith, low)) e))
-    by (inr e) = e
+none_of k test b low none = false_from_ne_true (test (k.running.roles b)) (λ e. none (some_pass (λ c. test (k.running.roles c)) b 0 k.geom.n (omega arith) (omega (arith, low)) e))
 
 no_content : (d : DraftState) (k : Bookkeeping) → FitsBooks k d → d.taken ≡ [] → d.fresh ≡ []
 no_content d k fits none = by d.fresh refl

@@ -1,6 +1,7 @@
 -- A draft in which the content and the places of a node changed, and then the node was put into its block: what it is, against the draft before both.
 use Rattle.std.proofs.Common.{◌≡◌, ◌≢◌, ℕ, ◌<◌, ◌≤◌, ◌&&◌, ◌||◌, Bool, false, not, IsTrue, List, ◌++◌, length, take, drop, All, Option, Some, option_map, ap, subst, ◌∙◌, arith}
 use Rattle.std.specs.List.{AllPairs}
+use Rattle.std.proofs.lemmas.Bool.Decides.{nat_tests}
 use Rattle.base_types.specs.Seal.{Blocks}
 use Rattle.base_types.specs.Runs.{run_places}
 use Rattle.layout_geometry.specs.Geometry.{IsGeometry, table_start, data_start}
@@ -20,10 +21,10 @@ use Rattle.fs_files.specs.Frames.{used_of, ReadsBack, HasNewNode, ChangesNode}
 use Rattle.fs_files.specs.Nodes.{node_block, node_byte}
 use Rattle.fs_files.specs.Sound.{AreSoundBy, FitsBooks, IsSoundDraft}
 use Rattle.fs_files.proofs.frames.Cells.{block_from, block_below, node_stored}
-use Rattle.fs_files.proofs.frames.Places.{joined_same}
+use Rattle.fs_files.proofs.frames.Places.{joined_same, all_of}
 use Rattle.fs_files.proofs.frames.Puts.{put_own, put_others, put_marks, put_fits, put_rules}
 use Rattle.fs_files.proofs.frames.Rules.{HasRules, sound_from}
-use Rattle.fs_files.proofs.frames.Steps.{both, all_of, node_grows, node_cut}
+use Rattle.fs_files.proofs.frames.Steps.{both, node_grows, node_cut}
 use Rattle.fs_files.proofs.drafts.Lists.{each_of}
 
 -- The node is in its block, the data blocks and the marks are those of draft f, and the draft fits.
@@ -75,8 +76,7 @@ module _ (k : Bookkeeping) (m : Blocks) (number : ℕ) (node old : Node) (d f e 
   stored_content = ap (take node.size) stored_joined
 
   whole_now : All (λ b. length (drafted e m b) ≡ 1024) (run_places node.runs)
-  whole_now = all_of (λ b. length (drafted e m b) ≡ 1024) (run_places node.runs)
-      (λ b mine. ap length (is.blocks b (each_of (IsData k.geom) (run_places node.runs) inside b mine).from) ∙ each_of (λ c. length (drafted f m c) ≡ 1024) (run_places node.runs) whole b mine)
+  whole_now = grind (arith, nat_tests, all_of, each_of)
 
   tail_now : node.kind ≡ Dir → IsTrue (are_zeros (past_content (drafted e m) node))
   tail_now dir = ap (λ xs. are_zeros (drop node.size xs)) stored_joined ∙ tail dir

@@ -1,6 +1,7 @@
 -- A draft in which nothing was done.
-use Rattle.std.proofs.Common.{◌≡◌, ℕ, ◌<◌, ◌≤◌, Bool, true, ◌&&◌, ◌||◌, nat_le, nat_lt, sym, ◌∙◌, arith}
-use Rattle.std.proofs.lemmas.Bool.{and_from, le-leb, lt-ltb, or_left, or_right, false≢true}
+use Rattle.std.proofs.Common.{◌≡◌, ℕ, ◌<◌, ◌≤◌, Bool, true, ◌&&◌, ◌||◌, nat_le, nat_lt, sym, ◌∙◌, arith, rules}
+use Rattle.std.proofs.lemmas.Bool.{lt-ltb, or_left, or_right, false≢true}
+use Rattle.std.proofs.lemmas.Bool.Decides.{nat_tests}
 use Rattle.std.proofs.lemmas.Option.{none-some}
 use Rattle.base_types.specs.Seal.{Blocks}
 use Rattle.layout_geometry.specs.Geometry.{Geometry, bitmap_start, data_start}
@@ -13,18 +14,10 @@ use Rattle.fs_files.specs.Drafts.{nothing_drafted}
 use Rattle.fs_files.specs.Sound.{AreSoundBy, FitsBooks, IsSoundDraft}
 
 pub nothing_fits : (k : Bookkeeping) → HasNoBare k.running → FitsBooks k nothing_drafted
-nothing_fits k none = record {
-  none_bare = none;
-  changed = λ b c e. absurd (none-some c e);
-  fresh = λ b c e. absurd (none-some c e);
-  taken = record { each = λ i d low. absurd (omega (arith, low)); distinct = λ i j d lt within. absurd (omega (arith, within)) };
-  filled = λ b e. absurd (false≢true e);
-  freed = λ i d low. absurd (omega (arith, low));
-}
+nothing_fits k none = search (rules, arith)
 
 live : (g : Geometry) (m : Blocks) (b : ℕ) → bitmap_start g ≤ b → b < g.n → (nat_lt b (data_start g) || is_set g m b) ≡ true → (nat_le (bitmap_start g) b && (nat_lt b g.n && (nat_lt b (data_start g) || is_set g m b))) ≡ true
-live g m b low high one = and_from (nat_le (bitmap_start g) b) (nat_lt b g.n && (nat_lt b (data_start g) || is_set g m b)) (le-leb (bitmap_start g) b low)
-    (and_from (nat_lt b g.n) (nat_lt b (data_start g) || is_set g m b) (lt-ltb b g.n high) one)
+live g m b low high one = grind (arith, nat_tests)
 
 -- blocks that are sound are sound by marks that are their bits
 pub sound_by : (g : Geometry) (marks : ℕ → Bool) (m : Blocks) → data_start g ≤ g.n → ((b : ℕ) → b < g.n → marks b ≡ is_set g m b) → AreSound g m → AreSoundBy g marks m

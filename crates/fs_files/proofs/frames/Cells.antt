@@ -1,15 +1,16 @@
 -- Bytes written over a part of a list, and the nodes of a node table in which one node was written.
-use Rattle.std.proofs.Common.{◌≡◌, ◌≢◌, ◌⊎◌, inl, inr, ℕ, ◌+◌, ◌-◌, ◌/◌, ◌%◌, ◌<◌, ◌≤◌, ◌&&◌, Bool, true, false, List, ◌++◌, length, take, drop, Option, None, nat_le, refl, sym, ap, ◌∙◌, arith}
+use Rattle.std.proofs.Common.{◌≡◌, ◌≢◌, ◌⊎◌, inl, inr, ℕ, ◌+◌, ◌-◌, ◌/◌, ◌%◌, ◌<◌, ◌≤◌, ◌&&◌, Bool, true, List, ◌++◌, length, take, drop, Option, None, nat_le, sym, ap, ◌∙◌, arith}
 use Rattle.std.proofs.lemmas.List.{take-append-le, drop-append-le, length-drop, take-take, drop-take, length-take-le, drop-drop}
 use Rattle.std.proofs.Math.Seq.{take-append_seam, drop-append_seam, drop-append-add}
-use Rattle.std.proofs.lemmas.Bool.{cases_eq, cases_lt, and_from, and_parts, le-leb, leb-true, false≢true}
-use Rattle.std.proofs.lemmas.Option.{none-some}
+use Rattle.std.proofs.lemmas.Bool.{cases_eq, cases_lt, and_from, and_parts, le-leb, leb-true}
+use Rattle.std.proofs.lemmas.Bool.Decides.{nat_tests}
+use Rattle.std.proofs.lemmas.Grind.{common_steps}
 use Rattle.fs_files.proofs.bytes.Overwrites.{length-overwrite}
 use Rattle.base_types.specs.Seal.{Blocks}
 use Rattle.layout_geometry.specs.Geometry.{Geometry, table_start, data_start}
 use Rattle.layout_bytes.specs.declared.node.Node.{Node}
 use Rattle.layout_bytes.specs.declared.node.NodeKind.{NodeKind}
-use Rattle.layout_bytes.specs.declared.node.NodeKind.TheVariants.{Free, Dir, File}
+use Rattle.layout_bytes.specs.declared.node.NodeKind.TheVariants.{Free}
 use Rattle.layout_bytes.specs.Bytes.{when}
 use Rattle.layout_bytes.specs.Node.{node_of, node_at, node_bytes, node_spelling}
 use Rattle.crash_stands.specs.Files.{used_node}
@@ -21,11 +22,7 @@ use Rattle.fs_files.specs.Nodes.{node_block, node_byte}
 
 -- the bytes that were written
 pub overwrite_own : (off : ℕ) (ys xs : List ℕ) → off ≤ length xs → take (length ys) (drop off (overwrite off ys xs)) ≡ ys
-overwrite_own off ys xs le =
-    let front : length (take off xs) ≡ off = length-take-le off xs le in
-    ap (λ n. take (length ys) (drop n (overwrite off ys xs))) (sym front)
-    ∙ ap (take (length ys)) (drop-append_seam (take off xs) (ys ++ drop (off + length ys) xs))
-    ∙ take-append_seam ys (drop (off + length ys) xs)
+overwrite_own off ys xs le = grind (arith, common_steps, length-take-le, drop-append_seam, take-append_seam)
 
 -- those before them
 pub overwrite_before : (off at n : ℕ) (ys xs : List ℕ) → off ≤ length xs → at + n ≤ off → take n (drop at (overwrite off ys xs)) ≡ take n (drop at xs)
@@ -53,12 +50,10 @@ overwrite_behind off at n ys xs le behind =
 -- Nodes of a table.
 
 pub when_true : {A : Type 0} (t : Bool) (x : Option A) → t ≡ true → when t x ≡ x
-when_true true x e = refl
-when_true false x e = absurd (false≢true e)
+when_true t x e = grind (arith, nat_tests)
 
 pub when_same : {A : Type 0} (t : Bool) (x y : Option A) → (t ≡ true → x ≡ y) → when t x ≡ when t y
-when_same true x y e = e refl
-when_same false x y e = refl
+when_same t x y e = grind (arith, nat_tests)
 
 -- a number of a node
 pub is_number : (g : Geometry) (k : ℕ) → 1 ≤ k → k ≤ g.i → (nat_le 1 k && nat_le k g.i) ≡ true
@@ -76,9 +71,7 @@ pub block_from : (g : Geometry) (l : ℕ) → table_start g ≤ node_block g l
 block_from g l = omega arith
 
 pub block_below : (g : Geometry) (l : ℕ) → g.i % 4 ≡ 0 → 1 ≤ l → l ≤ g.i → node_block g l < data_start g
-block_below g l whole from upto =
-    let count : (l - 1) / 4 < g.i / 4 = omega (arith, whole, from, upto) in
-    omega (arith, count)
+block_below g l whole from upto = grind (arith, nat_tests)
 
 -- numbers of one block have the same place in it only where they are the same
 places_apart : (k l : ℕ) → 1 ≤ k → 1 ≤ l → (l - 1) / 4 ≡ (k - 1) / 4 → (l - 1) % 4 ≡ (k - 1) % 4 → l ≡ k
@@ -116,16 +109,10 @@ module _ (g : Geometry) (m n : Blocks) (k : ℕ) (ys : List ℕ) (whole : g.i % 
       by (inr away) = ap (λ b. take 256 (drop (node_byte l) b)) (rest (node_block g l) (block_from g l) (block_below g l whole low high) away)
 
   stored_long : (b : ℕ) → table_start g ≤ b → b < data_start g → length (n b) ≡ 1024
-  stored_long b low high = by (cases_eq b (node_block g k))
-    where
-      by : (b ≡ node_block g k) ⊎ (b ≡ node_block g k → ⊥) → length (n b) ≡ 1024
-      by (inl e) = ap (λ c. length (n c)) e ∙ ap length block ∙ length-overwrite (node_byte k) ys (m (node_block g k)) (omega (arith, long, size)) ∙ long
-      by (inr away) = ap length (rest b low high away) ∙ table b low high
+  stored_long b low high = grind (arith, nat_tests, length-overwrite, long)
 
 used_none : (node : Node) (kind : NodeKind) → used_by node kind ≡ None → kind ≡ Free
-used_none node Free e = refl
-used_none node Dir e = absurd (none-some node (sym e))
-used_none node File e = absurd (none-some node (sym e))
+used_none node kind e = grind (arith, nat_tests)
 
 -- a node that was written into its block is there now
 pub node_stored : (g : Geometry) (m n : Blocks) (k : ℕ) (node : Node) → g.i % 4 ≡ 0 → 1 ≤ k → k ≤ g.i → ReadsBack g node

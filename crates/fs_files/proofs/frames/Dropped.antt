@@ -1,7 +1,6 @@
 -- What a draft is after a node was dropped: its blocks were freed, and then a free node was put into its place.
 use Rattle.std.proofs.Common.{◌≡◌, ◌≢◌, ℕ, ◌<◌, ◌≤◌, true, false, [], All, Some, None, ◌∙◌, arith}
-use Rattle.std.proofs.lemmas.Bool.{cases_Bool}
-use Rattle.std.proofs.Common.{◌⊎◌, inl, inr}
+use Rattle.std.proofs.lemmas.Bool.{false_from_ne_true}
 use Rattle.base_types.specs.Seal.{Blocks}
 use Rattle.base_types.specs.Runs.{run_places}
 use Rattle.layout_geometry.specs.Geometry.{IsGeometry, table_start, data_start}
@@ -20,10 +19,10 @@ use Rattle.fs_files.specs.Nodes.{node_block, node_byte}
 use Rattle.fs_files.specs.Sound.{AreSoundBy, FitsBooks, IsSoundDraft}
 use Rattle.fs_files.proofs.frames.Cells.{block_from, block_below, node_stored}
 use Rattle.fs_files.proofs.frames.Frames.{node_places}
-use Rattle.fs_files.proofs.frames.Places.{used_within, used_data, used_marked}
+use Rattle.fs_files.proofs.frames.Places.{used_within, used_data, used_marked, all_of}
 use Rattle.fs_files.proofs.frames.Puts.{put_own, put_others, put_marks, put_rules}
 use Rattle.fs_files.proofs.frames.Rules.{rules_of, sound_from, frees_others, frees_marks, frees_fits, frees_rules}
-use Rattle.fs_files.proofs.frames.Steps.{both, all_of, used_once, node_dropped}
+use Rattle.fs_files.proofs.frames.Steps.{both, used_once, node_dropped}
 
 module _ (k : Bookkeeping) (m : Blocks) (number : ℕ) (old : Node) (c : Changed) (d f e : DraftState) (geom : IsGeometry k.geom) (fits : FitsBooks k d) (sound : IsSoundDraft k m d)
     (used : used_node k.geom (drafted d m) number ≡ Some old) (frees : FreesBlocks (run_places old.runs) d f)
@@ -48,11 +47,7 @@ module _ (k : Bookkeeping) (m : Blocks) (number : ℕ) (old : Node) (c : Changed
 
   -- a block of the table is none of the node's
   in_table : (b : ℕ) → b < data_start k.geom → has (run_places old.runs) b ≡ false
-  in_table b below = by (cases_Bool (has (run_places old.runs) b))
-    where
-      by : (has (run_places old.runs) b ≡ true) ⊎ (has (run_places old.runs) b ≡ false) → has (run_places old.runs) b ≡ false
-      by (inl is) = absurd (omega (arith, (used_data k.geom (drafted d m) number old used b is).from, below))
-      by (inr isnt) = isnt
+  in_table b below = false_from_ne_true (has (run_places old.runs) b) (λ is. omega (arith, (used_data k.geom (drafted d m) number old used b is).from, below))
 
   other : (b : ℕ) → b ≢ node_block k.geom number → has (run_places old.runs) b ≡ false → drafted e m b ≡ drafted d m b
   other b away out = put_others k f e (node_block k.geom number) c geom low high mid_fits puts m b away ∙ frees_others k (run_places old.runs) d f frees m b out

@@ -1,12 +1,12 @@
 -- When a node with these places fits a disk.
 use Rattle.std.proofs.Common.{◌≡◌, ◌≢◌, ◌⊎◌, inl, inr, ℕ, zero, suc, ◌+◌, ◌-◌, ◌/◌, ◌<◌, ◌≤◌, ◌==◌, ◌||◌, not, nat_lt, nat_le, true, List, [], ◌∷◌, length, All, refl, sym, ap, ◌∙◌, arith}
 use Rattle.std.proofs.lemmas.Bool.{cases_eq, and_from, le-leb, lt-ltb, eq-eqb, ne_eqb, not_from_false, or_left, or_right}
+use Rattle.std.proofs.lemmas.Bool.Decides.{nat_tests}
 use Rattle.base_types.specs.declared.places.Run.{Run}
 use Rattle.base_types.specs.Runs.{blocks_from, run_places}
 use Rattle.layout_extent.specs.Runs.{AreTidy, runs_of, stretches}
 use Rattle.layout_geometry.specs.Geometry.{Geometry, data_start}
 use Rattle.layout_bytes.specs.declared.node.NodeKind.{NodeKind}
-use Rattle.layout_bytes.specs.declared.node.NodeKind.TheVariants.{Free, Dir, File}
 use Rattle.layout_bytes.specs.Node.{node_fits, runs_fit, run_blocks, kind_fits}
 use Rattle.engine_blocks.specs.Running.{has}
 use Rattle.engine_blocks.specs.Puts.{IsData}
@@ -29,16 +29,13 @@ BeginsElsewhere end [] = Unit {0}
 BeginsElsewhere end (r ∷ rs) = r.first ≢ end
 
 tidy_first : (r : Run) (rs : List Run) → AreTidy (r ∷ rs) → 0 < r.count
-tidy_first r [] tidy = tidy
-tidy_first r (s ∷ rs) tidy = tidy.0
+tidy_first r rs e = grind (arith, nat_tests)
 
 tidy_next : (r : Run) (rs : List Run) → AreTidy (r ∷ rs) → BeginsElsewhere (r.first + r.count) rs
-tidy_next r [] tidy = tt
-tidy_next r (s ∷ rs) tidy = tidy.1
+tidy_next r rs e = grind (arith, nat_tests)
 
 tidy_rest : (r : Run) (rs : List Run) → AreTidy (r ∷ rs) → AreTidy rs
-tidy_rest r [] tidy = tt
-tidy_rest r (s ∷ rs) tidy = tidy.2
+tidy_rest r rs e = grind (arith, nat_tests)
 
 -- tidy runs of data blocks fit
 runs_fit_from : (g : Geometry) (end : ℕ) (rs : List Run) → BeginsElsewhere end rs → AreTidy rs → ((b : ℕ) → has (run_places rs) b ≡ true → IsData g b) → runs_fit g end rs ≡ true
@@ -78,6 +75,4 @@ fits_with g kind links size places back count tidy linked few inside long by_kin
 
 -- a new node in use, with one link and no bytes, fits
 pub new_fits : (g : Geometry) (kind : NodeKind) → node_fits g (record { kind = kind; links = 1; size = 0; runs = [] }) ≡ true
-new_fits g Free = refl
-new_fits g Dir = refl
-new_fits g File = refl
+new_fits g kind = grind (arith, nat_tests)

@@ -1,7 +1,7 @@
 -- One node changed, with its blocks, and nothing else: the blocks stay sound, and the files change at that number alone.
-use Rattle.std.proofs.Common.{◌≡◌, ◌≢◌, ◌⊎◌, inl, inr, ℕ, ◌<◌, ◌≤◌, Bool, true, false, not, ◌&&◌, ◌||◌, IsTrue, List, length, take, drop, replicate, slice_get, Option, Some, None, nat_le, option_map, refl, sym, ap, subst, ◌∙◌}
-use Rattle.std.proofs.lemmas.Bool.{cases_Bool, cases_eq, false≢true, or_left}
-use Rattle.std.proofs.lemmas.Option.{none-some}
+use Rattle.std.proofs.Common.{◌≡◌, ◌≢◌, ◌⊎◌, inl, inr, ℕ, ◌<◌, ◌≤◌, Bool, true, false, not, ◌&&◌, ◌||◌, IsTrue, List, length, take, drop, replicate, slice_get, Option, Some, None, nat_le, option_map, sym, ap, subst, ◌∙◌, ⊎_elim, arith, rules}
+use Rattle.std.proofs.lemmas.Bool.{cases_Bool, cases_eq, false≢true, or_left, false_from_ne_true}
+use Rattle.std.proofs.lemmas.Bool.Decides.{nat_tests}
 use Rattle.base_types.specs.Seal.{Blocks}
 use Rattle.base_types.specs.Runs.{run_places}
 use Rattle.layout_geometry.specs.Geometry.{Geometry, data_start}
@@ -26,8 +26,7 @@ places_have g m k i b o is h = ap (λ (p : Option Node). slice_get (places_or_no
 
 -- a place of such a node is a block that it has
 block_at : (g : Geometry) (m : Blocks) (k i b : ℕ) (o : Option Node) → used_node g m k ≡ o → slice_get (places_or_none o) i ≡ Some b → HasBlock g m k i b
-block_at g m k i b None is e = absurd (none-some b e)
-block_at g m k i b (Some node) is e = record { node = node; is_node = is; place = e }
+block_at g m k i b o e h = grind (arith, nat_tests)
 
 -- the same node has the same block elsewhere
 block_same : (g : Geometry) (m n : Blocks) (k i b : ℕ) → used_node g n k ≡ used_node g m k → HasBlock g m k i b → HasBlock g n k i b
@@ -35,17 +34,11 @@ block_same g m n k i b same h = record { node = h.node; is_node = same ∙ h.is_
 
 -- the marks of a block that isn't among the new places
 kept_mark : (now was new old : Bool) → now ≡ (new || (was && not old)) → new ≡ false → now ≡ true → (was ≡ true) × (old ≡ false)
-kept_mark now true false true e f is = absurd (false≢true (sym e ∙ is))
-kept_mark now true false false e f is = (refl, refl)
-kept_mark now false false old e f is = absurd (false≢true (sym e ∙ is))
-kept_mark now was true old e f is = absurd (false≢true (sym f))
+kept_mark now was new old e h p = grind (arith, nat_tests)
 
 -- a block that was marked and isn't among the old places still is
 still_marked : (now was new old : Bool) → now ≡ (new || (was && not old)) → was ≡ true → old ≡ false → now ≡ true
-still_marked now true true false e is isnt = e
-still_marked now true false false e is isnt = e
-still_marked now true new true e is isnt = absurd (false≢true (sym isnt))
-still_marked now false new old e is isnt = absurd (false≢true is)
+still_marked now was new old e h p = grind (arith, nat_tests)
 
 module _ (g : Geometry) (marks new_marks : ℕ → Bool) (m n : Blocks) (k : ℕ) (old new : Option Node) (sound : AreSoundBy g marks m) (ch : ChangesNode g marks new_marks m n k old new) where
   -- Another node.
@@ -55,13 +48,10 @@ module _ (g : Geometry) (marks new_marks : ℕ → Bool) (m n : Blocks) (k : ℕ
 
   -- a block of another node isn't among the old places, nor among the new ones
   not_old : (l i b : ℕ) → l ≢ k → HasBlock g m l i b → has (places_or_none old) b ≡ false
-  not_old l i b other h = by (cases_Bool (has (places_or_none old) b))
-    where
-      by : (has (places_or_none old) b ≡ true) ⊎ (has (places_or_none old) b ≡ false) → has (places_or_none old) b ≡ false
-      by (inl is) =
-          let r = place_of (places_or_none old) b is in
-          absurd (other (sound.own l k i r.0 b h (block_at g m k r.0 b old ch.was r.1)).0)
-      by (inr isnt) = isnt
+  not_old l i b other h = ⊎_elim (λ is. let r = place_of (places_or_none old) b is in
+      absurd (other (sound.own l k i r.0 b h (block_at g m k r.0 b old ch.was r.1)).0))
+      (λ isnt. isnt)
+      (cases_Bool (has (places_or_none old) b))
 
   other_data : (l i b : ℕ) → HasBlock g m l i b → IsData g b
   other_data l i b h = used_data g m l h.node h.is_node b (has_place (run_places h.node.runs) i b h.place)
@@ -70,11 +60,7 @@ module _ (g : Geometry) (marks new_marks : ℕ → Bool) (m n : Blocks) (k : ℕ
   other_marked l i b h = used_marked g marks m l h.node sound h.is_node b (has_place (run_places h.node.runs) i b h.place)
 
   not_new : (l i b : ℕ) → l ≢ k → HasBlock g m l i b → has (places_or_none new) b ≡ false
-  not_new l i b other h = by (cases_Bool (has (places_or_none new) b))
-    where
-      by : (has (places_or_none new) b ≡ true) ⊎ (has (places_or_none new) b ≡ false) → has (places_or_none new) b ≡ false
-      by (inl is) = absurd (false≢true (sym (ch.fresh b is (not_old l i b other h)) ∙ other_marked l i b h))
-      by (inr isnt) = isnt
+  not_new l i b other h = false_from_ne_true (has (places_or_none new) b) (λ is. false≢true (sym (ch.fresh b is (not_old l i b other h)) ∙ other_marked l i b h))
 
   other_block : (l i b : ℕ) → l ≢ k → HasBlock g m l i b → n b ≡ m b
   other_block l i b other h = let at = other_data l i b h in ch.elsewhere b at.from at.below (not_old l i b other h) (not_new l i b other h)
@@ -108,59 +94,42 @@ module _ (g : Geometry) (marks new_marks : ℕ → Bool) (m n : Blocks) (k : ℕ
   -- Just the places of nodes are marked.
 
   marked_has : (b : ℕ) → data_start g ≤ b → b < g.n → new_marks b ≡ true → (l : ℕ) × (i : ℕ) × HasBlock g n l i b
-  marked_has b low high is = by (cases_Bool (has (places_or_none new) b))
-    where
-      by : (has (places_or_none new) b ≡ true) ⊎ (has (places_or_none new) b ≡ false) → (l : ℕ) × (i : ℕ) × HasBlock g n l i b
-      by (inl mine) = let r = place_of (places_or_none new) b mine in (k, r.0, block_at g n k r.0 b new ch.node.own r.1)
-      by (inr isnt) =
-          let kept = kept_mark (new_marks b) (marks b) (has (places_or_none new) b) (has (places_or_none old) b) (ch.marked b low high) isnt is in
-          let r = (sound.marked b low high).0 kept.0 in
-          let other : r.0 ≢ k = λ e. false≢true (sym kept.1 ∙ has_place (places_or_none old) r.1 b (places_have g m k r.1 b old ch.was (subst (λ q. HasBlock g m q r.1 b) e r.2))) in
-          (r.0, r.1, block_same g m n r.0 r.1 b (other_node r.0 other) r.2)
+  marked_has b low high is = ⊎_elim (λ mine. let r = place_of (places_or_none new) b mine in (k, r.0, block_at g n k r.0 b new ch.node.own r.1))
+      (λ isnt. let kept = kept_mark (new_marks b) (marks b) (has (places_or_none new) b) (has (places_or_none old) b) (ch.marked b low high) isnt is in
+      let r = (sound.marked b low high).0 kept.0 in
+      let other : r.0 ≢ k = λ e. false≢true (sym kept.1 ∙ has_place (places_or_none old) r.1 b (places_have g m k r.1 b old ch.was (subst (λ q. HasBlock g m q r.1 b) e r.2))) in
+      (r.0, r.1, block_same g m n r.0 r.1 b (other_node r.0 other) r.2))
+      (cases_Bool (has (places_or_none new) b))
 
   has_marked : (b : ℕ) → data_start g ≤ b → b < g.n → ((l : ℕ) × (i : ℕ) × HasBlock g n l i b) → new_marks b ≡ true
-  has_marked b low high r = by (cases_eq r.0 k)
-    where
-      by : (r.0 ≡ k) ⊎ (r.0 ≡ k → ⊥) → new_marks b ≡ true
-      by (inl e) =
-          let at : slice_get (places_or_none new) r.1 ≡ Some b = places_have g n k r.1 b new ch.node.own (subst (λ q. HasBlock g n q r.1 b) e r.2) in
-          ch.marked b low high ∙ or_left (has (places_or_none new) b) (marks b && not (has (places_or_none old) b)) (has_place (places_or_none new) r.1 b at)
-      by (inr other) =
-          let h = back r.0 r.1 b other r.2 in
-          still_marked (new_marks b) (marks b) (has (places_or_none new) b) (has (places_or_none old) b) (ch.marked b low high) (other_marked r.0 r.1 b h) (not_old r.0 r.1 b other h)
+  has_marked b low high r = ⊎_elim (λ e. let at : slice_get (places_or_none new) r.1 ≡ Some b = places_have g n k r.1 b new ch.node.own (subst (λ q. HasBlock g n q r.1 b) e r.2) in
+      ch.marked b low high ∙ or_left (has (places_or_none new) b) (marks b && not (has (places_or_none old) b)) (has_place (places_or_none new) r.1 b at))
+      (λ other. let h = back r.0 r.1 b other r.2 in
+      still_marked (new_marks b) (marks b) (has (places_or_none new) b) (has (places_or_none old) b) (ch.marked b low high) (other_marked r.0 r.1 b h) (not_old r.0 r.1 b other h))
+      (cases_eq r.0 k)
 
   -- Marked blocks are whole.
 
   whole : (b : ℕ) → data_start g ≤ b → b < g.n → new_marks b ≡ true → length (n b) ≡ 1024
-  whole b low high is = by (cases_Bool (has (places_or_none new) b))
-    where
-      by : (has (places_or_none new) b ≡ true) ⊎ (has (places_or_none new) b ≡ false) → length (n b) ≡ 1024
-      by (inl mine) = each_of (λ c. length (n c) ≡ 1024) (places_or_none new) ch.whole b mine
-      by (inr isnt) =
-          let kept = kept_mark (new_marks b) (marks b) (has (places_or_none new) b) (has (places_or_none old) b) (ch.marked b low high) isnt is in
-          ap length (ch.elsewhere b low high kept.1 isnt) ∙ sound.«data» b low high kept.0
+  whole b low high is = ⊎_elim (λ mine. each_of (λ c. length (n c) ≡ 1024) (places_or_none new) ch.whole b mine)
+      (λ isnt. let kept = kept_mark (new_marks b) (marks b) (has (places_or_none new) b) (has (places_or_none old) b) (ch.marked b low high) isnt is in
+      ap length (ch.elsewhere b low high kept.1 isnt) ∙ sound.«data» b low high kept.0)
+      (cases_Bool (has (places_or_none new) b))
 
   -- What carries nothing is zeros.
 
   free : (l : ℕ) → 1 ≤ l → l ≤ g.i → node_at g n l ≡ None → node_bytes g n l ≡ replicate 256 0
-  free l from upto none = by (cases_eq l k)
-    where
-      by : (l ≡ k) ⊎ (l ≡ k → ⊥) → node_bytes g n l ≡ replicate 256 0
-      by (inl e) =
-          let out : used_node g n k ≡ None = when_true (nat_le 1 k && nat_le k g.i) (node_at g n k) (is_number g k ch.from ch.upto) ∙ ap (node_at g n) (sym e) ∙ none in
-          ap (node_bytes g n) e ∙ ch.node.free (sym ch.node.own ∙ out)
-      by (inr other) =
-          let same = ch.node.others l from upto other in
-          same ∙ sound.free l from upto (ap (node_of g) (sym same) ∙ none)
+  free l from upto none = ⊎_elim (λ e. let out : used_node g n k ≡ None = when_true (nat_le 1 k && nat_le k g.i) (node_at g n k) (is_number g k ch.from ch.upto) ∙ ap (node_at g n) (sym e) ∙ none in
+      ap (node_bytes g n) e ∙ ch.node.free (sym ch.node.own ∙ out))
+      (λ other. let same = ch.node.others l from upto other in
+      same ∙ sound.free l from upto (ap (node_of g) (sym same) ∙ none))
+      (cases_eq l k)
 
   tail : (l : ℕ) (node : Node) → used_node g n l ≡ Some node → node.kind ≡ Dir → IsTrue (are_zeros (past_content n node))
-  tail l node e dir = by (cases_eq l k)
-    where
-      by : (l ≡ k) ⊎ (l ≡ k → ⊥) → IsTrue (are_zeros (past_content n node))
-      by (inl is) = ch.tail node (sym ch.node.own ∙ ap (used_node g n) (sym is) ∙ e) dir
-      by (inr other) =
-          let was : used_node g m l ≡ Some node = sym (other_node l other) ∙ e in
-          ap (λ xs. are_zeros (drop node.size xs)) (other_joined l node other was) ∙ sound.tail l node was dir
+  tail l node e dir = ⊎_elim (λ is. ch.tail node (sym ch.node.own ∙ ap (used_node g n) (sym is) ∙ e) dir)
+      (λ other. let was : used_node g m l ≡ Some node = sym (other_node l other) ∙ e in
+      ap (λ xs. are_zeros (drop node.size xs)) (other_joined l node other was) ∙ sound.tail l node was dir)
+      (cases_eq l k)
 
   pub node_changed_sound : AreSoundBy g new_marks n
   node_changed_sound = record {
@@ -175,28 +144,19 @@ module _ (g : Geometry) (marks new_marks : ℕ → Bool) (m n : Blocks) (k : ℕ
   -- The files.
 
   map_same : (o : Option Node) → ((node : Node) → o ≡ Some node → file_of n node ≡ file_of m node) → option_map (file_of n) o ≡ option_map (file_of m) o
-  map_same None same = refl
-  map_same (Some node) same = ap Some (same node refl)
+  map_same o e = grind (arith, nat_tests)
 
   file_with : (node : Node) → joined n (run_places node.runs) ≡ joined m (run_places node.runs) → file_of n node ≡ file_of m node
   file_with node same = ap (λ xs. record { kind = node.kind; links = node.links; bytes = take node.size xs }) same
 
   pub node_changed_files : IsWithFile (files_of g m) (files_of g n) k (option_map (file_of n) new)
-  node_changed_files = record {
-    own = ap (option_map (file_of n)) ch.node.own;
-    others = λ l other.
-        ap (option_map (file_of n)) (other_node l other)
-        ∙ map_same (used_node g m l) (λ node e. file_with node (other_joined l node other e));
-  }
+  node_changed_files = search (rules, arith, own, other_node, map_same, file_with, other_joined)
 
 -- The places.
 
 -- where the node table has a new node, that node has its places, and each other node those that it had
 pub node_places : (g : Geometry) (m n : Blocks) (k : ℕ) (new : Option Node) → HasNewNode g m n k new → IsWithPlaces (places_of g m) (places_of g n) k (places_or_none new)
-node_places g m n k new now = record {
-  own = ap places_or_none now.own;
-  others = λ l other. ap places_or_none (same_node g m n l (λ from upto. now.others l from upto other));
-}
+node_places g m n k new now = grind (arith, nat_tests, same_node)
 
 -- the same of places that are as these
 pub same_places : (old new was now : ℕ → List ℕ) (k : ℕ) (ps qs : List ℕ) → ((l : ℕ) → was l ≡ old l) → ((l : ℕ) → now l ≡ new l) → ps ≡ qs → IsWithPlaces old new k ps → IsWithPlaces was now k qs

@@ -1,7 +1,7 @@
 -- A block of the node table that was put into a draft: the blocks, the marks, and how the draft still fits.
-use Rattle.std.proofs.Common.{◌≡◌, ◌≢◌, ◌⊎◌, inl, inr, ℕ, ◌<◌, ◌≤◌, ◌==◌, Bool, true, false, not, ◌&&◌, ◌||◌, if◌then◌else◌, [], All, Option, Some, None, is_some, refl, sym, ap, ap₂, subst, ◌∙◌, arith}
-use Rattle.std.specs.List.{AllPairs}
-use Rattle.std.proofs.lemmas.Bool.{cases_Bool, cases_eq, eq-eqb, ne_eqb, false≢true, or_left, or_right}
+use Rattle.std.proofs.Common.{◌≡◌, ◌≢◌, ◌⊎◌, inl, inr, ℕ, ◌<◌, ◌≤◌, ◌==◌, Bool, true, false, not, ◌&&◌, ◌||◌, if◌then◌else◌, [], All, Option, Some, None, is_some, refl, sym, ap, ap₂, subst, ◌∙◌, arith, rules}
+use Rattle.std.proofs.lemmas.Bool.{cases_Bool, cases_eq, eq-eqb, ne_eqb, or_left, or_right, false_from_ne_true}
+use Rattle.std.proofs.lemmas.Bool.Decides.{nat_tests}
 use Rattle.base_types.specs.Seal.{Blocks}
 use Rattle.layout_geometry.specs.Geometry.{Geometry, IsGeometry, table_start, data_start}
 use Rattle.layout_bytes.specs.declared.node.Node.{Node}
@@ -22,11 +22,7 @@ use Rattle.fs_files.proofs.drafts.Lists.{each_of}
 module _ (k : Bookkeeping) (d e : DraftState) (at : ℕ) (c : Changed) (geom : IsGeometry k.geom) (low : table_start k.geom ≤ at) (high : at < data_start k.geom) (fits : FitsBooks k d) (puts : PutsBlock at c d e) where
   -- a block of the table isn't freed
   not_freed : has d.freed at ≡ false
-  not_freed = by (cases_Bool (has d.freed at))
-    where
-      by : (has d.freed at ≡ true) ⊎ (has d.freed at ≡ false) → has d.freed at ≡ false
-      by (inl is) = absurd (omega (arith, (each_of (IsData k.geom) d.freed fits.freed at is).from, high))
-      by (inr isnt) = isnt
+  not_freed = false_from_ne_true (has d.freed at) (λ is. omega (arith, (each_of (IsData k.geom) d.freed fits.freed at is).from, high))
 
   -- nor taken
   not_fresh : is_some (change_of d.fresh at) ≡ false
@@ -51,10 +47,7 @@ module _ (k : Bookkeeping) (d e : DraftState) (at : ℕ) (c : Changed) (geom : I
 
   -- the blocks after it: it has these bytes, and the others are as before
   pub put_own : (m : Blocks) → drafted e m at ≡ c.bytes
-  put_own m =
-      ap (λ fs. if has fs at then [] else bytes_or (bytes_or (m at) (change_of e.fresh at)) (change_of e.changed at)) puts.freed
-      ∙ ap (λ t. if t then [] else bytes_or (bytes_or (m at) (change_of e.fresh at)) (change_of e.changed at)) not_freed
-      ∙ ap (bytes_or (bytes_or (m at) (change_of e.fresh at))) put_here
+  put_own m = grind (arith, nat_tests, not_freed, put_here)
 
   pub put_others : (m : Blocks) (b : ℕ) → b ≢ at → drafted e m b ≡ drafted d m b
   put_others m b away = λ i. if has (puts.freed i) b then [] else bytes_or (bytes_or (m b) (put_fresh b i)) (put_other b away i)
@@ -86,14 +79,7 @@ module _ (k : Bookkeeping) (d e : DraftState) (at : ℕ) (c : Changed) (geom : I
 
   -- and has its rules
   pub put_rules : HasRules k d → HasRules k e
-  put_rules rules = record {
-    changed = λ b x is from. put_marks k.marked b ∙ rules.changed b x (sym (put_other b (λ here. absurd (omega (arith, here, high, from)))) ∙ is) from;
-    fresh = λ b x is. ap (λ fs. has fs b) puts.freed ∙ rules.fresh b x (sym (put_fresh b) ∙ is);
-    apart = λ b some. let was : is_some (change_of d.fresh b) ≡ true = ap is_some (sym (put_fresh b)) ∙ some in
-        put_other b (λ here. false≢true (sym (ap (λ q. is_some (change_of d.fresh q)) here ∙ not_fresh) ∙ was)) ∙ rules.apart b was;
-    freed = subst (All (λ b. (has e.taken b || k.marked b) ≡ true)) (sym puts.freed) (subst (λ ts. All (λ b. (has ts b || k.marked b) ≡ true) d.freed) (sym puts.taken) rules.freed);
-    once = subst (AllPairs (λ a b. a ≢ b)) (sym puts.freed) rules.once;
-  }
+  put_rules rules = search (rules, arith, put_marks, put_other, put_fresh, not_fresh)
 
   -- so it is sound where the blocks are
   pub put_sound : (m : Blocks) → IsSoundDraft k m d → AreSoundBy k.geom (marks_of e k.marked) (drafted e m) → IsSoundDraft k m e

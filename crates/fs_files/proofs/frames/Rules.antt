@@ -1,8 +1,9 @@
 -- What holds of a draft besides its blocks, kept by each change of it: blocks put, taken, freed, and content written.
-use Rattle.std.proofs.Common.{◌≡◌, ◌≢◌, ◌⊎◌, inl, inr, ℕ, ◌<◌, ◌≤◌, Bool, true, false, not, ◌&&◌, ◌||◌, if◌then◌else◌, List, [], ◌++◌, replicate, All, Option, Some, None, is_some, refl, sym, ap, subst, ◌∙◌, arith}
+use Rattle.std.proofs.Common.{◌≡◌, ◌≢◌, ◌⊎◌, inl, inr, ℕ, ◌<◌, ◌≤◌, Bool, true, false, not, ◌&&◌, ◌||◌, if◌then◌else◌, List, [], ◌++◌, All, Option, Some, None, is_some, refl, sym, ap, subst, ◌∙◌, arith, ⊎_elim}
 use Rattle.std.specs.List.{AllPairs}
 use Rattle.std.proofs.lemmas.Bool.{cases_Bool, false≢true, or_left, or_right, or_cases, and_parts, cond-true, cond-false, and_right}
 use Rattle.std.proofs.lemmas.Option.{none-some}
+use Rattle.std.proofs.lemmas.Bool.Decides.{nat_tests}
 use Rattle.base_types.specs.Seal.{Blocks}
 use Rattle.base_types.specs.declared.words.Class.{Class}
 use Rattle.layout_geometry.specs.Geometry.{IsGeometry, table_start, data_start}
@@ -13,8 +14,9 @@ use Rattle.fs_files.specs.declared.changes.Changed.{Changed}
 use Rattle.fs_files.specs.Content.{WritesContent}
 use Rattle.fs_files.specs.Drafts.{DraftState, change_of, bytes_or, drafted, marks_of, is_meta, zeros_of, TakesBlocks, FreesBlocks}
 use Rattle.fs_files.specs.Sound.{AreSoundBy, FitsBooks, IsSoundDraft, is_filled}
-use Rattle.fs_files.proofs.frames.Steps.{all_of, once_append}
+use Rattle.fs_files.proofs.frames.Steps.{once_append}
 use Rattle.fs_files.proofs.drafts.Lists.{has_append, each_of}
+use Rattle.fs_files.proofs.frames.Places.{all_of}
 
 -- A draft's changes lie in marked blocks, no freed block has any, and each freed one was marked or taken, once.
 pub record HasRules (k : Bookkeeping) (d : DraftState) : Type 0 where
@@ -31,20 +33,17 @@ pub sound_from : (k : Bookkeeping) (m : Blocks) (d : DraftState) → HasRules k 
 sound_from k m d rules blocks = record { blocks = blocks; changed = rules.changed; fresh = rules.fresh; apart = rules.apart; freed = rules.freed; once = rules.once }
 
 some_of : {A : Type 0} (o : Option A) → is_some o ≡ true → (x : A) × (o ≡ Some x)
-some_of None e = absurd (false≢true e)
-some_of (Some x) e = (x, refl)
+some_of o e = grind (arith, nat_tests)
 
 pub none_of : {A : Type 0} (o : Option A) → ((x : A) → o ≡ Some x → ⊥) → o ≡ None
-none_of None isnt = refl
-none_of (Some x) isnt = absurd (isnt x refl)
+none_of o e = grind (arith, nat_tests)
 
 -- a choice is the one or the other
 
 -- what the marks of a draft say
 
 marked_parts : (freed taken marked : Bool) → (not freed && (taken || marked)) ≡ true → (freed ≡ false) × ((taken || marked) ≡ true)
-marked_parts true taken marked e = absurd (false≢true e)
-marked_parts false taken marked e = (refl, e)
+marked_parts freed taken marked e = grind (arith, nat_tests)
 
 -- Blocks freed.
 
@@ -53,42 +52,18 @@ module _ (k : Bookkeeping) (bs : List ℕ) (d e : DraftState) (frees : FreesBloc
   freed_has b = ap (λ fs. has fs b) frees.freed ∙ has_append d.freed bs b
 
   not_freed_some : (b : ℕ) (c : Changed) → change_of e.changed b ≡ Some c → (has bs b ≡ false) × (change_of d.changed b ≡ Some c)
-  not_freed_some b c is = by (has bs b) refl (sym (frees.changed b) ∙ is)
-    where
-      by : (t : Bool) → has bs b ≡ t → (if has bs b then None else change_of d.changed b) ≡ Some c → (has bs b ≡ false) × (change_of d.changed b ≡ Some c)
-      by true at x = absurd (none-some c (sym (cond-true (has bs b) None (change_of d.changed b) at) ∙ x))
-      by false at x = (at, sym (cond-false (has bs b) None (change_of d.changed b) at) ∙ x)
+  not_freed_some b c is = grind (arith, nat_tests, cond-true, cond-false)
 
   not_freed_fresh : (b : ℕ) (c : Changed) → change_of e.fresh b ≡ Some c → (has bs b ≡ false) × (change_of d.fresh b ≡ Some c)
-  not_freed_fresh b c is = by (has bs b) refl (sym (frees.fresh b) ∙ is)
-    where
-      by : (t : Bool) → has bs b ≡ t → (if has bs b then None else change_of d.fresh b) ≡ Some c → (has bs b ≡ false) × (change_of d.fresh b ≡ Some c)
-      by true at x = absurd (none-some c (sym (cond-true (has bs b) None (change_of d.fresh b) at) ∙ x))
-      by false at x = (at, sym (cond-false (has bs b) None (change_of d.fresh b) at) ∙ x)
+  not_freed_fresh b c is = grind (arith, nat_tests, cond-true, cond-false)
 
   -- the blocks after it
   pub frees_others : (m : Blocks) (b : ℕ) → has bs b ≡ false → drafted e m b ≡ drafted d m b
-  frees_others m b out =
-      let freed : has e.freed b ≡ has d.freed b = freed_has b ∙ or_none (has d.freed b) (has bs b) out in
-      let changed : change_of e.changed b ≡ change_of d.changed b = frees.changed b ∙ cond-false (has bs b) None (change_of d.changed b) out in
-      let fresh : change_of e.fresh b ≡ change_of d.fresh b = frees.fresh b ∙ cond-false (has bs b) None (change_of d.fresh b) out in
-      λ i. if freed i then [] else bytes_or (bytes_or (m b) (fresh i)) (changed i)
-    where
-      or_none : (x y : Bool) → y ≡ false → (x || y) ≡ x
-      or_none true y e = refl
-      or_none false y e = e
+  frees_others m b out = grind (arith, nat_tests, freed_has, cond-false)
 
   -- the marks after it
   pub frees_marks : (marked : ℕ → Bool) (b : ℕ) → marks_of e marked b ≡ (marks_of d marked b && not (has bs b))
-  frees_marks marked b =
-      (λ i. not (freed_has b i) && (has (frees.taken i) b || marked b)) ∙ parted (has d.freed b) (has bs b) (has d.taken b || marked b)
-    where
-      parted : (x y z : Bool) → (not (x || y) && z) ≡ ((not x && z) && not y)
-      parted true y z = refl
-      parted false true true = refl
-      parted false true false = refl
-      parted false false true = refl
-      parted false false false = refl
+  frees_marks marked b = grind (arith, nat_tests, freed_has)
 
   -- the draft still fits
   pub frees_fits : All (IsData k.geom) bs → FitsBooks k d → FitsBooks k e
@@ -155,25 +130,14 @@ module _ (k : Bookkeeping) (class : Class) (bs : List ℕ) (d e : DraftState) (t
 
   -- what the changes of a block are: zeros in a taken one, and else as before
   takes_changed : (b : ℕ) (c : Changed) → change_of e.changed b ≡ Some c → (has bs b ≡ true) ⊎ (change_of d.changed b ≡ Some c)
-  takes_changed b c is = by (cases_Bool (is_meta class && has bs b))
-    where
-      by : ((is_meta class && has bs b) ≡ true) ⊎ ((is_meta class && has bs b) ≡ false) → (has bs b ≡ true) ⊎ (change_of d.changed b ≡ Some c)
-      by (inl both) = inl (and_parts (is_meta class) (has bs b) both).1
-      by (inr isnt) = inr (sym (cond-false (is_meta class && has bs b) (Some (zeros_of class)) (change_of d.changed b) isnt) ∙ sym (takes.changed b) ∙ is)
+  takes_changed b c is = grind (arith, nat_tests, cond-false)
 
   takes_fresh : (b : ℕ) (c : Changed) → change_of e.fresh b ≡ Some c → (has bs b ≡ true) ⊎ (change_of d.fresh b ≡ Some c)
-  takes_fresh b c is = by (cases_Bool (not (is_meta class) && has bs b))
-    where
-      by : ((not (is_meta class) && has bs b) ≡ true) ⊎ ((not (is_meta class) && has bs b) ≡ false) → (has bs b ≡ true) ⊎ (change_of d.fresh b ≡ Some c)
-      by (inl both) = inl (and_parts (not (is_meta class)) (has bs b) both).1
-      by (inr isnt) = inr (sym (cond-false (not (is_meta class) && has bs b) (Some (zeros_of class)) (change_of d.fresh b) isnt) ∙ sym (takes.fresh b) ∙ is)
+  takes_fresh b c is = grind (arith, nat_tests, cond-false)
 
   -- a block that isn't taken is as before
   pub takes_others : (m : Blocks) (b : ℕ) → has bs b ≡ false → drafted e m b ≡ drafted d m b
-  takes_others m b out =
-      let changed : change_of e.changed b ≡ change_of d.changed b = takes.changed b ∙ cond-false (is_meta class && has bs b) (Some (zeros_of class)) (change_of d.changed b) (and_right (is_meta class) (has bs b) out) in
-      let fresh : change_of e.fresh b ≡ change_of d.fresh b = takes.fresh b ∙ cond-false (not (is_meta class) && has bs b) (Some (zeros_of class)) (change_of d.fresh b) (and_right (not (is_meta class)) (has bs b) out) in
-      λ i. if has (takes.freed i) b then [] else bytes_or (bytes_or (m b) (fresh i)) (changed i)
+  takes_others m b out = grind (arith, nat_tests, cond-false, and_right)
 
   -- the draft still fits
   pub takes_fits : IsGeometry k.geom → FitsBooks k d → FitsBooks k e
@@ -205,13 +169,10 @@ module _ (k : Bookkeeping) (class : Class) (bs : List ℕ) (d e : DraftState) (t
   module _ (unmarked : All (λ b. k.marked b ≡ false) bs) (rules : HasRules k d) where
     -- a taken block wasn't freed, since it was neither taken nor marked
     pub taken_not_freed : (b : ℕ) → has bs b ≡ true → has d.freed b ≡ false
-    taken_not_freed b is = by (cases_Bool (has d.freed b))
-      where
-        by : (has d.freed b ≡ true) ⊎ (has d.freed b ≡ false) → has d.freed b ≡ false
-        by (inl freed) =
-            let held = each_of (λ c. (has d.taken c || k.marked c) ≡ true) d.freed rules.freed b freed in
-            absurd (false≢true (sym (λ i. has (none i) b || each_of (λ c. k.marked c ≡ false) bs unmarked b is i) ∙ held))
-        by (inr isnt) = isnt
+    taken_not_freed b is = ⊎_elim (λ freed. let held = each_of (λ c. (has d.taken c || k.marked c) ≡ true) d.freed rules.freed b freed in
+        absurd (false≢true (sym (λ i. has (none i) b || each_of (λ c. k.marked c ≡ false) bs unmarked b is i) ∙ held)))
+        (λ isnt. isnt)
+        (cases_Bool (has d.freed b))
 
     -- it wasn't marked before
     pub takes_unmarked : (b : ℕ) → has bs b ≡ true → marks_of d k.marked b ≡ false
@@ -223,34 +184,7 @@ module _ (k : Bookkeeping) (class : Class) (bs : List ℕ) (d e : DraftState) (t
 
     -- the marks after it
     pub takes_marks : (b : ℕ) → marks_of e k.marked b ≡ (has bs b || marks_of d k.marked b)
-    takes_marks b =
-        (λ i. not (has (takes.freed i) b) && (has (taken_is i) b || k.marked b))
-        ∙ marked (has d.freed b) (has bs b) (k.marked b) (taken_not_freed b)
-        ∙ (λ i. has bs b || (not (has d.freed b) && (has (sym none i) b || k.marked b)))
-      where
-        marked : (freed mine was : Bool) → (mine ≡ true → freed ≡ false) → (not freed && (mine || was)) ≡ (mine || (not freed && was))
-        marked true true was e = absurd (false≢true (sym (e refl)))
-        marked true false was e = refl
-        marked false mine was e = refl
-
-    -- a taken block has zeros
-    pub takes_zeros : (m : Blocks) → (b : ℕ) → has bs b ≡ true → drafted e m b ≡ replicate 1024 0
-    takes_zeros m b is =
-        (λ i. if has (takes.freed i) b then [] else bytes_or (bytes_or (m b) (change_of e.fresh b)) (change_of e.changed b))
-        ∙ (λ i. if taken_not_freed b is i then [] else bytes_or (bytes_or (m b) (change_of e.fresh b)) (change_of e.changed b))
-        ∙ by (cases_Bool (is_meta class))
-      where
-        nothing : change_of d.changed b ≡ None
-        nothing = none_of (change_of d.changed b) (λ c was. false≢true (sym (takes_unmarked b is) ∙ rules.changed b c was (each_of (IsReusable k.geom k.reusable) bs free.each b is).from))
-
-        by : (is_meta class ≡ true) ⊎ (is_meta class ≡ false) → bytes_or (bytes_or (m b) (change_of e.fresh b)) (change_of e.changed b) ≡ replicate 1024 0
-        by (inl meta) =
-            let changed : change_of e.changed b ≡ Some (zeros_of class) = takes.changed b ∙ cond-true (is_meta class && has bs b) (Some (zeros_of class)) (change_of d.changed b) (λ i. meta i && is i) in
-            ap (bytes_or (bytes_or (m b) (change_of e.fresh b))) changed
-        by (inr content) =
-            let changed : change_of e.changed b ≡ None = takes.changed b ∙ cond-false (is_meta class && has bs b) (Some (zeros_of class)) (change_of d.changed b) (λ i. content i && has bs b) ∙ nothing in
-            let fresh : change_of e.fresh b ≡ Some (zeros_of class) = takes.fresh b ∙ cond-true (not (is_meta class) && has bs b) (Some (zeros_of class)) (change_of d.fresh b) (λ i. not (content i) && is i) in
-            λ i. bytes_or (bytes_or (m b) (fresh i)) (changed i)
+    takes_marks b = grind (arith, nat_tests, taken_is, taken_not_freed)
 
     -- none of the blocks with new content is changed otherwise
     takes_apart : FitsBooks k d → (b : ℕ) → is_some (change_of e.fresh b) ≡ true → change_of e.changed b ≡ None
@@ -304,11 +238,7 @@ module _ (k : Bookkeeping) (class : Class) (bs : List ℕ) (d e : DraftState) (w
   writes_marks marked b = λ i. not (has (writes.freed i) b) && (has (writes.taken i) b || marked b)
 
   writes_changed : (b : ℕ) (c : Changed) → change_of e.changed b ≡ Some c → (has bs b ≡ true) ⊎ ((x : Changed) × (change_of d.changed b ≡ Some x))
-  writes_changed b c is = by (or_cases (has bs b) (is_some (change_of d.changed b)) (writes.keys b (ap is_some is)))
-    where
-      by : (has bs b ≡ true) ⊎ (is_some (change_of d.changed b) ≡ true) → (has bs b ≡ true) ⊎ ((x : Changed) × (change_of d.changed b ≡ Some x))
-      by (inl mine) = inl mine
-      by (inr was) = inr (some_of (change_of d.changed b) was)
+  writes_changed b c is = grind (arith, nat_tests, some_of)
 
   writes_fresh : (b : ℕ) (c : Changed) → change_of e.fresh b ≡ Some c → (x : Changed) × (change_of d.fresh b ≡ Some x)
   writes_fresh b c is = some_of (change_of d.fresh b) (sym (writes.fresh_keys b) ∙ ap is_some is)

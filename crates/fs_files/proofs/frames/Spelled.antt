@@ -2,6 +2,7 @@
 use Rattle.std.proofs.Common.{◌≡◌, ◌≢◌, ◌↔◌, ℕ, zero, suc, ◌-◌, ◌*◌, ◌<◌, Bool, true, false, List, [], ◌∷◌, ◌++◌, length, replicate, slice_index, Some, None, refl, sym, ap, ◌∙◌, arith}
 use Rattle.std.proofs.lemmas.Bool.{false≢true}
 use Rattle.std.specs.Int.{byte_at, bytes_low_first}
+use Rattle.std.proofs.lemmas.Bool.Decides.{nat_tests}
 use Rattle.base_types.specs.declared.places.Run.{Run}
 use Rattle.layout_geometry.specs.Geometry.{Geometry}
 use Rattle.layout_bytes.specs.declared.node.Node.{Node}
@@ -27,8 +28,7 @@ both_are [] ys first second = second
 both_are (x ∷ xs) ys first second = one_more x (xs ++ ys) (first 0) (both_are xs ys (λ i. first (suc i)) second)
 
 byte_below : (j x : ℕ) → byte_at j x < 256
-byte_below zero x = omega arith
-byte_below (suc j) x = omega arith
+byte_below j x = grind (arith, nat_tests)
 
 number_bytes : (j n x : ℕ) → AreBytes (bytes_low_first j n x)
 number_bytes j zero x = none
@@ -43,9 +43,7 @@ runs_bytes [] = none
 runs_bytes (r ∷ rs) = both_are (bytes_low_first 0 4 r.first) (bytes_low_first 0 4 r.count ++ run_bytes rs) (number_bytes 0 4 r.first) (both_are (bytes_low_first 0 4 r.count) (run_bytes rs) (number_bytes 0 4 r.count) (runs_bytes rs))
 
 kind_below : (kind : NodeKind) → kind_byte kind < 256
-kind_below Free = omega arith
-kind_below Dir = omega arith
-kind_below File = omega arith
+kind_below kind = grind (arith, nat_tests)
 
 -- the parts of a spelling
 parts_bytes : (kind : ℕ) (count links size spare runs zeros : List ℕ) → kind < 256 → AreBytes count → AreBytes links → AreBytes size → AreBytes spare → AreBytes runs → AreBytes zeros
@@ -96,17 +94,7 @@ reads_back g node read free size zeros is = record {
 -- A node in use is the one that it is.
 
 pub used_some : (node : Node) → node.kind ≢ Free → used_of node ≡ Some node
-used_some node isnt = by node.kind isnt
-  where
-    by : (kind : NodeKind) → kind ≢ Free → used_by node kind ≡ Some node
-    by Free isnt = absurd (isnt refl)
-    by Dir isnt = refl
-    by File isnt = refl
+used_some node isnt = grind (arith, nat_tests)
 
 pub fits_as : (g : Geometry) (node : Node) → node.kind ≢ Free → node_fits g node ≡ true → FitsAs g node node.kind
-fits_as g node isnt fits = by node.kind isnt
-  where
-    by : (kind : NodeKind) → kind ≢ Free → FitsAs g node kind
-    by Free isnt = absurd (isnt refl)
-    by Dir isnt = fits
-    by File isnt = fits
+fits_as g node isnt fits = grind (arith, nat_tests)

@@ -1,25 +1,24 @@
 -- The ways in which a call changes one node: its content alone, more or fewer blocks, its links, a new node, and one that is dropped.
-use Rattle.std.proofs.Common.{◌≡◌, ◌≢◌, ◌⊎◌, inl, inr, ℕ, ◌+◌, ◌-◌, ◌*◌, ◌%◌, ◌<◌, ◌≤◌, Bool, true, false, not, ◌&&◌, ◌||◌, IsTrue, List, [], ◌++◌, length, take, drop, get_or, slice_get, Option, Some, None, nat_le, option_map, All, refl, sym, ap, subst, ◌∙◌, arith}
+use Rattle.std.proofs.Common.{◌≡◌, ◌≢◌, ◌⊎◌, inl, inr, ℕ, ◌+◌, ◌-◌, ◌%◌, ◌<◌, ◌≤◌, Bool, true, false, not, ◌&&◌, ◌||◌, IsTrue, List, [], ◌++◌, length, take, drop, get_or, slice_get, Option, Some, None, option_map, All, refl, sym, ap, subst, ◌∙◌, arith}
 use Rattle.std.specs.List.{AllPairs}
 use Rattle.std.proofs.lemmas.Bool.{cases_lt, false≢true, or_left, or_cases}
 use Rattle.std.proofs.lemmas.Option.{none-some, same_Some, slice_get-get_or, slice_get_within, get_or_from_slice_get}
 use Rattle.std.proofs.lemmas.List.{length-append, get_or-append_right, get_or_append_left, append-nil, take_all, drop_all}
+use Rattle.std.proofs.lemmas.Bool.Decides.{nat_tests}
 use Rattle.base_types.specs.Seal.{Blocks}
 use Rattle.base_types.specs.Runs.{run_places}
 use Rattle.layout_geometry.specs.Geometry.{Geometry, table_start, data_start}
 use Rattle.layout_bytes.specs.declared.node.Node.{Node}
 use Rattle.layout_bytes.specs.declared.node.NodeKind.TheVariants.{Dir}
 use Rattle.layout_bytes.specs.Bytes.{are_zeros}
-use Rattle.layout_bytes.specs.Node.{node_at, node_bytes}
 use Rattle.engine_blocks.specs.Running.{has}
 use Rattle.engine_blocks.specs.Puts.{IsData}
 use Rattle.crash_stands.specs.Files.{FileNode, Files, joined, content, past_content, used_node, file_of, files_of}
 use Rattle.fs_files.specs.Calls.{IsWithFile, with_bytes, with_links}
 use Rattle.fs_files.specs.Frames.{HasNewNode, ChangesNode}
-use Rattle.fs_files.specs.Nodes.{node_block}
 use Rattle.fs_files.specs.Sound.{AreSoundBy}
-use Rattle.fs_files.proofs.frames.Cells.{when_true, is_number, same_node, block_from, block_below}
-use Rattle.fs_files.proofs.frames.Places.{place_of, has_place, used_within, used_data, used_marked, used_whole, joined_same}
+use Rattle.fs_files.proofs.frames.Cells.{when_true, is_number, same_node}
+use Rattle.fs_files.proofs.frames.Places.{place_of, has_place, used_within, used_data, used_marked, used_whole, joined_same, all_of}
 use Rattle.fs_files.proofs.frames.Frames.{node_changed_sound, node_changed_files}
 use Rattle.fs_files.proofs.drafts.Lists.{has_append, each_of}
 
@@ -35,16 +34,9 @@ file_is old new k x y e is = record { own = is.own ∙ e; others = is.others }
 -- a node whose kind and links are as before, with other bytes
 pub file_bytes : (m n : Blocks) (old new : Node) (x : FileNode) (bytes : List ℕ) → x ≡ file_of m old → new.kind ≡ old.kind → new.links ≡ old.links → content n new ≡ bytes
     → ◌≡◌ {A = Option FileNode} (Some (file_of n new)) (Some (with_bytes x bytes))
-file_bytes m n old new x bytes is kind links same =
-    let kinds : new.kind ≡ x.kind = kind ∙ ap (λ (y : FileNode). y.kind) (sym is) in
-    let link : new.links ≡ x.links = links ∙ ap (λ (y : FileNode). y.links) (sym is) in
-    λ i. Some (record { kind = kinds i; links = link i; bytes = same i })
+file_bytes m n old new x bytes is kind links same = grind (arith, nat_tests)
 
 -- Lists of places.
-
--- what holds of each number holds of all
-pub all_of : (P : ℕ → Type 0) (xs : List ℕ) → ((b : ℕ) → has xs b ≡ true → P b) → All P xs
-all_of P xs each i d low = each (get_or xs i d) (has_place xs i (get_or xs i d) (slice_get-get_or xs i d low))
 
 -- the places of a node are there once
 pub used_once : (g : Geometry) (marks : ℕ → Bool) (m : Blocks) (k : ℕ) (node : Node) → AreSoundBy g marks m → used_node g m k ≡ Some node → AllPairs (λ a b. a ≢ b) (run_places node.runs)
@@ -82,15 +74,7 @@ once_append xs ys first second apart i j d lt within = by (cases_lt i (length xs
 -- where the table is as before, so is the node
 pub node_kept : (g : Geometry) (marks : ℕ → Bool) (m n : Blocks) (k : ℕ) → g.i % 4 ≡ 0 → 1 ≤ k → k ≤ g.i → AreSoundBy g marks m → ((b : ℕ) → table_start g ≤ b → b < data_start g → n b ≡ m b)
     → HasNewNode g m n k (used_node g m k)
-node_kept g marks m n k whole from upto sound same = record {
-  own = same_node g m n k (λ low high. bytes k low high);
-  free = λ none. bytes k from upto ∙ sound.free k from upto (sym (when_true (nat_le 1 k && nat_le k g.i) (node_at g m k) (is_number g k from upto)) ∙ none);
-  others = λ l low high other. bytes l low high;
-  table = λ b low high. ap length (same b low high) ∙ sound.table b low high;
-}
-  where
-    bytes : (l : ℕ) → 1 ≤ l → l ≤ g.i → node_bytes g n l ≡ node_bytes g m l
-    bytes l low high = ap (λ (xs : List ℕ). take 256 (drop (256 * ((l - 1) % 4)) xs)) (same (node_block g l) (block_from g l) (block_below g l whole low high))
+node_kept g marks m n k whole from upto sound same = grind (arith, nat_tests, same_node, when_true, is_number)
 
 -- One node's content changed, in the blocks that it has.
 pub content_changes : (g : Geometry) (marks new_marks : ℕ → Bool) (m n : Blocks) (k : ℕ) (node : Node) → g.i % 4 ≡ 0 → AreSoundBy g marks m → used_node g m k ≡ Some node
@@ -263,39 +247,14 @@ links_change g marks new_marks m n k node links sound is now same marked =
 pub links_file : (g : Geometry) (m n : Blocks) (k : ℕ) (node : Node) (links : ℕ) (x : FileNode) → used_node g m k ≡ Some node → x ≡ file_of m node
     → ((b : ℕ) → data_start g ≤ b → b < g.n → n b ≡ m b)
     → ◌≡◌ {A = Option FileNode} (Some (file_of n (record node { links = links }))) (Some (with_links x links))
-links_file g m n k node links x is file same =
-    let bytes : content n node ≡ content m node = ap (take node.size) (joined_same m n (run_places node.runs) (λ b mine. let at = used_data g m k node is b mine in same b at.from at.below)) in
-    ap (λ xs. Some (record { kind = node.kind; links = links; bytes = xs })) bytes ∙ ap (λ (y : FileNode). Some (with_links y links)) (sym file)
+links_file g m n k node links x is file same = grind (arith, nat_tests, joined_same, used_data)
 
 -- A node that wasn't in use is, without blocks.
 pub node_made : (g : Geometry) (marks new_marks : ℕ → Bool) (m n : Blocks) (k : ℕ) (new : Node) → 1 ≤ k → k ≤ g.i → used_node g m k ≡ None → HasNewNode g m n k (Some new) → new.runs ≡ []
     → ((b : ℕ) → data_start g ≤ b → b < g.n → n b ≡ m b)
     → ((b : ℕ) → data_start g ≤ b → b < g.n → new_marks b ≡ marks b)
     → ChangesNode g marks new_marks m n k None (Some new)
-node_made g marks new_marks m n k new from upto out now none same marked = record {
-  from = from;
-  upto = upto;
-  was = out;
-  node = now;
-  elsewhere = λ b low high not_old not_new. same b low high;
-  marked = λ b low high. marked b low high ∙ kept (marks b) ∙ ap (λ t. t || (marks b && not false)) (sym (has_none b));
-  fresh = λ b mine other. absurd (false≢true (sym (has_none b) ∙ mine));
-  once = λ i j d lt within. absurd (omega (arith, within, few));
-  inside = λ i d low. absurd (omega (arith, low, few));
-  whole = λ i d low. absurd (omega (arith, low, few));
-  tail = λ x e dir. subst (λ (y : Node). IsTrue (are_zeros (past_content n y))) (same_Some new x e)
-      (ap (λ rs. are_zeros (drop new.size (joined n (run_places rs)))) none ∙ ap are_zeros (drop_all new.size [] (omega arith)));
-}
-  where
-    few : length (run_places new.runs) ≡ 0
-    few = ap (λ rs. length (run_places rs)) none
-
-    has_none : (b : ℕ) → has (run_places new.runs) b ≡ false
-    has_none b = ap (λ rs. has (run_places rs) b) none
-
-    kept : (was : Bool) → was ≡ (false || (was && not false))
-    kept true = refl
-    kept false = refl
+node_made g marks new_marks m n k new from upto out now none same marked = grind (arith, nat_tests, drop_all)
 
 -- its file has no bytes
 pub made_file : (n : Blocks) (new : Node) → new.runs ≡ [] → ◌≡◌ {A = Option FileNode} (Some (file_of n new)) (Some (record { kind = new.kind; links = new.links; bytes = [] }))
@@ -306,18 +265,4 @@ pub node_dropped : (g : Geometry) (marks new_marks : ℕ → Bool) (m n : Blocks
     → ((b : ℕ) → data_start g ≤ b → b < g.n → has (run_places old.runs) b ≡ false → n b ≡ m b)
     → ((b : ℕ) → data_start g ≤ b → b < g.n → new_marks b ≡ (marks b && not (has (run_places old.runs) b)))
     → ChangesNode g marks new_marks m n k (Some old) None
-node_dropped g marks new_marks m n k old is now elsewhere marked =
-    let at = used_within g m k old is in
-    record {
-      from = at.0;
-      upto = at.1;
-      was = is;
-      node = now;
-      elsewhere = λ b low high not_old not_new. elsewhere b low high not_old;
-      marked = marked;
-      fresh = λ b mine other. absurd (false≢true mine);
-      once = λ i j d lt within. absurd (omega (arith, within));
-      inside = λ i d low. absurd (omega (arith, low));
-      whole = λ i d low. absurd (omega (arith, low));
-      tail = λ x e dir. absurd (none-some x e);
-    }
+node_dropped g marks new_marks m n k old is now elsewhere marked = grind (arith, nat_tests, used_within)

@@ -1,5 +1,6 @@
 -- What a draft is after a node was put into it and nothing else was done: its links changed, or it is a new node.
-use Rattle.std.proofs.Common.{◌≡◌, ◌≢◌, ℕ, ◌<◌, ◌≤◌, List, [], Option, Some, None, option_map, sym, ap, subst, ◌∙◌, arith}
+use Rattle.std.proofs.Common.{◌≡◌, ◌≢◌, ℕ, ◌<◌, ◌≤◌, List, [], Option, Some, None, option_map, sym, ap, subst, arith}
+use Rattle.std.proofs.lemmas.Bool.Decides.{nat_tests}
 use Rattle.base_types.specs.Runs.{run_places}
 use Rattle.base_types.specs.Seal.{Blocks}
 use Rattle.layout_geometry.specs.Geometry.{IsGeometry, table_start, data_start}
@@ -55,9 +56,7 @@ module _ (k : Bookkeeping) (m : Blocks) (number : ℕ) (node : Node) (c : Change
 -- the node has these places then
 places_now : (k : Bookkeeping) (m : Blocks) (number : ℕ) (d e : DraftState) (new : Option Node) (ps : List ℕ) → HasNewNode k.geom (drafted d m) (drafted e m) number new → places_or_none new ≡ ps
     → IsWithPlaces (places_of k.geom (drafted d m)) (places_of k.geom (drafted e m)) number ps
-places_now k m number d e new ps now same =
-    let w = node_places k.geom (drafted d m) (drafted e m) number new now in
-    record { own = w.own ∙ same; others = w.others }
+places_now k m number d e new ps now same = grind (arith, nat_tests, node_places)
 
 -- the links of a node in use were set
 pub links_stored : (k : Bookkeeping) (m : Blocks) (number links : ℕ) (node : Node) (x : FileNode) (c : Changed) (d e : DraftState) → PutsNode k m number (record node { links = links }) c d e

@@ -1,6 +1,6 @@
 -- What a draft is after content was written within the blocks of a node, and nothing else was done.
-use Rattle.std.proofs.Common.{◌≡◌, ◌⊎◌, inl, inr, ℕ, ◌<◌, true, false, IsTrue, List, length, All, Some, sym, ◌∙◌, arith}
-use Rattle.std.proofs.lemmas.Bool.{cases_Bool, false≢true}
+use Rattle.std.proofs.Common.{◌≡◌, ℕ, ◌<◌, true, false, IsTrue, List, length, All, Some, sym, ◌∙◌, arith}
+use Rattle.std.proofs.lemmas.Bool.{false≢true, false_from_ne_true}
 use Rattle.base_types.specs.Seal.{Blocks}
 use Rattle.base_types.specs.declared.words.Class.{Class}
 use Rattle.base_types.specs.Runs.{run_places}
@@ -15,27 +15,19 @@ use Rattle.fs_files.specs.Calls.{IsWithFile}
 use Rattle.fs_files.specs.Content.{WritesContent}
 use Rattle.fs_files.specs.Drafts.{DraftState, drafted, marks_of}
 use Rattle.fs_files.specs.Sound.{FitsBooks, IsSoundDraft}
-use Rattle.fs_files.proofs.frames.Places.{used_data, used_marked}
+use Rattle.fs_files.proofs.frames.Places.{used_data, used_marked, all_of}
 use Rattle.fs_files.proofs.frames.Rules.{rules_of, sound_from, writes_others, writes_marks, writes_rules}
-use Rattle.fs_files.proofs.frames.Steps.{both, all_of, content_changes}
+use Rattle.fs_files.proofs.frames.Steps.{both, content_changes}
 
 module _ (k : Bookkeeping) (m : Blocks) (number : ℕ) (node : Node) (class : Class) (bs : List ℕ) (d e : DraftState) (geom : IsGeometry k.geom) (fits : FitsBooks k d) (sound : IsSoundDraft k m d)
     (used : used_node k.geom (drafted d m) number ≡ Some node) (writes : WritesContent class bs d e) (its : (b : ℕ) → has bs b ≡ true → has (run_places node.runs) b ≡ true) where
   -- a block that isn't the node's is as before
   pub written_others : (b : ℕ) → has (run_places node.runs) b ≡ false → drafted e m b ≡ drafted d m b
-  written_others b out = writes_others k class bs d e writes m b (by (cases_Bool (has bs b)))
-    where
-      by : (has bs b ≡ true) ⊎ (has bs b ≡ false) → has bs b ≡ false
-      by (inl mine) = absurd (false≢true (sym out ∙ its b mine))
-      by (inr isnt) = isnt
+  written_others b out = writes_others k class bs d e writes m b (false_from_ne_true (has bs b) (λ mine. false≢true (sym out ∙ its b mine)))
 
   -- a block of the table is none of the node's
   pub written_table : (b : ℕ) → b < data_start k.geom → drafted e m b ≡ drafted d m b
-  written_table b below = written_others b (by (cases_Bool (has (run_places node.runs) b)))
-    where
-      by : (has (run_places node.runs) b ≡ true) ⊎ (has (run_places node.runs) b ≡ false) → has (run_places node.runs) b ≡ false
-      by (inl is) = absurd (omega (arith, (used_data k.geom (drafted d m) number node used b is).from, below))
-      by (inr isnt) = isnt
+  written_table b below = written_others b (false_from_ne_true (has (run_places node.runs) b) (λ is. omega (arith, (used_data k.geom (drafted d m) number node used b is).from, below)))
 
   pub written_sound : All (λ b. length (drafted e m b) ≡ 1024) (run_places node.runs) → (node.kind ≡ Dir → IsTrue (are_zeros (past_content (drafted e m) node)))
       → IsSoundDraft k m e × IsWithFile (files_of k.geom (drafted d m)) (files_of k.geom (drafted e m)) number (Some (file_of (drafted e m) node))

@@ -1,8 +1,9 @@
 -- Search trees over names that are clones of each other, or have equal entries, make the same finite map.
-use Rattle.std.proofs.Common.{◌≡◌, ℕ, Bool, true, false, ◌&&◌, List, length, IsTrue, ◌↔◌, nat_eq, bytes_eq, sym, ap, ap₂, ◌∙◌, true≢false, eqb-true, eq-eqb}
+use Rattle.std.proofs.Common.{◌≡◌, ℕ, Bool, true, false, ◌&&◌, List, length, IsTrue, ◌↔◌, nat_eq, bytes_eq, sym, ap, ap₂, ◌∙◌, eqb-true, eq-eqb, arith}
 use Rattle.std.proofs.lemmas.Bool.{and_parts}
 use Rattle.std.specs.Cmp.Lexicographic.{pointwise, pointwise_decides, bytes_decides}
 use Rattle.std.specs.FinMap.{entries, from_entries}
+use Rattle.std.proofs.lemmas.Bool.Decides.{nat_tests}
 use Rattle.fs_memtree.specs.Kept.{DirNames, name_cmp, names_in}
 use Rattle.fs_memtree.proofs.keys.InOrder.{Rise, tree_in_order}
 
@@ -31,7 +32,4 @@ same_names es us m n r first second rise ascends is = (
 
 pub other_length : (es us : List (List ℕ × ℕ)) (m n : DirNames) → names_in es ≡ m → names_in us ≡ n
     → Rise name_cmp es → Rise name_cmp us → (length es ≡ length us → ⊥) → IsTrue false ↔ (m ≡ n)
-other_length es us m n first second rise ascends differ = (
-  λ never. absurd (true≢false (sym never)),
-  λ same. absurd (differ (ap length (entries_same es us rise ascends (first ∙ same ∙ sym second)))),
-)
+other_length es us m n first second rise ascends differ = grind (arith, nat_tests, entries_same)

@@ -1,16 +1,17 @@
 -- The entries of a search tree over names make a finite map: look-up and insertion agree. What a finite map has at a key after a change.
-use Rattle.std.proofs.Common.{◌≡◌, ℕ, Bool, true, false, cond, if◌then◌else◌, List, [], ◌∷◌, Option, None, Some, IsSome, MutBor, subst, sym, refl, ap, ◌∙◌, ◌⊎◌, inl, inr, ⊎_elim, true≢false}
+use Rattle.std.proofs.Common.{◌≡◌, ℕ, Bool, true, false, cond, if◌then◌else◌, List, [], ◌∷◌, Option, None, Some, IsSome, MutBor, sym, refl, ap, ◌∙◌, ◌⊎◌, inl, inr, ⊎_elim, arith}
 use Rattle.std.proofs.lemmas.Bool.{cases_Bool}
 use Rattle.std.specs.Option.{option_copied_mut}
 use Rattle.std.specs.Ordering.{is_eq, eq_by_cmp, match_ordering}
 use Rattle.std.specs.declared.cmp.Ordering.{Ordering}
-use Rattle.std.specs.declared.cmp.Ordering.TheVariants.{Less, Equal, Greater}
+use Rattle.std.specs.declared.cmp.Ordering.TheVariants.{Equal}
 use Rattle.std.specs.Cmp.{IsTotalOrder, nat_cmp_total, eq_by_cmp_equiv, tied_itself}
 use Rattle.std.specs.Cmp.Lexicographic.{lists_total}
 use Rattle.std.specs.Map.{lookup, IsKeyTest, AreApart, KeepsOthers}
 use Rattle.std.specs.BTreeMap.{insert_entry}
 use Rattle.std.specs.FinMap.{FinMap, IsAntisymmetric, nat_cmp-IsAntisymmetric, slice_cmp-IsAntisymmetric, get, insert, remove, from_entries, find, put, get-from_entries, get-insert, get-remove, same_map}
 use Rattle.std.specs.FinMap.Entries.{find-put, by_order}
+use Rattle.std.proofs.lemmas.Bool.Decides.{nat_tests}
 use Rattle.fs_memtree.specs.Kept.{DirNames, name_cmp, renumbered}
 
 pub name_total : IsTotalOrder name_cmp
@@ -20,9 +21,7 @@ pub name_same : IsAntisymmetric name_cmp
 name_same = slice_cmp-IsAntisymmetric nat_cmp-IsAntisymmetric
 
 tie : (r : Ordering) → is_eq r ≡ true → r ≡ Equal
-tie Less is = absurd (true≢false (sym is))
-tie Equal is = refl
-tie Greater is = absurd (true≢false (sym is))
+tie r e = grind (arith, nat_tests)
 
 -- What a finite map has at a key after a change.
 module _ {K : Type 0} {R : K → K → Ordering} (o : IsTotalOrder R) (same : IsAntisymmetric R) where
@@ -97,9 +96,7 @@ found q es = found_entry q es ∙ sym (get-from_entries name_total es q)
 
 same_place : {X : Type 0} (o : Ordering) (e : List ℕ × X) (es : List (List ℕ × X)) (k : List ℕ) (v : X) (us ws : List (List ℕ × X)) → us ≡ ws
     → match_ordering o ((k, v) ∷ e ∷ es) ((e.0, v) ∷ es) (e ∷ us) ≡ by_order o ((k, v) ∷ e ∷ es) ((e.0, v) ∷ es) (e ∷ ws)
-same_place Less e es k v us ws is = refl
-same_place Equal e es k v us ws is = refl
-same_place Greater e es k v us ws is = ap (λ rest. e ∷ rest) is
+same_place o e es k v us ws h = grind (arith, nat_tests)
 
 put_entry : {X : Type 0} (es : List (List ℕ × X)) (k : List ℕ) (v : X) → insert_entry name_cmp es k v ≡ put name_cmp k v es
 put_entry [] k v = refl
@@ -139,5 +136,4 @@ pub there_renumbered : (names : DirNames) (name : List ℕ) (n : ℕ) → IsSome
 there_renumbered names name n is = ap (λ b. if b then insert names name n else names) is
 
 pub lent_there : (lent : Option (MutBor ℕ)) {o : Option ℕ} → option_copied_mut lent ≡ o → IsSome o → IsSome lent
-lent_there None is here = subst IsSome (sym is) here
-lent_there (Some x) is here = refl
+lent_there lent e h = grind (arith, nat_tests)

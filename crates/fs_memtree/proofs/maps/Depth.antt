@@ -1,5 +1,5 @@
 -- No path of a tree has as many names as there are nodes: each of its fronts leads to a node of its own.
-use Rattle.std.proofs.Common.{◌≡◌, ℕ, suc, ◌<◌, ◌≤◌, true, false, true≢false, if◌then◌else◌, ◌||◌, List, [], ◌∷◌, ◌++◌, length, Option, None, Some, IsSome, option_map, option_and_then, refl, sym, ap, subst, ◌∙◌, ◌⊎◌, inl, inr, arith, append_assoc}
+use Rattle.std.proofs.Common.{◌≡◌, ℕ, suc, ◌<◌, ◌≤◌, true, false, true≢false, if◌then◌else◌, ◌||◌, List, [], ◌∷◌, ◌++◌, length, Option, None, Some, IsSome, option_and_then, refl, sym, ap, subst, ◌∙◌, ◌⊎◌, inl, inr, arith, append_assoc}
 use Rattle.std.proofs.lemmas.Map.Steps.{length-le_from_keys}
 use Rattle.std.specs.List.{list_any, IsDistinct, AllByRecursion}
 use Rattle.std.specs.Map.{lookup}
@@ -7,12 +7,13 @@ use Rattle.std.specs.Ordering.{nat_cmp, eq_by_cmp}
 use Rattle.std.specs.Cmp.{nat_cmp_total, eq_by_cmp_equiv}
 use Rattle.std.specs.FinMap.{nat_cmp-IsAntisymmetric, get, entries, len, find, get-entries, len-entries}
 use Rattle.std.proofs.lemmas.Option.{none-some}
+use Rattle.std.proofs.lemmas.Bool.Decides.{nat_tests}
 use Rattle.layout_bytes.specs.declared.slot.Slot.{Slot}
 use Rattle.lang_tree.specs.Tree.{Tree}
-use Rattle.crash_stands.specs.Inodes.{Inode, Inodes, ADir, AFile}
+use Rattle.crash_stands.specs.Inodes.{Inode, Inodes, ADir}
 use Rattle.crash_stands.specs.Maps.{IsMapOf}
-use Rattle.crash_stands.specs.Walks.{entries_of, entry_in, walk, LeadsTo}
-use Rattle.fs_memtree.specs.Kept.{Kept, KeptNodes, map_of, inode_of}
+use Rattle.crash_stands.specs.Walks.{entries_of, walk, LeadsTo}
+use Rattle.fs_memtree.specs.Kept.{Kept, KeptNodes, map_of}
 use Rattle.fs_memtree.proofs.keys.Keys.{which_key, apart}
 use Rattle.fs_memtree.proofs.maps.Walking.{walk_last}
 
@@ -31,9 +32,7 @@ dir_or_end m j n [] at = inl refl
 dir_or_end m j n (x ∷ rest) at = inr (by (m j) refl)
   where
     by : (o : Option Inode) → m j ≡ o → (slots : List Slot) × (m j ≡ Some (ADir slots))
-    by None is = absurd (none-some _ (sym (ap (λ o. option_and_then (λ i. walk (entries_of m) i rest) (entry_in o x)) is) ∙ at))
-    by (Some (ADir slots)) is = (slots, is)
-    by (Some (AFile links bytes)) is = absurd (none-some _ (sym (ap (λ o. option_and_then (λ i. walk (entries_of m) i rest) (entry_in o x)) is) ∙ at))
+    by o e = grind (arith, nat_tests)
 
 -- a node behind a path on a walk
 abbrev IsBehind : Inodes → List (List ℕ) → ℕ → Type 0
@@ -61,8 +60,7 @@ longer (x ∷ here) s name e = longer here s name cc
 module _ (limit : ℕ) (m : Inodes) (t : Tree) (is : IsMapOf limit m t) where
   -- a node behind a directory is another one
   another : (here : List (List ℕ)) (j q : ℕ) (slots : List Slot) → m j ≡ Some (ADir slots) → LeadsTo m here j → IsBehind m here q → eq_by_cmp nat_cmp j q ≡ false
-  another here j q slots dir at behind = apart nat_cmp_total nat_cmp-IsAntisymmetric j q (λ same.
-      longer here behind.1 behind.0 (is.shows.only j slots here dir at (here ++ behind.0 ∷ behind.1) (behind.2 ∙ ap Some (sym same))))
+  another here j q slots dir at behind = grind (arith, nat_tests, apart, nat_cmp-IsAntisymmetric, longer)
 
   chain : (here rest : List (List ℕ)) (k n : ℕ) → LeadsTo m here k → walk (entries_of m) k rest ≡ Some n → Chain m here (length rest)
   chain here [] k n at there = record { numbers = []; count = refl; behind = tt; distinct = none_distinct }
@@ -109,11 +107,7 @@ all_keys nodes (x ∷ xs) all q there = by (which_key nat_cmp_total nat_cmp-IsAn
 
 module _ (limit : ℕ) (nodes : KeptNodes) (t : Tree) (is : IsMapOf limit (map_of nodes) t) where
   key_of : (q : ℕ) (path : List (List ℕ)) → LeadsTo (map_of nodes) path q → IsSome (get nodes q)
-  key_of q path at = by (get nodes q) (is.shows.used path q at).1
-    where
-      by : (o : Option Kept) {x : Inode} → option_map inode_of o ≡ Some x → IsSome o
-      by None e = absurd (none-some _ e)
-      by (Some y) e = refl
+  key_of q path at = grind (arith, nat_tests)
 
   -- no path has as many names as there are nodes
   pub depth : (path : List (List ℕ)) (k : ℕ) → LeadsTo (map_of nodes) path k → length path < len nodes

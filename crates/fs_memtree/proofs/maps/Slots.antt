@@ -1,6 +1,5 @@
 -- The slots that stand for the names of a directory: what is under each name, that none comes twice, how many there are and what they are in order.
-use Rattle.std.proofs.Common.{◌≡◌, ℕ, zero, suc, ◌*◌, Bool, true, false, cond, ◌&&◌, is_lt, List, [], ◌∷◌, ◌++◌, map, length, slice_get, bytes_eq, None, Some, option_map, refl, sym, ap, subst, ◌∙◌, ◌⊎◌, inl, inr, T}
-use Rattle.std.proofs.lemmas.Bool.{cases_Bool}
+use Rattle.std.proofs.Common.{◌≡◌, ℕ, zero, suc, ◌*◌, Bool, cond, ◌&&◌, is_lt, List, [], ◌∷◌, ◌++◌, map, length, slice_get, bytes_eq, None, Some, option_map, refl, sym, ap, subst, ◌∙◌, T, arith}
 use Rattle.std.proofs.lemmas.List.{length-map}
 use Rattle.std.proofs.lemmas.Slice.Eq.{bytes_eq-Decides}
 use Rattle.std.specs.Ordering.{eq_by_cmp}
@@ -8,6 +7,7 @@ use Rattle.std.specs.Cmp.{tied_itself}
 use Rattle.std.specs.FinMap.Entries.{below_all}
 use Rattle.std.specs.FinMap.{get, entries, from_entries, keys, len, find, is_sorted, get-entries, len-entries, entries_sorted, get-from_entries, same_map}
 use Rattle.std.proofs.lemmas.Option.{same_Some, none-some}
+use Rattle.std.proofs.lemmas.Bool.Decides.{nat_tests}
 use Rattle.layout_bytes.specs.declared.slot.Slot.{Slot}
 use Rattle.lang_tree.specs.declared.command.Kind.TheVariants.{Dir as DirKind}
 use Rattle.lang_tree.specs.declared.command.Reply.TheVariants.{Stat as StatReply}
@@ -22,14 +22,7 @@ use Rattle.fs_memtree.proofs.keys.Keys.{name_total, name_same, tied, apart}
 
 -- the two tests of a name agree
 test_same : (a b : List ℕ) → bytes_eq a b ≡ eq_by_cmp name_cmp b a
-test_same a b = by (cases_Bool (bytes_eq a b))
-  where
-    by : (bytes_eq a b ≡ true) ⊎ (bytes_eq a b ≡ false) → bytes_eq a b ≡ eq_by_cmp name_cmp b a
-    by (inl e) = e ∙ sym (tied name_total name_same b a (sym ((bytes_eq-Decides a b).0 e)))
-    by (inr e) = e ∙ sym (apart name_total name_same b a (λ same. not_both (bytes_eq a b) ((bytes_eq-Decides a b).1 (sym same)) e))
-      where
-        not_both : (t : Bool) → t ≡ true → t ≡ false → ⊥
-        not_both t yes_ no_ = cc
+test_same a b = grind (arith, nat_tests, tied, name_total, name_same, bytes_eq-Decides, apart)
 
 abbrev pub as_slots : List (List ℕ × ℕ) → List Slot
 as_slots es = map (λ e. slot_of e.1 e.0) es
@@ -58,12 +51,10 @@ names_of_slots names = ap (λ es. keys (from_entries {R = name_cmp} es)) (paired
 -- No name comes twice.
 
 first_of : (a b : Bool) → T (a && b) → T a
-first_of true b p = tt
-first_of false b p = absurd p
+first_of a b e = grind (arith, nat_tests)
 
 second_of : (a b : Bool) → T (a && b) → T b
-second_of true b p = p
-second_of false b p = absurd p
+second_of a b e = grind (arith, nat_tests)
 
 not_below : (x y : List ℕ) → T (is_lt (name_cmp x y)) → x ≡ y → ⊥
 not_below x y less same = subst (λ r. T (is_lt r)) (ap (λ z. name_cmp z y) same ∙ tied_itself name_total y) less
@@ -109,8 +100,7 @@ module _ (nodes : KeptNodes) (k : ℕ) where
 -- what a stat of a directory says
 pub stat_dir : (nodes : KeptNodes) (k size : ℕ) (names : DirNames) → Some (KeptDir names) ≡ get nodes k → size ≡ len names
     → StatReply (record { kind = DirKind; number = k; size = 64 * size; links = 1 }) ≡ stat_by k (map_of nodes k)
-stat_dir nodes k size names is count = ap (λ n. StatReply (record { kind = DirKind; number = k; size = 64 * n; links = 1 })) (count ∙ sym (count_of_slots names))
-    ∙ ap (λ o. stat_by k (option_map inode_of o)) is
+stat_dir nodes k size names is count = grind (arith, nat_tests, count_of_slots)
 
 -- an entry is found by its name
 below_mid : (x : List ℕ) (front : List (List ℕ × ℕ)) (e : List ℕ × ℕ) (es : List (List ℕ × ℕ)) → T (below_all name_cmp x (front ++ e ∷ es)) → T (is_lt (name_cmp x e.0))

@@ -6,9 +6,11 @@ use Rattle.std.specs.Ordering.{nat_cmp, eq_by_cmp}
 use Rattle.std.specs.Cmp.{IsTotalOrder, nat_cmp_total}
 use Rattle.std.specs.Cmp.Lexicographic.{lists_total}
 use Rattle.std.specs.FinMap.{IsAntisymmetric, nat_cmp-IsAntisymmetric, slice_cmp-IsAntisymmetric, entries, from_entries, len, find, get-entries, get-from_entries, same_map}
+use Rattle.std.proofs.lemmas.Bool.Decides.{nat_tests}
+use Rattle.std.proofs.lemmas.Grind.{common_steps}
 use Rattle.layout_bytes.specs.declared.slot.Slot.{Slot}
 use Rattle.lang_tree.specs.Tree.{Tree, path_cmp}
-use Rattle.crash_stands.specs.Inodes.{Inode, Inodes, ADir, AFile, AreDistinct, thing_of}
+use Rattle.crash_stands.specs.Inodes.{Inode, Inodes, ADir, AreDistinct, thing_of, AFile}
 use Rattle.crash_stands.specs.Maps.{IsMapOf}
 use Rattle.crash_stands.specs.Walks.{entries_of, entry_in, node_in, walk}
 use Rattle.fs_inodes.specs.Lookups.{slots_of}
@@ -33,12 +35,7 @@ either (Some x) o = Some x
 
 find_joined : (p : List (List ℕ)) (xs ys : Entries) → find path_cmp p (xs ++ ys) ≡ either (find path_cmp p xs) (find path_cmp p ys)
 find_joined p [] ys = refl
-find_joined p (x ∷ xs) ys = by (eq_by_cmp path_cmp p x.0) (find_joined p xs ys)
-  where
-    by : (b : Bool) → find path_cmp p (xs ++ ys) ≡ either (find path_cmp p xs) (find path_cmp p ys)
-        → cond b (Some x.1) (find path_cmp p (xs ++ ys)) ≡ either (cond b (Some x.1) (find path_cmp p xs)) (find path_cmp p ys)
-    by true rest = refl
-    by false rest = rest
+find_joined p (x ∷ xs) ys = grind (arith, nat_tests, (find_joined p xs ys))
 
 abbrev below : List ℕ → Entries → Entries
 below name es = map (λ e. (name ∷ e.0, e.1)) es
@@ -76,16 +73,8 @@ test_joined name other p q = by (cases_Bool (bytes_eq other name))
         differ t yes_ no_ = cc
 
 find_below : (name other : List ℕ) (p : List (List ℕ)) (es : Entries) → find path_cmp (name ∷ p) (below other es) ≡ (if bytes_eq other name then find path_cmp p es else None)
-find_below name other p [] = by (bytes_eq other name)
-  where
-    by : (b : Bool) → ◌≡◌ {A = Option ℕ} None (if b then find path_cmp p [] else None)
-    by true = refl
-    by false = refl
-find_below name other p (e ∷ es) = ap₂ (λ b o. cond b (Some e.1) o) (test_joined name other p e.0) (find_below name other p es) ∙ by (bytes_eq other name)
-  where
-    by : (b : Bool) → cond (if b then eq_by_cmp path_cmp p e.0 else false) (Some e.1) (if b then find path_cmp p es else None) ≡ (if b then cond (eq_by_cmp path_cmp p e.0) (Some e.1) (find path_cmp p es) else None)
-    by true = refl
-    by false = refl
+find_below name other p [] = grind (arith, common_steps)
+find_below name other p (e ∷ es) = grind (arith, common_steps, test_joined, (find_below name other p es))
 
 not_root : (name : List ℕ) (p : List (List ℕ)) → eq_by_cmp path_cmp (name ∷ p) [] ≡ false
 not_root name p = apart path_total path_same (name ∷ p) [] (λ e. cc)

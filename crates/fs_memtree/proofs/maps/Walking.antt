@@ -1,11 +1,12 @@
 -- Walks by names: that one comes to its end where the path leads, what is at a path's last name, and the parts of a path.
-use Rattle.std.proofs.Common.{◌≡◌, ℕ, suc, ◌+◌, ◌-◌, ◌<◌, Bool, true, List, [], ◌∷◌, ◌++◌, length, take, drop, get_or, Option, None, Some, Result, Ok, Err, IfOk, OnErr, option_map, option_and_then, refl, sym, ap, ap₂, subst, ◌∙◌, arith, drop-cons, length-append, take_all}
+use Rattle.std.proofs.Common.{◌≡◌, ℕ, ◌+◌, ◌-◌, ◌<◌, Bool, true, List, [], ◌∷◌, ◌++◌, length, take, drop, get_or, Option, None, Some, Result, Ok, Err, IfOk, OnErr, option_map, option_and_then, refl, sym, ap, subst, ◌∙◌, arith, drop-cons, length-append, take_all}
 use Rattle.std.proofs.lemmas.List.{take-append-le}
+use Rattle.std.proofs.lemmas.Bool.Decides.{nat_tests}
 use Rattle.lang_tree.specs.declared.command.Refusal.{Refusal}
 use Rattle.lang_tree.specs.Paths.{parent}
 use Rattle.lang_tree.specs.Walk.{enter}
-use Rattle.crash_stands.specs.Inodes.{Inode, Inodes, ADir, AFile}
-use Rattle.crash_stands.specs.Walks.{Entries, entries_of, entry_in, node_in, walk}
+use Rattle.crash_stands.specs.Inodes.{Inode, Inodes}
+use Rattle.crash_stands.specs.Walks.{Entries, entries_of, entry_in, walk}
 use Rattle.fs_inodes.specs.Lookups.{walk_on, number_at, is_dir_inode}
 use Rattle.fs_memtree.specs.Kept.{split, split_on, spot_at}
 
@@ -15,14 +16,11 @@ Fits (Ok n) o = o ≡ Some n
 Fits (Err why) o = o ≡ None
 
 fits_in : (slots_found : Option ℕ) (f : ℕ → Result ℕ Refusal) (g : ℕ → Option ℕ) → ((j : ℕ) → Fits (f j) (g j)) → Fits (enter true slots_found f) (option_and_then g slots_found)
-fits_in None f g on = refl
-fits_in (Some j) f g on = on j
+fits_in slots_found f g e = grind (arith, nat_tests)
 
 fits_step : (o : Option Inode) (name : List ℕ) (f : ℕ → Result ℕ Refusal) (g : ℕ → Option ℕ) → ((j : ℕ) → Fits (f j) (g j))
     → Fits (enter (is_dir_inode o) (entry_in o name) f) (option_and_then g (entry_in o name))
-fits_step None name f g on = refl
-fits_step (Some (ADir slots)) name f g on = fits_in (node_in slots name) f g on
-fits_step (Some (AFile links bytes)) name f g on = refl
+fits_step o name f g e = grind (arith, nat_tests, fits_in)
 
 pub fits : (m : Inodes) (k : ℕ) (path : List (List ℕ)) → Fits (walk_on m k path) (walk (entries_of m) k path)
 fits m k [] = refl
@@ -33,20 +31,15 @@ pub found_by : (m : Inodes) (path : List (List ℕ)) (r : Result ℕ Refusal) �
 found_by m path r is = subst (λ w. Fits w (number_at m path)) (sym is) (fits m 1 path)
 
 pub on_ok : (r : Result ℕ Refusal) (o : Option ℕ) → Fits r o → IfOk r (λ n. o ≡ Some n)
-on_ok (Ok n) o f = f
-on_ok (Err why) o f = tt
+on_ok r o e = grind (arith, nat_tests)
 
 pub on_err : (r : Result ℕ Refusal) (o : Option ℕ) → Fits r o → OnErr r (o ≡ None)
-on_err (Ok n) o f = tt
-on_err (Err why) o f = f
+on_err r o e = grind (arith, nat_tests)
 
 -- One step of the code's walk: it goes on, or stops.
 pub next_step : (m : Inodes) (k : ℕ) (path : List (List ℕ)) (i : ℕ) (name : List ℕ) (b : Bool) (o : Option ℕ) → i < length path → name ≡ get_or path i name → is_dir_inode (m k) ≡ b → entry_in (m k) name ≡ o
     → walk_on m k (drop i path) ≡ enter b o (λ j. walk_on m j (drop (i + 1) path))
-next_step m k path i name b o within is dir there =
-    let next : suc i ≡ i + 1 = omega arith in
-    ap (walk_on m k) (drop-cons path i name within ∙ ap₂ (λ x n. x ∷ drop n path) (sym is) next)
-    ∙ ap₂ (λ b o. enter b o (λ j. walk_on m j (drop (i + 1) path))) dir there
+next_step m k path i name b o within is dir there = grind (arith, nat_tests, drop-cons)
 
 -- The parts of a path.
 

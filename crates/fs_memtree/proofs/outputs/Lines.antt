@@ -1,6 +1,7 @@
 -- The lines at and below a path: its own, and then those below each name of its directory, as the code goes through them.
 use Rattle.std.proofs.Common.{◌≡◌, ℕ, ◌-◌, ◌<◌, List, [], ◌∷◌, ◌++◌, length, map, flat_map, Option, Some, None, Bor, option_map, option_and_then, refl, sym, ap, subst, ◌∙◌, append-nil, append_assoc, length-append, arith, T}
 use Rattle.std.specs.FinMap.{get, entries, len, find, is_sorted, get-entries, entries_sorted}
+use Rattle.std.proofs.lemmas.Bool.Decides.{nat_tests}
 use Rattle.lang_tree.specs.Tree.{Tree, Thing}
 use Rattle.lang_tree.specs.Listing.{line_of}
 use Rattle.crash_stands.specs.Inodes.{thing_of}
@@ -21,11 +22,7 @@ abbrev pub seen : Option (Bor Node) → Option Thing
 seen o = option_map (λ node. thing_of (inode_of (kept node.now))) o
 
 pub seen_is : (o : Option (Bor Node)) (x : Option Kept) → option_map (λ node. kept node.now) o ≡ x → seen o ≡ option_map thing_of (option_map inode_of x)
-seen_is o x is = by o ∙ ap (λ x. option_map thing_of (option_map inode_of x)) is
-  where
-    by : (o : Option (Bor Node)) → seen o ≡ option_map thing_of (option_map inode_of (option_map (λ node. kept node.now) o))
-    by None = refl
-    by (Some node) = refl
+seen_is o x is = grind (arith, nat_tests)
 
 -- each of these names leads to its number from node k
 abbrev pub AllFound : KeptNodes → ℕ → List (List ℕ × ℕ) → Type 0

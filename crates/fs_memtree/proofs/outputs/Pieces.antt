@@ -1,16 +1,16 @@
 -- A text that a sink takes piece by piece: what is left of it, and that a fault leaves a front of it taken.
-use Rattle.std.proofs.Common.{◌≡◌, ℕ, ◌<◌, List, [], ◌∷◌, ◌++◌, length, codes, Option, Result, Ok, Err, OnErr, sym, refl, ap, ◌∙◌, subst, arith, append_assoc, append-nil, slice_index, ◌/◌, ◌%◌, decimal}
+use Rattle.std.proofs.Common.{◌≡◌, ℕ, ◌<◌, List, [], ◌∷◌, ◌++◌, length, codes, Option, Result, OnErr, sym, refl, ap, ◌∙◌, subst, arith, append_assoc, append-nil, slice_index, ◌/◌, ◌%◌, decimal}
 use Rattle.std.proofs.lemmas.Grind.{flat_map-append}
 use Rattle.std.specs.Io.KnownBytes.{Appends}
 use Rattle.std.proofs.KnownBytes.{Appends-trans}
+use Rattle.std.proofs.lemmas.Bool.Decides.{nat_tests}
 use Rattle.hex.specs.Hex.{encode_lower, encode_with, lower_digits}
 use Rattle.base_io.specs.Prefix.{TakesPrefix}
 use Rattle.lang_tree.specs.Listing.{slashed, path_text, digits_behind_blank}
 
 -- what holds anyway holds on an error
 pub on_err : {T E : Type 0} (r : Result T E) (P : Type 0) → P → OnErr r P
-on_err (Ok x) P p = tt
-on_err (Err e) P p = p
+on_err r P e = grind (arith, nat_tests)
 
 -- of the whole text all but the rest was taken
 pub record Wrote (old now : Option (List ℕ)) (rest whole : List ℕ) : Type 0 where
@@ -30,8 +30,7 @@ wrote_more old now new left piece rest whole so_far is taken = record {
 }
 
 pub wrote_all : (old now : Option (List ℕ)) (left whole : List ℕ) → Wrote old now left whole → left ≡ [] → Appends old now whole
-wrote_all old now left whole so_far is =
-    subst (Appends old now) (sym (append-nil so_far.done) ∙ ap (λ xs. so_far.done ++ xs) (sym is) ∙ so_far.split) so_far.taken
+wrote_all old now left whole so_far is = grind (arith, nat_tests, append-nil)
 
 -- a prefix of what was taken before, of the next piece and of the rest is one of the whole
 pub wrote_front : (old now new : Option (List ℕ)) (left piece rest whole : List ℕ) (so_far : Wrote old now left whole) → left ≡ piece ++ rest
@@ -49,8 +48,7 @@ pub slashed_last : (up : List (List ℕ)) (name : List ℕ) → slashed (up ++ n
 slashed_last up name = flat_map-append (λ n. 47 ∷ n) up (name ∷ []) ∙ ap (λ xs. slashed up ++ xs) (append-nil (47 ∷ name))
 
 pub digits_all : (bytes : List ℕ) → 0 < length bytes → codes " " ++ encode_lower bytes ≡ digits_behind_blank bytes
-digits_all [] some = absurd (omega arith)
-digits_all (byte ∷ bytes) some = refl
+digits_all bytes e = grind (arith, nat_tests)
 
 encode_append : (digits xs ys : List ℕ) → encode_with digits (xs ++ ys) ≡ encode_with digits xs ++ encode_with digits ys
 unfolding encode_with

@@ -1,5 +1,5 @@
 -- What is in a row is a finite map from the numbers 1, 2 and so on, and its unused numbers are a set.
-use Rattle.std.proofs.Common.{◌≡◌, ℕ, zero, suc, ◌+◌, ◌-◌, ◌<◌, ◌≤◌, nat_lt, nat_le, Bool, true, false, cond, if◌then◌else◌, List, [], ◌∷◌, ◌++◌, length, slice_get, slice_set, Option, Some, None, option_map, is_none, is_some, subst, find as first, sym, refl, ap, ◌∙◌, ◌⊎◌, inl, inr, arith, nat_cmp, true≢false, Bor, option_copied, get_or, IsTrue, IsSome, btree_set_len, take}
+use Rattle.std.proofs.Common.{◌≡◌, ℕ, zero, suc, ◌+◌, ◌-◌, ◌<◌, ◌≤◌, nat_lt, nat_le, Bool, true, false, cond, if◌then◌else◌, List, [], ◌∷◌, ◌++◌, length, slice_get, slice_set, Option, Some, None, option_map, is_none, is_some, find as first, sym, refl, ap, ◌∙◌, ◌⊎◌, inl, inr, arith, nat_cmp, true≢false, Bor, option_copied, get_or, IsTrue, IsSome, btree_set_len, take, ⊎_elim}
 use Rattle.std.proofs.lemmas.Bool.{cases_eq, cases_Bool}
 use Rattle.std.proofs.lemmas.List.{map-append, map-set, length-map, take_more}
 use Rattle.std.proofs.Math.Seq.{map-set_same}
@@ -11,6 +11,7 @@ use Rattle.std.specs.List.{range_with_len}
 use Rattle.std.specs.Cmp.{nat_cmp_total, eq_by_cmp_equiv}
 use Rattle.std.specs.BTreeSet.{BTreeSet, contains, IsLowerBound}
 use Rattle.std.specs.FinMap.{nat_cmp-IsAntisymmetric, get, insert, remove, from_entries, find, get-from_entries, get-insert, get-remove, same_map}
+use Rattle.std.proofs.lemmas.Grind.{common_steps}
 use Rattle.fs_memtree.specs.declared.node.Node.{Node}
 use Rattle.crash_stands.specs.Inodes.{Inode}
 use Rattle.fs_inodes.specs.Lookups.{least_free}
@@ -28,17 +29,15 @@ apart a b n = grind arith
 
 find_below : (n k : ℕ) (xs : List (Option Kept)) → n < k → find nat_cmp n (numbered k xs) ≡ None
 find_below n k [] below = refl
-find_below n k (None ∷ xs) below = find_below n (k + 1) xs (omega (arith, below))
-find_below n k (Some x ∷ xs) below = ap (λ b. cond b (Some x) (find nat_cmp n (numbered (k + 1) xs))) (apart n k (λ e. omega (arith, e, below)))
-    ∙ find_below n (k + 1) xs (omega (arith, below))
+find_below n k (None ∷ xs) below = grind (arith, nat_tests, (find_below n (k + 1) xs (omega (arith, below))))
+find_below n k (Some x ∷ xs) below = grind (arith, nat_tests, apart, (find_below n (k + 1) xs (omega (arith, below))))
 
 find_numbered : (k n q : ℕ) (xs : List (Option Kept)) → q ≡ k + n → find nat_cmp q (numbered k xs) ≡ in_place (slice_get xs n)
 find_numbered k n q [] e = refl
 find_numbered k zero q (None ∷ xs) e = find_below q (k + 1) xs (omega (arith, e))
 find_numbered k zero q (Some x ∷ xs) e = ap (λ b. cond b (Some x) (find nat_cmp q (numbered (k + 1) xs))) (tied q k (omega (arith, e)))
-find_numbered k (suc n) q (None ∷ xs) e = find_numbered (k + 1) n q xs (omega (arith, e))
-find_numbered k (suc n) q (Some x ∷ xs) e = ap (λ b. cond b (Some x) (find nat_cmp q (numbered (k + 1) xs))) (apart q k (λ h. omega (arith, e, h)))
-    ∙ find_numbered (k + 1) n q xs (omega (arith, e))
+find_numbered k (suc n) q (None ∷ xs) e = grind (arith, common_steps, (find_numbered (k + 1) n q xs (omega (arith, e))))
+find_numbered k (suc n) q (Some x ∷ xs) e = grind (arith, common_steps, apart, (find_numbered (k + 1) n q xs (omega (arith, e))))
 
 abbrev pub row : List (Option Kept) → KeptNodes
 row xs = from_entries (numbered 1 xs)
@@ -86,19 +85,15 @@ chosen_other xs q n x d = ap (λ b. cond b (Some x) (place xs q)) (apart q n d)
 
 put_set : (xs : List (Option Kept)) (i n : ℕ) (x : Option Kept) → n ≡ i + 1 → i < length xs → IsPut xs (slice_set xs i x) n x
 put_set xs i n x e h zero = sym (chosen_other xs 0 n x (λ z. omega (arith, e, z)))
-put_set xs i n x e h (suc j) = by (cases_eq j i)
-  where
-    by : (j ≡ i) ⊎ (j ≡ i → ⊥) → slice_get (slice_set xs i x) j ≡ chosen xs (suc j) n x
-    by (inl s) = ap (slice_get (slice_set xs i x)) s ∙ get_set_same xs i x h ∙ sym (chosen_same xs (suc j) n x (omega (arith, e, s)))
-    by (inr d) = get_set xs i j x h d ∙ sym (chosen_other xs (suc j) n x (λ z. d (omega (arith, e, z))))
+put_set xs i n x e h (suc j) = ⊎_elim (λ s. ap (slice_get (slice_set xs i x)) s ∙ get_set_same xs i x h ∙ sym (chosen_same xs (suc j) n x (omega (arith, e, s))))
+    (λ d. get_set xs i j x h d ∙ sym (chosen_other xs (suc j) n x (λ z. d (omega (arith, e, z)))))
+    (cases_eq j i)
 
 put_push : (xs : List (Option Kept)) (n : ℕ) (x : Option Kept) → n ≡ length xs + 1 → IsPut xs (xs ++ x ∷ []) n x
 put_push xs n x e zero = sym (chosen_other xs 0 n x (λ z. omega (arith, e, z)))
-put_push xs n x e (suc j) = by (cases_eq j (length xs))
-  where
-    by : (j ≡ length xs) ⊎ (j ≡ length xs → ⊥) → slice_get (xs ++ x ∷ []) j ≡ chosen xs (suc j) n x
-    by (inl s) = ap (slice_get (xs ++ x ∷ [])) s ∙ get_push_same xs x ∙ sym (chosen_same xs (suc j) n x (omega (arith, e, s)))
-    by (inr d) = get_push xs j x d ∙ sym (chosen_other xs (suc j) n x (λ z. d (omega (arith, e, z))))
+put_push xs n x e (suc j) = ⊎_elim (λ s. ap (slice_get (xs ++ x ∷ [])) s ∙ get_push_same xs x ∙ sym (chosen_same xs (suc j) n x (omega (arith, e, s))))
+    (λ d. get_push xs j x d ∙ sym (chosen_other xs (suc j) n x (λ z. d (omega (arith, e, z)))))
+    (cases_eq j (length xs))
 
 pub is_set : (xs : List (Option Node)) (i n : ℕ) (x : Option Node) → n ≡ i + 1 → i < length xs → IsPut (things xs) (things (slice_set xs i x)) n (option_map kept x)
 is_set xs i n x e h q = ap (λ ys. place ys q) (map-set (option_map kept) xs i x) ∙ put_set (things xs) i n (option_map kept x) e (omega (arith, h, length-map xs (option_map kept))) q
@@ -107,17 +102,14 @@ pub is_pushed : (xs : List (Option Node)) (n : ℕ) (x : Option Node) → n ≡ 
 is_pushed xs n x e q = ap (λ ys. place ys q) (map-append (option_map kept) xs (x ∷ [])) ∙ put_push (things xs) n (option_map kept x) (omega (arith, e, length-map xs (option_map kept))) q
 
 in_chosen : (b : Bool) (x : Option Kept) (y : Option (Option Kept)) → in_place (cond b (Some x) y) ≡ cond b x (in_place y)
-in_chosen true x y = refl
-in_chosen false x y = refl
+in_chosen b x y = grind (arith, nat_tests)
 
 gap_chosen : (b : Bool) (x : Option Kept) (y : Option (Option Kept)) → is_gap (cond b (Some x) y) ≡ cond b (is_gap (Some x)) (is_gap y)
-gap_chosen true x y = refl
-gap_chosen false x y = refl
+gap_chosen b x y = grind (arith, nat_tests)
 
 module _ (xs ys : List (Option Kept)) (n : ℕ) where
   get_put : (x : Option Kept) → IsPut xs ys n x → (q : ℕ) → get (row ys) q ≡ cond (eq_by_cmp nat_cmp q n) x (get (row xs) q)
-  get_put x put q = get_row ys q ∙ ap in_place (put q) ∙ in_chosen (eq_by_cmp nat_cmp q n) x (place xs q)
-      ∙ ap (cond (eq_by_cmp nat_cmp q n) x) (sym (get_row xs q))
+  get_put x put q = grind (arith, nat_tests, get_row, in_chosen)
 
   pub row_put : (x : Kept) → IsPut xs ys n (Some x) → row ys ≡ insert (row xs) n x
   row_put x put = same_map nat_cmp_total nat_cmp-IsAntisymmetric _ _ (λ q. get_put (Some x) put q ∙ sym (get-insert nat_cmp_total (row xs) n x q))
@@ -127,8 +119,7 @@ module _ (xs ys : List (Option Kept)) (n : ℕ) where
 
   pub unused_put : (s t : BTreeSet ℕ) (x : Option Kept) → AreUnused s xs → IsPut xs ys n x
       → ((q : ℕ) → contains nat_cmp t q ≡ cond (eq_by_cmp nat_cmp q n) (is_gap (Some x)) (contains nat_cmp s q)) → AreUnused t ys
-  unused_put s t x are put now q = now q ∙ ap (cond (eq_by_cmp nat_cmp q n) (is_gap (Some x))) (are q)
-      ∙ sym (gap_chosen (eq_by_cmp nat_cmp q n) x (place xs q)) ∙ sym (ap is_gap (put q))
+  unused_put s t x are put now q = grind (arith, nat_tests, gap_chosen)
 
 -- a set in which a number came or went, as its contract says
 pub turned : (s t : BTreeSet ℕ) (n : ℕ) (b : Bool) → ((q : ℕ) → contains nat_cmp t q ≡ cond (eq_by_cmp nat_cmp n q) b (contains nat_cmp s q))
@@ -137,11 +128,7 @@ turned s t n b is q = is q ∙ ap (λ e. cond e b (contains nat_cmp s q)) ((eq_b
 
 -- where the number wasn't in the set, the set is as if it went
 pub set_kept : (s : BTreeSet ℕ) (n : ℕ) → contains nat_cmp s n ≡ false → (q : ℕ) → contains nat_cmp s q ≡ cond (eq_by_cmp nat_cmp q n) false (contains nat_cmp s q)
-set_kept s n none q = by (cases_eq q n)
-  where
-    by : (q ≡ n) ⊎ (q ≡ n → ⊥) → contains nat_cmp s q ≡ cond (eq_by_cmp nat_cmp q n) false (contains nat_cmp s q)
-    by (inl e) = ap (contains nat_cmp s) e ∙ none ∙ sym (ap (λ b. cond b false (contains nat_cmp s q)) (tied q n e))
-    by (inr d) = sym (ap (λ b. cond b false (contains nat_cmp s q)) (apart q n d))
+set_kept s n none q = grind (arith, nat_tests, tied, apart)
 
 -- The least unused number.
 
@@ -150,11 +137,7 @@ found_first test a zero m e = absurd (cc)
 found_first test a (suc n) m e = by (test a) refl (found_first test (a + 1) n m) e
   where
     go_on : test a ≡ false → ((k : ℕ) → a + 1 ≤ k → k < m → test k ≡ false) → (k : ℕ) → a ≤ k → k < m → test k ≡ false
-    go_on is others k low high = at (cases_eq k a)
-      where
-        at : (k ≡ a) ⊎ (k ≡ a → ⊥) → test k ≡ false
-        at (inl e) = ap test e ∙ is
-        at (inr d) = others k (grind (arith, low, d)) high
+    go_on is others k low high = grind (arith, nat_tests, test)
 
     by : (b : Bool) → test a ≡ b → (first test (range_with_len (a + 1) n) ≡ Some m → (test m ≡ true) × (a + 1 ≤ m) × ((k : ℕ) → a + 1 ≤ k → k < m → test k ≡ false))
         → cond b (Some a) (first test (range_with_len (a + 1) n)) ≡ Some m → (test m ≡ true) × (a ≤ m) × ((k : ℕ) → a ≤ k → k < m → test k ≡ false)
@@ -163,8 +146,7 @@ found_first test a (suc n) m e = by (test a) refl (found_first test (a + 1) n m)
 
 first_none : (test : ℕ → Bool) (a n : ℕ) → ((k : ℕ) → a ≤ k → k < a + n → test k ≡ false) → first test (range_with_len a n) ≡ None
 first_none test a zero all = refl
-first_none test a (suc n) all = ap (λ b. cond b (Some a) (first test (range_with_len (a + 1) n))) (all a (omega arith) (omega arith))
-    ∙ first_none test (a + 1) n (λ k low high. all k (omega (arith, low)) (omega (arith, high)))
+first_none test a (suc n) all = grind (arith, nat_tests, (first_none test (a + 1) n (λ k low high. all k (omega (arith, low)) (omega (arith, high)))))
 
 first_some : (test : ℕ → Bool) (a n m : ℕ) → a ≤ m → m < a + n → ((k : ℕ) → a ≤ k → k < m → test k ≡ false) → test m ≡ true → first test (range_with_len a n) ≡ Some m
 first_some test a zero m low high before here = absurd (omega (arith, low, high))
@@ -179,8 +161,7 @@ abbrev pub least_unused : ℕ → KeptNodes → Option ℕ
 least_unused limit m = first (λ n. is_none (get m n)) (range_with_len 1 limit)
 
 none_mapped : (o : Option Kept) → is_none o ≡ is_none (option_map inode_of o)
-none_mapped None = refl
-none_mapped (Some x) = refl
+none_mapped o = grind (arith, nat_tests)
 
 -- it is that of the inode map
 pub as_free : (limit : ℕ) (m : KeptNodes) → least_unused limit m ≡ least_free limit (map_of m)
@@ -215,15 +196,10 @@ first_is limit n xs e = let r = found_first (λ k. is_none (get (row xs) k)) 1 l
     record { low = r.1; here = ap is_none (sym (get_row xs n)) ∙ r.0; before = λ k low high. ap is_none (sym (get_row xs k)) ∙ r.2 k low high }
 
 past_end : (xs : List (Option Kept)) (n : ℕ) → length xs < n → place xs n ≡ None
-past_end xs zero h = absurd (omega (arith, h))
-past_end xs (suc i) h = slice_get_past xs i (omega (arith, h))
+past_end xs n e = grind (arith, nat_tests, slice_get_past)
 
 pub first_within : (xs : List (Option Kept)) (n : ℕ) → IsFirst xs n → n ≤ length xs + 1
-first_within xs n is = by (cases_Bool (nat_le n (length xs + 1)))
-  where
-    by : (nat_le n (length xs + 1) ≡ true) ⊎ (nat_le n (length xs + 1) ≡ false) → n ≤ length xs + 1
-    by (inl e) = grind (arith, e)
-    by (inr e) = absurd (true≢false (sym (ap is_none (ap in_place (past_end xs (length xs + 1) (omega arith)))) ∙ is.before (length xs + 1) (omega arith) (grind (arith, e))))
+first_within xs n is = grind (arith, nat_tests, past_end)
 
 -- a place within the row is used, or it is a gap
 used_or_gap : (xs : List (Option Kept)) (n : ℕ) → 1 ≤ n → n ≤ length xs → is_gap (place xs n) ≡ false → is_none (thing_in xs n) ≡ false
@@ -234,9 +210,7 @@ used_or_gap (Some x ∷ xs) (suc zero) low high no_gap = refl
 used_or_gap (x ∷ xs) (suc (suc i)) low high no_gap = used_or_gap xs (suc i) (omega arith) (omega (arith, high)) no_gap
 
 gap_is_none : (p : Option (Option Kept)) → is_gap p ≡ true → is_none (in_place p) ≡ true
-gap_is_none None e = refl
-gap_is_none (Some None) e = refl
-gap_is_none (Some (Some x)) e = absurd (true≢false (sym e))
+gap_is_none p e = grind (arith, nat_tests)
 
 gap_within : (xs : List (Option Kept)) (n : ℕ) → is_gap (place xs n) ≡ true → (1 ≤ n) × (n ≤ length xs)
 gap_within xs zero e = absurd (true≢false (sym e))
@@ -246,25 +220,11 @@ gap_within (x ∷ xs) (suc (suc i)) e = (omega arith, omega (arith, gap_within x
 
 -- the least number of the set is the first one
 pub first_of_set : (s : BTreeSet ℕ) (xs : List (Option Kept)) (n : ℕ) → AreUnused s xs → contains nat_cmp s n ≡ true → ((q : ℕ) → contains nat_cmp s q ≡ true → n ≤ q) → IsFirst xs n
-first_of_set s xs n are member least =
-    let gap : is_gap (place xs n) ≡ true = sym (are n) ∙ member in
-    let within = gap_within xs n gap in
-    record { low = within.0; here = gap_is_none (place xs n) gap; before = λ k low high. used_or_gap xs k low (omega (arith, high, within.1)) (by k high (cases_Bool (contains nat_cmp s k))) }
-  where
-    by : (k : ℕ) → k < n → (contains nat_cmp s k ≡ true) ⊎ (contains nat_cmp s k ≡ false) → is_gap (place xs k) ≡ false
-    by k high (inl e) = absurd (omega (arith, high, least k e))
-    by k high (inr e) = sym (are k) ∙ e
+first_of_set s xs n are member least = grind (arith, nat_tests, gap_within, gap_is_none, used_or_gap)
 
 -- where the set is empty, the number after those of the row is the first one
 pub first_past : (s : BTreeSet ℕ) (xs : List (Option Kept)) (n : ℕ) → AreUnused s xs → s.keys ≡ [] → n ≡ length xs + 1 → IsFirst xs n
-first_past s xs n are empty e = record {
-  low = omega (arith, e);
-  here = ap is_none (ap in_place (past_end xs n (omega (arith, e))));
-  before = λ k low high. used_or_gap xs k low (omega (arith, high, e)) (sym (are k) ∙ none s k empty);
-}
-  where
-    none : (s : BTreeSet ℕ) (k : ℕ) → s.keys ≡ [] → contains nat_cmp s k ≡ false
-    none s k e = rw e refl
+first_past s xs n are empty e = grind (arith, nat_tests, past_end, used_or_gap)
 
 -- What the code reads and does.
 
@@ -272,8 +232,7 @@ next : (i : ℕ) → i + 1 ≡ suc i
 next i = omega arith
 
 at_thing : (o : Option (Bor Node)) → option_map (λ node. kept node.now) o ≡ option_map kept (option_copied o)
-at_thing None = refl
-at_thing (Some x) = refl
+at_thing o = grind (arith, nat_tests)
 
 thing_at_index : (xs : List (Option Node)) (i : ℕ) (x : Option Node) → i < length xs → x ≡ get_or xs i x → slice_get (things xs) i ≡ Some (option_map kept x)
 thing_at_index xs i x h is = slice_get-map (option_map kept) xs i ∙ ap (option_map (option_map kept)) (slice_get_read xs (length xs) i x refl h is)
@@ -283,8 +242,7 @@ pub stands : (xs : List (Option Node)) (i : ℕ) (o : Option (Bor Node)) (x : Op
 stands xs i o x is h at = at_thing o ∙ ap (option_map kept) is ∙ sym (ap (thing_in (things xs)) (next i) ∙ ap in_place (thing_at_index xs i x h at))
 
 none_of : {A : Type 0} (o : Option A) → false ≡ is_some o → o ≡ None
-none_of None e = refl
-none_of (Some x) e = absurd (true≢false (sym e))
+none_of o e = grind (arith, nat_tests)
 
 get_none : (xs ys : List (Option Node)) (n : ℕ) → ys ≡ xs → false ≡ is_some (thing_in (things ys) n) → get (nodes_of xs) n ≡ None
 get_none xs ys n same none = get_row (things xs) n ∙ ap (λ row. thing_in (things row) n) (sym same) ∙ none_of (thing_in (things ys) n) none
@@ -303,9 +261,7 @@ pub nodes_taken : (xs : List (Option Node)) (i n : ℕ) (m : KeptNodes) → n �
 nodes_taken xs i n m e h is = row_taken (things xs) (things (slice_set xs i None)) n (is_set xs i n None e h) ∙ ap (λ k. remove k n) is
 
 pub unused_pushed : (s : BTreeSet ℕ) (xs ys : List (Option Node)) (n : ℕ) (x : Node) → ys ≡ xs ++ Some x ∷ [] → n ≡ length xs + 1 → AreUnused s (things xs) → AreUnused s (things ys)
-unused_pushed s xs ys n x is e are = subst (λ row. AreUnused s (things row)) (sym is)
-    (unused_put (things xs) (things (xs ++ Some x ∷ [])) n s s (Some (kept x)) are (is_pushed xs n (Some x) e)
-    (set_kept s n (are n ∙ ap is_gap (past_end (things xs) n (omega (arith, e, length-map xs (option_map kept)))))))
+unused_pushed s xs ys n x is e are = grind (arith, nat_tests, is_pushed, set_kept, past_end, length-map)
 
 pub nodes_pushed : (xs ys : List (Option Node)) (n : ℕ) (x : Node) (m : KeptNodes) → ys ≡ xs ++ Some x ∷ [] → n ≡ length xs + 1 → nodes_of xs ≡ m → nodes_of ys ≡ insert m n (kept x)
 nodes_pushed xs ys n x m is e old = ap nodes_of is ∙ row_put (things xs) (things (xs ++ Some x ∷ [])) n (kept x) (is_pushed xs n (Some x) e) ∙ ap (λ k. insert k n (kept x)) old
@@ -323,8 +279,7 @@ next_one xs limit n m is least past = omega (
 -- the least number of the set, as its contract says, up to the limit
 pub least_in_set : (s : BTreeSet ℕ) (xs : List (Option Node)) (limit n : ℕ) (m : KeptNodes) → nodes_of xs ≡ m → AreUnused s (things xs) → IsTrue (contains nat_cmp s n) → IsLowerBound nat_cmp s n
     → (if nat_le n limit then Some n else None) ≡ least_unused limit m
-least_in_set s xs limit n m is are member least =
-    sym (ap (least_unused limit) (sym is) ∙ least_is limit n (things xs) (first_of_set s (things xs) n are member (λ q in_set. le_from_not_gt n q (least q in_set))))
+least_in_set s xs limit n m is are member least = grind (arith, nat_tests, least_is, first_of_set, le_from_not_gt)
 
 -- where the set is empty
 pub least_past : (s : BTreeSet ℕ) (xs ys : List (Option Node)) (limit n : ℕ) (m : KeptNodes) → nodes_of xs ≡ m → ys ≡ xs → AreUnused s (things xs) → s.keys ≡ [] → n ≡ length ys + 1
@@ -366,17 +321,13 @@ module _ (xs : List (Option Node)) (i n : ℕ) (x y : Option Node) (change : Kep
   by_thing (Some t) there now = row_put (things xs) (things (slice_set xs i x)) n (change t) now
 
   pub nodes_edited : nodes_of (slice_set xs i x) ≡ changed_at (nodes_of xs) n change
-  nodes_edited = let there : get (nodes_of xs) n ≡ option_map kept y = get_row (things xs) n ∙ ap in_place was in
-      by_thing (option_map kept y) there (subst (λ t. IsPut (things xs) (things (slice_set xs i x)) n t) put (is_set xs i n x e h))
-      ∙ ap (put_changed (nodes_of xs) n change) (sym there)
+  nodes_edited = grind (arith, nat_tests, get_row, was, by_thing, is_set)
 
   gap_kept : (t : Option Kept) → is_gap (Some (option_map change t)) ≡ is_gap (Some t)
-  gap_kept None = refl
-  gap_kept (Some t) = refl
+  gap_kept t = grind (arith, nat_tests)
 
   same_gaps : (q : ℕ) → (q ≡ n) ⊎ (q ≡ n → ⊥) → is_gap (chosen (things xs) q n (option_map kept x)) ≡ is_gap (place (things xs) q)
-  same_gaps q (inl s) = ap is_gap (chosen_same (things xs) q n (option_map kept x) s) ∙ ap (λ t. is_gap (Some t)) put ∙ gap_kept (option_map kept y) ∙ ap is_gap (sym (ap (place (things xs)) s ∙ was))
-  same_gaps q (inr d) = ap is_gap (chosen_other (things xs) q n (option_map kept x) d)
+  same_gaps q e = grind (arith, nat_tests, chosen_same, gap_kept, was, chosen_other)
 
   pub gaps_edited : (q : ℕ) → is_gap (place (things (slice_set xs i x)) q) ≡ is_gap (place (things xs) q)
   gaps_edited q = ap is_gap (is_set xs i n x e h q) ∙ same_gaps q (cases_eq q n)
@@ -404,11 +355,9 @@ rows_same xs ys most end is high same = same_map nat_cmp_total nat_cmp-IsAntisym
 
     at : (q : ℕ) → thing_in (things xs) q ≡ thing_in (things ys) q
     at zero = refl
-    at (suc k) = by (cases_Bool (nat_lt k end))
-      where
-        by : (nat_lt k end ≡ true) ⊎ (nat_lt k end ≡ false) → thing_in (things xs) (suc k) ≡ thing_in (things ys) (suc k)
-        by (inl e) = ap (thing_in (things xs)) (sym (next k)) ∙ same k (grind (arith, e)) ∙ ap (thing_in (things ys)) (next k)
-        by (inr e) = ap in_place (slice_get_past (things xs) k (grind (arith, e, left))) ∙ sym (ap in_place (slice_get_past (things ys) k (grind (arith, e, right))))
+    at (suc k) = ⊎_elim (λ e. ap (thing_in (things xs)) (sym (next k)) ∙ same k (grind (arith, e)) ∙ ap (thing_in (things ys)) (next k))
+        (λ e. ap in_place (slice_get_past (things xs) k (grind (arith, e, left))) ∙ sym (ap in_place (slice_get_past (things ys) k (grind (arith, e, right)))))
+        (cases_Bool (nat_lt k end))
 
 pub copied_more : (xs copy copied : List (Option Node)) (i : ℕ) (x y : Option Node) → i < length xs → y ≡ get_or xs i y → option_map kept x ≡ option_map kept y
     → copied ≡ copy ++ x ∷ [] → things copy ≡ take i (things xs) → things copied ≡ take (i + 1) (things xs)

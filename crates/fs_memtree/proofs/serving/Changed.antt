@@ -1,9 +1,11 @@
 -- The inode map after a node of those that are kept changed, came or went.
-use Rattle.std.proofs.Common.{◌≡◌, ℕ, ◌-◌, ◌==◌, Bool, true, false, if◌then◌else◌, List, Option, Some, None, is_none, find, option_map, option_and_then, refl, sym, ap, ap₂, ◌∙◌, ◌⊎◌, inl, inr}
+use Rattle.std.proofs.Common.{◌≡◌, ℕ, ◌-◌, ◌==◌, Bool, true, false, if◌then◌else◌, List, Option, Some, None, is_none, find, option_map, option_and_then, refl, sym, ap, ◌∙◌, ◌⊎◌, inl, inr, arith}
 use Rattle.std.proofs.lemmas.Bool.{cases_eq}
 use Rattle.std.specs.List.{range_with_len}
 use Rattle.std.specs.Cmp.{nat_cmp_total}
 use Rattle.std.specs.FinMap.{nat_cmp-IsAntisymmetric, get, insert, remove}
+use Rattle.std.proofs.lemmas.Bool.Decides.{nat_tests}
+use Rattle.std.proofs.lemmas.Grind.{common_steps}
 use Rattle.layout_bytes.specs.declared.slot.Slot.{Slot}
 use Rattle.crash_stands.specs.Inodes.{Inodes, ADir, AFile}
 use Rattle.crash_stands.specs.Walks.{entry_in}
@@ -24,9 +26,7 @@ pub kept_dir : (nodes : KeptNodes) (k : ℕ) (slots : List Slot) → map_of node
 kept_dir nodes k slots e = dir_of (get nodes k) slots e
 
 file_of : (o : Option Kept) (links : ℕ) (bytes : List ℕ) → option_map inode_of o ≡ Some (AFile links bytes) → o ≡ Some (KeptFile links bytes)
-file_of None links bytes e = absurd cc
-file_of (Some (KeptDir names)) links bytes e = absurd cc
-file_of (Some (KeptFile l b)) links bytes e = let one : l ≡ links = cc in let two : b ≡ bytes = cc in ap₂ (λ x y. Some (KeptFile x y)) one two
+file_of o links bytes e = grind (arith, nat_tests)
 
 pub kept_file : (nodes : KeptNodes) (k links : ℕ) (bytes : List ℕ) → map_of nodes k ≡ Some (AFile links bytes) → get nodes k ≡ Some (KeptFile links bytes)
 kept_file nodes k links bytes e = file_of (get nodes k) links bytes e
@@ -58,9 +58,7 @@ module _ (nodes : KeptNodes) (k : ℕ) where
       last false links bytes = ap (option_map inode_of) (put_here nat_cmp_total nat_cmp-IsAntisymmetric nodes k (KeptFile (links - 1) bytes) k refl)
 
       by : (o : Option Kept) → get nodes k ≡ o → option_map inode_of (get (less_by nodes k o) k) ≡ option_and_then one_link_less (option_map inode_of o)
-      by None is = ap (option_map inode_of) is
-      by (Some (KeptDir names)) is = ap (option_map inode_of) (gone_here nat_cmp_total nat_cmp-IsAntisymmetric nodes k k refl)
-      by (Some (KeptFile links bytes)) is = last (links == 1) links bytes
+      by o e = grind (arith, nat_tests, gone_here, nat_cmp-IsAntisymmetric, last)
 
   -- and another one
   pub less_other : (l : ℕ) → (l ≡ k → ⊥) → get (without_link nodes k) l ≡ get nodes l
@@ -122,12 +120,4 @@ put_back : (nodes : KeptNodes) (k : ℕ) (x y : Kept) → get nodes k ≡ Some x
 put_back nodes k x y is same z = put_twice nat_cmp_total nat_cmp-IsAntisymmetric nodes k z y ∙ ap (insert nodes k) same ∙ put_same nat_cmp_total nat_cmp-IsAntisymmetric nodes k x is
 
 pub undone : (nodes : KeptNodes) (k n : ℕ) (name : List ℕ) → entry_in (map_of nodes k) name ≡ None → changed_at (changed_at nodes k (with_name name n)) k (without_name name) ≡ nodes
-undone nodes k n name free = by (get nodes k) refl free
-  where
-    again : (x y : Kept) → get nodes k ≡ Some x → without_name name y ≡ x → changed_at (insert nodes k y) k (without_name name) ≡ nodes
-    again x y is same = ap (put_changed (insert nodes k y) k (without_name name)) (put_here nat_cmp_total nat_cmp-IsAntisymmetric nodes k y k refl) ∙ put_back nodes k x (without_name name y) is same y
-
-    by : (o : Option Kept) → get nodes k ≡ o → entry_in (option_map inode_of o) name ≡ None → changed_at (put_changed nodes k (with_name name n) o) k (without_name name) ≡ nodes
-    by None is none = ap (put_changed nodes k (without_name name)) is
-    by (Some (KeptDir names)) is none = again (KeptDir names) (KeptDir (insert names name n)) is (ap KeptDir (taken_back name_total name_same names name n (sym (under_name names name) ∙ none)))
-    by (Some (KeptFile links bytes)) is none = again (KeptFile links bytes) (KeptFile links bytes) is refl
+undone nodes k n name free = grind (arith, common_steps, put_here, nat_cmp-IsAntisymmetric, put_back, taken_back, name_total, name_same, under_name)

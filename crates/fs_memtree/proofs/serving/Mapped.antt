@@ -1,7 +1,9 @@
 -- After each command that changes the nodes, their inode map is that of the tree after the command.
-use Rattle.std.proofs.Common.{◌≡◌, ◌≢◌, ℕ, ◌+◌, ◌<◌, ◌==◌, nat_le, Bool, true, false, true≢false, if◌then◌else◌, List, [], ◌∷◌, ◌++◌, length, replicate, is_none, is_some, Option, Some, None, option_map, option_and_then, refl, sym, ap, ap₂, subst, ◌∙◌, arith, ne_eqb, eq-eqb}
+use Rattle.std.proofs.Common.{◌≡◌, ◌≢◌, ℕ, ◌+◌, ◌<◌, ◌==◌, nat_le, Bool, true, false, true≢false, if◌then◌else◌, List, [], ◌∷◌, ◌++◌, length, replicate, is_none, is_some, Option, Some, None, option_map, option_and_then, refl, sym, ap, ap₂, subst, ◌∙◌, arith, eq-eqb}
 use Rattle.std.proofs.Math.Nat.{min-eq_left}
 use Rattle.std.specs.FinMap.{get, insert, empty}
+use Rattle.std.proofs.lemmas.Bool.Decides.{nat_tests}
+use Rattle.std.proofs.lemmas.Grind.{common_steps}
 use Rattle.base_types.specs.Counts.{next_count}
 use Rattle.layout_bytes.specs.declared.slot.Slot.{Slot}
 use Rattle.lang_tree.specs.declared.command.Cmd.{Cmd}
@@ -12,14 +14,14 @@ use Rattle.lang_tree.specs.Tree.{Dir}
 use Rattle.lang_tree.specs.Walk.{are_same, is_same_node}
 use Rattle.lang_tree.specs.Conditions.{refusal, when, first_reason}
 use Rattle.lang_tree.specs.Step.{Session, step, written, resized}
-use Rattle.crash_stands.specs.Inodes.{Inode, Inodes, ADir, AFile}
+use Rattle.crash_stands.specs.Inodes.{Inodes, ADir, AFile}
 use Rattle.crash_stands.specs.Maps.{IsMapOf}
 use Rattle.crash_stands.specs.Walks.{entry_in, LeadsTo}
 use Rattle.fs_inodes.specs.Changes.{new_inode, Sets, AddsName, TakesName, MovesName}
 use Rattle.fs_inodes.specs.Lookups.{least_free, is_dir_inode, links_in, bytes_of, number_at, inode_at}
 use Rattle.fs_inodes.specs.Refusals.{reason, walk_reason, parent_reason, make_reason}
 use Rattle.fs_memtree.specs.Kept.{name_cmp, DirNames, Kept, KeptDir, KeptFile, KeptNodes, map_of, inode_of, slots_for, spot_at, changed_at, with_bytes, with_links, with_name}
-use Rattle.fs_memtree.specs.Changes.{made, made_at, edited, edited_by, linked, linked_at, removed, removed_at, moved, moved_at, is_that, put_and_take}
+use Rattle.fs_memtree.specs.Changes.{made, made_at, edited, linked, linked_at, removed, removed_at, moved, moved_at, is_that, put_and_take}
 use Rattle.fs_memtree.specs.Laws.{MapLaws}
 use Rattle.fs_memtree.proofs.maps.Slots.{as_slots, under_name}
 use Rattle.fs_memtree.proofs.maps.Walking.{number_last, spot_is, by_parts}
@@ -37,31 +39,24 @@ longer [] name e = cc
 longer (x ∷ up) name e = longer up name cc
 
 last_there : {A B : Type 0} (f : A → Option B) (o : Option A) (n : B) → option_and_then f o ≡ Some n → (d : A) × (o ≡ Some d) × (f d ≡ Some n)
-last_there f None n e = absurd cc
-last_there f (Some d) n e = (d, refl, e)
+last_there f o n e = grind (arith, nat_tests)
 
 is_none_of : {A : Type 0} (o : Option A) → is_none o ≡ true → o ≡ None
-is_none_of None e = refl
-is_none_of (Some x) e = absurd (true≢false (sym e))
+is_none_of o e = grind (arith, nat_tests)
 
 one_link_more : (links : ℕ) → links < 65535 → next_count links ≡ links + 1
 one_link_more links few = min-eq_left (omega (arith, few))
 
 same_that : (n : ℕ) (o : Option ℕ) → o ≢ Some n → is_that n o ≡ false
-same_that n None off = refl
-same_that n (Some w) off = ne_eqb n w (λ e. off (ap Some (sym e)))
+same_that n o e = grind (arith, nat_tests)
 
 -- what the code does with a move
 moved_by : (nodes : KeptNodes) (a b : Option (ℕ × List ℕ)) (o p : Option ℕ) (from to : ℕ × List ℕ) (n : ℕ) (old : Option ℕ) (t : Bool) → a ≡ Some from → b ≡ Some to → o ≡ Some n → p ≡ old → is_that n old ≡ t
     → moved_at nodes a b o p ≡ (if t then (nodes, false) else (put_and_take nodes from to n old, true))
-moved_by nodes a b o p from to n old t a_is b_is o_is p_is that =
-    ap₂ (λ x y. moved_at nodes x y o p) a_is b_is ∙ ap₂ (moved_at nodes (Some from) (Some to)) o_is p_is
-    ∙ ap (λ t. if t then (nodes, false) else (put_and_take nodes from to n old, true)) that
+moved_by nodes a b o p from to n old t a_is b_is o_is p_is that = grind (arith, nat_tests)
 
 moved_nowhere : (nodes : KeptNodes) (a b : Option (ℕ × List ℕ)) (n w : ℕ) → (n == w) ≡ true → moved_at nodes a b (Some n) (Some w) ≡ (nodes, false)
-moved_nowhere nodes None b n w e = refl
-moved_nowhere nodes (Some from) None n w e = refl
-moved_nowhere nodes (Some from) (Some to) n w e = ap (λ t. if t then (nodes, false) else (put_and_take nodes from to n (Some w), true)) e
+moved_nowhere nodes a b n w e = grind (arith, nat_tests)
 
 module _ (laws : MapLaws) (s : Session) (nodes : KeptNodes) (is : IsMapOf s.limit (map_of nodes) s.tree) where
   abbrev m : Inodes
@@ -72,10 +67,7 @@ module _ (laws : MapLaws) (s : Session) (nodes : KeptNodes) (is : IsMapOf s.limi
   reason_none cmd e = sym (laws.refuses s.limit m s.tree cmd is) ∙ e
 
   dir_apart : (n d : ℕ) (names : DirNames) → m n ≡ None → get nodes d ≡ Some (KeptDir names) → n ≢ d
-  dir_apart n d names none dir e = never (sym none ∙ ap m e ∙ mapped nodes d (KeptDir names) dir)
-    where
-      never : {x : Inode} → None ≡ Some x → ⊥
-      never e = cc
+  dir_apart n d names none dir e = grind (arith, nat_tests, mapped)
 
   -- A name, with the directory in which it is.
   record Under (up : List (List ℕ)) (name : List ℕ) (n : ℕ) : Type 0 where
@@ -98,8 +90,7 @@ module _ (laws : MapLaws) (s : Session) (nodes : KeptNodes) (is : IsMapOf s.limi
 
   -- what is in a directory isn't the directory
   child_apart : (up : List (List ℕ)) (name : List ℕ) (n d : ℕ) (names : DirNames) → LeadsTo m up d → get nodes d ≡ Some (KeptDir names) → LeadsTo m (up ++ name ∷ []) n → n ≢ d
-  child_apart up name n d names leads dir below e =
-      longer up name (is.shows.only d (slots_for names) up (mapped nodes d (KeptDir names) dir) leads (up ++ name ∷ []) (below ∙ ap Some e))
+  child_apart up name n d names leads dir below e = grind (arith, nat_tests, longer, mapped)
 
   spot_there : (up : List (List ℕ)) (name : List ℕ) (d : ℕ) → LeadsTo m up d → spot_at m (up ++ name ∷ []) ≡ Some (d, name)
   spot_there up name d leads = spot_is m up name ∙ ap (option_map (λ d. (d, name))) leads
@@ -157,11 +148,7 @@ module _ (laws : MapLaws) (s : Session) (nodes : KeptNodes) (is : IsMapOf s.limi
 
   sets_bytes : (path : List (List ℕ)) (n links : ℕ) (bytes : List ℕ) (change : List ℕ → List ℕ) → LeadsTo m path n → m n ≡ Some (AFile links bytes)
       → Sets m (map_of (edited nodes path (with_bytes change))) n (Some (AFile links (change bytes)))
-  sets_bytes path n links bytes change leads file =
-      subst (λ new. Sets m (map_of new) n (Some (AFile links (change bytes)))) (sym (ap (λ o. edited_by nodes o (with_bytes change)) leads)) (record {
-        here = mapped _ n (KeptFile links (change bytes)) (changed_here nodes n (with_bytes change) (KeptFile links bytes) (kept_file nodes n links bytes file));
-        others = λ l off. ap (option_map inode_of) (changed_other nodes n (with_bytes change) l off);
-      })
+  sets_bytes path n links bytes change leads file = grind (arith, nat_tests, mapped, changed_here, kept_file, changed_other)
 
   pub write_mapped : (path : List (List ℕ)) (offset : ℕ) (bytes : List ℕ) → 0 < length bytes → refusal s.limit s.tree (Write path offset bytes) ≡ None
       → IsMapOf s.limit (map_of (edited nodes path (with_bytes (written offset bytes)))) (step s (Write path offset bytes)).0.tree
@@ -241,12 +228,7 @@ module _ (laws : MapLaws) (s : Session) (nodes : KeptNodes) (is : IsMapOf s.limi
   numbers_same from to = ap₂ are_same (is.shows.names from) (is.shows.names to)
 
   pub stays : (from to : List (List ℕ)) → is_same_node s.tree from to ≡ true → moved nodes from to ≡ (nodes, false)
-  stays from to same = by (number_at m from) (number_at m to) (sym (numbers_same from to) ∙ same)
-    where
-      by : (a b : Option ℕ) → are_same a b ≡ true → moved_at nodes (spot_at m from) (spot_at m to) a b ≡ (nodes, false)
-      by None b e = absurd (true≢false (sym e))
-      by (Some n) None e = absurd (true≢false (sym e))
-      by (Some n) (Some w) e = moved_nowhere nodes (spot_at m from) (spot_at m to) n w e
+  stays from to same = grind (arith, common_steps, numbers_same, moved_nowhere)
 
   abbrev Moves : List (List ℕ) → List (List ℕ) → Type 0
   Moves from to = refusal s.limit s.tree (Rename from to) ≡ None → is_same_node s.tree from to ≡ false

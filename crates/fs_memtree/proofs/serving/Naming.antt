@@ -1,13 +1,15 @@
 -- The nodes after a name came, went or moved: what that is of their inode map.
-use Rattle.std.proofs.Common.{◌≡◌, ◌≢◌, ℕ, List, Option, Some, None, is_some, option_map, option_and_then, refl, sym, ap, subst, ◌∙◌, ◌⊎◌, inl, inr}
+use Rattle.std.proofs.Common.{◌≡◌, ◌≢◌, ℕ, List, Option, Some, option_map, option_and_then, refl, sym, ap, subst, ◌∙◌, ◌⊎◌, inl, inr, arith}
 use Rattle.std.proofs.lemmas.Bool.{cases_eq}
 use Rattle.std.specs.Cmp.{nat_cmp_total}
 use Rattle.std.specs.FinMap.{nat_cmp-IsAntisymmetric, get, insert, remove}
+use Rattle.std.proofs.lemmas.Bool.Decides.{nat_tests}
+use Rattle.std.proofs.lemmas.Grind.{common_steps}
 use Rattle.layout_bytes.specs.declared.slot.Slot.{Slot}
 use Rattle.crash_stands.specs.Inodes.{ADir, AreDistinct}
 use Rattle.crash_stands.specs.Walks.{entries_of, entry_in}
 use Rattle.fs_inodes.specs.Changes.{one_link_less, AddsName, TakesName, MovesName}
-use Rattle.fs_memtree.specs.Kept.{DirNames, Kept, KeptDir, KeptFile, KeptNodes, map_of, inode_of, slots_for, changed_at, without_link, with_name, without_name, with_number}
+use Rattle.fs_memtree.specs.Kept.{DirNames, Kept, KeptDir, KeptNodes, map_of, inode_of, slots_for, changed_at, without_link, with_name, without_name, with_number}
 use Rattle.fs_memtree.specs.Changes.{put_over, put_and_take}
 use Rattle.fs_memtree.proofs.keys.Keys.{name_total, name_same, put_here, put_other, gone_here, gone_other, there_renumbered}
 use Rattle.fs_memtree.proofs.maps.Slots.{under_name, slots_distinct}
@@ -28,11 +30,7 @@ module _ (nodes : KeptNodes) (d n : ℕ) (names : DirNames) (name : List ℕ) (d
 
   -- a new name of a node that changes too
   pub adds_path : (change : Kept → Kept) (x : Kept) → get nodes n ≡ Some x → AddsName (map_of nodes) (map_of (changed_at (changed_at nodes d (with_name name n)) n change)) d n name (inode_of (change x))
-  adds_path change x is = record {
-    under = has_put (map_of nodes) _ d names name (mapped nodes d (KeptDir names) dir) n (mapped _ d (KeptDir (insert names name n)) (changed_other _ n change d (λ e. apart (sym e)) ∙ named));
-    named = mapped _ n (change x) (changed_here (changed_at nodes d (with_name name n)) n change x (changed_other nodes d (with_name name n) n apart ∙ is));
-    others = λ k off_d off_n. ap (option_map inode_of) (changed_other _ n change k off_n ∙ changed_other nodes d (with_name name n) k off_d);
-  }
+  adds_path change x is = grind (arith, nat_tests, has_put, mapped, changed_other, named, changed_here)
 
   -- a name that goes, with a link of its node
   pub takes_path : get names name ≡ Some n → TakesName (map_of nodes) (map_of (changed_at (without_link nodes n) d (without_name name))) d n name
@@ -56,21 +54,12 @@ module _ (nodes : KeptNodes) (d c n : ℕ) (source target : DirNames) (name othe
   -- the names of the second directory then
   target_put : get put c ≡ Some (KeptDir (insert target other n))
   unfolding put
-  target_put = by (get target other) refl
-    where
-      by : (o : Option ℕ) → get target other ≡ o → get (put_over nodes c other n o) c ≡ Some (KeptDir (insert target other n))
-      by None is = changed_here nodes c (with_name other n) (KeptDir target) into
-      by (Some old) is = changed_here (without_link nodes old) c (with_number other n) (KeptDir target) (less_other nodes old c (λ e. (apart old is).1 (sym e)) ∙ into)
-          ∙ ap (λ names. Some (KeptDir names)) (there_renumbered target other n (ap is_some is))
+  target_put = grind (arith, common_steps, changed_here, less_other, there_renumbered)
 
   -- other nodes but the one that loses the name stay
   put_stays : (k : ℕ) → k ≢ c → get target other ≢ Some k → get put k ≡ get nodes k
   unfolding put
-  put_stays k off far = by (get target other) refl
-    where
-      by : (o : Option ℕ) → get target other ≡ o → get (put_over nodes c other n o) k ≡ get nodes k
-      by None is = changed_other nodes c (with_name other n) k off
-      by (Some old) is = changed_other (without_link nodes old) c (with_number other n) k off ∙ less_other nodes old k (λ e. far (is ∙ ap Some (sym e)))
+  put_stays k off far = grind (arith, nat_tests, changed_other, less_other)
 
   -- and that one has a link less
   put_left : (old : ℕ) → get target other ≡ Some old → map_of put old ≡ option_and_then one_link_less (map_of nodes old)
@@ -85,10 +74,7 @@ module _ (nodes : KeptNodes) (d c n : ℕ) (source target : DirNames) (name othe
     moved : d ≡ c → get names other ≡ Some n
 
   same_names : d ≡ c → target ≡ source
-  same_names e = one_list (sym into ∙ ap (get nodes) (sym e) ∙ from)
-    where
-      one_list : {a b : DirNames} → Some (KeptDir a) ≡ Some (KeptDir b) → a ≡ b
-      one_list e = cc
+  same_names e = grind (arith, nat_tests)
 
   first : Source
   first = by (cases_eq d c)
@@ -163,12 +149,7 @@ module _ (nodes : KeptNodes) (d c n : ℕ) (source target : DirNames) (name othe
 
   -- no name comes twice
   one_each : (o : Option Kept) (slots : List Slot) → option_map inode_of o ≡ Some (ADir slots) → AreDistinct slots
-  one_each None slots e = absurd cc
-  one_each (Some (KeptDir names)) slots e = subst AreDistinct (same_list e) (slots_distinct names)
-    where
-      same_list : {a b : List Slot} → Some (ADir a) ≡ Some (ADir b) → a ≡ b
-      same_list e = cc
-  one_each (Some (KeptFile links bytes)) slots e = absurd cc
+  one_each o slots e = grind (arith, common_steps, slots_distinct)
 
   moves_of_after : MovesName (map_of nodes) (map_of after) d c n name other
   moves_of_after =

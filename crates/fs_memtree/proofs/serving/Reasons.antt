@@ -1,5 +1,6 @@
 -- What a command that nothing refuses meets: where its paths lead, and what is there.
-use Rattle.std.proofs.Common.{◌≡◌, ℕ, Bool, true, false, true≢false, if◌then◌else◌, List, [], ◌∷◌, ◌++◌, is_none, Option, Some, None, Result, Ok, Err, option_map, option_and_then, refl, sym, ap, ap₂, ◌∙◌}
+use Rattle.std.proofs.Common.{◌≡◌, ℕ, Bool, true, false, if◌then◌else◌, List, [], ◌∷◌, ◌++◌, is_none, Option, Some, None, Result, Ok, Err, option_and_then, refl, sym, ap, ap₂, ◌∙◌, arith}
+use Rattle.std.proofs.lemmas.Bool.Decides.{nat_tests}
 use Rattle.layout_bytes.specs.declared.slot.Slot.{Slot}
 use Rattle.lang_tree.specs.declared.command.Refusal.{Refusal}
 use Rattle.lang_tree.specs.declared.command.Refusal.TheVariants.{NotFound, NotDir}
@@ -16,17 +17,14 @@ use Rattle.fs_memtree.proofs.maps.Walking.{Fits, fits, parent_is, by_parts, numb
 
 -- where no reason comes first, the first one is none, and none of the later ones is
 pub no_reason : (r : Option Refusal) (rest : List (Option Refusal)) → first_reason (r ∷ rest) ≡ None → (r ≡ None) × (first_reason rest ≡ None)
-no_reason None rest e = (refl, e)
-no_reason (Some why) rest e = absurd cc
+no_reason r rest e = grind (arith, nat_tests)
 
 -- a condition that gives no reason doesn't hold
 pub not_so : (b : Bool) (why : Refusal) → when b why ≡ None → b ≡ false
-not_so true why e = absurd cc
-not_so false why e = refl
+not_so b why e = grind (arith, nat_tests)
 
 pub some_of : {A : Type 0} (o : Option A) → is_none o ≡ false → (x : A) × (o ≡ Some x)
-some_of None e = absurd (true≢false e)
-some_of (Some x) e = (x, refl)
+some_of o e = grind (arith, nat_tests)
 
 module _ (m : Inodes) where
   -- a walk without a reason comes to a number
@@ -38,9 +36,7 @@ module _ (m : Inodes) where
       by (Err why) e f = absurd cc
 
   dir_there : (o : Option Inode) → is_dir_inode o ≡ true → (slots : List Slot) × (o ≡ Some (ADir slots))
-  dir_there None e = absurd (true≢false (sym e))
-  dir_there (Some (ADir slots)) e = (slots, refl)
-  dir_there (Some (AFile links bytes)) e = absurd (true≢false (sym e))
+  dir_there o e = grind (arith, nat_tests)
 
   -- A directory above a path.
   pub record Parent (up : List (List ℕ)) : Type 0 where
@@ -74,14 +70,7 @@ module _ (m : Inodes) where
     pub is : m node ≡ Some (AFile links bytes)
 
   pub file_there : (limit : ℕ) (t : Tree) (path : List (List ℕ)) → IsMapOf limit m t → walk_reason m path ≡ None → is_dir_inode (inode_at m path) ≡ false → FileAt path
-  file_there limit t path is none no_dir =
-      let n = walked path none in
-      let x = is.shows.used path n.0 n.1 in
-      by n.0 n.1 x.0 x.1 (sym (ap is_dir_inode (ap (option_and_then m) n.1)) ∙ no_dir)
-    where
-      by : (n : ℕ) → LeadsTo m path n → (x : Inode) → m n ≡ Some x → is_dir_inode (m n) ≡ false → FileAt path
-      by n leads (ADir slots) at not_dir = absurd (true≢false (sym (ap is_dir_inode at) ∙ not_dir))
-      by n leads (AFile links bytes) at not_dir = record { node = n; leads = leads; links = links; bytes = bytes; is = at }
+  file_there limit t path is none no_dir = grind (arith, nat_tests, walked)
 
   -- where the directory above a path is there
   pub no_parent_reason : (path up : List (List ℕ)) (name : List ℕ) (d : ℕ) → path ≡ up ++ name ∷ [] → walk_on m 1 up ≡ Ok d → is_dir_inode (m d) ≡ true → parent_reason m path ≡ None
@@ -89,10 +78,7 @@ module _ (m : Inodes) where
 
   -- what the code finds at a path with a last name
   pub looked_up : (path up : List (List ℕ)) (name : List ℕ) (d : ℕ) → path ≡ up ++ name ∷ [] → number_at m up ≡ Some d → (spot_at m path ≡ Some (d, name)) × (number_at m path ≡ entry_in (m d) name)
-  looked_up path up name d is leads = (
-    ap (spot_at m) is ∙ spot_is m up name ∙ ap (option_map (λ d. (d, name))) leads,
-    ap (number_at m) is ∙ number_last m up name ∙ ap (option_and_then (λ j. entry_in (m j) name)) leads,
-  )
+  looked_up path up name d is leads = grind (arith, nat_tests, spot_is, number_last)
 
   -- a walk that goes on by one name
   abbrev then_name : Result ℕ Refusal → List ℕ → Result ℕ Refusal
@@ -105,18 +91,14 @@ module _ (m : Inodes) where
   one_more k (x ∷ up) name = by (is_dir_inode (m k)) (entry_in (m k) x) (λ j. one_more j up name)
     where
       by : (b : Bool) (o : Option ℕ) → ((j : ℕ) → walk_on m j (up ++ name ∷ []) ≡ then_name (walk_on m j up) name) → enter b o (λ j. walk_on m j (up ++ name ∷ [])) ≡ then_name (enter b o (λ j. walk_on m j up)) name
-      by false o on = refl
-      by true None on = refl
-      by true (Some j) on = on j
+      by b o e = grind (arith, nat_tests)
 
   -- a walk meets what is in the way of the path's parent, or that nothing is there
   pub reached : (path : List (List ℕ)) (r : Option Refusal) (o : Option ℕ) → r ≡ parent_reason m path → number_at m path ≡ o → first_reason (r ∷ when (is_none o) NotFound ∷ []) ≡ walk_reason m path
   reached path r o parent is = ap₂ (λ r o. first_reason (r ∷ when (is_none o) NotFound ∷ [])) parent (sym is) ∙ by_parts (λ path. first_reason (parent_reason m path ∷ when (is_none (number_at m path)) NotFound ∷ []) ≡ walk_reason m path) refl last path
     where
       both : (b : Bool) (o : Option ℕ) → first_reason ((if b then None else Some NotDir) ∷ when (is_none o) NotFound ∷ []) ≡ refusal_in (enter b o (λ j. Ok j))
-      both false o = refl
-      both true None = refl
-      both true (Some j) = refl
+      both b o = grind (arith, nat_tests)
 
       by : (up : List (List ℕ)) (name : List ℕ) (w : Result ℕ Refusal) → Fits w (number_at m up)
           → first_reason (dir_reason m w ∷ when (is_none (option_and_then (λ j. entry_in (m j) name) (number_at m up))) NotFound ∷ []) ≡ refusal_in (then_name w name)

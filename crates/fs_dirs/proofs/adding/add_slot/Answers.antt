@@ -59,22 +59,21 @@ write_at-requires-clause-slots g c = λ told x at dir.
 pub returns : goal.returns
 returns g c =
     let b = (goal.at.returns g c).In-Some in
+    let size : length c.as_slice.result.now ≡ 64 = search rules in
+    let new = g.S.Blocks.state c.write_at.new.blocks in
+    let after = files_in new c.write_at.new.self in
     record {
       slots = λ told.
-          let new = files_in (g.S.Blocks.state c.write_at.new.blocks) c.write_at.new.self in
           on_ok_weaker c.write_at.result (λ write slots is.
-          subst (λ (f : Files). IsWithSlots f new c.args.dir (slots ++ c.args.slot.now ∷ [])) (same_files g.S.Blocks.tells false (s g b) (mid g b) c.args.draft.now c.in_ok-count.ensures.looks told)
-          (sets_behind (files_in (mid g b) c.args.draft.now) new c.args.dir c.in-Some.count (64 * c.from.result) c.as_slice.result.now slots c.args.slot.now (node g b told slots is) (many g b told slots is) (omega (arith, c.from.ensures)) (search rules)
+          subst (λ (f : Files). IsWithSlots f after c.args.dir (slots ++ c.args.slot.now ∷ [])) (same_files g.S.Blocks.tells false (s g b) (mid g b) c.args.draft.now c.in_ok-count.ensures.looks told)
+          (sets_behind (files_in (mid g b) c.args.draft.now) after c.args.dir c.in-Some.count (64 * c.from.result) c.as_slice.result.now slots c.args.slot.now (node g b told slots is) (many g b told slots is) (omega (arith, c.from.ensures)) (search rules)
           (c.as_slice.ensures ∙ c.slot_text-text.ensures.text) c.slot_text-text.ensures.lawful c.slots_follow_the_bytes.ensures.behind write)) (c.write_at.ensures.file told);
       used = λ told.
           let same = same_files g.S.Blocks.tells false (s g b) (mid g b) c.args.draft.now c.in_ok-count.ensures.looks told in
           let there = subst (λ o. IfSome o (λ n. IsUsed (files_in (s g b) c.args.draft.now) c.args.dir)) c.in-Some.is (c.in_ok-count.ensures.used told) in
-          let new = files_in (g.S.Blocks.state c.write_at.new.blocks) c.write_at.new.self in
           on_ok_weaker c.write_at.result (λ write l used.
-          still_used (files_in (mid g b) c.args.draft.now) new c.args.dir (with_bytes there.0 _) (write there.0 (ap (λ (f : Files). f c.args.dir) same ∙ there.1)) l (subst (λ (f : Files). IsUsed f l) (sym same) used)) (c.write_at.ensures.file told);
+          still_used (files_in (mid g b) c.args.draft.now) after c.args.dir (with_bytes there.0 _) (write there.0 (ap (λ (f : Files). f c.args.dir) same ∙ there.1)) l (subst (λ (f : Files). IsUsed f l) (sym same) used)) (c.write_at.ensures.file told);
       places = λ told.
-          let size : length c.as_slice.result.now ≡ 64 = search rules in
-          let new = g.S.Blocks.state c.write_at.new.blocks in
           ok_both c.write_at.result (λ grows places slots is.
           let r = node g b told slots is in
           placed_behind (places_in (mid g b) c.args.draft.now) (places_in (s g b) c.args.draft.now) (places_in new c.write_at.new.self) c.args.dir _ _ (reusable_blocks new.books) _
@@ -84,23 +83,17 @@ returns g c =
           (c.write_at.ensures.grows told) (c.write_at.ensures.places told);
       draft = c.write_at.ensures.draft;
       room = λ told.
-          let size : length c.as_slice.result.now ≡ 64 = search rules in
-          let new = g.S.Blocks.state c.write_at.new.blocks in
           on_ok_weaker c.write_at.result (λ grows slots is.
           let r = node g b told slots is in
           room_behind new.books slots r.file (64 * c.from.result + length c.as_slice.result.now) (places_in (mid g b) c.args.draft.now c.args.dir) (places_in new c.write_at.new.self c.args.dir) c.args.draft.now c.write_at.new.self
           (grows r.file r.is (omega (arith, size))) r.long (omega (arith, c.from.ensures, many g b told slots is, size))) (c.write_at.ensures.grows told);
       runs = λ told.
-          let size : length c.as_slice.result.now ≡ 64 = search rules in
-          let new = g.S.Blocks.state c.write_at.new.blocks in
           on_ok_weaker c.write_at.result (λ grows slots is.
           let r = node g b told slots is in
           runs_behind new.books slots r.file (64 * c.from.result + length c.as_slice.result.now) (places_in (mid g b) c.args.draft.now c.args.dir) (places_in (s g b) c.args.draft.now c.args.dir) (places_in new c.write_at.new.self c.args.dir) c.args.draft.now c.write_at.new.self
           (grows r.file r.is (omega (arith, size))) r.long (omega (arith, c.from.ensures, many g b told slots is, size))
           (same_places g.S.Blocks.tells false (s g b) (mid g b) c.args.draft.now c.in_ok-count.ensures.looks c.args.dir told)) (c.write_at.ensures.grows told);
       alters = λ told.
-          let size : length c.as_slice.result.now ≡ 64 = search rules in
-          let new = g.S.Blocks.state c.write_at.new.blocks in
           ok_both c.write_at.result (λ grows among slots is.
           let r = node g b told slots is in
           let count = many g b told slots is in
@@ -110,7 +103,6 @@ returns g c =
           (c.a_file_has_its_blocks.ensures c.count_slots.new.blocks c.args.draft.now c.args.dir r.file told (still g b) r.is) (among r.file r.is))
           (c.write_at.ensures.grows told) (c.write_at.ensures.among told);
       refused = λ told.
-          let size : length c.as_slice.result.now ≡ 64 = search rules in
           let old = s g b in
           let look = mid g b in
           IfErr-weaker c.write_at.result _ _ (λ why refused slots is.
@@ -120,7 +112,6 @@ returns g c =
           (same_places g.S.Blocks.tells false old look c.args.draft.now c.in_ok-count.ensures.looks c.args.dir told) c.in_ok-count.ensures.looks.books (refused r.file r.is)) (c.write_at.ensures.refused told);
       settles = c.settlings_add_up.ensures.after _ _ c.args.blocks.now c.count_slots.new.blocks c.write_at.new.blocks c.requires.look.going c.in_ok-count.ensures.looks c.write_at.ensures.settles;
       looks = λ told slots is few.
-          let size : length c.as_slice.result.now ≡ 64 = search rules in
           let r = node g b told slots is in
           looks_more g.S.Blocks.tells (fails_reading c.write_at.result) (s g b) (mid g b) (g.S.Blocks.state c.write_at.new.blocks) c.in_ok-count.ensures.looks
           (c.write_at.ensures.looks told r.file r.is (omega (

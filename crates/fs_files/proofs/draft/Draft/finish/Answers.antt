@@ -42,8 +42,7 @@ returns-clause-books g c =
     let new = g.S.Blocks.state c.make_changes.new.blocks in
     let laws = c.a_commit_grows_by_each_call.ensures in
     let grows : Grows = record { put = laws.put; fresh = laws.fresh; take = laws.take; frees = laws.frees } in
-    let books : BooksFinished d s.books new.books = finish_books grows g.S.Blocks.tells s one new d e c.requires.draft c.lawful-2.ensures.once same c.prepare.ensures.books c.make_changes.ensures.made in
-    books
+    finish_books grows g.S.Blocks.tells s one new d e c.requires.draft c.lawful-2.ensures.once same c.prepare.ensures.books c.make_changes.ensures.made
 
 pub returns-clause-map : goal.returns-clause-map
 returns-clause-map g c =
@@ -54,7 +53,5 @@ returns-clause-map g c =
     let s = g.S.Blocks.state c.args.blocks.now in
     let one = g.S.Blocks.state c.prepare.new.self in
     let new = g.S.Blocks.state c.make_changes.new.blocks in
-    let laws = c.a_commit_grows_by_each_call.ensures in
-    let grows : Grows = record { put = laws.put; fresh = laws.fresh; take = laws.take; frees = laws.frees } in
-    let books : BooksFinished d s.books new.books = finish_books grows g.S.Blocks.tells s one new d e c.requires.draft c.lawful-2.ensures.once same c.prepare.ensures.books c.make_changes.ensures.made in
+    let books : BooksFinished d s.books new.books = returns-clause-books g c in
     λ t. finish_map g.S.Blocks.tells s one new d e c.requires.draft (subst IsGeometry c.geom.ensures c.lawful.ensures.limits) same c.prepare.ensures.books c.prepare.ensures.map c.make_changes.ensures.made books t (g.met.S.Blocks.is_told c.args.blocks.now t) (g.met.S.Blocks.is_told c.make_changes.new.blocks t) (g.met.S.Blocks.is_sound c.args.blocks.now)

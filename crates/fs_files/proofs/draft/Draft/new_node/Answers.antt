@@ -1,4 +1,4 @@
-use Rattle.std.proofs.Common.{rules, ap, refl, ◌+◌, ◌≡◌, ◌≤◌, arith}
+use Rattle.std.proofs.Common.{rules, ap, refl, ◌+◌, ◌≡◌, ◌≤◌, arith, IsTrue}
 use Rattle.std.proofs.lemmas.Grind.{common_steps}
 use Rattle.engine_blocks.specs.State.{Bookkeeping}
 use Rattle.fs_files.specs.Calls.{AreUsed, IsFirstUnused}
@@ -46,36 +46,25 @@ module _ (g : _) (c : goal.In_ok-store g) where
   changed = put_changes k c.geom-geom.result c.in-Some.number _ c.args.self.now c.store.new.draft c.geom-geom.ensures c.lawful.ensures.limits range.0 range.1 fits c.in_ok-store.ensures.ok
 
 pub returns : goal.returns
-returns g c = record {
-  node = λ tells.
-      let s = g.S.Blocks.state c.args.blocks.now in
-      let found : first g c = search rules in
-      let made = news s.books s.map c.geom-geom.result c.args.from c.in-Some.number c.args.kind (record { kind = c.args.kind; links = 1; size = 0; runs = c.new.result }) c.least_unused.new.table c.args.self.now c.store.new.draft
-      c.geom-geom.ensures c.lawful.ensures.limits (range g c).0 (range g c).1 c.requires.draft.fits (c.requires.draft.sound tells) c.requires.kind (c.requires.below tells) found.0 found.1
-      (ap (λ rs. record { kind = c.args.kind; links = 1; size = 0; runs = rs }) c.new.ensures) c.in_ok-store.ensures.ok c.in_ok-store.ensures.back in
-      (made.2, looked_files g.S.Blocks.tells _ s (g.S.Blocks.state c.least_unused.new.blocks) c.args.self.now c.store.new.draft c.in-Some.number _ c.least_unused.ensures.looks tells made.1);
-  places = λ tells.
-      let s = g.S.Blocks.state c.args.blocks.now in
-      let found : first g c = search rules in
-      let made = news s.books s.map c.geom-geom.result c.args.from c.in-Some.number c.args.kind (record { kind = c.args.kind; links = 1; size = 0; runs = c.new.result }) c.least_unused.new.table c.args.self.now c.store.new.draft
-      c.geom-geom.ensures c.lawful.ensures.limits (range g c).0 (range g c).1 c.requires.draft.fits (c.requires.draft.sound tells) c.requires.kind (c.requires.below tells) found.0 found.1
-      (ap (λ rs. record { kind = c.args.kind; links = 1; size = 0; runs = rs }) c.new.ensures) c.in_ok-store.ensures.ok c.in_ok-store.ensures.back in
-      looked_places g.S.Blocks.tells _ s (g.S.Blocks.state c.least_unused.new.blocks) c.args.self.now c.store.new.draft c.in-Some.number _ _ c.least_unused.ensures.looks tells refl made.3;
-  none = λ tells. tt;
-  number = range g c;
-  draft =
-      let s = g.S.Blocks.state c.args.blocks.now in
-      draft_looks g.S.Blocks.tells _ s (g.S.Blocks.state c.least_unused.new.blocks) c.store.new.draft c.least_unused.ensures.looks (record {
-        fits = fits g c;
-        sound = λ tells.
-            let found : first g c = search rules in
-            (news s.books s.map c.geom-geom.result c.args.from c.in-Some.number c.args.kind (record { kind = c.args.kind; links = 1; size = 0; runs = c.new.result }) c.least_unused.new.table c.args.self.now c.store.new.draft
-            c.geom-geom.ensures c.lawful.ensures.limits (range g c).0 (range g c).1 c.requires.draft.fits (c.requires.draft.sound tells) c.requires.kind (c.requires.below tells) found.0 found.1
-            (ap (λ rs. record { kind = c.args.kind; links = 1; size = 0; runs = rs }) c.new.ensures) c.in_ok-store.ensures.ok c.in_ok-store.ensures.back).0;
-        content = λ b some. changed g c;
-      });
-  among = put_sets (k g c) c.geom-geom.result c.in-Some.number _ c.args.self.now c.store.new.draft c.geom-geom.ensures c.lawful.ensures.limits (range g c).0 (range g c).1 c.requires.draft.fits c.in_ok-store.ensures.ok;
-  changes = changed g c;
-  refused = tt;
-  looks = first_of (search rules, grind (arith, common_steps));
-}
+returns g c =
+    let s = g.S.Blocks.state c.args.blocks.now in
+    let made = λ (tells : IsTrue g.S.Blocks.tells). let found : first g c = search rules in
+    news s.books s.map c.geom-geom.result c.args.from c.in-Some.number c.args.kind (record { kind = c.args.kind; links = 1; size = 0; runs = c.new.result }) c.least_unused.new.table c.args.self.now c.store.new.draft
+    c.geom-geom.ensures c.lawful.ensures.limits (range g c).0 (range g c).1 c.requires.draft.fits (c.requires.draft.sound tells) c.requires.kind (c.requires.below tells) found.0 found.1
+    (ap (λ rs. record { kind = c.args.kind; links = 1; size = 0; runs = rs }) c.new.ensures) c.in_ok-store.ensures.ok c.in_ok-store.ensures.back in
+    record {
+      node = λ tells. ((made tells).2, looked_files g.S.Blocks.tells _ s (g.S.Blocks.state c.least_unused.new.blocks) c.args.self.now c.store.new.draft c.in-Some.number _ c.least_unused.ensures.looks tells (made tells).1);
+      places = λ tells. looked_places g.S.Blocks.tells _ s (g.S.Blocks.state c.least_unused.new.blocks) c.args.self.now c.store.new.draft c.in-Some.number _ _ c.least_unused.ensures.looks tells refl (made tells).3;
+      none = λ tells. tt;
+      number = range g c;
+      draft =
+          draft_looks g.S.Blocks.tells _ s (g.S.Blocks.state c.least_unused.new.blocks) c.store.new.draft c.least_unused.ensures.looks (record {
+            fits = fits g c;
+            sound = λ tells. (made tells).0;
+            content = λ b some. changed g c;
+          });
+      among = put_sets (k g c) c.geom-geom.result c.in-Some.number _ c.args.self.now c.store.new.draft c.geom-geom.ensures c.lawful.ensures.limits (range g c).0 (range g c).1 c.requires.draft.fits c.in_ok-store.ensures.ok;
+      changes = changed g c;
+      refused = tt;
+      looks = first_of (search rules, grind (arith, common_steps));
+    }

@@ -116,12 +116,4 @@ returns-in_err-write_content g c =
     let read = g.S.Blocks.state c.load.new.blocks in
     let end = g.S.Blocks.state c.write_content.new.blocks in
     same_error c.from_residual-in_err-write_content.result c.in_err-write_content.field-0.0 (λ r. OverwritesFile tells c.args.number c.args.offset c.args.bytes.now r start end c.args.self.now c.write_content.new.draft) c.from_residual-in_err-write_content.ensures.1
-    (record {
-      file = λ told. tt;
-      places = λ told. tt;
-      draft = tt;
-      overwrites = λ told. tt;
-      changes = λ told. tt;
-      refused = c.in_err-write_content.ensures.refused;
-      looks = looks_more tells _ start read end c.in_ok-node.ensures.looks c.in_err-write_content.ensures.looks;
-    })
+    (search (rules, c.in_err-write_content.ensures.refused, looks_more tells _ start read end c.in_ok-node.ensures.looks c.in_err-write_content.ensures.looks))

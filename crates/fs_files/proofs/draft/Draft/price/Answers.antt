@@ -6,37 +6,7 @@ pub returns-clause-all : goal.returns-clause-all
 returns-clause-all g c = keys_have g.args.self.now.changed c
 
 pub returns-clause-value : goal.returns-clause-value
-returns-clause-value c =
-    omega (
-      arith,
-      as_many_keys c.args.self.now.changed,
-      c.counts-changed.ensures.changed,
-      c.counts-changed.ensures.fresh,
-      c.counts-changed.ensures.taken,
-      c.counts-changed.ensures.freed,
-      c.bitmap_blocks.ensures,
-      c.from-bitmap.ensures,
-      c.min.ensures,
-      c.min-2.ensures,
-      c.saturating_mul.ensures,
-      c.saturating_add.ensures,
-      c.saturating_add-2.ensures,
-    )
+returns-clause-value c = omega (arith, as_many_keys c.args.self.now.changed)
 
 pub returns-clause-least : goal.returns-clause-least
-returns-clause-least c = λ bs among.
-    omega (
-      arith,
-      fewest_changed c.args.self.now.changed bs c.one_change_each.ensures among,
-      c.counts-changed.ensures.changed,
-      c.counts-changed.ensures.fresh,
-      c.counts-changed.ensures.taken,
-      c.counts-changed.ensures.freed,
-      c.bitmap_blocks.ensures,
-      c.from-bitmap.ensures,
-      c.min.ensures,
-      c.min-2.ensures,
-      c.saturating_mul.ensures,
-      c.saturating_add.ensures,
-      c.saturating_add-2.ensures,
-    )
+returns-clause-least c = λ bs among. omega (arith, fewest_changed c.args.self.now.changed bs c.one_change_each.ensures among)

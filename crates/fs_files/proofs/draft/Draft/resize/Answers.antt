@@ -1,4 +1,4 @@
-use Rattle.std.proofs.Common.{◌≡◌, true, false, IsTrue, length, option_map, Some, refl, sym, ap, subst, ◌∙◌, arith}
+use Rattle.std.proofs.Common.{◌≡◌, true, false, IsTrue, length, option_map, Some, refl, sym, ap, subst, ◌∙◌, arith, rules}
 use Rattle.std.specs.Prelude.{IfSome}
 use Rattle.std.proofs.lemmas.Result.{on_ok_weaker}
 use Rattle.layout_geometry.specs.Geometry.{IsGeometry}
@@ -71,17 +71,8 @@ pub returns-in_err-node : goal.returns-in_err-node
 returns-in_err-node g c =
     let s = g.S.Blocks.state c.args.blocks.now in
     let t = g.S.Blocks.state c.load.new.blocks in
-    let d = c.args.self.now in
-    same_error c.from_residual.result refusal.ReadFault (λ r. ResizesFile g.S.Blocks.tells c.args.number c.args.size r s t d d) c.from_residual.ensures.1
-    (record {
-      file = λ told. tt;
-      places = λ told. tt;
-      draft = tt;
-      resizes = λ told. tt;
-      refused = λ told x at. tt;
-      settles = looked g.S.Blocks.state g.S.Blocks.tells c.calls_compose.ensures.advances c.calls_compose.ensures.rests true c.args.blocks.now c.load.new.blocks c.requires.look.going c.in_err-node.ensures.looks;
-      looks = λ told x at few. c.in_err-node.ensures.looks;
-    })
+    same_error c.from_residual.result refusal.ReadFault (λ r. ResizesFile g.S.Blocks.tells c.args.number c.args.size r s t c.args.self.now c.args.self.now) c.from_residual.ensures.1
+    (search (rules, looked g.S.Blocks.state g.S.Blocks.tells c.calls_compose.ensures.advances c.calls_compose.ensures.rests true c.args.blocks.now c.load.new.blocks c.requires.look.going c.in_err-node.ensures.looks, c.in_err-node.ensures.looks))
 
 pub returns-in_default : goal.returns-in_default
 returns-in_default g c =

@@ -72,31 +72,23 @@ returns-then-is_empty g c =
 pub returns : goal.returns
 returns g c =
     let b = (goal.at.returns g c).In-Some in
+    let u = g.S.Blocks.state c.write_loaded.new.blocks in
+    let geom = geom_same g (goal.at.returns g c).After-write_loaded in
     record {
       file = λ told.
-          let u = g.S.Blocks.state c.write_loaded.new.blocks in
-          let geom = geom_same g (goal.at.returns g c).After-write_loaded in
           on_ok_weaker c.write_loaded.result (λ w. file_then (s g b) (t g b) u c.args.number c.args.offset c.args.bytes.now c.args.self.now c.write_loaded.new.draft geom (c.in_ok-node.ensures.looks.map told) (sym (c.write_loaded.ensures.settles.map told)) w)
           (c.write_loaded.ensures.file told);
       places = λ told.
-          let u = g.S.Blocks.state c.write_loaded.new.blocks in
-          let geom = geom_same g (goal.at.returns g c).After-write_loaded in
           on_ok_weaker c.write_loaded.result (λ w. has_then (s g b) (t g b) u c.args.number c.args.offset c.args.bytes.now c.args.self.now c.write_loaded.new.draft geom (c.in_ok-node.ensures.looks.map told) (sym (c.write_loaded.ensures.settles.map told)) w)
           (c.write_loaded.ensures.file told);
       draft = c.write_loaded.ensures.draft;
       grows = λ told.
-          let u = g.S.Blocks.state c.write_loaded.new.blocks in
-          let geom = geom_same g (goal.at.returns g c).After-write_loaded in
           on_ok_weaker c.write_loaded.result (λ w x at some. grows_then (s g b) (t g b) u c.args.number c.args.offset c.args.bytes.now c.args.self.now c.write_loaded.new.draft geom (c.in_ok-node.ensures.looks.map told) (sym (c.write_loaded.ensures.settles.map told)) w x at)
           (c.write_loaded.ensures.file told);
       among = λ told.
-          let u = g.S.Blocks.state c.write_loaded.new.blocks in
-          let geom = geom_same g (goal.at.returns g c).After-write_loaded in
           on_ok_weaker c.write_loaded.result (λ w. among_then (s g b) (t g b) u c.args.number c.args.offset c.args.bytes.now c.args.self.now c.write_loaded.new.draft geom (c.in_ok-node.ensures.looks.map told) (sym (c.write_loaded.ensures.settles.map told)) w)
           (c.write_loaded.ensures.file told);
       changes = λ told.
-          let u = g.S.Blocks.state c.write_loaded.new.blocks in
-          let geom = geom_same g (goal.at.returns g c).After-write_loaded in
           let there = c.requires.used told in
           on_ok_weaker c.write_loaded.result (λ w some. (grows_then (s g b) (t g b) u c.args.number c.args.offset c.args.bytes.now c.args.self.now c.write_loaded.new.draft geom (c.in_ok-node.ensures.looks.map told) (sym (c.write_loaded.ensures.settles.map told)) w there.0 there.1).changes)
           (c.write_loaded.ensures.file told);
@@ -132,16 +124,5 @@ pub returns-in_err-node : goal.returns-in_err-node
 returns-in_err-node g c =
     let s = g.S.Blocks.state c.args.blocks.now in
     let t = g.S.Blocks.state c.load.new.blocks in
-    let d = c.args.self.now in
-    same_error c.from_residual.result refusal.ReadFault (λ r. WritesAt g.S.Blocks.tells c.args.number c.args.offset c.args.bytes.now r s t d d) c.from_residual.ensures.1
-    (record {
-      file = λ told. tt;
-      places = λ told. tt;
-      draft = tt;
-      grows = λ told. tt;
-      among = λ told. tt;
-      changes = λ told. tt;
-      refused = λ told x at. tt;
-      settles = looked g.S.Blocks.state g.S.Blocks.tells c.calls_compose.ensures.advances c.calls_compose.ensures.rests true c.args.blocks.now c.load.new.blocks c.requires.look.going c.in_err-node.ensures.looks;
-      looks = λ told x at few. c.in_err-node.ensures.looks;
-    })
+    same_error c.from_residual.result refusal.ReadFault (λ r. WritesAt g.S.Blocks.tells c.args.number c.args.offset c.args.bytes.now r s t c.args.self.now c.args.self.now) c.from_residual.ensures.1
+    (search (rules, looked g.S.Blocks.state g.S.Blocks.tells c.calls_compose.ensures.advances c.calls_compose.ensures.rests true c.args.blocks.now c.load.new.blocks c.requires.look.going c.in_err-node.ensures.looks, c.in_err-node.ensures.looks))
