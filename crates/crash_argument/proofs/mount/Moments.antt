@@ -1,5 +1,7 @@
 -- A statement on all images of all moments since one: how it begins, and how it goes on while a block is written and waited for.
-use Rattle.std.proofs.Common.{◌≡◌, ⊎_elim, ℕ, ◌≤◌, List, [], ◌∷◌, ◌++◌, length, Err, sym, ◌∙◌, ap, subst, append-nil, append_assoc}
+use Rattle.std.proofs.Common.{◌≡◌, ⊎_elim, ℕ, ◌≤◌, List, [], ◌∷◌, ◌++◌, length, Err, sym, ◌∙◌, ap, subst, arith, append-nil, append_assoc, length-append}
+use Rattle.std.proofs.lemmas.List.{take-append-le, take_all}
+use Rattle.std.proofs.lemmas.Bool.{cases_lt}
 use Rattle.base_types.specs.Seal.{Blocks}
 use Rattle.disk_contract.specs.declared.event.Event.{Event}
 use Rattle.disk_contract.specs.declared.event.Event.TheVariants.{Wrote, Lost, Noticed}
@@ -8,8 +10,19 @@ use Rattle.disk_contract.specs.Cell.{notices}
 use Rattle.disk_contract.specs.Crash.{IsHonest, Window}
 use Rattle.disk_contract.specs.Disk.{AddsWrite}
 use Rattle.crash_argument.specs.Opening.{AddsWaited}
-use Rattle.disk_contract.proofs.Windows.{window_start, window_more}
 use Rattle.crash_argument.proofs.log.Adds.{Adds, adds_wrote, adds_lost}
+
+-- a statement on each moment begins with the images of now
+pub window_begins : (n : ℕ) (base : Blocks) (log : List Event) (P : Blocks → Type 0) → ((img : Blocks) → IsHonest n base log img → P img) → Window n base log (length log) P
+window_begins n base log P now = record { each = λ k img from upto honest. now img (subst (λ (l : List Event). IsHonest n base l img) (take_all k log from) honest) }
+
+-- and goes on with those after one more event
+pub window_goes_on : (n : ℕ) (base : Blocks) (log : List Event) (e : Event) (t : ℕ) (P : Blocks → Type 0) → Window n base log t P → ((img : Blocks) → IsHonest n base (log ++ e ∷ []) img → P img) → Window n base (log ++ e ∷ []) t P
+window_goes_on n base log e t P w now = record {
+  each = λ k img from upto honest. ⊎_elim (λ late. now img (subst (λ (l : List Event). IsHonest n base l img) (take_all k (log ++ e ∷ []) (omega (arith, late, length-append log (e ∷ [])))) honest))
+      (λ early. w.each k img from early (subst (λ (l : List Event). IsHonest n base l img) (take-append-le k log (e ∷ []) early) honest))
+      (cases_lt (length log) k);
+}
 
 -- The moments of writing bytes to a block and waiting for them, where what is the case then, by the log, makes each honest image be of some kind.
 module _ (n : ℕ) (base : Blocks) (block : ℕ) (x : List ℕ) (Being : List Event → Type 0) (Holds : Blocks → Type 0) (now : (later : List Event) (img : Blocks) → Being later → IsHonest n base later img → Holds img)
@@ -21,11 +34,11 @@ module _ (n : ℕ) (base : Blocks) (block : ℕ) (x : List ℕ) (Being : List Ev
 
   -- so they begin
   begins : (log : List Event) → Being log → AreMoments log log
-  begins log o = record { being = o; window = window_start n base Holds log (λ img honest. now log img o honest) }
+  begins log o = record { being = o; window = window_begins n base log Holds (λ img honest. now log img o honest) }
 
   -- they go on with one more event
   goes_on : (start later : List Event) (e : Event) → AreMoments start later → Being (later ++ e ∷ []) → AreMoments start (later ++ e ∷ [])
-  goes_on start later e m o = record { being = o; window = window_more n base Holds later (length start) e m.window (λ img honest. now (later ++ e ∷ []) img o honest) }
+  goes_on start later e m o = record { being = o; window = window_goes_on n base later e (length start) Holds m.window (λ img honest. now (later ++ e ∷ []) img o honest) }
 
   -- and with notices
   noticed : (start later : List Event) (ts : List ℕ) → AreMoments start later → AreMoments start (later ++ notices ts)

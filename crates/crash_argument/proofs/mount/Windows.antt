@@ -1,7 +1,8 @@
 -- Windows of any statement: how they go on, join, and follow from one another.
-use Rattle.std.proofs.Common.{◌≡◌, ⊎_elim, ℕ, ◌≤◌, List, [], ◌∷◌, ◌++◌, length, take, Option, Some, None, Result, Ok, Err, sym, ◌∙◌, ap, subst, arith, append-nil, append_assoc}
+use Rattle.std.proofs.Common.{◌≡◌, ⊎_elim, ℕ, ◌≤◌, List, [], ◌∷◌, ◌++◌, length, take, Option, Some, None, Result, Ok, Err, sym, ◌∙◌, ap, subst, arith, append-nil, append_assoc, length-append}
 use Rattle.std.proofs.lemmas.List.{take-append-le}
 use Rattle.std.proofs.lemmas.Bool.{cases_lt}
+use Rattle.std.proofs.Math.Seq.{take-length}
 use Rattle.base_types.specs.Seal.{Blocks}
 use Rattle.disk_contract.specs.declared.event.Event.{Event}
 use Rattle.disk_contract.specs.declared.event.Event.TheVariants.{Wrote, Lost, Noticed}
@@ -12,13 +13,22 @@ use Rattle.crash_argument.specs.JournalLaws.{JournalLaws}
 use Rattle.crash_argument.specs.Ledger.{Ledger, HoldsUnder, StandsForOne, IsConsistentWith, next_number}
 use Rattle.crash_argument.specs.Opening.{AddsWaited, AddsDurable}
 use Rattle.crash_argument.specs.Points.{MountedSession, IsPoint, HoldsPoint, IsSafe, points_in}
-use Rattle.disk_contract.proofs.Windows.{window_more, window_notices}
+use Rattle.crash_argument.proofs.mount.Moments.{window_goes_on}
 use Rattle.crash_argument.proofs.steps.WindowSteps.{last_is}
 use Rattle.crash_argument.proofs.theorem.Whole.{stands_for_one}
 
 -- notices add no image
-pub window_after_wait : (n : ℕ) (base : Blocks) (log new : List Event) (t : ℕ) (P : Blocks → Type 0) → t ≤ length log → AddsNotices log new → Window n base log t P → Window n base new t P
-window_after_wait n base log new t P le a w = subst (λ (l : List Event). Window n base l t P) (sym a.log) (window_notices n base P log t a.tickets le w)
+pub window_noticed : ((n : ℕ) (base : Blocks) (log : List Event) (t : ℕ) (img : Blocks) → IsHonest n base (log ++ Noticed t ∷ []) img → IsHonest n base log img)
+    → (n : ℕ) (base : Blocks) (log : List Event) (t : ℕ) (P : Blocks → Type 0) (ts : List ℕ) → t ≤ length log → Window n base log t P → Window n base (log ++ notices ts) t P
+window_noticed none_new n base log t P [] le w = subst (λ (l : List Event). Window n base l t P) (sym (append-nil log)) w
+window_noticed none_new n base log t P (u ∷ ts) le w =
+    let one = window_goes_on n base log (Noticed u) t P w (λ img h. w.each (length log) img le (omega arith) (subst (λ (l : List Event). IsHonest n base l img) (sym (take-length log)) (none_new n base log u img h))) in
+    subst (λ (l : List Event). Window n base l t P) (append_assoc log (Noticed u ∷ []) (notices ts))
+    (window_noticed none_new n base (log ++ Noticed u ∷ []) t P ts (omega (arith, le, length-append log (Noticed u ∷ []))) one)
+
+pub window_after_wait : ((n : ℕ) (base : Blocks) (log : List Event) (t : ℕ) (img : Blocks) → IsHonest n base (log ++ Noticed t ∷ []) img → IsHonest n base log img)
+    → (n : ℕ) (base : Blocks) (log new : List Event) (t : ℕ) (P : Blocks → Type 0) → t ≤ length log → AddsNotices log new → Window n base log t P → Window n base new t P
+window_after_wait none_new n base log new t P le a w = subst (λ (l : List Event). Window n base l t P) (sym a.log) (window_noticed none_new n base log t P a.tickets le w)
 
 -- two windows one behind the other are one
 pub window_joins : (n : ℕ) (base : Blocks) (log new : List Event) (t : ℕ) (P : Blocks → Type 0) → Grows log new → Window n base log t P → Window n base new (length log) P → Window n base new t P
@@ -62,7 +72,7 @@ window_carried laws base old new l t b x r P adds keeps has w = by r adds
   where
     one : (e : Event) → new ≡ old ++ e ∷ [] → Window l.geom.n base new t P
     one e is = subst (λ (lg : List Event). Window l.geom.n base lg t P) (sym is)
-        (window_more l.geom.n base P old t e w (λ img honest. has img (stands_for_one laws base (old ++ e ∷ []) l img (subst (λ (lg : List Event). IsConsistentWith base lg l) is keeps) honest)))
+        (window_goes_on l.geom.n base old e t P w (λ img honest. has img (stands_for_one laws base (old ++ e ∷ []) l img (subst (λ (lg : List Event). IsConsistentWith base lg l) is keeps) honest)))
 
     by : {E : Type 0} (r : Result ℕ E) → AddsWrite b x r old new → Window l.geom.n base new t P
     by (Ok u) a = one (Wrote u b x) a.2
