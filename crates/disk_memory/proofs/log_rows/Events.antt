@@ -1,5 +1,6 @@
 -- Small facts on logs of events: two logs one behind the other, what is at a place, which logs are lawful, and which blocks are written.
 use Rattle.std.proofs.Common.{◌≡◌, ◌⊎◌, ⊎_elim, ℕ, zero, suc, ◌+◌, ◌<◌, ◌≤◌, ◌==◌, ◌||◌, true, false, List, [], ◌∷◌, ◌++◌, length, take, drop, Some, refl, sym, ◌∙◌, ap, subst, arith, append-nil, append_assoc, length-take}
+use Rattle.std.specs.Prelude.{max}
 use Rattle.std.specs.List.{slice_get}
 use Rattle.std.proofs.Math.Bool.{or_assoc}
 use Rattle.std.proofs.lemmas.Bool.{eqb-true, eq-eqb, or_cases, or_left, or_right, false≢true, false_from_ne_true}
@@ -9,7 +10,6 @@ use Rattle.disk_contract.specs.declared.event.Event.{Event}
 use Rattle.disk_contract.specs.declared.event.Event.TheVariants.{Wrote, Lost, Noticed}
 use Rattle.disk_contract.specs.Cell.{greatest_ticket, is_accepted, is_noticed, IsAccepted, IsNoticed}
 use Rattle.disk_contract.specs.Lawful.{MayCome, AreLawfulAfter, IsLawful, IsEventOf, AreEventsOf}
-use Rattle.disk_contract.proofs.Cells.{greatest-append}
 use Rattle.disk_memory.specs.Log.{tickets, write_count, AreWithin}
 
 -- the tickets of two logs, one behind the other, are those of the first and those of the second
@@ -25,6 +25,13 @@ write_count-append [] ys = omega arith
 write_count-append (Wrote t b x ∷ xs) ys = let rest = write_count-append xs ys in omega arith
 write_count-append (Lost b x ∷ xs) ys = let rest = write_count-append xs ys in omega arith
 write_count-append (Noticed t ∷ xs) ys = write_count-append xs ys
+
+-- the greatest ticket is the greater one of both
+pub greatest-append : (xs ys : List Event) → greatest_ticket (xs ++ ys) ≡ max (greatest_ticket xs) (greatest_ticket ys)
+greatest-append [] ys = omega arith
+greatest-append (Wrote t b x ∷ xs) ys = let rest = greatest-append xs ys in omega arith
+greatest-append (Lost b x ∷ xs) ys = greatest-append xs ys
+greatest-append (Noticed t ∷ xs) ys = greatest-append xs ys
 
 -- so it is at least that of the first
 pub greatest_before : (xs ys : List Event) → greatest_ticket xs ≤ greatest_ticket (xs ++ ys)
