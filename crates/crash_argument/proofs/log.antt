@@ -1,3 +1,4 @@
+pub mod Events
 pub mod Lists
 pub mod Adds
 pub mod Places

@@ -6,7 +6,7 @@ use Rattle.disk_contract.specs.declared.event.Event.{Event}
 use Rattle.disk_contract.specs.declared.event.Event.TheVariants.{Wrote, Lost, Noticed}
 use Rattle.disk_contract.specs.Cell.{Cell, Write, with_write, settle, from_ticket, is_ticket, after, cell_of, IsWritten}
 use Rattle.disk_contract.specs.Crash.{AreBytesOf}
-use Rattle.disk_contract.proofs.Cells.{cell_of-append, IsWritten-append, other_wrote, other_lost}
+use Rattle.crash_argument.proofs.log.Events.{cell_of-append, IsWritten-append, other_wrote, other_lost}
 use Rattle.crash_argument.specs.Ledger.{StandsIn, IsOnDisk, latest, last_of}
 
 -- the second log is the first with a write of x to the block, accepted or lost

@@ -5,7 +5,7 @@ use Rattle.base_types.specs.Seal.{Blocks}
 use Rattle.disk_contract.specs.declared.event.Event.{Event}
 use Rattle.disk_contract.specs.declared.event.Event.TheVariants.{Wrote, Lost, Noticed}
 use Rattle.disk_contract.specs.Cell.{cell_of, greatest_ticket, IsNoticed, IsWritten}
-use Rattle.disk_contract.proofs.Cells.{other_wrote, other_lost, IsWritten-append}
+use Rattle.crash_argument.proofs.log.Events.{other_wrote, other_lost, IsWritten-append}
 use Rattle.crash_argument.specs.Ledger.{latest}
 use Rattle.crash_argument.specs.LastWrites.{AvoidsBlock, IsLastWrite, is_among}
 use Rattle.crash_argument.specs.Recording.{IsAmongLast}

@@ -5,7 +5,7 @@ use Rattle.base_types.specs.Seal.{Blocks}
 use Rattle.disk_contract.specs.declared.event.Event.{Event}
 use Rattle.disk_contract.specs.declared.event.Event.TheVariants.{Wrote, Lost, Noticed}
 use Rattle.disk_contract.specs.Cell.{Cell, Write, with_write, is_ticket, from_ticket, settle, after, after_all, cell_of, greatest_ticket, IsNoticed}
-use Rattle.disk_contract.proofs.Cells.{after_all-append, IsNoticed-append}
+use Rattle.crash_argument.proofs.log.Events.{after_all-append, IsNoticed-append}
 use Rattle.crash_argument.specs.LastWrites.{AvoidsBlock, IsLastWrite}
 use Rattle.crash_argument.specs.PipelineData.{IsSettledIn}
 

@@ -12,7 +12,7 @@ use Rattle.layout_journal.specs.Run.{Record, AreWhole, heads, payload_from, name
 use Rattle.crash_argument.specs.JournalLaws.{JournalLaws}
 use Rattle.crash_argument.specs.LastWrites.{AvoidsBlock}
 use Rattle.crash_argument.specs.ReplayMade.{home_write, home_events}
-use Rattle.disk_contract.proofs.Cells.{after_all-append}
+use Rattle.crash_argument.proofs.log.Events.{after_all-append}
 use Rattle.crash_argument.proofs.log.LastWrites.{avoids_append}
 
 -- a block that is settled in these bytes, with nothing pending

@@ -19,7 +19,7 @@ use Rattle.crash_argument.specs.PipelineData.{IsSettledIn}
 use Rattle.crash_argument.specs.Points.{IsMounted}
 use Rattle.crash_argument.specs.Opening.{opening_header, closed_header, IsReadyToOpen, AddsWaited, AddsDurable}
 use Rattle.crash_argument.proofs.log.Adds.{settles_one}
-use Rattle.disk_contract.proofs.Cells.{other_wrote}
+use Rattle.crash_argument.proofs.log.Events.{other_wrote}
 use Rattle.crash_argument.proofs.log.LastWrites.{last_new, last_stays}
 use Rattle.crash_argument.proofs.log.Tickets.{noticed_done}
 

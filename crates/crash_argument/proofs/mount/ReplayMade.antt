@@ -18,7 +18,7 @@ use Rattle.crash_argument.specs.LastWrites.{AvoidsBlock}
 use Rattle.crash_argument.specs.Opening.{last_number, opening_header}
 use Rattle.crash_argument.specs.Replay.{IsFound, IsAsFound, IsOlder, Closes, IsClosing, IsReplaying, IsOpening}
 use Rattle.crash_argument.specs.ReplayMade.{closing_header, closing_events, closed_events, replay_events, opening_events, reopening_events}
-use Rattle.disk_contract.proofs.Cells.{after_all-append}
+use Rattle.crash_argument.proofs.log.Events.{after_all-append}
 use Rattle.crash_argument.proofs.theorem.Images.{in_ring}
 use Rattle.crash_argument.proofs.log.Lists.{inspect}
 use Rattle.crash_argument.proofs.mount.HomeWrites.{idle, pending, own_write, other_write, own_home, other_home, left_alone, avoids_take, before_home, uncovered_home, at_home, none_behind}

@@ -18,7 +18,7 @@ use Rattle.crash_argument.specs.HomeTest.{is_one_of}
 use Rattle.crash_argument.specs.PipelineData.{PipelineData, DataAgree, NeedsCheckpoint, IsHomeNoticed, with_pending, with_durable, with_batch, with_home, with_sent, with_placed, with_committed}
 use Rattle.crash_argument.specs.OnePending.{IsIdle, IsFreshInNew, IsOnItsWay, HasOnePending, IsNotOnItsWay, AreOfRecord}
 use Rattle.crash_argument.specs.Points.{IsMounted, ledger_at_mount}
-use Rattle.disk_contract.proofs.Cells.{cell_of-append, other_wrote, other_lost}
+use Rattle.crash_argument.proofs.log.Events.{cell_of-append, other_wrote, other_lost}
 use Rattle.crash_argument.proofs.log.Tickets.{noticed_done}
 use Rattle.crash_argument.proofs.log.LastWrites.{last_stays, last_new}
 use Rattle.crash_argument.proofs.log.Adds.{settles_one}

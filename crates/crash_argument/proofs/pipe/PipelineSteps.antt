@@ -6,7 +6,7 @@ use Rattle.base_types.specs.Seal.{Blocks}
 use Rattle.disk_contract.specs.declared.event.Event.{Event}
 use Rattle.disk_contract.specs.declared.event.Event.TheVariants.{Noticed}
 use Rattle.disk_contract.specs.Cell.{Cell, Write, cell_of, IsNoticed}
-use Rattle.disk_contract.proofs.Cells.{cell_of-append}
+use Rattle.crash_argument.proofs.log.Events.{cell_of-append}
 use Rattle.layout_geometry.specs.Geometry.{data_start}
 use Rattle.layout_journal.specs.declared.header.Header.{Header}
 use Rattle.layout_journal.specs.Layout.{header_of}

@@ -4,7 +4,7 @@ use Rattle.base_types.specs.Seal.{Blocks}
 use Rattle.disk_contract.specs.declared.event.Event.{Event}
 use Rattle.disk_contract.specs.declared.event.Event.TheVariants.{Noticed}
 use Rattle.disk_contract.specs.Cell.{IsWritten}
-use Rattle.disk_contract.proofs.Cells.{IsWritten-append}
+use Rattle.crash_argument.proofs.log.Events.{IsWritten-append}
 use Rattle.crash_argument.specs.Ledger.{Ledger, IsConsistentWith}
 use Rattle.crash_argument.proofs.log.Adds.{settles_one}
 use Rattle.crash_argument.proofs.steps.Kept.{same_headers, same_record, same_numbers, same_home}
