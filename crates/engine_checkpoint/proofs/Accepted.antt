@@ -1,20 +1,20 @@
 -- A committed transaction joins the pipeline: the records stay in order, and there is room still for what was made ready and isn't used up.
-use Rattle.std.proofs.Common.{◌≡◌, ℕ, ◌+◌, ◌-◌, ◌<◌, ◌≤◌, Bool, true, false, if◌then◌else◌, List, [], ◌∷◌, ◌++◌, length, take, drop, map, Option, Some, None, refl, sym, ◌∙◌, subst, ap, arith, length-append, append_assoc}
+use Rattle.std.proofs.Common.{◌≡◌, ℕ, ◌+◌, ◌-◌, ◌<◌, ◌≤◌, List, [], ◌∷◌, ◌++◌, length, take, drop, map, Option, Some, None, refl, sym, ◌∙◌, subst, ap, arith, length-append, append_assoc}
+use Rattle.std.proofs.lemmas.Bool.Decides.{nat_tests}
 use Rattle.std.specs.List.{All, range_with_len}
 use Rattle.std.specs.VecDeque.{deque_len, deque_capacity}
 use Rattle.std.proofs.lemmas.List.{length-map, map-id, drop-append-le, take-append-le}
 use Rattle.std.proofs.lemmas.List.Elements.{All-nil, All-cons, All-append}
 use Rattle.std.proofs.lemmas.List.FromFn.{map-range_with_len_more}
-use Rattle.std.proofs.lemmas.Bool.{cond-true, cond-false}
 use Rattle.engine_notes.specs.declared.notes.Note.{Note}
-use Rattle.engine_notes.specs.Notes.{Expected, is_expected}
+use Rattle.engine_notes.specs.Notes.{Expected}
 use Rattle.engine_running.specs.Record.{AreBelow}
 use Rattle.engine_running.specs.declared.put.Put.{Put}
 use Rattle.engine_running.specs.declared.commit.Committed.{Committed}
 use Rattle.engine_checkpoint.specs.declared.pipeline.Pending.{Pending}
 use Rattle.engine_checkpoint.specs.declared.pipeline.Pipeline.{Pipeline}
 use Rattle.engine_checkpoint.specs.Advance.{writes_owed}
-use Rattle.engine_checkpoint.specs.Kept.{Kept, kept, numbers, number_of, count_of, placed_number, of_sure, of_durable, of_committed, total, places_taken, payloads_in, behind_batch}
+use Rattle.engine_checkpoint.specs.Kept.{Kept, kept, numbers, count_of, of_sure, of_durable, of_committed, total, places_taken, payloads_in, behind_batch}
 use Rattle.engine_checkpoint.specs.declared.newest.Spot.{Spot}
 use Rattle.engine_checkpoint.specs.Newest.{spot_room, spot_after}
 use Rattle.engine_checkpoint.specs.Order.{IsInOrder, HasRoom, HasPlaces, PayloadsBelow, header_written, pending_notes}
@@ -38,11 +38,7 @@ range_push a n = ap (λ ns. ns ++ (a + n) ∷ []) (sym (map-id (range_with_len a
 -- and keeps it where more is expected
 pub note_stays : (next : Option Pending) (old new : List Note) → ExpectMore old new → pending_notes next old ≤ pending_notes next new
 note_stays None old new more = omega arith
-note_stays (Some q) old new more = by (is_expected q.ticket old) refl
-  where
-    by : (v : Bool) → is_expected q.ticket old ≡ v → (if is_expected q.ticket old then 1 else 0) ≤ (if is_expected q.ticket new then 1 else 0)
-    by true e = omega (arith, cond-true {A = ℕ} (is_expected q.ticket old) 1 0 e, cond-true {A = ℕ} (is_expected q.ticket new) 1 0 (more q.ticket e))
-    by false e = omega (arith, cond-false {A = ℕ} (is_expected q.ticket old) 1 0 e)
+note_stays (Some q) old new more = grind (arith, nat_tests)
 
 -- a record of the same lists
 pub same_after : (before : Option Spot) (number b : ℕ) (ps qs : List Put) (fs gs hs is : List ℕ) → ps ≡ qs → fs ≡ gs → hs ≡ is → spot_after before number ps fs hs b ≡ spot_after before number qs gs is b
@@ -59,16 +55,10 @@ module _ (v out : Pipeline) (c : Committed) (notes : Expected) (more : out.commi
   then_is = record v { committed = out.committed; notes = notes; last = out.last; unplaced = out.unplaced; newest = out.newest; ready = out.ready }
 
   pub kept_joined : kept then_is ≡ kept v ++ of_committed c ∷ []
-  kept_joined =
-      ap (λ cs. map of_sure v.sure.items ++ (map of_durable v.durable.items ++ cs)) (ap (map of_committed) more ∙ map_push of_committed v.committed.items c)
-      ∙ ap (λ ks. map of_sure v.sure.items ++ ks) (sym (append_assoc (map of_durable v.durable.items) (map of_committed v.committed.items) (of_committed c ∷ [])))
-      ∙ sym (append_assoc (map of_sure v.sure.items) (map of_durable v.durable.items ++ map of_committed v.committed.items) (of_committed c ∷ []))
+  kept_joined = grind (arith, nat_tests, map_push, append_assoc)
 
   numbers_is : numbers then_is ≡ numbers v ++ c.number ∷ []
-  numbers_is =
-      ap (λ ks. map placed_number v.placed.items ++ map number_of ks) kept_joined
-      ∙ ap (λ ns. map placed_number v.placed.items ++ ns) (map_push number_of (kept v) (of_committed c))
-      ∙ sym (append_assoc (map placed_number v.placed.items) (map number_of (kept v)) (c.number ∷ []))
+  numbers_is = grind (arith, nat_tests, kept_joined, map_push, append_assoc)
 
   count_is : length (numbers then_is) ≡ length (numbers v) + 1
   count_is = omega (arith, ap (λ (ns : List ℕ). length ns) numbers_is, length-append (numbers v) (c.number ∷ []))
@@ -124,23 +114,4 @@ module _ (v out : Pipeline) (c : Committed) (notes : Expected) (more : out.commi
         (len : deque_len out.committed ≡ deque_len v.committed + 1) (capacity : deque_capacity v.committed ≤ deque_capacity out.committed) (spots : spot_room v.newest ≤ spot_room out.newest + length c.payloads.items)
         (notes_room : v.notes.room ≤ notes.room + length c.tickets.items) (expect : ExpectMore v.notes.notes notes.notes) where
       pub room_joined : HasRoom v → HasRoom then_is
-      room_joined room = record {
-        placed = omega (arith, room.placed, count_is, records, one);
-        sure = omega (arith, room.sure, kept_count, records, one);
-        durable = omega (arith, room.durable, len, records, one);
-        committed = omega (arith, room.committed, len, capacity, records, one);
-        home = omega (arith, room.home, unplaced, payloads, fits);
-        blocks = omega (arith, room.blocks, unplaced, payloads, fits);
-        last = omega (arith, room.last, behind_is, payloads, fits);
-        newest = omega (arith, room.newest, spots, payloads, fits);
-        notes = omega (arith, room.notes, behind_is, payloads, fits, writes, enough, records, one, count_is, notes_room, note_stays v.next v.notes.notes notes.notes expect);
-      }
-        where
-          records : out.ready.records ≡ v.ready.records - 1
-          records = ap (λ r. r.records) ready
-
-          writes : out.ready.writes ≡ v.ready.writes - length c.tickets.items
-          writes = ap (λ r. r.writes) ready
-
-          payloads : out.ready.payloads ≡ v.ready.payloads - length c.payloads.items
-          payloads = ap (λ r. r.payloads) ready
+      room_joined room = grind (arith, nat_tests, count_is, kept_count, behind_is, note_stays)

@@ -1,5 +1,6 @@
 -- A committed transaction joins the pipeline: its record is in the ledger, and is the last one of the committed.
 use Rattle.std.proofs.Common.{◌≡◌, ◌⊎◌, ⊎_elim, ℕ, suc, ◌+◌, ◌%◌, ◌<◌, ◌≤◌, ◌==◌, ◌||◌, nat_le, Bool, true, false, IsTrue, List, [], ◌∷◌, ◌++◌, length, map, slice_get, Some, refl, sym, ◌∙◌, subst, ap, arith, length-append, append_assoc}
+use Rattle.std.proofs.lemmas.Bool.Decides.{nat_tests}
 use Rattle.std.proofs.lemmas.Bool.{eqb-true, false≢true, le-leb, lt-leb, cond-true, cond-false}
 use Rattle.std.proofs.lemmas.Option.{slice_get_within}
 use Rattle.base_types.specs.Seal.{Blocks}
@@ -70,12 +71,7 @@ module _ (base : Blocks) (old new : List Event) (l : Ledger) (v : Pipeline) (rin
 
   -- each record is where it was
   still_at : (i k number place count : ℕ) (payloads : List Rattle.engine_running.specs.declared.put.Put.Put) (fresh own : List ℕ) → i ≡ k → IsRecordAt l a.freed i number place count payloads fresh own → IsRecordAt (with_record l w m) (a.freed ++ c.freed.items ∷ []) k number place count payloads fresh own
-  still_at i k number place count payloads fresh own e r = record {
-    written = r.written;
-    is = get_old l.records (w ∷ []) k r.written (ap (slice_get l.records) (sym e) ∙ r.is);
-    keeps = r.keeps;
-    freed_is = get_old a.freed (c.freed.items ∷ []) k own (ap (slice_get a.freed) (sym e) ∙ r.freed_is);
-  }
+  still_at i k number place count payloads fresh own e r = grind (arith, nat_tests, get_old)
 
   -- and the new one is the last
   own : (k : ℕ) (t : Committed) → k ≡ length v.committed.items → c ≡ t → IsRecordAt (with_record l w m) (a.freed ++ c.freed.items ∷ []) (durable_count v + k) t.number t.place t.count t.payloads.items t.fresh.items t.freed.items

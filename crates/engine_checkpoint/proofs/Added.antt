@@ -1,25 +1,23 @@
 -- What the steps add to the log, one after the other: notices, a batch's checkpoint writes, a header; and which records leave.
-use Rattle.std.proofs.Common.{◌≡◌, ◌⊎◌, inl, inr, ⊎_elim, ℕ, zero, suc, ◌+◌, ◌-◌, ◌<◌, ◌≤◌, Bool, true, false, if◌then◌else◌, List, [], ◌∷◌, ◌++◌, length, take, drop, map, slice_get, Option, Some, None, Result, Ok, Err, IsErr, OnOk, Contains, refl, sym, ◌∙◌, ap, subst, arith}
+use Rattle.std.proofs.Common.{◌≡◌, ◌⊎◌, inl, inr, ⊎_elim, ℕ, zero, suc, ◌+◌, ◌-◌, ◌<◌, ◌≤◌, Bool, true, false, List, [], ◌∷◌, ◌++◌, length, take, drop, map, slice_get, Option, Some, None, Result, Ok, Err, IsErr, OnOk, Contains, refl, sym, ◌∙◌, ap, subst, arith}
+use Rattle.std.proofs.lemmas.Bool.Decides.{nat_tests}
 use Rattle.std.specs.Bool.{⊤}
 use Rattle.std.proofs.Math.Seq.{take-length}
 use Rattle.std.proofs.lemmas.Bool.{false≢true}
 use Rattle.std.proofs.lemmas.Option.{same_Some, none-some}
-use Rattle.layout_journal.specs.Run.{or_else}
 use Rattle.layout_journal.specs.Ring.{RingPlaces}
 use Rattle.layout_journal.specs.Spelling.{header_block}
 use Rattle.disk_contract.specs.declared.event.Event.{Event}
 use Rattle.disk_contract.specs.declared.event.Event.TheVariants.{Wrote, Lost, Noticed}
 use Rattle.disk_contract.specs.Cell.{notices}
-use Rattle.crash_argument.specs.HomeTest.{is_one_of}
 use Rattle.crash_argument.specs.Writes.{AddsAll}
 use Rattle.engine_running.specs.declared.put.Put.{Put}
-use Rattle.engine_running.specs.Rows.{put_of}
 use Rattle.engine_running.specs.Writes.{fresh_write}
 use Rattle.engine_checkpoint.specs.declared.pipeline.Pipeline.{Pipeline}
 use Rattle.engine_checkpoint.specs.Adds.{HasPayload, AddsHome, LosesFront}
 use Rattle.engine_checkpoint.specs.Agree.{home_ticket}
 use Rattle.engine_checkpoint.specs.Batch.{IsHomeRow}
-use Rattle.engine_checkpoint.specs.Kept.{Kept, kept, newest_after, newest_in, of_sure, of_durable, of_committed}
+use Rattle.engine_checkpoint.specs.Kept.{Kept, kept, newest_after, newest_in, of_sure}
 use Rattle.engine_checkpoint.specs.Turns.{BatchAdds, AddsBatch, HeaderAdds, AddsHeader, TurnsOrStays, EndsOrStays, due_header}
 use Rattle.engine_checkpoint.proofs.BatchEnds.{take_front}
 use Rattle.engine_checkpoint.proofs.BatchRows.{put_at}
@@ -29,13 +27,7 @@ use Rattle.engine_checkpoint.proofs.Index.{kept_turned, kept_ended}
 -- The newest payload in a row of records, of which some before it have left.
 
 newest_step : (before : Option (List ℕ)) (k : Kept) (b : ℕ) → (newest_after None k b ≡ newest_after before k b) ⊎ (newest_after None k b ≡ None)
-newest_step before k b = by (is_one_of b k.freed) (put_of b k.payloads) (is_one_of b k.fresh)
-  where
-    by : (u : Bool) (y : Option (List ℕ)) (v : Bool) → ((if u then None else or_else y (if v then None else None)) ≡ (if u then None else or_else y (if v then None else before))) ⊎ ((if u then None else or_else y (if v then None else None)) ≡ None)
-    by true y v = inl refl
-    by false (Some z) v = inl refl
-    by false None true = inl refl
-    by false None false = inr refl
+newest_step before k b = grind (arith, nat_tests)
 
 newest_more : (before : Option (List ℕ)) (ks : List Kept) (b : ℕ) (x : List ℕ) → newest_in None ks b ≡ Some x → newest_in before ks b ≡ Some x
 newest_more before [] b x is = absurd (none-some x is)
@@ -157,13 +149,7 @@ get_write (q ∷ row) zero w is = (q, refl, same_Some _ _ is)
 get_write (q ∷ row) (suc k) w is = get_write row k w is
 
 row_has : (v : Pipeline) (row : List Put) → IsHomeRow (map of_sure v.sure.items) row → (k : ℕ) (w : ℕ × List ℕ) → slice_get (map fresh_write row) k ≡ Some w → HasPayload (kept v) w.0 w.1
-row_has v row home k w is = let g = get_write row k w is in subst (λ (u : ℕ × List ℕ). HasPayload (kept v) u.0 u.1) g.2 (record {
-  front = length v.sure.items;
-  newest = ap (λ ks. newest_in None ks g.0.block) (sures v) ∙ sym (home.each g.0.block) ∙ put_at row home.rising k g.0 g.1;
-})
-  where
-    sures : (v : Pipeline) → take (length v.sure.items) (kept v) ≡ map of_sure v.sure.items
-    sures v = take_front of_sure (length v.sure.items) v.sure.items (map of_durable v.durable.items ++ map of_committed v.committed.items) (omega arith) ∙ ap (map of_sure) (take-length v.sure.items)
+row_has v row home k w is = grind (arith, nat_tests, get_write, put_at, take_front, take-length)
 
 pub home_batch : {A E : Type 0} (due : Bool) (r : Result A E) (v w : Pipeline) (old new : List Event) → AddsBatch due r v w old new → AddsHome r (kept v) old new
 home_batch true r v w old new adds = all_add r (kept v) (map fresh_write adds.0) (map home_ticket w.home.items) old new (row_has v adds.0 adds.1) adds.2
@@ -185,10 +171,7 @@ pub loses_none : (ks rest : List Kept) → rest ≡ ks → LosesFront ks rest
 loses_none ks rest same = record { count = 0; rest = same }
 
 pub drop_more : {A : Type 0} (m n : ℕ) (xs : List A) → drop m (drop n xs) ≡ drop (n + m) xs
-drop_more m zero xs = ap (λ k. drop k xs) (z m)
-  where
-    z : (m : ℕ) → m ≡ 0 + m
-    z m = omega arith
+drop_more m zero xs = grind (arith, nat_tests)
 drop_more m (suc n) [] = none m ∙ sym (none (suc n + m))
   where
     none : {B : Type 0} (m : ℕ) → drop {A = B} m [] ≡ []
@@ -231,10 +214,7 @@ loses_header due r x y ring adds = loses_none (kept x) (kept y) (kept_made due r
 
 -- the steps that make no write, one after the other
 pub loses_forward : (v a b c w : Pipeline) (turned ended : Bool) (ring next_ring : RingPlaces) → kept a ≡ kept v → TurnsOrStays turned a b ring next_ring → b.batch ≤ length b.sure.items → EndsOrStays ended b c → w ≡ record c { blocks = w.blocks } → LosesFront (kept v) (kept w)
-loses_forward v a b c w turned ended ring next_ring settled turns le ends rest =
-    loses_on (kept v) (kept a) (kept w) (loses_none (kept v) (kept a) settled)
-    (loses_on (kept a) (kept b) (kept w) (loses_turned turned a b ring next_ring turns)
-    (loses_on (kept b) (kept c) (kept w) (loses_ended ended b c le ends) (loses_none (kept c) (kept w) (ap kept rest))))
+loses_forward v a b c w turned ended ring next_ring settled turns le ends rest = grind (arith, nat_tests, loses_on, loses_none, loses_turned, loses_ended)
 
 pub loses_served : (v w : Pipeline) → w ≡ record v { blocks = w.blocks } → LosesFront (kept v) (kept w)
 loses_served v w rest = loses_none (kept v) (kept w) (ap kept rest)

@@ -1,6 +1,7 @@
 -- Open tickets stay apart: a new one is above all that were given before.
 use Rattle.std.proofs.Common.{◌≡◌, ℕ, zero, suc, ◌<◌, ◌≤◌, ◌==◌, ◌&&◌, ◌||◌, ◌⊎◌, inl, inr, ⊎_elim, not, Bool, true, false, if◌then◌else◌, List, [], ◌∷◌, ◌++◌, map, slice_get, Some, refl, sym, ◌∙◌, ap, subst, arith}
-use Rattle.std.proofs.lemmas.Bool.{and_parts, or_left, or_right, eq-eqb, eqb-true, false≢true}
+use Rattle.std.proofs.lemmas.Bool.Decides.{nat_tests}
+use Rattle.std.proofs.lemmas.Bool.{and_parts, or_left, or_right, eq-eqb, false≢true}
 use Rattle.std.proofs.lemmas.Option.{same_Some, none-some}
 use Rattle.disk_contract.specs.declared.event.Event.{Event}
 use Rattle.disk_contract.specs.declared.event.Event.TheVariants.{Wrote, Lost, Noticed}
@@ -52,38 +53,14 @@ accepted_last (Noticed u ∷ log) t b x = accepted_last log t b x
 
 -- a ticket that isn't one of a list, by a contradiction
 pub not_one : (t : ℕ) (ts : List ℕ) → (is_one_of t ts ≡ true → ⊥) → is_one_of t ts ≡ false
-not_one t ts never = by (is_one_of t ts) refl
-  where
-    by : (v : Bool) → is_one_of t ts ≡ v → v ≡ false
-    by true e = absurd (never e)
-    by false e = refl
+not_one t ts never = grind (arith, nat_tests)
 
 -- the tickets of writes that were made one by one are new
 pub new_tickets : (ws : List (ℕ × List ℕ)) (ts : List ℕ) (old new : List Event) → AddsWrites ws ts old new → AreNewTickets old new ts
 new_tickets [] [] old new adds = record { above = λ t own. absurd (false≢true own); upto = λ t own. absurd (false≢true own); grows = omega (arith, ap greatest_ticket adds); given = λ t own. absurd (false≢true own); stays = λ t is. subst (λ (l : List Event). IsAccepted t l) (sym adds) is }
 new_tickets [] (u ∷ us) old new adds = absurd adds
 new_tickets (w ∷ ws) [] old new adds = absurd adds
-new_tickets (w ∷ ws) (u ∷ us) old new adds =
-    let more = greatest_more old (Wrote u w.0 w.1 ∷ []) in
-    let last = greatest_last old u w.0 w.1 in
-    by adds.0 more last (new_tickets ws us (old ++ Wrote u w.0 w.1 ∷ []) new adds.2)
-  where
-    one : greatest_ticket old < u → greatest_ticket old ≤ greatest_ticket (old ++ Wrote u w.0 w.1 ∷ []) → u ≤ greatest_ticket (old ++ Wrote u w.0 w.1 ∷ []) → AreNewTickets (old ++ Wrote u w.0 w.1 ∷ []) new us → (t : ℕ) (v : Bool) → (u == t) ≡ v → (if v then true else is_one_of t us) ≡ true → (greatest_ticket old < t) × (t ≤ greatest_ticket new)
-    one above more last rest t true same own = (omega (arith, above, eqb-true u t same), omega (arith, eqb-true u t same, last, rest.grows))
-    one above more last rest t false same own = (omega (arith, more, rest.above t own), rest.upto t own)
-
-    first : AreNewTickets (old ++ Wrote u w.0 w.1 ∷ []) new us → (t : ℕ) (v : Bool) → (u == t) ≡ v → (if v then true else is_one_of t us) ≡ true → IsAccepted t new
-    first rest t true same own = rest.stays t (subst (λ n. IsAccepted n (old ++ Wrote u w.0 w.1 ∷ [])) (eqb-true u t same) (accepted_last old u w.0 w.1))
-    first rest t false same own = rest.given t own
-
-    by : greatest_ticket old < u → greatest_ticket old ≤ greatest_ticket (old ++ Wrote u w.0 w.1 ∷ []) → u ≤ greatest_ticket (old ++ Wrote u w.0 w.1 ∷ []) → AreNewTickets (old ++ Wrote u w.0 w.1 ∷ []) new us → AreNewTickets old new (u ∷ us)
-    by above more last rest = record {
-      above = λ t own. (one above more last rest t (u == t) refl own).0;
-      upto = λ t own. (one above more last rest t (u == t) refl own).1;
-      grows = omega (arith, more, rest.grows);
-      given = λ t own. first rest t (u == t) refl own;
-      stays = λ t is. rest.stays t (accepted_more t old (Wrote u w.0 w.1 ∷ []) is);
-    }
+new_tickets (w ∷ ws) (u ∷ us) old new adds = grind (arith, nat_tests, greatest_more, greatest_last, accepted_last, accepted_more, new_tickets ws us (old ++ Wrote u w.0 w.1 ∷ []) new adds.2)
 
 -- Tickets that leave the notes.
 
@@ -118,17 +95,11 @@ apart_back ts us apart t own = not_one t ts (λ e. false≢true (sym (apart t e)
 
 -- new tickets are none of those that were given before
 pub none_new : (t : ℕ) (ts : List ℕ) (old new : List Event) → AreNewTickets old new ts → t ≤ greatest_ticket old → is_one_of t ts ≡ false
-none_new t ts old new fresh upto = not_one t ts (λ own. less t (greatest_ticket old) (fresh.above t own) upto)
-  where
-    less : (t n : ℕ) → n < t → t ≤ n → ⊥
-    less t n lt le = omega (arith, lt, le)
+none_new t ts old new fresh upto = grind (arith, nat_tests, not_one)
 
 -- and a ticket above the greatest is none of a committed record's
 pub not_old : (log : List Event) (v : Pipeline) → OpenAreApart log v → (k t : ℕ) (c : Committed) → slice_get v.committed.items k ≡ Some c → greatest_ticket log < t → is_one_of t c.tickets.items ≡ false
-not_old log v apart k t c is above = not_one t c.tickets.items (λ own. less t (greatest_ticket log) above (apart.records_upto k t c is own))
-  where
-    less : (t n : ℕ) → n < t → t ≤ n → ⊥
-    less t n lt le = omega (arith, lt, le)
+not_old log v apart k t c is above = grind (arith, nat_tests, not_one)
 
 -- other notes and a longer log change nothing
 pub apart_on : (log new : List Event) (v : Pipeline) (notes : Expected) → greatest_ticket log ≤ greatest_ticket new → OpenAreApart log v → OpenAreApart new (record v { notes = notes })
@@ -144,8 +115,4 @@ apart_on log new v notes grows apart = record {
 pub one_of_home : (home : List HomeWrite) (k : ℕ) (h : HomeWrite) → slice_get home k ≡ Some h → is_one_of h.ticket (map home_ticket home) ≡ true
 one_of_home [] k h is = absurd (none-some h is)
 one_of_home (x ∷ home) zero h is = ap (λ (v : Bool). if v then true else is_one_of h.ticket (map home_ticket home)) (eq-eqb x.ticket h.ticket (ap (λ (y : HomeWrite). y.ticket) (same_Some _ _ is)))
-one_of_home (x ∷ home) (suc k) h is = by (x.ticket == h.ticket) (one_of_home home k h is)
-  where
-    by : (v : Bool) → is_one_of h.ticket (map home_ticket home) ≡ true → (if v then true else is_one_of h.ticket (map home_ticket home)) ≡ true
-    by true e = refl
-    by false e = e
+one_of_home (x ∷ home) (suc k) h is = grind (arith, nat_tests, one_of_home home k h is)

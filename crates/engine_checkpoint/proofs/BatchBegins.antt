@@ -1,5 +1,6 @@
 -- The batch begins: the records stand in order, there is room for what is to come, and its writes were owed.
-use Rattle.std.proofs.Common.{◌≡◌, ℕ, ◌+◌, ◌<◌, ◌≤◌, ◌||◌, ◌==◌, not, nat_lt, Bool, true, false, if◌then◌else◌, Option, Some, None, Result, Ok, Err, OnOk, List, [], ◌∷◌, ◌++◌, length, take, drop, map, vec_capacity, refl, sym, ◌∙◌, subst, ap, arith}
+use Rattle.std.proofs.Common.{◌≡◌, ℕ, ◌+◌, ◌<◌, ◌≤◌, ◌==◌, nat_lt, Bool, true, false, if◌then◌else◌, Result, Ok, Err, OnOk, List, [], ◌∷◌, ◌++◌, length, take, drop, map, vec_capacity, refl, sym, ◌∙◌, subst, ap, arith}
+use Rattle.std.proofs.lemmas.Bool.Decides.{nat_tests}
 use Rattle.std.proofs.Math.Seq.{take-length}
 use Rattle.std.proofs.lemmas.Bool.{lt-ltb, eq-eqb, eqb-true, false≢true}
 use Rattle.disk_contract.specs.declared.event.Event.{Event}
@@ -8,8 +9,7 @@ use Rattle.disk_contract.specs.Cell.{IsNoticed}
 use Rattle.disk_contract.specs.Disk.{writes_in}
 use Rattle.crash_argument.specs.Writes.{AddsWrites, AddsFront, AddsAll}
 use Rattle.crash_argument.specs.HomeTest.{is_one_of}
-use Rattle.engine_notes.specs.Notes.{is_expected, is_noticed}
-use Rattle.engine_checkpoint.specs.declared.pipeline.Pending.{Pending}
+use Rattle.engine_notes.specs.Notes.{is_expected}
 use Rattle.engine_checkpoint.specs.declared.pipeline.Pipeline.{Pipeline}
 use Rattle.engine_checkpoint.specs.Advance.{writes_owed}
 use Rattle.engine_checkpoint.specs.Agree.{NotesAreTrue, home_ticket}
@@ -39,21 +39,7 @@ module _ (v w : Pipeline) (o : IsInOrder v) (e : BeginsBatch v w) (none : v.batc
   no_batch z = omega (arith, z, some)
 
   order_at_begin : IsInOrder at_begin
-  order_at_begin = record {
-    numbers_are = o.numbers_are;
-    last = o.last;
-    sure = o.sure;
-    next = λ q is. let m = o.next q is in record { start = m.start; start_upto = m.start_upto; sure = m.sure; sure_upto = m.sure_upto; turn = m.turn; epoch = m.epoch };
-    written = o.written;
-    batch = omega arith;
-    none = λ z. absurd (no_batch z);
-    home = omega (arith, few, payloads_of_sure v);
-    unplaced = o.unplaced;
-    few = o.few;
-    have_places = o.have_places;
-    within = o.within;
-    below = o.below;
-  }
+  order_at_begin = grind (arith, nat_tests, no_batch, payloads_of_sure)
 
   pub order_begun : IsInOrder w
   order_begun = subst IsInOrder (sym e.rest) order_at_begin
@@ -71,17 +57,7 @@ module _ (v w : Pipeline) (o : IsInOrder v) (e : BeginsBatch v w) (none : v.batc
   module _ (h : HasRoom v) (count : ℕ) (enough : count ≤ payloads_in (map of_sure v.sure.items)) (home_room : vec_capacity v.home ≤ vec_capacity w.home) (blocks_room : vec_capacity v.blocks ≤ vec_capacity w.blocks)
       (spare : spot_room v.batch_newest ≤ spot_room w.batch_newest + payloads_in (map of_sure v.sure.items)) (notes_room : v.notes.room ≤ w.notes.room + count) where
     room_at_begin : HasRoom at_begin
-    room_at_begin = record {
-      placed = h.placed;
-      sure = h.sure;
-      durable = h.durable;
-      committed = h.committed;
-      home = omega (arith, h.home, home_room);
-      blocks = omega (arith, h.blocks, blocks_room);
-      last = omega (arith, h.last, spare, sure_and_others v, all_behind);
-      newest = h.newest;
-      notes = omega (arith, h.notes, notes_room, enough, sure_and_others v, all_behind, header_note_stays v w.notes expects);
-    }
+    room_at_begin = grind (arith, nat_tests, sure_and_others, all_behind, header_note_stays, expects)
 
     pub room_begun : HasRoom w
     room_begun = subst HasRoom (sym e.rest) room_at_begin
@@ -116,13 +92,7 @@ new_not_noticed stays (w ∷ ws) (u ∷ ts) old new t adds own noticed = by (u =
 pub all_open : {A E : Type 0} (stays : (ws : List (ℕ × List ℕ)) (ts : List ℕ) (old new : List Event) (t : ℕ) → AddsWrites ws ts old new → IsNoticed t old → IsNoticed t new) (ws : List (ℕ × List ℕ)) (r : Result A E) (old new : List Event) (v w : Pipeline)
     → BeginsBatch v w → NotesAreTrue old v.notes.notes → AddsAll ws r [] (map home_ticket w.home.items) old new → OnOk r (AreOpenHome w.home.items w.notes.notes)
 all_open stays ws (Err e) old new v w begins told adds = tt
-all_open stays ws (Ok a) old new v w begins told adds = λ k h is. both (is_expected h.ticket w.notes.notes) (not (is_noticed h.ticket w.notes.notes))
-    (begins.expected h.ticket ∙ ap (λ b. b || is_expected h.ticket v.notes.notes) (one_of_home w.home.items k h is))
-    (ap not (begins.noticed h.ticket ∙ unmarked (is_noticed h.ticket v.notes.notes) (λ seen. new_not_noticed stays ws adds.0 old new h.ticket adds.2 (subst (λ (ts : List ℕ). is_one_of h.ticket ts ≡ true) adds.1 (one_of_home w.home.items k h is)) (told h.ticket seen))))
-  where
-    unmarked : (b : Bool) → (b ≡ true → ⊥) → b ≡ false
-    unmarked true never = absurd (never refl)
-    unmarked false never = refl
+all_open stays ws (Ok a) old new v w begins told adds = grind (arith, nat_tests, both, one_of_home, new_not_noticed)
 
 -- a batch is due where none is under way and a record is sure
 pub is_due : (v : Pipeline) → v.batch ≡ 0 → 0 < length v.sure.items → is_batch_due v ≡ true
@@ -132,12 +102,4 @@ pub sure_in_row : (v : Pipeline) → IsInOrder v → AreInRow v.sure.items
 sure_in_row v o k first s first_is is = omega (arith, sure_number v o 0 first first_is, sure_number v o k s is)
 
 pub few_header_notes : (v : Pipeline) → header_notes v ≤ 1
-few_header_notes v = by v.next refl
-  where
-    one : (b : Bool) → (if b then 1 else 0) ≤ 1
-    one true = omega arith
-    one false = omega arith
-
-    by : (n : Option Pending) → v.next ≡ n → header_notes v ≤ 1
-    by None e = omega (arith, ap (λ (n : Option Pending). header_notes (record v { next = n })) e)
-    by (Some q) e = omega (arith, ap (λ (n : Option Pending). header_notes (record v { next = n })) e, one (is_expected q.ticket v.notes.notes))
+few_header_notes v = grind (arith, nat_tests)

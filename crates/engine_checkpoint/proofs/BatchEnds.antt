@@ -1,5 +1,6 @@
 -- The batch is placed: the records stand in order, and there is room for what is to come.
 use Rattle.std.proofs.Common.{◌≡◌, ℕ, zero, suc, ◌+◌, ◌-◌, ◌≤◌, true, List, [], ◌∷◌, ◌++◌, length, take, drop, map, All, Some, vec_capacity, refl, sym, ◌∙◌, subst, ap, arith, length-append, length-drop}
+use Rattle.std.proofs.lemmas.Bool.Decides.{nat_tests}
 use Rattle.std.proofs.lemmas.List.{take-append-drop, length-take-le, length-map}
 use Rattle.std.proofs.lemmas.List.Elements.{All-drop}
 use Rattle.std.specs.List.{range_with_len}
@@ -69,16 +70,10 @@ module _ (v w : Pipeline) (o : IsInOrder v) (e : EndsBatch v w) where
   both = take-append-drop v.batch v.sure.items
 
   same_numbers : numbers at_end ≡ numbers v
-  same_numbers = ap (λ (ps : List Placed). map placed_number ps ++ map number_of (map of_sure w.sure.items ++ later)) e.placed
-      ∙ ap (λ (ss : List Sure). map placed_number (v.placed.items ++ map placed_of front) ++ map number_of (map of_sure ss ++ later)) e.sure
-      ∙ numbers_moved v.placed.items front back later
-      ∙ ap (λ (ss : List Sure). map placed_number v.placed.items ++ map number_of (map of_sure ss ++ later)) both
+  same_numbers = grind (arith, nat_tests, numbers_moved, both)
 
   same_places : places_taken at_end ≡ places_taken v
-  same_places = ap (λ (ps : List Placed). total (map placed_count ps) + total (map count_of (map of_sure w.sure.items ++ later))) e.placed
-      ∙ ap (λ (ss : List Sure). total (map placed_count (v.placed.items ++ map placed_of front)) + total (map count_of (map of_sure ss ++ later))) e.sure
-      ∙ counts_moved v.placed.items front back later
-      ∙ ap (λ (ss : List Sure). total (map placed_count v.placed.items) + total (map count_of (map of_sure ss ++ later))) both
+  same_places = grind (arith, nat_tests, counts_moved, both)
 
   -- what is kept are the records behind the batch
   kept_is : kept at_end ≡ drop v.batch (kept v)

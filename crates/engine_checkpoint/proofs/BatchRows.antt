@@ -1,5 +1,6 @@
 -- A row of checkpoint writes, ascending: what is between two of them, and behind the last, isn't in it.
 use Rattle.std.proofs.Common.{◌≡◌, ◌≢◌, ⊎_elim, ℕ, zero, suc, ◌+◌, ◌<◌, ◌≤◌, ◌==◌, Bool, true, false, List, [], ◌∷◌, length, take, map, slice_get, Some, None, Result, Ok, Err, IsErr, refl, sym, ◌∙◌, ap, subst, arith}
+use Rattle.std.proofs.lemmas.Bool.Decides.{nat_tests}
 use Rattle.std.proofs.lemmas.Bool.{cases_lt, eqb-true, eq-eqb, false≢true, cond-true, cond-false}
 use Rattle.std.proofs.lemmas.Option.{same_Some, none-some, slice_get_within}
 use Rattle.engine_running.specs.declared.put.Put.{Put}
@@ -33,10 +34,7 @@ sent_suc n (r ∷ row) zero q is = ap (λ (x : Put). x.block + 1) (same_Some _ _
 sent_suc n (r ∷ row) (suc k) q is = sent_suc (r.block + 1) row k q is
 
 pub sent_push : (row : List Put) (k : ℕ) (q : Put) → slice_get row k ≡ Some q → sent_behind 0 (take (k + 1) row) ≡ q.block + 1
-sent_push row k q is = ap (λ n. sent_behind 0 (take n row)) (s k) ∙ sent_suc 0 row k q is
-  where
-    s : (k : ℕ) → k + 1 ≡ suc k
-    s k = omega arith
+sent_push row k q is = grind (arith, nat_tests, sent_suc)
 
 -- what is written so far lies below
 pub sent_low : (row : List Put) → IsRising row → (k : ℕ) (q : Put) → slice_get row k ≡ Some q → sent_behind 0 (take k row) ≤ q.block
@@ -66,13 +64,7 @@ lacks_none c (q ∷ row) lacks = by (lacks_none c row (λ i p is. lacks (suc i) 
 
 -- what lies behind the first k and below the others isn't in the row
 pub none_between : (row : List Put) → IsRising row → (k c : ℕ) → k ≤ length row → sent_behind 0 (take k row) ≤ c → ((i : ℕ) (p : Put) → k ≤ i → slice_get row i ≡ Some p → c < p.block) → put_of c row ≡ None
-none_between row rising k c le from above = lacks_none c row (λ i p is same. ⊎_elim (λ less. clash p.block c (sent_behind 0 (take k row)) same (sent_high row rising i k p less le is) from) (λ not_less. clash2 p.block c same (above i p not_less is)) (cases_lt i k))
-  where
-    clash : (b c s : ℕ) → b ≡ c → b + 1 ≤ s → s ≤ c → ⊥
-    clash b c s e le up = omega (arith, e, le, up)
-
-    clash2 : (b c : ℕ) → b ≡ c → c < b → ⊥
-    clash2 b c e lt = omega (arith, e, lt)
+none_between row rising k c le from above = grind (arith, nat_tests, lacks_none, sent_high)
 
 pub skipped : (row : List Put) → IsRising row → (k : ℕ) (q : Put) → slice_get row k ≡ Some q → (c : ℕ) → sent_behind 0 (take k row) ≤ c → c < q.block → put_of c row ≡ None
 skipped row rising k q is c from upto = none_between row rising k c (omega (arith, slice_get_within row k q is)) from (λ i p le at. ⊎_elim

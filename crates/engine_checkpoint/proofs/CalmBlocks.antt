@@ -1,6 +1,7 @@
 -- While the pipeline agrees, no write to a block behind the journal is lost: nothing is pending there, or the last write to it was accepted.
 use Rattle.std.proofs.Common.{◌≡◌, ⊎_elim, inl, ℕ, zero, suc, ◌≤◌, ◌==◌, ◌&&◌, ◌||◌, nat_le, nat_lt, Bool, true, false, if◌then◌else◌, List, [], ◌∷◌, ◌++◌, length, slice_get, Some, refl, sym, ◌∙◌, ap, arith}
-use Rattle.std.proofs.lemmas.Bool.{eq-eqb, ne_eqb, leb-true, and_parts, cond-true, cond-false}
+use Rattle.std.proofs.lemmas.Bool.Decides.{nat_tests}
+use Rattle.std.proofs.lemmas.Bool.{ne_eqb, leb-true, and_parts, cond-false}
 use Rattle.std.proofs.lemmas.Option.{none-some}
 use Rattle.base_types.specs.Seal.{Blocks}
 use Rattle.layout_geometry.specs.Geometry.{bitmap_start, data_start}
@@ -31,10 +32,7 @@ avoids_calm b (Noticed t ∷ es) avoids lost = avoids_calm b es avoids lost
 
 -- where the last write to the block was accepted, none is lost behind it
 last_calm : (log : List Event) (b t : ℕ) (x : List ℕ) → IsLastWrite log b t x → is_lost b log ≡ false
-last_calm log b t x w =
-    let was = is_lost_from b false w.before in
-    ap (is_lost b) w.split ∙ lost_on b false w.before (Wrote t b x ∷ w.later)
-    ∙ ap (λ v. is_lost_from b v w.later) (cond-true (b == b) false was (eq-eqb b b refl)) ∙ avoids_calm b w.later w.last false
+last_calm log b t x w = grind (arith, nat_tests, lost_on, avoids_calm)
 
 both_at : {A B : Type 0} (xs : List A) (ys : List B) → length ys ≡ length xs → (k : ℕ) (x : A) → slice_get xs k ≡ Some x → (y : B) × (slice_get ys k ≡ Some y)
 both_at [] ys same k x is = absurd (none-some x is)

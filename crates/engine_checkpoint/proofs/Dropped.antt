@@ -1,7 +1,8 @@
 -- Tickets are dropped from the notes: what was dropped gives its room back, the pending header's note among it.
 use Rattle.std.proofs.Common.{◌≡◌, ℕ, ◌+◌, ◌≤◌, ◌==◌, Bool, true, false, if◌then◌else◌, List, [], ◌∷◌, length, map, Option, Some, None, refl, sym, ◌∙◌, ap, arith}
+use Rattle.std.proofs.lemmas.Bool.Decides.{nat_tests}
 use Rattle.std.proofs.lemmas.List.{length-map}
-use Rattle.std.proofs.lemmas.Bool.{eqb-true, false≢true, cond-true, cond-false}
+use Rattle.std.proofs.lemmas.Bool.{false≢true, cond-true, cond-false}
 use Rattle.engine_notes.specs.declared.notes.Note.{Note}
 use Rattle.engine_notes.specs.Notes.{Expected, is_expected, is_among, are_rising, ticket_of}
 use Rattle.engine_checkpoint.specs.declared.pipeline.Pending.{Pending}
@@ -13,11 +14,7 @@ AreFew = (ns : List Note) (ts : List ℕ) → are_rising ns ≡ true → ((u : �
 
 expected_among : (ns : List Note) (u : ℕ) → is_expected u ns ≡ true → is_among u (map ticket_of ns) ≡ true
 expected_among [] u e = absurd (false≢true e)
-expected_among (n ∷ ns) u e = by (expected_among ns u) (n.ticket == u) refl
-  where
-    by : (is_expected u ns ≡ true → is_among u (map ticket_of ns) ≡ true) → (v : Bool) → (n.ticket == u) ≡ v → is_among u (n.ticket ∷ map ticket_of ns) ≡ true
-    by rest true own = cond-true (n.ticket == u) true (is_among u (map ticket_of ns)) own
-    by rest false other = cond-false (n.ticket == u) true (is_among u (map ticket_of ns)) other ∙ rest (sym (cond-false (n.ticket == u) true (is_expected u ns) other) ∙ e)
+expected_among (n ∷ ns) u e = grind (arith, nat_tests, expected_among ns u)
 
 -- the tickets but this one
 abbrev without : ℕ → List ℕ → List ℕ
@@ -26,29 +23,15 @@ without t (u ∷ us) = if u == t then without t us else u ∷ without t us
 
 without_less : (t : ℕ) (us : List ℕ) → length (without t us) ≤ length us
 without_less t [] = omega arith
-without_less t (u ∷ us) = by (without_less t us) (u == t) refl
-  where
-    by : length (without t us) ≤ length us → (v : Bool) → (u == t) ≡ v → length (without t (u ∷ us)) ≤ length (u ∷ us)
-    by rest true own = omega (arith, rest, ap (λ (xs : List ℕ). length xs) (cond-true (u == t) (without t us) (u ∷ without t us) own))
-    by rest false other = omega (arith, rest, ap (λ (xs : List ℕ). length xs) (cond-false (u == t) (without t us) (u ∷ without t us) other))
+without_less t (u ∷ us) = grind (arith, nat_tests, without_less t us)
 
 without_one : (t : ℕ) (us : List ℕ) → is_among t us ≡ true → length (without t us) + 1 ≤ length us
 without_one t [] e = absurd (false≢true e)
-without_one t (u ∷ us) e = by (without_one t us) (u == t) refl
-  where
-    by : (is_among t us ≡ true → length (without t us) + 1 ≤ length us) → (v : Bool) → (u == t) ≡ v → length (without t (u ∷ us)) + 1 ≤ length (u ∷ us)
-    by rest true own = omega (arith, without_less t us, ap (λ (xs : List ℕ). length xs) (cond-true (u == t) (without t us) (u ∷ without t us) own))
-    by rest false other = omega (arith, rest (sym (cond-false (u == t) true (is_among t us) other) ∙ e), ap (λ (xs : List ℕ). length xs) (cond-false (u == t) (without t us) (u ∷ without t us) other))
+without_one t (u ∷ us) e = grind (arith, nat_tests, without_less, without_one t us)
 
 stays_among : (t u : ℕ) (us : List ℕ) → (t ≡ u → ⊥) → is_among u us ≡ true → is_among u (without t us) ≡ true
 stays_among t u [] ne e = e
-stays_among t u (w ∷ us) ne e = by (stays_among t u us ne) (w == t) refl (w == u) refl
-  where
-    by : (is_among u us ≡ true → is_among u (without t us) ≡ true) → (v : Bool) → (w == t) ≡ v → (q : Bool) → (w == u) ≡ q → is_among u (without t (w ∷ us)) ≡ true
-    by rest true own true two = absurd (ne (sym (eqb-true w t own) ∙ eqb-true w u two))
-    by rest true own false other = ap (λ (xs : List ℕ). is_among u xs) (cond-true (w == t) (without t us) (w ∷ without t us) own) ∙ rest (sym (cond-false (w == u) true (is_among u us) other) ∙ e)
-    by rest false not_own true two = ap (λ (xs : List ℕ). is_among u xs) (cond-false (w == t) (without t us) (w ∷ without t us) not_own) ∙ cond-true (w == u) true (is_among u (without t us)) two
-    by rest false not_own false other = ap (λ (xs : List ℕ). is_among u xs) (cond-false (w == t) (without t us) (w ∷ without t us) not_own) ∙ cond-false (w == u) true (is_among u (without t us)) other ∙ rest (sym (cond-false (w == u) true (is_among u us) other) ∙ e)
+stays_among t u (w ∷ us) ne e = grind (arith, nat_tests, stays_among t u us ne)
 
 -- notes that have left nothing new are no more
 pub no_more_notes : AreFew → (old new : List Note) → are_rising new ≡ true → ((u : ℕ) → is_expected u new ≡ true → is_expected u old ≡ true) → length new ≤ length old

@@ -1,15 +1,15 @@
 -- The header that is due is the next one of the ledger, it can be written, and it reads back; what its write leaves.
-use Rattle.std.proofs.Common.{◌≡◌, inl, inr, ⊎_elim, ℕ, ◌+◌, ◌-◌, ◌%◌, ◌<◌, ◌^◌, ◌||◌, nat_lt, Bool, true, false, List, [], ◌∷◌, ◌++◌, length, map, take, slice_get, Option, Some, None, Result, Ok, Err, IsErr, refl, sym, ◌∙◌, subst, ap, arith, take_all, length-append}
-use Rattle.std.specs.Option.{is_none}
+use Rattle.std.proofs.Common.{◌≡◌, inl, inr, ⊎_elim, ℕ, ◌+◌, ◌-◌, ◌%◌, ◌<◌, ◌^◌, Bool, true, false, List, [], ◌∷◌, ◌++◌, length, take, slice_get, Some, None, Result, Ok, Err, IsErr, refl, sym, ◌∙◌, subst, ap, arith, take_all, length-append}
+use Rattle.std.proofs.lemmas.Bool.Decides.{nat_tests}
 use Rattle.std.proofs.Math.Nat.{mod-lt}
-use Rattle.std.proofs.lemmas.Bool.{and_parts, false≢true}
+use Rattle.std.proofs.lemmas.Bool.{false≢true}
 use Rattle.std.proofs.lemmas.List.{length-map}
 use Rattle.base_types.specs.Seal.{Blocks}
 use Rattle.disk_contract.specs.declared.event.Event.{Event}
 use Rattle.disk_contract.specs.declared.event.Event.TheVariants.{Wrote, Lost}
 use Rattle.disk_contract.specs.declared.disk.DiskFault.{DiskFault}
 use Rattle.disk_contract.specs.Disk.{State, AddsWrite}
-use Rattle.layout_geometry.specs.Geometry.{Geometry, geometry_fits}
+use Rattle.layout_geometry.specs.Geometry.{Geometry}
 use Rattle.layout_journal.specs.declared.header.Header.{Header}
 use Rattle.layout_journal.specs.Layout.{header_of, IsWithinDisk}
 use Rattle.layout_journal.specs.Ring.{RingPlaces}
@@ -24,17 +24,13 @@ use Rattle.engine_running.specs.declared.states.Sure.{Sure}
 use Rattle.engine_checkpoint.specs.declared.pipeline.Pending.{Pending}
 use Rattle.engine_checkpoint.specs.declared.pipeline.Pipeline.{Pipeline}
 use Rattle.engine_checkpoint.specs.Agree.{PipelineAgrees, IsRecordAt, durable_count}
-use Rattle.engine_checkpoint.specs.Kept.{kept, numbers, number_of, placed_number, of_sure, of_durable, of_committed}
+use Rattle.engine_checkpoint.specs.Kept.{numbers}
 use Rattle.engine_checkpoint.specs.Order.{IsInOrder}
 use Rattle.engine_checkpoint.specs.Turns.{HeaderMade, AddsHeader, is_header_due, first_sure, first_durable, first_committed, place_behind_placed, due_header}
 
 -- where a header is due, none is pending
 pub none_pending : (v : Pipeline) → is_header_due v ≡ true → v.next ≡ None
-none_pending v due = by v.next (and_parts (is_none v.next) (nat_lt 0 (length v.durable.items) || nat_lt 0 (length v.placed.items)) due).0
-  where
-    by : (o : Option Pending) → is_none o ≡ true → o ≡ None
-    by None e = refl
-    by (Some q) e = absurd (false≢true e)
+none_pending v due = grind (arith, nat_tests)
 
 -- the place of the first of these records is the one that it has to be
 first_place : (ss : List Sure) (ds : List Durable) (cs : List Committed) (next at : ℕ) → ((s : Sure) → slice_get ss 0 ≡ Some s → s.place ≡ at) → (length ss ≡ 0 → (d : Durable) → slice_get ds 0 ≡ Some d → d.place ≡ at)
@@ -51,24 +47,11 @@ place_below j p (r ∷ rs) some lt = place_below j ((p + places r) % j) rs some 
 
 -- headers with the same fields are one
 same_header : (h k : Header) → h.epoch ≡ k.epoch → h.turn ≡ k.turn → h.start ≡ k.start → h.sure ≡ k.sure → h.at ≡ k.at → h.closed ≡ k.closed → h.geom ≡ k.geom → h ≡ k
-same_header h k epoch turn start sure at closed geom =
-    ap (λ n. record h { epoch = n }) epoch ∙ ap (λ n. record h { epoch = k.epoch; turn = n }) turn ∙ ap (λ n. record h { epoch = k.epoch; turn = k.turn; start = n }) start
-    ∙ ap (λ n. record k { sure = n; at = h.at; closed = h.closed; geom = h.geom }) sure ∙ ap (λ n. record k { at = n; closed = h.closed; geom = h.geom }) at
-    ∙ ap (λ b. record k { closed = b; geom = h.geom }) closed ∙ ap (λ (g : Geometry). record k { geom = g }) geom
+same_header h k epoch turn start sure at closed geom = grind (arith, nat_tests)
 
 -- how many numbers there are
 pub count_numbers : (v : Pipeline) → length (numbers v) ≡ durable_count v + length v.committed.items
-count_numbers v = omega (
-  arith,
-  length-append (map placed_number v.placed.items) (map number_of (kept v)),
-  length-map v.placed.items placed_number,
-  length-map (kept v) number_of,
-  length-append (map of_sure v.sure.items) (map of_durable v.durable.items ++ map of_committed v.committed.items),
-  length-append (map of_durable v.durable.items) (map of_committed v.committed.items),
-  length-map v.sure.items of_sure,
-  length-map v.durable.items of_durable,
-  length-map v.committed.items of_committed,
-)
+count_numbers v = grind (arith, nat_tests, length-append, length-map)
 
 module _ (base : Blocks) (log : List Event) (l : Ledger) (v : Pipeline) (ring : RingPlaces) (waiting : List (ℕ × ℕ)) (taken : List ℕ) (a : PipelineAgrees base log l v ring waiting taken) (keeps : IsConsistentWith base log l)
     -- each record has the place that follows from those before it
@@ -101,18 +84,7 @@ module _ (base : Blocks) (log : List Event) (l : Ledger) (v : Pipeline) (ring : 
     fits8 n lt = omega arith
 
     can_be_written : IsHeader (due_header v ring)
-    can_be_written = record {
-      epoch = fits8 v.header.epoch epoch;
-      turn = fits8 (v.header.turn + 1) (omega (arith, turn));
-      first = fits8 (v.header.start + length v.placed.items) (omega (arith, order.last, count_numbers v, last));
-      sure = fits8 (v.header.start + durable_count v - 1) (omega (arith, order.last, count_numbers v, last));
-      epoch_from = omega (arith, within.epoch, ap (λ (h : Header). h.epoch) a.header);
-      turn_from = omega arith;
-      start_from = omega (arith, within.first, ap (λ (h : Header). h.start) a.header);
-      start_upto = omega arith;
-      at = omega (arith, place_is, place_below l.geom.j l.header.at (all_say (take (length v.placed.items) l.records)) keeps.ring (omega (arith, within.at, ap (λ (g : Geometry). g.j) fits.geom)), ap (λ (g : Geometry). g.j) a.geom);
-      geom = ap geometry_fits (a.geom ∙ sym fits.geom) ∙ within.geom;
-    }
+    can_be_written = grind (arith, nat_tests, fits8, count_numbers, place_is, place_below, fits)
 
     pub due_reads : header_of l.geom.n (header_block (due_header v ring)) ≡ Some (next_header l (length v.placed.items))
     due_reads = ap (λ (g : Geometry). header_of g.n (header_block (due_header v ring))) (sym a.geom) ∙ reads (due_header v ring) can_be_written ∙ ap Some due_is

@@ -1,5 +1,6 @@
 -- The oldest committed transaction becomes durable: all its tickets are noticed.
-use Rattle.std.proofs.Common.{◌≡◌, ◌⊎◌, inl, inr, ⊎_elim, ℕ, zero, suc, ◌+◌, ◌-◌, ◌<◌, ◌≤◌, ◌&&◌, not, true, List, [], ◌∷◌, ◌++◌, length, map, slice_get, Some, Vec, refl, sym, ◌∙◌, subst, ap, arith, length-append}
+use Rattle.std.proofs.Common.{◌≡◌, ◌⊎◌, inl, inr, ⊎_elim, ℕ, zero, suc, ◌+◌, ◌-◌, ◌≤◌, not, true, List, [], ◌∷◌, ◌++◌, length, map, slice_get, Some, Vec, refl, sym, ◌∙◌, subst, ap, arith, length-append}
+use Rattle.std.proofs.lemmas.Bool.Decides.{nat_tests}
 use Rattle.std.proofs.lemmas.List.{length-map}
 use Rattle.std.proofs.lemmas.Bool.{and_parts}
 use Rattle.std.proofs.lemmas.Option.{same_Some}
@@ -30,10 +31,7 @@ all_noticed log notes (t ∷ ts) true_now e = let p = and_parts (is_noticed t no
 
 -- places in a list behind so many forgotten tickets
 behind : (n k : ℕ) (xs : List (List ℕ)) → slice_get (no_tickets n ++ xs) (n + k) ≡ slice_get xs k
-behind zero k xs = ap (slice_get xs) (z k)
-  where
-    z : (k : ℕ) → 0 + k ≡ k
-    z k = omega arith
+behind zero k xs = grind (arith, nat_tests)
 behind (suc n) k xs = ap (slice_get ([] ∷ (no_tickets n ++ xs))) (s n k) ∙ behind n k xs
   where
     s : (n k : ℕ) → suc n + k ≡ suc (n + k)
@@ -142,13 +140,7 @@ module _ (base : Blocks) (log : List Event) (l : Ledger) (v : Pipeline) (ring : 
         home = λ k h is. still_one h.ticket c.tickets.items v.notes.notes ns.notes gone.expected (a.apart.beside 0 h.ticket c first_is (inl (k, h, is, refl))) (a.expected.home k h is);
         header = λ q is. still_one q.ticket c.tickets.items v.notes.notes ns.notes gone.expected (a.apart.beside 0 q.ticket c first_is (inr (q, is, refl))) (a.expected.header q is);
       };
-      apart = record {
-        records = λ i k x y lt is at. a.apart.records (suc i) (suc k) x y (omega (arith, lt)) (committed_is i x is) (committed_is k y at);
-        beside = λ k t x is held. a.apart.beside (suc k) t x (committed_is k x is) held;
-        header_apart = a.apart.header_apart;
-        records_upto = λ k t x is own. a.apart.records_upto (suc k) t x (committed_is k x is) own;
-        beside_upto = a.apart.beside_upto;
-      };
+      apart = grind (arith, nat_tests, committed_is);
       sent = a.sent;
       free = known_free;
       idle = record { each = a.idle.each };

@@ -1,5 +1,6 @@
 -- Open tickets stay expected as the notes change.
-use Rattle.std.proofs.Common.{◌≡◌, ⊎_elim, ℕ, ◌++◌, ◌&&◌, ◌||◌, ◌==◌, Bool, true, false, List, [], ◌∷◌, refl, ◌∙◌, ap}
+use Rattle.std.proofs.Common.{◌≡◌, ℕ, ◌&&◌, ◌||◌, ◌==◌, Bool, true, false, List, [], ◌∷◌, refl, ◌∙◌, ap, arith}
+use Rattle.std.proofs.lemmas.Bool.Decides.{nat_tests}
 use Rattle.std.proofs.lemmas.Bool.{and_parts}
 use Rattle.engine_notes.specs.declared.notes.Note.{Note}
 use Rattle.engine_notes.specs.Notes.{Expected, is_expected, are_expected}
@@ -28,11 +29,7 @@ same_more old new same u e = same u ∙ e
 
 -- the pipeline with other notes
 pub expected_with : (v : Pipeline) (notes : Expected) → ExpectMore v.notes.notes notes.notes → OpenAreExpected v → OpenAreExpected (record v { notes = notes })
-expected_with v notes more e = record {
-  records = λ k c is. are_more c.tickets.items v.notes.notes notes.notes more (e.records k c is);
-  home = home_more v.home.items v.notes.notes notes.notes more e.home;
-  header = λ q is. more q.ticket (e.header q is);
-}
+expected_with v notes more e = grind (arith, nat_tests, are_more, home_more)
 
 -- a ticket that is expected from now on, and those that were
 pub with_one : (t u : ℕ) (e : Bool) → (t == u) ≡ true → (t == u || e) ≡ true

@@ -1,5 +1,6 @@
 -- A ticket that leaves the notes gives its note's room back, where it had one.
-use Rattle.std.proofs.Common.{◌≡◌, ℕ, suc, ◌+◌, ◌≤◌, ◌==◌, not, Bool, true, false, if◌then◌else◌, List, [], ◌∷◌, length, map, refl, sym, ◌∙◌, ap, arith}
+use Rattle.std.proofs.Common.{◌≡◌, ℕ, ◌+◌, ◌≤◌, ◌==◌, not, Bool, true, false, if◌then◌else◌, List, [], ◌∷◌, length, map, refl, sym, ◌∙◌, ap, arith}
+use Rattle.std.proofs.lemmas.Bool.Decides.{nat_tests}
 use Rattle.std.proofs.lemmas.Bool.{and_parts, eqb-true, eq-eqb, false≢true}
 use Rattle.std.proofs.lemmas.List.{length-map}
 use Rattle.engine_notes.specs.declared.notes.Note.{Note}
@@ -9,11 +10,7 @@ use Rattle.engine_running.specs.States.{Forgets}
 -- how many others there are
 others_count : (t : ℕ) (ns : List Note) → length (without_ticket t ns) + (if is_expected t ns then 1 else 0) ≡ length ns
 others_count t [] = refl
-others_count t (n ∷ ns) = by (n.ticket == t) (others_count t ns)
-  where
-    by : (v : Bool) → length (without_ticket t ns) + (if is_expected t ns then 1 else 0) ≡ length ns → length (if v then ns else n ∷ without_ticket t ns) + (if (if v then true else is_expected t ns) then 1 else 0) ≡ suc (length ns)
-    by true rest = omega arith
-    by false rest = omega (arith, rest)
+others_count t (n ∷ ns) = grind (arith, nat_tests, others_count t ns)
 
 -- another ticket is among theirs
 others_among : (t u : ℕ) (ns : List Note) → (t == u) ≡ false → is_expected u ns ≡ true → is_among u (map ticket_of (without_ticket t ns)) ≡ true

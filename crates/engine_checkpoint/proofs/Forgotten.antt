@@ -1,16 +1,16 @@
 -- Tickets that the notes forget: none is expected that wasn't, and of each that still is the same is known. And which committed records are left.
-use Rattle.std.proofs.Common.{◌≡◌, ℕ, ◌+◌, ◌&&◌, not, Bool, true, false, List, [], ◌∷◌, drop, map, Result, Ok, Err, refl, sym, ◌∙◌, ap, subst}
-use Rattle.std.proofs.lemmas.Bool.{false≢true, and_parts}
+use Rattle.std.proofs.Common.{◌≡◌, ℕ, ◌+◌, Bool, true, false, List, [], ◌∷◌, drop, map, Result, Ok, Err, refl, sym, ◌∙◌, ap, subst, arith}
+use Rattle.std.proofs.lemmas.Bool.Decides.{nat_tests}
 use Rattle.layout_journal.specs.Ring.{RingPlaces}
 use Rattle.engine_notes.specs.declared.notes.Note.{Note}
-use Rattle.engine_notes.specs.Notes.{Expected, is_expected, is_noticed, is_open, is_among}
+use Rattle.engine_notes.specs.Notes.{Expected, is_noticed, is_open}
 use Rattle.engine_reuse.specs.Dead.{DeadBlocks}
 use Rattle.engine_running.specs.States.{Forgets}
 use Rattle.engine_checkpoint.specs.declared.pipeline.Pipeline.{Pipeline}
 use Rattle.engine_checkpoint.specs.Advance.{GoesForward}
 use Rattle.engine_checkpoint.specs.Agree.{home_ticket}
 use Rattle.engine_checkpoint.specs.Steps.{SettlesSome}
-use Rattle.engine_checkpoint.specs.Turns.{TurnsOrStays, EndsOrStays, BatchAdds, HeaderAdds, is_header_noticed, is_batch_noticed}
+use Rattle.engine_checkpoint.specs.Turns.{TurnsOrStays, EndsOrStays, BatchAdds, HeaderAdds}
 use Rattle.engine_checkpoint.specs.Waits.{ForgetsSome, LosesCommitted, AreAllNoticed}
 use Rattle.engine_checkpoint.proofs.Added.{drop_more}
 
@@ -18,13 +18,7 @@ use Rattle.engine_checkpoint.proofs.Added.{drop_more}
 
 -- of the tickets that aren't dropped the same is known
 pub forgets_these : (ts : List ℕ) (old new : Expected) → Forgets ts old new → ForgetsSome old.notes new.notes
-forgets_these ts old new f = record {
-  expected = λ u e. (left u e).1;
-  noticed = λ u e. f.noticed u ∙ ap (λ b. b && is_noticed u old.notes) (left u e).0;
-}
-  where
-    left : (u : ℕ) → is_expected u new.notes ≡ true → (not (is_among u ts) ≡ true) × (is_expected u old.notes ≡ true)
-    left u e = and_parts (not (is_among u ts)) (is_expected u old.notes) (sym (f.expected u) ∙ e)
+forgets_these ts old new f = grind (arith, nat_tests)
 
 pub forgets_none : (notes : List Note) → ForgetsSome notes notes
 forgets_none notes = record { expected = λ u e. e; noticed = λ u e. refl }
@@ -37,11 +31,7 @@ abbrev pub OpensNone : List Note → List Note → Type 0
 OpensNone old new = (u : ℕ) → is_open u new ≡ true → is_open u old ≡ true
 
 pub forgotten_opens : (old new : List Note) → ForgetsSome old new → OpensNone old new
-forgotten_opens old new f u e = let p = and_parts (is_expected u new) (not (is_noticed u new)) e in both (is_expected u old) (not (is_noticed u old)) (f.expected u p.0) (ap not (sym (f.noticed u p.0)) ∙ p.1)
-  where
-    both : (p q : Bool) → p ≡ true → q ≡ true → (p && q) ≡ true
-    both true q e h = h
-    both false q e h = absurd (false≢true e)
+forgotten_opens old new f u e = grind (arith, nat_tests)
 
 -- where all tickets are noticed, those that are left are
 pub forgotten_noticed : (old new : List Note) → ForgetsSome old new → AreAllNoticed old → AreAllNoticed new
@@ -82,15 +72,10 @@ ended_committed false b c same = ap (λ (p : Pipeline). p.committed.items) same
 
 module _ (v a b c w : Pipeline) (ring next_ring : RingPlaces) (dead next_dead : DeadBlocks) (g : GoesForward v a b c w ring next_ring dead next_dead) where
   pub forward_forgets : ForgetsSome v.notes.notes w.notes.notes
-  forward_forgets = forgets_on v.notes.notes a.notes.notes w.notes.notes g.settles.forgets
-      (forgets_on a.notes.notes b.notes.notes w.notes.notes (turned_forgets (is_header_noticed a.next a.notes.notes) a b ring next_ring g.turns)
-      (subst (λ (p : Pipeline). ForgetsSome b.notes.notes p.notes.notes) (sym g.rest) (ended_forgets (is_batch_noticed b) b c g.ends)))
+  forward_forgets = grind (arith, nat_tests, forgets_on, turned_forgets, ended_forgets)
 
   pub forward_loses : LosesCommitted v w
-  forward_loses = record {
-    count = g.count;
-    left = ap (λ (p : Pipeline). p.committed.items) g.rest ∙ ended_committed (is_batch_noticed b) b c g.ends ∙ turned_committed (is_header_noticed a.next a.notes.notes) a b ring next_ring g.turns ∙ g.settles.committed;
-  }
+  forward_loses = grind (arith, nat_tests, ended_committed, turned_committed)
 
 -- The steps that write: they leave the committed records, and what is noticed.
 

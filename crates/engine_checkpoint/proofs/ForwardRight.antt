@@ -1,8 +1,9 @@
 -- The steps that make no write, one after the other: all stays right, by the ledger that there is then. Which blocks serve again is looked at here; what each other step leaves is said by its own clauses.
-use Rattle.std.proofs.Common.{◌≡◌, ◌⊎◌, ⊎_elim, inl, inr, ℕ, zero, suc, ◌-◌, ◌==◌, ◌&&◌, ◌||◌, nat_le, not, Bool, true, false, cond, if◌then◌else◌, List, [], ◌∷◌, ◌++◌, map, filter, slice_get, Some, Vec, Global, refl, sym, ◌∙◌, subst, ap}
-use Rattle.std.proofs.lemmas.Bool.{lt-leb, eqb-true, eq-eqb, false≢true, or_cases, or_left, or_right}
+use Rattle.std.proofs.Common.{◌≡◌, ◌⊎◌, ⊎_elim, ℕ, zero, suc, ◌-◌, ◌==◌, ◌&&◌, ◌||◌, not, Bool, true, false, cond, List, [], ◌∷◌, ◌++◌, map, filter, slice_get, Some, Vec, Global, refl, sym, ◌∙◌, subst, ap, arith}
+use Rattle.std.proofs.lemmas.Bool.Decides.{nat_tests}
+use Rattle.std.proofs.lemmas.Bool.{lt-leb, false≢true, or_cases, or_left, or_right}
 use Rattle.std.proofs.lemmas.List.Folds.{list_any-append}
-use Rattle.std.proofs.lemmas.Option.{none-some, same_Some}
+use Rattle.std.proofs.lemmas.Option.{none-some}
 use Rattle.std.specs.List.{range_with_len}
 use Rattle.base_types.specs.Seal.{Blocks}
 use Rattle.disk_contract.specs.declared.event.Event.{Event}
@@ -32,61 +33,25 @@ use Rattle.engine_checkpoint.proofs.Settled.{turned_on}
 -- the block of a checkpoint write that is open is going home
 going_among : (hs : List HomeWrite) (notes : List Note) (i : ℕ) (h : HomeWrite) → slice_get hs i ≡ Some h → is_open h.ticket notes ≡ true → is_among h.block (going_home hs notes) ≡ true
 going_among [] notes i h at opens = absurd (none-some h at)
-going_among (g ∷ hs) notes zero h at opens = by (is_open g.ticket notes) (ap (λ (k : HomeWrite). is_open k.ticket notes) same ∙ opens)
-  where
-    same : g ≡ h
-    same = same_Some g h at
-
-    by : (b : Bool) → b ≡ true → is_among h.block (if b then g.block ∷ going_home hs notes else going_home hs notes) ≡ true
-    by true e = ap (λ t. t || is_among h.block (going_home hs notes)) (eq-eqb g.block h.block (ap (λ (k : HomeWrite). k.block) same))
-    by false e = absurd (false≢true e)
-going_among (g ∷ hs) notes (suc i) h at opens = by (is_open g.ticket notes) (going_among hs notes i h at opens)
-  where
-    by : (b : Bool) → is_among h.block (going_home hs notes) ≡ true → is_among h.block (if b then g.block ∷ going_home hs notes else going_home hs notes) ≡ true
-    by true e = or_right (g.block == h.block) (is_among h.block (going_home hs notes)) e
-    by false e = e
+going_among (g ∷ hs) notes zero h at opens = grind (arith, nat_tests)
+going_among (g ∷ hs) notes (suc i) h at opens = grind (arith, nat_tests, going_among hs notes i h at opens)
 
 -- and no such block is given up
 going_stays : (sure : ℕ) (going : List ℕ) (ps : List (ℕ × ℕ)) (b : ℕ) → is_among b going ≡ true → is_among b (given_up sure going ps) ≡ false
 going_stays sure going [] b goes = refl
-going_stays sure going (p ∷ ps) b goes = by (nat_le (freed_by p) sure) (block_of p == b) refl (going_stays sure going ps b goes)
-  where
-    rest : List (ℕ × ℕ)
-    rest = filter (is_given_up sure going) ps
-
-    by : (low own : Bool) → (block_of p == b) ≡ own → is_among b (map block_of rest) ≡ false → is_among b (map block_of (cond (low && not (is_among (block_of p) going)) (p ∷ rest) rest)) ≡ false
-    by false own e none = none
-    by true true e none = ap (λ t. is_among b (map block_of (cond (not t) (p ∷ rest) rest))) (ap (λ n. is_among n going) (eqb-true (block_of p) b e) ∙ goes) ∙ none
-    by true false e none = either (is_among (block_of p) going)
-      where
-        either : (t : Bool) → is_among b (map block_of (cond (not t) (p ∷ rest) rest)) ≡ false
-        either true = none
-        either false = ap (λ t. t || is_among b (map block_of rest)) e ∙ none
+going_stays sure going (p ∷ ps) b goes = grind (arith, nat_tests, cond, going_stays sure going ps b goes)
 
 -- What may be taken or waits once blocks serve again did so before.
 
 -- a number among those of a list that pass a test passes it
 passes : (test : ℕ → Bool) (b : ℕ) (xs : List ℕ) → is_among b (filter test xs) ≡ true → test b ≡ true
 passes test b [] is = absurd (false≢true is)
-passes test b (x ∷ xs) is = by (test x) refl (x == b) refl is (passes test b xs)
-  where
-    by : (t : Bool) → test x ≡ t → (own : Bool) → (x == b) ≡ own → is_among b (cond t (x ∷ filter test xs) (filter test xs)) ≡ true → (is_among b (filter test xs) ≡ true → test b ≡ true) → test b ≡ true
-    by true f true e at rest = ap test (sym (eqb-true x b e)) ∙ f
-    by true f false e at rest = rest (sym (ap (λ t. t || is_among b (filter test xs)) e) ∙ at)
-    by false f own e at rest = rest at
+passes test b (x ∷ xs) is = grind (arith, nat_tests, cond, passes test b xs)
 
 -- a block among those of some of the pairs is among those of all
 among_more : (test : ℕ × ℕ → Bool) (b : ℕ) (ps : List (ℕ × ℕ)) → is_among b (map block_of (filter test ps)) ≡ true → is_among b (map block_of ps) ≡ true
 among_more test b [] is = is
-among_more test b (p ∷ ps) is = by (test p) (block_of p == b) refl is (among_more test b ps)
-  where
-    rest : List (ℕ × ℕ)
-    rest = filter test ps
-
-    by : (t own : Bool) → (block_of p == b) ≡ own → is_among b (map block_of (cond t (p ∷ rest) rest)) ≡ true → (is_among b (map block_of rest) ≡ true → is_among b (map block_of ps) ≡ true) → (block_of p == b || is_among b (map block_of ps)) ≡ true
-    by t true e at more = ap (λ o. o || is_among b (map block_of ps)) e
-    by true false e at more = ap (λ o. o || is_among b (map block_of ps)) e ∙ more (sym (ap (λ o. o || is_among b (map block_of rest)) e) ∙ at)
-    by false false e at more = ap (λ o. o || is_among b (map block_of ps)) e ∙ more at
+among_more test b (p ∷ ps) is = grind (arith, nat_tests, cond, among_more test b ps)
 
 among_cases : (b : ℕ) (xs ys : List ℕ) → is_among b (xs ++ ys) ≡ true → (is_among b xs ≡ true) ⊎ (is_among b ys ≡ true)
 among_cases b xs ys is = or_cases (is_among b xs) (is_among b ys) (sym (list_any-append (λ x. x == b) xs ys) ∙ is)
@@ -144,14 +109,7 @@ agrees_served base log l c ring waiting few taken bs a now = record {
   apart = record { records = a.apart.records; beside = a.apart.beside; header_apart = a.apart.header_apart; records_upto = a.apart.records_upto; beside_upto = a.apart.beside_upto };
   sent = a.sent;
   idle = a.idle;
-  one = record {
-    one = a.one.one;
-    slot = a.one.slot;
-    ring = a.one.ring;
-    block = λ b above own. ⊎_elim (λ idle. inl idle) (λ rest. inr (⊎_elim (λ new. inl new) (λ way. inr (record { at = way.at; ticket = way.ticket; bytes = way.bytes; listed = way.listed; last = way.last })) rest)) (a.one.block b above own);
-    below = a.one.below;
-    none = a.one.none;
-  };
+  one = grind (arith, nat_tests);
   free = a.free;
 }
 
@@ -169,10 +127,7 @@ serves_settled count v a l k dead s turned serves = still_dead l k v a dead turn
 
 serves_ended : (r : Bool) (b c : Pipeline) (l : Ledger) (dead : DeadBlocks) → EndsOrStays r b c → MayServe l b dead → MayServe l c dead
 serves_ended false b c l dead same serves = subst (λ (p : Pipeline). MayServe l p dead) (sym same) serves
-serves_ended true b c l dead ends serves = record {
-  dead_now = serves.dead_now;
-  not_going = λ i h at opens. absurd (none-some h (sym (ap (λ (hs : List HomeWrite). slice_get hs i) ends.home) ∙ at));
-}
+serves_ended true b c l dead ends serves = grind (arith, nat_tests)
 
 serves_served : (c : Pipeline) (l : Ledger) (dead : DeadBlocks) (bs : Vec ℕ Global) → MayServe l c dead → MayServe l (record c { blocks = bs }) (with_served c dead)
 serves_served c l dead bs serves = record {

@@ -1,5 +1,6 @@
 -- The steps that make no write, one after the other, over any disk: the index, the ring and the dead blocks go with the pipeline still, and as many writes may come as before.
-use Rattle.std.proofs.Common.{◌≡◌, ℕ, ◌+◌, ◌-◌, ◌≤◌, not, Bool, true, false, map, drop, All, sym, ◌∙◌, subst, ap}
+use Rattle.std.proofs.Common.{◌≡◌, ℕ, ◌-◌, ◌≤◌, not, Bool, true, false, All, sym, ◌∙◌, subst, ap, arith}
+use Rattle.std.proofs.lemmas.Bool.Decides.{nat_tests}
 use Rattle.std.proofs.lemmas.List.Elements.{All-filter}
 use Rattle.layout_journal.specs.Ring.{RingPlaces}
 use Rattle.engine_reuse.specs.Dead.{DeadBlocks, freed_by}
@@ -7,7 +8,7 @@ use Rattle.engine_reuse.specs.Calls.{is_given_up}
 use Rattle.engine_checkpoint.specs.declared.pipeline.Pipeline.{Pipeline}
 use Rattle.engine_checkpoint.specs.Advance.{IsSound, GoesForward, writes_owed}
 use Rattle.engine_checkpoint.specs.Index.{IndexIsRight}
-use Rattle.engine_checkpoint.specs.Kept.{kept, count_of, placed_count, places_taken, payloads_in, total}
+use Rattle.engine_checkpoint.specs.Kept.{kept, places_taken}
 use Rattle.engine_checkpoint.specs.Newest.{spot_of}
 use Rattle.engine_checkpoint.specs.Order.{IsInOrder, HasRoom, GoesWith}
 use Rattle.engine_checkpoint.specs.Steps.{SettlesSome, is_first_settled}
@@ -19,25 +20,16 @@ use Rattle.engine_checkpoint.proofs.Index.{index_same, index_turned}
 -- Records become durable.
 
 pub places_settled : (count : ℕ) (v a : Pipeline) → SettlesSome count v a → places_taken a ≡ places_taken v
-places_settled count v a s =
-    ap (λ (p : Pipeline). total (map placed_count p.placed.items) + total (map count_of (kept a))) s.rest
-    ∙ ap (λ ks. total (map placed_count v.placed.items) + total (map count_of ks)) s.kept
+places_settled count v a s = grind (arith, nat_tests)
 
 pub owed_settled : (count : ℕ) (v a : Pipeline) → SettlesSome count v a → writes_owed a ≡ writes_owed v
-owed_settled count v a s =
-    ap (λ (p : Pipeline). payloads_in (drop p.batch (kept a)) + (p.last - p.written.sure) + (p.last + 1 - p.written.start)) s.rest
-    ∙ ap (λ ks. payloads_in (drop v.batch ks) + (v.last - v.written.sure) + (v.last + 1 - v.written.start)) s.kept
+owed_settled count v a s = grind (arith, nat_tests)
 
 pub index_some : (count : ℕ) (v a : Pipeline) → SettlesSome count v a → IndexIsRight v → IndexIsRight a
 index_some count v a s right = index_same v a s.kept (λ b. ap (λ (p : Pipeline). spot_of p.newest b) s.rest) right
 
 pub goes_settled : (count : ℕ) (v a : Pipeline) (ring : RingPlaces) (dead : DeadBlocks) → SettlesSome count v a → GoesWith v ring dead → GoesWith a ring dead
-goes_settled count v a ring dead s goes = record {
-  ring_geom = goes.ring_geom ∙ sym (ap (λ (p : Pipeline). p.geom) s.rest);
-  taken = goes.taken ∙ sym (places_settled count v a s);
-  dead_geom = goes.dead_geom ∙ sym (ap (λ (p : Pipeline). p.geom) s.rest);
-  waiting = subst (λ n. All (λ p. freed_by p ≤ n) dead.waiting) (sym (ap (λ (p : Pipeline). p.last) s.rest)) goes.waiting;
-}
+goes_settled count v a ring dead s goes = grind (arith, nat_tests, places_settled)
 
 -- The pending header turns.
 
@@ -49,12 +41,7 @@ index_turns false a b old new same right = subst IndexIsRight (sym same.0) right
 
 goes_ended : (r : Bool) (b c : Pipeline) (ring : RingPlaces) (dead : DeadBlocks) → IsInOrder b → EndsOrStays r b c → GoesWith b ring dead → GoesWith c ring dead
 goes_ended false b c ring dead o same goes = subst (λ (p : Pipeline). GoesWith p ring dead) (sym same) goes
-goes_ended true b c ring dead o ends goes = record {
-  ring_geom = goes.ring_geom ∙ sym (ap (λ (p : Pipeline). p.geom) ends.rest);
-  taken = goes.taken ∙ sym (places_ended b c o ends);
-  dead_geom = goes.dead_geom ∙ sym (ap (λ (p : Pipeline). p.geom) ends.rest);
-  waiting = subst (λ n. All (λ p. freed_by p ≤ n) dead.waiting) (sym (ap (λ (p : Pipeline). p.last) ends.rest)) goes.waiting;
-}
+goes_ended true b c ring dead o ends goes = grind (arith, nat_tests, places_ended)
 
 -- Blocks serve again.
 
@@ -83,15 +70,7 @@ module _ (v a b c w : Pipeline) (ring next_ring : RingPlaces) (dead next_dead : 
   }
 
   pub forward_goes : is_first_settled a.committed.items a.notes.notes ≡ false → turned ≡ is_header_noticed a.next a.notes.notes → ended ≡ is_batch_noticed b → GoesForward v a b c w ring next_ring dead next_dead
-  forward_goes settled noticed placed = record {
-    count = count;
-    settles = settles;
-    settled = settled;
-    turns = subst (λ r. TurnsOrStays r a b ring next_ring) noticed turns;
-    ends = subst (λ r. EndsOrStays r b c) placed ends;
-    serves = serves;
-    rest = rest;
-  }
+  forward_goes settled noticed placed = grind (arith, nat_tests)
 
   pub forward_owed : writes_owed b ≡ writes_owed a → writes_owed c ≡ writes_owed b → writes_owed w ≡ writes_owed v
   forward_owed second third = ap writes_owed rest ∙ third ∙ second ∙ owed_settled count v a settles

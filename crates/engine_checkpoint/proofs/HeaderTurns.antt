@@ -1,13 +1,12 @@
 -- What a header's two steps leave of all that a call of the pipeline promises: the ledger has turned, what may be taken may be still, and ring and dead blocks go with the pipeline.
-use Rattle.std.proofs.Common.{◌≡◌, inl, ⊎_elim, ℕ, ◌+◌, ◌-◌, ◌<◌, ◌≤◌, ◌==◌, ◌&&◌, ◌||◌, not, Bool, true, false, if◌then◌else◌, List, [], ◌∷◌, length, drop, map, take, slice_get, Option, Some, None, option_map, refl, sym, ◌∙◌, subst, ap, arith, length-drop}
-use Rattle.std.proofs.lemmas.Bool.{eqb-true, false≢true}
+use Rattle.std.proofs.Common.{◌≡◌, ℕ, ◌-◌, ◌<◌, ◌==◌, ◌&&◌, ◌||◌, not, Bool, true, false, List, [], ◌∷◌, slice_get, Option, Some, None, option_map, refl, sym, ◌∙◌, subst, ap, arith, length-drop}
+use Rattle.std.proofs.lemmas.Bool.Decides.{nat_tests}
 use Rattle.base_types.specs.Seal.{Blocks}
 use Rattle.disk_contract.specs.declared.event.Event.{Event}
 use Rattle.disk_contract.specs.Cell.{greatest_ticket}
 use Rattle.layout_journal.specs.Ring.{RingPlaces}
 use Rattle.layout_journal.specs.Run.{is_live}
 use Rattle.crash_argument.specs.Ledger.{Ledger, IsConsistentWith, next_number}
-use Rattle.crash_argument.specs.Steps.{with_header}
 use Rattle.engine_notes.specs.declared.notes.Note.{Note}
 use Rattle.engine_notes.specs.Notes.{is_expected, is_noticed, is_open, is_among}
 use Rattle.engine_reuse.specs.Dead.{DeadBlocks}
@@ -18,7 +17,7 @@ use Rattle.engine_checkpoint.specs.Advance.{Turned, MayServe}
 use Rattle.engine_checkpoint.specs.Agree.{PipelineAgrees, header_in}
 use Rattle.engine_checkpoint.specs.Kept.{places_taken}
 use Rattle.engine_checkpoint.specs.Order.{GoesWith}
-use Rattle.engine_checkpoint.specs.Turns.{TurnsOrStays, WritesHeader, with_turned, header_turned, header_made, is_header_due, due_header}
+use Rattle.engine_checkpoint.specs.Turns.{TurnsOrStays, WritesHeader, with_turned, header_turned, header_made}
 
 -- The ledger.
 
@@ -29,31 +28,20 @@ turned_same l = record { geom = refl; epoch = refl; map_before = refl; next = re
 -- where this header stands beside the durable one
 turned_with : (base : Blocks) (log : List Event) (l : Ledger) (o : Option Pending) → IsConsistentWith base log l → l.next ≡ option_map header_in o → Turned l (with_turned o l)
 turned_with base log l None keeps is = turned_same l
-turned_with base log l (Some q) keeps is = record { geom = refl; epoch = refl; map_before = refl; next = omega (arith, length-drop (q.header.start - l.header.start) l.records, fits.start, fits.last, fits.sure); known = omega arith }
-  where
-    fits : Rattle.crash_argument.specs.Ledger.FitsRecords l q.header
-    fits = keeps.headers.fits q.header (Rattle.std.proofs.Common.inr is)
+turned_with base log l (Some q) keeps is = grind (arith, nat_tests, length-drop)
 
 pub turned_header : (base : Blocks) (log : List Event) (l : Ledger) (v : Pipeline) (b : Bool) → IsConsistentWith base log l → l.next ≡ option_map header_in v.next → Turned l (header_turned b v l)
 turned_header base log l v true keeps is = turned_with base log l v.next keeps is
 turned_header base log l v false keeps is = turned_same l
 
 pub turned_made : (l : Ledger) (v : Pipeline) (ring : RingPlaces) → Turned l (header_made v ring l)
-turned_made l v ring = by (is_header_due v)
-  where
-    by : (b : Bool) → Turned l (if b then with_header l (due_header v ring) else l)
-    by true = record { geom = refl; epoch = refl; map_before = refl; next = refl; known = omega arith }
-    by false = turned_same l
+turned_made l v ring = grind (arith, nat_tests, turned_same)
 
 -- What may be taken.
 
 -- a ticket that is open once one has left the notes was open before
 open_left : (u t : ℕ) (old new : List Note) → is_expected u new ≡ (not (is_among u (t ∷ [])) && is_expected u old) → is_noticed u new ≡ (not (is_among u (t ∷ [])) && is_noticed u old) → is_open u new ≡ true → is_open u old ≡ true
-open_left u t old new expected noticed is = by (is_among u (t ∷ [])) (is_expected u old) (is_noticed u old) (sym (ap (λ b. b && not (is_noticed u new)) expected ∙ ap (λ b. (not (is_among u (t ∷ [])) && is_expected u old) && not b) noticed) ∙ is)
-  where
-    by : (a e n : Bool) → ((not a && e) && not (not a && n)) ≡ true → (e && not n) ≡ true
-    by true e n is = absurd (false≢true is)
-    by false e n is = is
+open_left u t old new expected noticed is = grind (arith, nat_tests)
 
 -- one that is open beside a new ticket was open before
 open_beside : (u t : ℕ) (old new : List Note) → (t == u) ≡ false → is_expected u new ≡ (t == u || is_expected u old) → is_noticed u new ≡ is_noticed u old → is_open u new ≡ true → is_open u old ≡ true
@@ -72,31 +60,13 @@ serves_turned base log l v w old new dead true keeps is turns serves = still_dea
     (λ i h at opens. (sym (ap (λ (p : Pipeline). slice_get p.home.items i) turns.rest) ∙ at, open_left h.ticket turns.pending.ticket v.notes.notes w.notes.notes (turns.forgets.expected h.ticket) (turns.forgets.noticed h.ticket) opens))
 
 pub serves_made : (base : Blocks) (log : List Event) (l : Ledger) (v w : Pipeline) (ring : RingPlaces) (waiting : List (ℕ × ℕ)) (taken : List ℕ) (dead : DeadBlocks) → PipelineAgrees base log l v ring waiting taken → (writes : WritesHeader v w ring) → greatest_ticket log < writes.pending.ticket → MayServe l v dead → MayServe (header_made v ring l) w dead
-serves_made base log l v w ring waiting taken dead a writes above serves = still_dead l (header_made v ring l) v w dead (turned_made l v ring) serves
-    (λ i h at opens. let was = sym (ap (λ (p : Pipeline). slice_get p.home.items i) writes.rest) ∙ at in (was, open_beside h.ticket writes.pending.ticket v.notes.notes w.notes.notes (other h.ticket (writes.pending.ticket == h.ticket) refl (a.apart.beside_upto h.ticket (inl (i, h, was, refl)))) (writes.expected h.ticket) (writes.noticed h.ticket) opens))
-  where
-    less : (t u : ℕ) → greatest_ticket log < t → u ≤ greatest_ticket log → t ≡ u → ⊥
-    less t u lt le e = omega (arith, lt, le, e)
-
-    other : (u : ℕ) (b : Bool) → (writes.pending.ticket == u) ≡ b → u ≤ greatest_ticket log → b ≡ false
-    other u true e upto = absurd (less writes.pending.ticket u above upto (eqb-true writes.pending.ticket u e))
-    other u false e upto = refl
+serves_made base log l v w ring waiting taken dead a writes above serves = grind (arith, nat_tests, still_dead, turned_made, open_beside)
 
 -- Ring and dead blocks.
 
 pub goes_turned : (v w : Pipeline) (old new : RingPlaces) (dead : DeadBlocks) (b : Bool) → TurnsOrStays b v w old new → new.taken ≡ places_taken w → GoesWith v old dead → GoesWith w new dead
 goes_turned v w old new dead false same taken goes = subst (λ (p : Pipeline). GoesWith p new dead) (sym same.0) (subst (λ r. GoesWith v r dead) (sym same.1) goes)
-goes_turned v w old new dead true turns taken goes = record {
-  ring_geom = ap (λ (r : RingPlaces). r.geom) turns.ring ∙ goes.ring_geom ∙ sym (ap (λ (p : Pipeline). p.geom) turns.rest);
-  taken = taken;
-  dead_geom = goes.dead_geom ∙ sym (ap (λ (p : Pipeline). p.geom) turns.rest);
-  waiting = subst (λ n. Rattle.std.proofs.Common.All (λ p. Rattle.engine_reuse.specs.Dead.freed_by p ≤ n) dead.waiting) (sym (ap (λ (p : Pipeline). p.last) turns.rest)) goes.waiting;
-}
+goes_turned v w old new dead true turns taken goes = grind (arith, nat_tests)
 
 pub goes_made : (v w : Pipeline) (ring : RingPlaces) (dead : DeadBlocks) → WritesHeader v w ring → GoesWith v ring dead → GoesWith w ring dead
-goes_made v w ring dead writes goes = record {
-  ring_geom = goes.ring_geom ∙ sym (ap (λ (p : Pipeline). p.geom) writes.rest);
-  taken = goes.taken ∙ sym (ap places_taken writes.rest);
-  dead_geom = goes.dead_geom ∙ sym (ap (λ (p : Pipeline). p.geom) writes.rest);
-  waiting = subst (λ n. Rattle.std.proofs.Common.All (λ p. Rattle.engine_reuse.specs.Dead.freed_by p ≤ n) dead.waiting) (sym (ap (λ (p : Pipeline). p.last) writes.rest)) goes.waiting;
-}
+goes_made v w ring dead writes goes = grind (arith, nat_tests)

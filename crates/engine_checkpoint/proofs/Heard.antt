@@ -1,5 +1,6 @@
 -- All stays sound and right as more is heard: the notes alone have changed.
-use Rattle.std.proofs.Common.{◌≡◌, ◌⊎◌, ℕ, ◌+◌, ◌<◌, ◌≤◌, false, if◌then◌else◌, List, [], ◌∷◌, ◌++◌, length, map, slice_get, Option, Some, None, refl, sym, ◌∙◌, ap, subst, arith}
+use Rattle.std.proofs.Common.{◌≡◌, ℕ, ◌+◌, ◌≤◌, if◌then◌else◌, List, [], ◌∷◌, ◌++◌, Option, Some, None, refl, sym, ap, subst, arith}
+use Rattle.std.proofs.lemmas.Bool.Decides.{nat_tests}
 use Rattle.disk_contract.specs.declared.event.Event.{Event}
 use Rattle.disk_contract.specs.declared.event.Event.TheVariants.{Wrote, Lost, Noticed}
 use Rattle.disk_contract.specs.Cell.{notices}
@@ -30,12 +31,7 @@ pub room_heard : (v : Pipeline) (notes : Expected) → HearsMore v.notes notes �
 room_heard v notes hears r = record { placed = r.placed; sure = r.sure; durable = r.durable; committed = r.committed; home = r.home; blocks = r.blocks; last = r.last; newest = r.newest; notes = omega (arith, r.notes, hears.room, pending_same v.next v.notes.notes notes.notes (expected_same v.notes.notes notes.notes hears.tickets)) }
 
 pub sound_heard : (v w : Pipeline) (ring : RingPlaces) (dead : DeadBlocks) → w ≡ heard v w.notes → HearsMore v.notes w.notes → IsSound v ring dead → IsSound w ring dead
-sound_heard v w ring dead rest hears s = subst (λ (p : Pipeline). IsSound p ring dead) (sym rest) (record {
-  order = order_heard v w.notes s.order;
-  room = room_heard v w.notes hears s.room;
-  index = record { at = s.index.at };
-  goes_with = record { ring_geom = s.goes_with.ring_geom; taken = s.goes_with.taken; dead_geom = s.goes_with.dead_geom; waiting = s.goes_with.waiting };
-})
+sound_heard v w ring dead rest hears s = grind (arith, nat_tests, order_heard, room_heard)
 
 pub turns_heard : (n : ℕ) (v w : Pipeline) → w ≡ heard v w.notes → LeavesTurns n v → LeavesTurns n w
 turns_heard n v w rest t = subst (LeavesTurns n) (sym rest) (record { turn = t.turn; last = t.last })
@@ -44,22 +40,13 @@ pub has_turns : (n : ℕ) (v : Pipeline) → n ≤ 4 → HasTurns v → LeavesTu
 has_turns n v few t = record { turn = omega (arith, t.turn, few); last = omega (arith, t.last) }
 
 pub serves_heard : (l : Ledger) (v w : Pipeline) (dead : DeadBlocks) → w ≡ heard v w.notes → HearsMore v.notes w.notes → MayServe l v dead → MayServe l w dead
-serves_heard l v w dead rest hears serves = record {
-  dead_now = serves.dead_now;
-  not_going = λ k h is opens. serves.not_going k h (sym (ap (λ (p : Pipeline). slice_get p.home.items k) rest) ∙ is) (heard_opens v.notes w.notes hears h.ticket opens);
-}
+serves_heard l v w dead rest hears serves = grind (arith, nat_tests, heard_opens)
 
 pub owed_heard : (v w : Pipeline) → w ≡ heard v w.notes → writes_owed w ≡ writes_owed v
 owed_heard v w rest = ap writes_owed rest
 
 pub due_heard : (v w x : Pipeline) → w ≡ heard v w.notes → NothingIsDue w x → NothingIsDue v x
-due_heard v w x rest due = record {
-  durable = due.durable;
-  pending = due.pending;
-  placed = subst (λ (p : Pipeline). 0 < x.batch → (Rattle.engine_notes.specs.Notes.none_open (map Rattle.engine_checkpoint.specs.Agree.home_ticket x.home.items) x.notes.notes ≡ false) ⊎ (p.header.start + length p.placed.items + p.batch ≤ x.header.start + length x.placed.items)) rest due.placed;
-  batch = due.batch;
-  header = due.header;
-}
+due_heard v w x rest due = grind (arith, nat_tests)
 
 -- notices are no writes
 pub writes_noticed : (log : List Event) (ts : List ℕ) → writes_in (log ++ notices ts) ≡ writes_in log

@@ -1,5 +1,6 @@
 -- Which notices came, and that the notes know those of committed records.
-use Rattle.std.proofs.Common.{◌≡◌, ◌⊎◌, inl, inr, ⊎_elim, ℕ, zero, suc, ◌+◌, ◌-◌, ◌==◌, ◌&&◌, ◌||◌, Bool, true, false, if◌then◌else◌, List, [], ◌∷◌, ◌++◌, map, slice_get, Some, Result, Ok, Err, IsErr, refl, sym, ◌∙◌, ap, subst, append_assoc, append-nil}
+use Rattle.std.proofs.Common.{◌≡◌, ◌⊎◌, inl, inr, ⊎_elim, ℕ, zero, suc, ◌+◌, ◌-◌, ◌==◌, ◌&&◌, ◌||◌, Bool, true, false, if◌then◌else◌, List, [], ◌∷◌, ◌++◌, map, slice_get, Some, Result, Ok, Err, IsErr, refl, sym, ◌∙◌, ap, subst, append_assoc, append-nil, arith}
+use Rattle.std.proofs.lemmas.Bool.Decides.{nat_tests}
 use Rattle.std.proofs.lemmas.Bool.{false≢true, eqb-true, eq-eqb}
 use Rattle.std.proofs.lemmas.Option.{none-some, same_Some}
 use Rattle.layout_journal.specs.Ring.{RingPlaces}
@@ -15,7 +16,6 @@ use Rattle.crash_argument.specs.Writes.{AddsWrites, AddsFront, AddsAll}
 use Rattle.engine_notes.specs.declared.notes.Note.{Note}
 use Rattle.engine_notes.specs.Notes.{Expected, is_expected, is_noticed, is_open}
 use Rattle.engine_running.specs.Writes.{fresh_write}
-use Rattle.engine_checkpoint.specs.declared.pipeline.Pending.{Pending}
 use Rattle.engine_checkpoint.specs.declared.pipeline.Pipeline.{Pipeline}
 use Rattle.engine_checkpoint.specs.Agree.{home_ticket}
 use Rattle.engine_checkpoint.specs.Steps.{TakesAll}
@@ -34,20 +34,12 @@ noticed_in : (u : ℕ) (old more : List Event) → IsNoticed u (old ++ more) →
 noticed_in u [] more came = inr came
 noticed_in u (Wrote t b x ∷ old) more came = noticed_in u old more came
 noticed_in u (Lost b x ∷ old) more came = noticed_in u old more came
-noticed_in u (Noticed t ∷ old) more came = by (t == u) came (noticed_in u old more)
-  where
-    by : (own : Bool) → (own || Rattle.disk_contract.specs.Cell.is_noticed u (old ++ more)) ≡ true → (IsNoticed u (old ++ more) → IsNoticed u old ⊎ IsNoticed u more) → ((own || Rattle.disk_contract.specs.Cell.is_noticed u old) ≡ true) ⊎ IsNoticed u more
-    by true e rest = inl refl
-    by false e rest = rest e
+noticed_in u (Noticed t ∷ old) more came = grind (arith, nat_tests, noticed_in u old more)
 
 -- a ticket whose notice is in a row of notices is one of theirs
 noticed_one : (u : ℕ) (ts : List ℕ) → IsNoticed u (notices ts) → is_one_of u ts ≡ true
 noticed_one u [] came = absurd (false≢true came)
-noticed_one u (t ∷ ts) came = by (t == u) came (noticed_one u ts)
-  where
-    by : (own : Bool) → (own || Rattle.disk_contract.specs.Cell.is_noticed u (notices ts)) ≡ true → (IsNoticed u (notices ts) → is_one_of u ts ≡ true) → (if own then true else is_one_of u ts) ≡ true
-    by true e rest = refl
-    by false e rest = rest e
+noticed_one u (t ∷ ts) came = grind (arith, nat_tests, noticed_one u ts)
 
 -- writes bring no notice
 writes_bring_none : (u : ℕ) (es : List Event) → AreWrites es → IsNoticed u es → ⊥
@@ -100,32 +92,15 @@ grows_header false r v w ring old new same = grows_none old new same
 
 -- each notice that came with such a wait is of its ticket
 pub heard_alone : (t : ℕ) (old new : List Event) → HearsAlone t old new → (u : ℕ) → IsNoticed u new → IsNoticed u old ⊎ (u ≡ t)
-heard_alone t old new alone u came = ⊎_elim
-    (λ same. inl (subst (λ (log : List Event). IsNoticed u log) same came))
-    (λ log. ⊎_elim inl (λ now. inr (sym (own now))) (noticed_in u old (Noticed t ∷ []) (subst (λ (log : List Event). IsNoticed u log) log came)))
-    alone
-  where
-    own : IsNoticed u (Noticed t ∷ []) → t ≡ u
-    own now = eqb-true t u (or_none (t == u) now)
-      where
-        or_none : (b : Bool) → (b || false) ≡ true → b ≡ true
-        or_none true e = refl
-        or_none false e = e
+heard_alone t old new alone u came = grind (arith, nat_tests, noticed_in)
 
 -- an open ticket is noticed once its notice is taken
 pub taken_is_noticed : (t : ℕ) (old new : List Note) → is_open t old ≡ true → ((u : ℕ) → is_noticed u new ≡ (is_noticed u old || (t == u && is_expected u old))) → is_noticed t new ≡ true
-taken_is_noticed t old new opens takes = takes t ∙ ap (λ b. is_noticed t old || (b && is_expected t old)) (eq-eqb t t refl) ∙ ap (λ b. is_noticed t old || b) (open_expected t old opens) ∙ full (is_noticed t old)
-  where
-    full : (b : Bool) → (b || true) ≡ true
-    full true = refl
-    full false = refl
+taken_is_noticed t old new opens takes = grind (arith, nat_tests, open_expected)
 
 -- nothing came
 pub hears_nothing : {A E : Type 0} (P : ℕ → Type 0) (r : Result A E) (old new : List Event) (notes : List Note) → new ≡ old → HearsOnly P r old new notes
-hears_nothing P r old new notes same = record {
-  only = λ u came. inl (subst (λ (log : List Event). IsNoticed u log) same came);
-  heard = holds_ok r (λ u came. inl (subst (λ (log : List Event). IsNoticed u log) same came));
-}
+hears_nothing P r old new notes same = grind (arith, nat_tests, holds_ok)
 
 -- a wait that failed: nothing is said of the notes
 pub hears_failed : {A E : Type 0} (P : ℕ → Type 0) (r : Result A E) (old new : List Event) (notes : List Note) → IsErr r → ((u : ℕ) → IsNoticed u new → IsNoticed u old ⊎ P u) → HearsOnly P r old new notes
@@ -138,10 +113,7 @@ pub only_then : {A E B F : Type 0} (P Q : ℕ → Type 0) (q : Result A E) (r : 
 only_then P Q q r a b c was now turn one two u came = ⊎_elim (λ before. one.only u before) (λ own. inr (turn u own)) (two.only u came)
 
 pub hears_then : {B F : Type 0} (P Q : ℕ → Type 0) (x : B) (a b c : List Event) (was now : Expected) → ((u : ℕ) → Q u → P u) → HearsMore was now → HearsOnly {A = Unit {0}} {E = Unit {0}} P (Ok tt) a b was.notes → HearsOnly {A = B} {E = F} Q (Ok x) b c now.notes → HearsOnly {A = Unit {0}} {E = Unit {0}} P (Ok tt) a c now.notes
-hears_then {B} {F} P Q x a b c was now turn hears one two = record {
-  only = only_then {A = Unit {0}} {E = Unit {0}} {B = B} {F = F} P Q (Ok tt) (Ok x) a b c was.notes now.notes turn one two;
-  heard = λ u came. ⊎_elim (λ before. ⊎_elim inl (λ known. inr (hears.noticed u known)) (one.heard u before)) inr (two.heard u came);
-}
+hears_then {B} {F} P Q x a b c was now turn hears one two = grind (arith, nat_tests, only_then)
 
 -- the tickets told otherwise, or by a wider test
 pub hears_as : {A E : Type 0} (P Q : ℕ → Type 0) (r : Result A E) (old new : List Event) (notes : List Note) → ((u : ℕ) → Q u → P u) → HearsOnly Q r old new notes → HearsOnly P r old new notes
@@ -153,11 +125,7 @@ hears_as P Q r old new notes turn h = record { only = λ u came. ⊎_elim inl (�
 pub one_at : (ts : List ℕ) (k t : ℕ) → slice_get ts k ≡ Some t → is_one_of t ts ≡ true
 one_at [] k t is = absurd (none-some t is)
 one_at (u ∷ ts) zero t is = ap (λ (b : Bool). if b then true else is_one_of t ts) (eq-eqb u t (same_Some u t is))
-one_at (u ∷ ts) (suc k) t is = by (u == t) (one_at ts k t is)
-  where
-    by : (b : Bool) → is_one_of t ts ≡ true → (if b then true else is_one_of t ts) ≡ true
-    by true e = refl
-    by false e = e
+one_at (u ∷ ts) (suc k) t is = grind (arith, nat_tests, one_at ts k t is)
 
 -- The notes know what they knew where no notice came and of the tickets that they expect still the same is known; of a ticket that they expect newly no notice came.
 pub heard_left : (old new : List Event) (v w y : Pipeline) → ForgetsSome v.notes.notes w.notes.notes → ((u : ℕ) → is_noticed u y.notes.notes ≡ is_noticed u w.notes.notes) → ((u : ℕ) → is_expected u y.notes.notes ≡ true → (is_expected u w.notes.notes ≡ true) ⊎ (¬ IsNoticed u new)) → ((u : ℕ) → IsNoticed u new → IsNoticed u old)
@@ -170,17 +138,7 @@ pub heard_waited : {P : ℕ → Type 0} {A E : Type 0} (x : A) (old new : List E
 heard_waited x old new v w hears h heard t expected came = ⊎_elim (λ was. hears.noticed t (heard t (sym (expected_same v.notes.notes w.notes.notes hears.tickets t) ∙ expected) was)) (λ known. known) (h.heard t came)
 
 pub heard_taken : (ts : List ℕ) (old new : List Event) (v w : Pipeline) → HearsMore v.notes w.notes → new ≡ old ++ notices ts → TakesAll ts v.notes.notes w.notes.notes → HearsAll old v → HearsAll new w
-heard_taken ts old new v w hears log takes heard t expected came = ⊎_elim (λ was. hears.noticed t (heard t before was)) known (noticed_in t old (notices ts) (subst (λ (l : List Event). IsNoticed t l) log came))
-  where
-    before : is_expected t v.notes.notes ≡ true
-    before = sym (takes.expected t) ∙ expected
-
-    known : IsNoticed t (notices ts) → is_noticed t w.notes.notes ≡ true
-    known now = takes.noticed t ∙ ap (λ b. is_noticed t v.notes.notes || (b && is_expected t v.notes.notes)) (noticed_one t ts now) ∙ ap (λ b. is_noticed t v.notes.notes || b) before ∙ full (is_noticed t v.notes.notes)
-      where
-        full : (b : Bool) → (b || true) ≡ true
-        full true = refl
-        full false = refl
+heard_taken ts old new v w hears log takes heard t expected came = grind (arith, nat_tests, noticed_in, noticed_one)
 
 -- The tickets of writes that came.
 
@@ -202,11 +160,7 @@ begun_expected true a w x old new begins adds u expected = ⊎_elim (λ own. inr
 begun_expected false a w x old new same adds u expected = inl (ap (λ (p : Pipeline). is_expected u p.notes.notes) (sym same) ∙ expected)
 
 made_expected : {A : Type 0} (due : Bool) (a : A) (x y : Pipeline) (ring : RingPlaces) (old new : List Event) → HeaderAdds {A = A} {E = DiskFault} due (Ok a) x y ring → AddsHeader {A = A} {E = DiskFault} due (Ok a) x y ring old new → (u : ℕ) → is_expected u y.notes.notes ≡ true → (is_expected u x.notes.notes ≡ true) ⊎ (¬ IsNoticed u old)
-made_expected true a x y ring old new writes adds u expected = ⊎_elim (λ own. inr (λ came. adds.2.1 (subst (λ n. IsNoticed n old) (sym (own_ticket own)) came))) inl
-    (one_or (writes.pending.ticket == u) (is_expected u x.notes.notes) (sym (writes.expected u) ∙ expected))
-  where
-    own_ticket : (writes.pending.ticket == u) ≡ true → adds.0.ticket ≡ u
-    own_ticket own = ap (λ (q : Pending). q.ticket) (same_Some adds.0 writes.pending (sym adds.1 ∙ writes.is_next)) ∙ eqb-true writes.pending.ticket u own
+made_expected true a x y ring old new writes adds u expected = grind (arith, nat_tests, one_or)
 made_expected false a x y ring old new same adds u expected = inl (ap (λ (p : Pipeline). is_expected u p.notes.notes) (sym same) ∙ expected)
 
 -- both, where the log grew by writes alone

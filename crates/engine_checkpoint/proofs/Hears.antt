@@ -1,5 +1,6 @@
 -- Notes with the same tickets: which are expected, and where each stands.
 use Rattle.std.proofs.Common.{◌≡◌, ℕ, zero, suc, ◌+◌, ◌<◌, ◌≤◌, ◌==◌, ◌&&◌, not, Bool, true, false, if◌then◌else◌, List, [], ◌∷◌, length, map, slice_get, Option, Some, None, option_map, get_or, refl, sym, ◌∙◌, ap, subst, arith}
+use Rattle.std.proofs.lemmas.Bool.Decides.{nat_tests}
 use Rattle.std.proofs.lemmas.Bool.{eqb-true, eq-eqb, false≢true, cond-true, cond-false}
 use Rattle.std.proofs.lemmas.Option.{same_Some, none-some, slice_get_read, get_or_from_slice_get}
 use Rattle.engine_notes.specs.declared.notes.Note.{Note}
@@ -28,11 +29,7 @@ stands_at (n ∷ ns) u e = by (stands_at ns u) (n.ticket == u) refl
 pub there_is_expected : (ns : List Note) (k : ℕ) (n : Note) → slice_get ns k ≡ Some n → is_expected n.ticket ns ≡ true
 there_is_expected [] k n is = absurd (none-some n is)
 there_is_expected (m ∷ ns) zero n is = cond-true (m.ticket == n.ticket) true (is_expected n.ticket ns) (eq-eqb m.ticket n.ticket (ap ticket_of (same_Some m n is)))
-there_is_expected (m ∷ ns) (suc k) n is = or_else (m.ticket == n.ticket) (is_expected n.ticket ns) (there_is_expected ns k n is)
-  where
-    or_else : (w e : Bool) → e ≡ true → (if w then true else e) ≡ true
-    or_else true e is = refl
-    or_else false e is = is
+there_is_expected (m ∷ ns) (suc k) n is = grind (arith, nat_tests, there_is_expected ns k n is)
 
 -- the ticket at a place
 at_place : (ns : List Note) (k : ℕ) → slice_get (map ticket_of ns) k ≡ option_map ticket_of (slice_get ns k)
@@ -52,12 +49,7 @@ same_ticket old new k n m same was now = same_Some m.ticket n.ticket (sym (at_pl
 
 -- an expected ticket that isn't open is noticed
 pub closed_is_noticed : (u : ℕ) (ns : List Note) → is_open u ns ≡ false → is_expected u ns ≡ true → is_noticed u ns ≡ true
-closed_is_noticed u ns closed expected = by (is_expected u ns) (is_noticed u ns) closed expected
-  where
-    by : (e n : Bool) → (e && not n) ≡ false → e ≡ true → n ≡ true
-    by true true c e2 = refl
-    by true false c e2 = absurd (false≢true (sym c))
-    by false n c e2 = absurd (false≢true e2)
+closed_is_noticed u ns closed expected = grind (arith, nat_tests)
 
 pub hears_on : (a b c : Expected) → HearsMore a b → HearsMore b c → HearsMore a c
 hears_on a b c h k = record { tickets = k.tickets ∙ h.tickets; room = k.room ∙ h.room; noticed = λ u e. k.noticed u (h.noticed u e) }
@@ -71,18 +63,11 @@ all_noticed old new count same all upto u e = let r = stands_at old u (sym (expe
 
 -- one more: the note at this place is noticed now
 pub upto_more : (old : List Note) (was now : Expected) (count : ℕ) → AreNoticedUpto count old was.notes → ((u : ℕ) → is_noticed u was.notes ≡ true → is_noticed u now.notes ≡ true) → ((n : Note) → slice_get old count ≡ Some n → is_noticed n.ticket now.notes ≡ true) → AreNoticedUpto (count + 1) old now.notes
-upto_more old was now count upto more own k n lt is = Rattle.std.proofs.Common.⊎_elim (λ less. more n.ticket (upto k n less is)) (λ not_less. own n (ap (slice_get old) (same k count lt not_less) ∙ is)) (Rattle.std.proofs.lemmas.Bool.cases_lt k count)
-  where
-    same : (k c : ℕ) → k < c + 1 → c ≤ k → c ≡ k
-    same k c lt ge = omega (arith, lt, ge)
+upto_more old was now count upto more own k n lt is = grind (arith, nat_tests)
 
 -- the note that stood at a place of the first notes is noticed, since the one that stands there now is
 pub here : (first was now : List Note) (k : ℕ) (n : Note) → map ticket_of was ≡ map ticket_of first → slice_get first k ≡ Some n → ((m : Note) → slice_get was k ≡ Some m → is_noticed m.ticket now ≡ true) → is_noticed n.ticket now ≡ true
-here first was now k n same is heard = by (slice_get was k) refl
-  where
-    by : (o : Option Note) → slice_get was k ≡ o → is_noticed n.ticket now ≡ true
-    by None none = absurd (none-some n (sym (none_there first was k same none) ∙ is))
-    by (Some m) there = subst (λ t. is_noticed t now ≡ true) (same_ticket first was k n m same is there) (heard m there)
+here first was now k n same is heard = grind (arith, nat_tests, none_there, same_ticket)
 
 -- a note whose ticket was expected and isn't open any more
 pub heard_at : (old new : List Note) (k : ℕ) (m n : Note) → slice_get old k ≡ Some m → slice_get old k ≡ Some n → map ticket_of new ≡ map ticket_of old → is_open m.ticket new ≡ false → is_noticed n.ticket new ≡ true
@@ -105,46 +90,21 @@ none_open_of (t ∷ ts) notes (suc count) all closed = both (is_open t notes) (n
 
 -- a ticket that isn't open stays so as more is heard
 pub closed_on : (old new : Expected) (t : ℕ) → HearsMore old new → is_open t old.notes ≡ false → is_open t new.notes ≡ false
-closed_on old new t hears closed = by (is_expected t old.notes) (is_noticed t old.notes) (is_expected t new.notes) (is_noticed t new.notes) closed (expected_same old.notes new.notes hears.tickets t) (hears.noticed t)
-  where
-    by : (e n f m : Bool) → (e && not n) ≡ false → f ≡ e → (n ≡ true → m ≡ true) → (f && not m) ≡ false
-    by false n false m c same more = refl
-    by false n true m c same more = absurd (false≢true (sym same))
-    by true true f true c same more = off f
-      where
-        off : (f : Bool) → (f && false) ≡ false
-        off true = refl
-        off false = refl
-    by true true f false c same more = absurd (false≢true (more refl))
-    by true false f m c same more = absurd (false≢true (sym c))
+closed_on old new t hears closed = grind (arith, nat_tests, expected_same)
 
 pub none_open_on : (old new : Expected) (ts : List ℕ) → HearsMore old new → none_open ts old.notes ≡ true → none_open ts new.notes ≡ true
 none_open_on old new [] hears e = refl
-none_open_on old new (t ∷ ts) hears e = both (is_open t new.notes) (none_open ts new.notes) (closed_on old new t hears (off (is_open t old.notes) (Rattle.std.proofs.lemmas.Bool.and_parts (not (is_open t old.notes)) (none_open ts old.notes) e).0)) (none_open_on old new ts hears (Rattle.std.proofs.lemmas.Bool.and_parts (not (is_open t old.notes)) (none_open ts old.notes) e).1)
-  where
-    both : (w r : Bool) → w ≡ false → r ≡ true → (not w && r) ≡ true
-    both false r e f = f
-    both true r e f = absurd (false≢true (sym e))
-
-    off : (w : Bool) → not w ≡ true → w ≡ false
-    off false e = refl
-    off true e = absurd (false≢true e)
+none_open_on old new (t ∷ ts) hears e = grind (arith, nat_tests, closed_on, none_open_on old new ts hears (Rattle.std.proofs.lemmas.Bool.and_parts (not (is_open t old.notes)) (none_open ts old.notes) e).1)
 
 pub closed_more : (ts : List ℕ) (was now : Expected) (count : ℕ) → AreClosedUpto count ts was.notes → HearsMore was now → ((t : ℕ) → slice_get ts count ≡ Some t → is_open t now.notes ≡ false) → AreClosedUpto (count + 1) ts now.notes
-closed_more ts was now count upto hears own k t lt is = Rattle.std.proofs.Common.⊎_elim (λ less. closed_on was now t hears (upto k t less is)) (λ not_less. own t (ap (slice_get ts) (same k count lt not_less) ∙ is)) (Rattle.std.proofs.lemmas.Bool.cases_lt k count)
-  where
-    same : (k c : ℕ) → k < c + 1 → c ≤ k → c ≡ k
-    same k c lt ge = omega (arith, lt, ge)
+closed_more ts was now count upto hears own k t lt is = grind (arith, nat_tests, closed_on)
 
 -- The first so many of these records are waited for.
 abbrev pub AreClosedRecords : ℕ → List Committed → List Note → Type 0
 AreClosedRecords count cs notes = (k : ℕ) (c : Committed) → k < count → slice_get cs k ≡ Some c → none_open c.tickets.items notes ≡ true
 
 pub records_more : (cs : List Committed) (was now : Expected) (count : ℕ) → AreClosedRecords count cs was.notes → HearsMore was now → ((c : Committed) → slice_get cs count ≡ Some c → none_open c.tickets.items now.notes ≡ true) → AreClosedRecords (count + 1) cs now.notes
-records_more cs was now count upto hears own k c lt is = Rattle.std.proofs.Common.⊎_elim (λ less. none_open_on was now c.tickets.items hears (upto k c less is)) (λ not_less. own c (ap (slice_get cs) (same k count lt not_less) ∙ is)) (Rattle.std.proofs.lemmas.Bool.cases_lt k count)
-  where
-    same : (k c : ℕ) → k < c + 1 → c ≤ k → c ≡ k
-    same k c lt ge = omega (arith, lt, ge)
+records_more cs was now count upto hears own k c lt is = grind (arith, nat_tests, none_open_on)
 
 -- the record at a place, by its index
 pub record_at : (cs : List Committed) (k : ℕ) (c : Committed) → k < length cs → c ≡ get_or cs k c → slice_get cs k ≡ Some c
@@ -162,8 +122,4 @@ hears_same a = record { tickets = refl; room = refl; noticed = λ u e. e }
 
 -- what isn't open stays so
 pub heard_opens : (old new : Expected) → HearsMore old new → OpensNone old.notes new.notes
-heard_opens old new hears u e = by (is_open u old.notes) refl
-  where
-    by : (v : Bool) → is_open u old.notes ≡ v → v ≡ true
-    by true is = refl
-    by false is = absurd (false≢true (sym (closed_on old new u hears is) ∙ e))
+heard_opens old new hears u e = grind (arith, nat_tests, closed_on)

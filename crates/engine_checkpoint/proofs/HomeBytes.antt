@@ -1,10 +1,11 @@
 -- The bytes that go home are the newest payloads of the sure records.
-use Rattle.std.proofs.Common.{◌≡◌, ℕ, suc, Bool, if◌then◌else◌, List, [], ◌∷◌, length, take, drop, map, slice_get, Option, Some, None, refl, ◌∙◌, ap}
+use Rattle.std.proofs.Common.{◌≡◌, ℕ, suc, List, [], ◌∷◌, length, take, drop, map, slice_get, Option, Some, None, refl, ◌∙◌, ap, arith}
+use Rattle.std.proofs.lemmas.Bool.Decides.{nat_tests}
 use Rattle.std.proofs.lemmas.Option.{same_Some, none-some}
 use Rattle.base_types.specs.Seal.{Blocks}
 use Rattle.disk_contract.specs.declared.event.Event.{Event}
 use Rattle.layout_journal.specs.Ring.{RingPlaces}
-use Rattle.layout_journal.specs.Run.{names_block, or_else}
+use Rattle.layout_journal.specs.Run.{names_block}
 use Rattle.crash_argument.specs.Ledger.{Ledger, WrittenRecord, payload_in}
 use Rattle.crash_argument.specs.HomeTest.{is_one_of, goes_after, goes_home}
 use Rattle.crash_argument.specs.PipelineData.{with_batch}
@@ -25,9 +26,7 @@ record SaysOf (ws : List WrittenRecord) (fs : List (List ℕ)) (k b : ℕ) (t : 
   pub laid : names_block written.says.fresh b ≡ is_one_of b t.fresh.items
 
 goes_one : (old : Option (List ℕ)) (w : WrittenRecord) (f : List ℕ) (t : Sure) (b : ℕ) → f ≡ t.freed.items → payload_in w b ≡ put_of b t.payloads.items → names_block w.says.fresh b ≡ is_one_of b t.fresh.items → goes_after old w f b ≡ newest_after old (of_sure t) b
-goes_one old w f t b freed paid laid = ap (λ (fs : List ℕ). if is_one_of b fs then None else or_else (payload_in w b) (if names_block w.says.fresh b then None else old)) freed
-    ∙ ap (λ (o : Option (List ℕ)). if is_one_of b t.freed.items then None else or_else o (if names_block w.says.fresh b then None else old)) paid
-    ∙ ap (λ (v : Bool). if is_one_of b t.freed.items then None else or_else (put_of b t.payloads.items) (if v then None else old)) laid
+goes_one old w f t b freed paid laid = grind (arith, nat_tests)
 
 goes_all : (ss : List Sure) (ws : List WrittenRecord) (fs : List (List ℕ)) (old : Option (List ℕ)) (b : ℕ) → ((k : ℕ) (t : Sure) → slice_get ss k ≡ Some t → SaysOf ws fs k b t) → goes_home old (take (length ss) ws) (take (length ss) fs) b ≡ newest_in old (map of_sure ss) b
 goes_all [] ws fs old b says = refl

@@ -1,5 +1,6 @@
 -- A block that a batch has to bring home, and that lives on, has a newest payload in all records that aren't placed: no record behind the sure ones took it away.
 use Rattle.std.proofs.Common.{◌≡◌, ◌⊎◌, inl, inr, ⊎_elim, ℕ, zero, suc, ◌+◌, ◌-◌, ◌<◌, ◌≤◌, ◌==◌, nat_lt, Bool, true, false, IsTrue, if◌then◌else◌, List, [], ◌∷◌, length, take, drop, map, slice_get, Option, Some, None, refl, sym, ◌∙◌, ap, ap₂, subst, arith, length-drop}
+use Rattle.std.proofs.lemmas.Bool.Decides.{nat_tests}
 use Rattle.std.proofs.lemmas.Bool.{false≢true, eqb-true, and_parts, cond-false}
 use Rattle.layout_journal.specs.declared.entry.Entry.{Entry}
 use Rattle.layout_journal.specs.Run.{names_block, or_else, is_live}
@@ -60,10 +61,7 @@ module _ (l : Ledger) (new : FreshAreNew l) (freed : List (List ℕ)) (are : Are
   module _ (numbers : (k : ℕ) (w : WrittenRecord) → slice_get l.records k ≡ Some w → w.says.number ≡ l.header.start + k) where
     rows : (ws : List WrittenRecord) (fs : List (List ℕ)) (at : ℕ) → l.header.sure < l.header.start + at → length ws ≡ length fs → ((i : ℕ) (w : WrittenRecord) → slice_get ws i ≡ Some w → slice_get l.records (at + i) ≡ Some w) → ((i : ℕ) (f : List ℕ) → slice_get fs i ≡ Some f → slice_get freed (at + i) ≡ Some f)
         → IsTrue (live (l.header.start + at + length ws)) → Keeps (l.header.start + at) ws fs
-    rows [] fs at behind same members lists lives = inr (subst (λ n. IsTrue (live n)) (z (l.header.start + at)) lives, λ g. refl)
-      where
-        z : (n : ℕ) → n + 0 ≡ n
-        z n = omega arith
+    rows [] fs at behind same members lists lives = grind (arith, nat_tests)
     rows (w ∷ ws) [] at behind same members lists lives = absurd (omega (arith, same))
     rows (w ∷ ws) (f ∷ fs) at behind same members lists lives =
         let here : slice_get l.records at ≡ Some w = ap (slice_get l.records) (z at) ∙ members 0 w refl in

@@ -1,5 +1,6 @@
 -- A checkpoint write is noticed, or the last one to its block, and stays so as the log grows by notices and by writes to other blocks.
-use Rattle.std.proofs.Common.{◌≡◌, ◌≢◌, ◌⊎◌, inl, inr, ℕ, suc, ◌+◌, ◌<◌, ◌≤◌, ◌==◌, ◌||◌, Bool, true, false, List, [], ◌∷◌, ◌++◌, length, map, slice_get, Some, refl, sym, ◌∙◌, ap, subst, arith, append_assoc, append-nil}
+use Rattle.std.proofs.Common.{◌≡◌, ◌≢◌, ◌⊎◌, inl, inr, ℕ, suc, ◌+◌, ◌<◌, ◌≤◌, ◌==◌, true, false, List, [], ◌∷◌, ◌++◌, length, map, slice_get, Some, refl, sym, ◌∙◌, subst, arith, append_assoc, append-nil}
+use Rattle.std.proofs.lemmas.Bool.Decides.{nat_tests}
 use Rattle.std.proofs.lemmas.Bool.{cases_Bool, eqb-true, eq-eqb, false≢true}
 use Rattle.disk_contract.specs.declared.event.Event.{Event}
 use Rattle.disk_contract.specs.declared.event.Event.TheVariants.{Wrote, Lost, Noticed}
@@ -26,24 +27,13 @@ avoids_notices b [] = tt
 avoids_notices b (t ∷ ts) = avoids_notices b ts
 
 pub last_write_on : (log more : List Event) (b t : ℕ) (x : List ℕ) → IsLastWrite log b t x → AvoidsBlock b more → IsLastWrite (log ++ more) b t x
-last_write_on log more b t x w avoids = record {
-  before = w.before;
-  later = w.later ++ more;
-  split = ap (λ es. es ++ more) w.split ∙ append_assoc w.before (Wrote t b x ∷ w.later) more;
-  above = w.above;
-  fresh = w.fresh;
-  last = avoids_on b w.later more w.last avoids;
-}
+last_write_on log more b t x w avoids = grind (arith, nat_tests, append_assoc, avoids_on)
 
 pub noticed_on : (u : ℕ) (log more : List Event) → IsNoticed u log → IsNoticed u (log ++ more)
 noticed_on u [] more came = absurd (false≢true came)
 noticed_on u (Wrote t b x ∷ log) more came = noticed_on u log more came
 noticed_on u (Lost b x ∷ log) more came = noticed_on u log more came
-noticed_on u (Noticed t ∷ log) more came = by (t == u) came (noticed_on u log more)
-  where
-    by : (own : Bool) → (own || Rattle.disk_contract.specs.Cell.is_noticed u log) ≡ true → (IsNoticed u log → IsNoticed u (log ++ more)) → (own || Rattle.disk_contract.specs.Cell.is_noticed u (log ++ more)) ≡ true
-    by true e rest = refl
-    by false e rest = rest e
+noticed_on u (Noticed t ∷ log) more came = grind (arith, nat_tests, noticed_on u log more)
 
 -- one write, where the log grows by what leaves its block alone, or it is noticed
 sent_at : (g : Geometry) (log more : List Event) (b t : ℕ) → IsNoticed t log ⊎ IsSentTo g log b t → IsNoticed t log ⊎ AvoidsBlock b more → IsNoticed t (log ++ more) ⊎ IsSentTo g (log ++ more) b t

@@ -1,5 +1,6 @@
 -- What a checkpoint write asks for, from the test and the data.
-use Rattle.std.proofs.Common.{◌≡◌, ◌≢◌, ℕ, ◌+◌, ◌%◌, ◌<◌, ◌≤◌, List, [], ◌∷◌, length, Result, Ok, Err, IsErr, arith}
+use Rattle.std.proofs.Common.{◌≡◌, ◌≢◌, ℕ, ◌<◌, ◌≤◌, List, [], ◌∷◌, length, Result, Ok, Err, IsErr, arith}
+use Rattle.std.proofs.lemmas.Bool.Decides.{nat_tests}
 use Rattle.std.proofs.lemmas.Nat.{mod_below}
 use Rattle.std.proofs.lemmas.Option.{none-some}
 use Rattle.std.proofs.lemmas.Bool.{false≢true}
@@ -14,10 +15,7 @@ use Rattle.crash_argument.specs.PipelineData.{PipelineData, NeedsCheckpoint}
 
 -- a block behind the journal is no ring place
 pub no_place : (g : Geometry) (b : ℕ) → 0 < g.j → bitmap_start g ≤ b → (place : ℕ) → ring_block g place ≢ b
-no_place g b some low place same = apart b (place % g.j) g.j same (mod_below place g.j some) low
-  where
-    apart : (b k j : ℕ) → 2 + k ≡ b → k < j → j + 2 ≤ b → ⊥
-    apart b k j e lt le = omega (arith, e, lt, le)
+no_place g b some low place same = grind (arith, nat_tests, mod_below)
 
 -- a batch that covers a block isn't empty
 pub not_empty : (l : Ledger) (ws : List WrittenRecord) (b n : ℕ) (x : List ℕ) → length ws ≡ n → NeedsCheckpoint l ws b x → n ≡ 0 → ⊥

@@ -1,10 +1,9 @@
 -- The index of newest payloads stays right: a record joins at the end, records change their state, the first records are placed.
-use Rattle.std.proofs.Common.{◌≡◌, ℕ, zero, suc, ◌+◌, ◌<◌, ◌≤◌, ◌==◌, nat_le, Bool, true, false, if◌then◌else◌, List, [], ◌∷◌, ◌++◌, length, drop, map, slice_get, Option, Some, None, refl, sym, ◌∙◌, ap, arith, append_assoc}
+use Rattle.std.proofs.Common.{◌≡◌, ℕ, zero, suc, ◌+◌, ◌<◌, ◌≤◌, if◌then◌else◌, List, [], ◌∷◌, ◌++◌, length, drop, map, slice_get, Option, Some, None, refl, sym, ◌∙◌, ap, arith, append_assoc}
+use Rattle.std.proofs.lemmas.Bool.Decides.{nat_tests}
 use Rattle.std.specs.List.{range_with_len}
-use Rattle.std.proofs.lemmas.Bool.{le-leb, lt-leb, cond-true, cond-false}
 use Rattle.std.proofs.lemmas.List.{length-map, map-append}
 use Rattle.std.proofs.lemmas.Option.{same_Some, none-some}
-use Rattle.crash_argument.specs.HomeTest.{is_one_of}
 use Rattle.engine_running.specs.declared.put.Put.{Put}
 use Rattle.engine_running.specs.declared.commit.Committed.{Committed}
 use Rattle.engine_running.specs.declared.states.Durable.{Durable}
@@ -13,7 +12,7 @@ use Rattle.engine_running.specs.States.{IsDurableOf, IsSureOf}
 use Rattle.layout_journal.specs.Ring.{RingPlaces}
 use Rattle.engine_checkpoint.specs.declared.newest.Spot.{Spot}
 use Rattle.engine_checkpoint.specs.declared.pipeline.Pipeline.{Pipeline}
-use Rattle.engine_checkpoint.specs.Newest.{spot_of, spot_or, spot_in, spot_after, is_upto}
+use Rattle.engine_checkpoint.specs.Newest.{spot_of, spot_in, spot_after, is_upto}
 use Rattle.engine_checkpoint.specs.Kept.{Kept, of_committed, of_durable, of_sure, number_of, placed_number, kept, numbers}
 use Rattle.engine_checkpoint.specs.Index.{newest_spot, IndexIsRight}
 use Rattle.engine_checkpoint.specs.Order.{IsInOrder}
@@ -28,16 +27,12 @@ newest_push before [] k b = refl
 newest_push before (j ∷ ks) k b = newest_push (spot_after before j.number j.payloads j.fresh j.freed b) ks k b
 
 pub index_joins : (v w : Pipeline) (k : Kept) → kept w ≡ kept v ++ k ∷ [] → ((b : ℕ) → spot_of w.newest b ≡ spot_after (spot_of v.newest b) k.number k.payloads k.fresh k.freed b) → IndexIsRight v → IndexIsRight w
-index_joins v w k joined added right = record {
-  at = λ b. added b ∙ ap (λ s. spot_after s k.number k.payloads k.fresh k.freed b) (right.at b) ∙ sym (newest_push None (kept v) k b) ∙ ap (λ ks. newest_spot None ks b) (sym joined);
-}
+index_joins v w k joined added right = grind (arith, nat_tests, newest_push)
 
 -- ---- records change their state
 
 pub index_same : (v w : Pipeline) → kept w ≡ kept v → ((b : ℕ) → spot_of w.newest b ≡ spot_of v.newest b) → IndexIsRight v → IndexIsRight w
-index_same v w same as_before right = record {
-  at = λ b. as_before b ∙ right.at b ∙ ap (λ ks. newest_spot None ks b) (sym same);
-}
+index_same v w same as_before right = grind (arith, nat_tests)
 
 same_kept : (n m c d : ℕ) (ps qs : List Put) (fs gs hs is : List ℕ) → n ≡ m → c ≡ d → ps ≡ qs → fs ≡ gs → hs ≡ is → ◌≡◌ {A = Kept} (record { number = n; count = c; payloads = ps; fresh = fs; freed = hs }) (record { number = m; count = d; payloads = qs; fresh = gs; freed = is })
 same_kept n m c d ps qs fs gs hs is e1 e2 e3 e4 e5 = cc
@@ -50,13 +45,7 @@ sure_kept d s e = same_kept s.number d.number s.count d.count s.payloads.items d
 
 -- the oldest committed record becomes durable
 pub kept_settled : (v w : Pipeline) → SettlesFirst v w → kept w ≡ kept v
-kept_settled v w s =
-    ap (λ (p : Pipeline). map of_sure p.sure.items ++ (map of_durable w.durable.items ++ map of_committed w.committed.items)) s.rest
-    ∙ ap (λ ds. map of_sure v.sure.items ++ (map of_durable ds ++ map of_committed w.committed.items)) s.durable
-    ∙ ap (λ ks. map of_sure v.sure.items ++ ks) (ap (λ ks. ks ++ map of_committed w.committed.items) (map_push of_durable v.durable.items s.settled)
-    ∙ append_assoc (map of_durable v.durable.items) (of_durable s.settled ∷ []) (map of_committed w.committed.items)
-    ∙ ap (λ k. map of_durable v.durable.items ++ (k ∷ map of_committed w.committed.items)) (durable_kept s.first s.settled s.keeps))
-    ∙ ap (λ cs. map of_sure v.sure.items ++ (map of_durable v.durable.items ++ map of_committed cs)) (sym s.was)
+kept_settled v w s = grind (arith, nat_tests, map_push, append_assoc, durable_kept)
 
 sured_rows : (news : List Sure) (ds : List Durable) → AreSured ds news → map of_sure news ++ map of_durable (drop (length news) ds) ≡ map of_durable ds
 sured_rows [] ds each = refl
@@ -83,10 +72,7 @@ drop_mapped (suc n) (s ∷ ss) ks le = drop_mapped n ss ks (omega (arith, le))
 
 -- the batch is placed
 pub kept_ended : (v w : Pipeline) → EndsBatch v w → v.batch ≤ length v.sure.items → kept w ≡ drop v.batch (kept v)
-kept_ended v w e le =
-    ap (λ (p : Pipeline). map of_sure w.sure.items ++ (map of_durable p.durable.items ++ map of_committed p.committed.items)) e.rest
-    ∙ ap (λ ss. map of_sure ss ++ (map of_durable v.durable.items ++ map of_committed v.committed.items)) e.sure
-    ∙ drop_mapped v.batch v.sure.items (map of_durable v.durable.items ++ map of_committed v.committed.items) le
+kept_ended v w e le = grind (arith, nat_tests, drop_mapped)
 
 pub index_turned : (v w : Pipeline) (old new : RingPlaces) → TurnsHeader v w old new → IndexIsRight v → IndexIsRight w
 index_turned v w old new t right = index_same v w (kept_turned v w old new t) (λ b. ap (λ (p : Pipeline). spot_of p.newest b) t.rest) right
@@ -110,44 +96,18 @@ tail_numbers first k ks each i j is = each (suc i) j is ∙ s first i
 -- what a record has itself is at its own number
 own_stays : (last number k : ℕ) (ps : List Put) (b : ℕ) → last < number → without_upto last (spot_in number k ps b) ≡ spot_in number k ps b
 own_stays last number k [] b above = refl
-own_stays last number k (p ∷ ps) b above = by (p.block == b) (own_stays last number (k + 1) ps b above)
-  where
-    own : Spot
-    own = record { number = number; at = k }
-
-    by : (v : Bool) → without_upto last (spot_in number (k + 1) ps b) ≡ spot_in number (k + 1) ps b → without_upto last (if v then Some own else spot_in number (k + 1) ps b) ≡ (if v then Some own else spot_in number (k + 1) ps b)
-    by true rest = cond-false (nat_le number last) None (Some own) (lt-leb number last above)
-    by false rest = rest
+own_stays last number k (p ∷ ps) b above = grind (arith, nat_tests, own_stays last number (k + 1) ps b above)
 
 own_goes : (last number k : ℕ) (ps : List Put) (b : ℕ) → number ≤ last → without_upto last (spot_in number k ps b) ≡ None
 own_goes last number k [] b upto = refl
-own_goes last number k (p ∷ ps) b upto = by (p.block == b) (own_goes last number (k + 1) ps b upto)
-  where
-    own : Spot
-    own = record { number = number; at = k }
-
-    by : (v : Bool) → without_upto last (spot_in number (k + 1) ps b) ≡ None → without_upto last (if v then Some own else spot_in number (k + 1) ps b) ≡ None
-    by true rest = cond-true (nat_le number last) None (Some own) (le-leb number last upto)
-    by false rest = rest
+own_goes last number k (p ∷ ps) b upto = grind (arith, nat_tests, own_goes last number (k + 1) ps b upto)
 
 -- a record above the number, and one up to it
 after_above : (last : ℕ) (a : Option Spot) (number : ℕ) (ps : List Put) (fresh freed : List ℕ) (b : ℕ) → last < number → without_upto last (spot_after a number ps fresh freed b) ≡ spot_after (without_upto last a) number ps fresh freed b
-after_above last a number ps fresh freed b above = by (is_one_of b freed) (is_one_of b fresh) (spot_in number 0 ps b) (own_stays last number 0 ps b above)
-  where
-    by : (u v : Bool) (o : Option Spot) → without_upto last o ≡ o → without_upto last (if u then None else spot_or o (if v then None else a)) ≡ (if u then None else spot_or o (if v then None else without_upto last a))
-    by true v o own = refl
-    by false v (Some t) own = own
-    by false true None own = refl
-    by false false None own = refl
+after_above last a number ps fresh freed b above = grind (arith, nat_tests, own_stays)
 
 after_upto : (last : ℕ) (a : Option Spot) (number : ℕ) (ps : List Put) (fresh freed : List ℕ) (b : ℕ) → number ≤ last → without_upto last a ≡ None → without_upto last (spot_after a number ps fresh freed b) ≡ None
-after_upto last a number ps fresh freed b upto gone = by (is_one_of b freed) (is_one_of b fresh) (spot_in number 0 ps b) (own_goes last number 0 ps b upto)
-  where
-    by : (u v : Bool) (o : Option Spot) → without_upto last o ≡ None → without_upto last (if u then None else spot_or o (if v then None else a)) ≡ None
-    by true v o own = refl
-    by false v (Some t) own = own
-    by false true None own = refl
-    by false false None own = gone
+after_upto last a number ps fresh freed b upto gone = grind (arith, nat_tests, own_goes)
 
 rows_above : (last first : ℕ) (a : Option Spot) (ks : List Kept) (b : ℕ) → AreNumberedFrom first ks → last < first → newest_spot (without_upto last a) ks b ≡ without_upto last (newest_spot a ks b)
 rows_above last first a [] b each above = refl
@@ -173,10 +133,7 @@ number_at first n xs i x are is = in_range first n i x (ap (λ ys. slice_get ys 
     in_range first (suc n) (suc i) x is = omega (arith, in_range (first + 1) n i x is)
 
 get_behind : {A : Type 0} (xs ys : List A) (i : ℕ) → slice_get (xs ++ ys) (length xs + i) ≡ slice_get ys i
-get_behind [] ys i = ap (slice_get ys) (z i)
-  where
-    z : (i : ℕ) → 0 + i ≡ i
-    z i = omega arith
+get_behind [] ys i = grind (arith, nat_tests)
 get_behind (x ∷ xs) ys i = ap (slice_get (x ∷ (xs ++ ys))) (s (length xs) i) ∙ get_behind xs ys i
   where
     s : (n i : ℕ) → suc n + i ≡ suc (n + i)

@@ -1,5 +1,6 @@
 -- Rows of records: what is so of their numbers and their ring places as some leave at the front, or go from one state into the next.
 use Rattle.std.proofs.Common.{◌≡◌, ⊎_elim, ℕ, zero, suc, ◌+◌, ◌-◌, ◌≤◌, List, [], ◌∷◌, ◌++◌, length, take, drop, map, slice_get, option_map, Some, refl, sym, ◌∙◌, subst, ap, arith, append_assoc}
+use Rattle.std.proofs.lemmas.Bool.Decides.{nat_tests}
 use Rattle.std.specs.List.{range_with_len}
 use Rattle.std.proofs.lemmas.Option.{same_Some, none-some, slice_get-map}
 use Rattle.layout_journal.specs.Ring.{RingPlaces, without_places}
@@ -55,10 +56,7 @@ total_more f (suc k) (suc n) (x ∷ xs) le = omega (arith, total_more f k n xs (
 
 -- places that are given back one after another
 pub without_more : (old now new : RingPlaces) (n m k : ℕ) → now ≡ without_places old n → new ≡ without_places now m → k ≡ n + m → new ≡ without_places old k
-without_more old now new n m k first then sum = then ∙ ap (λ (r : RingPlaces). without_places r m) first ∙ ap (λ t. record old { taken = t }) (both old.taken n m k sum)
-  where
-    both : (t n m k : ℕ) → k ≡ n + m → t - n - m ≡ t - k
-    both t n m k e = omega (arith, e)
+without_more old now new n m k first then sum = grind (arith, nat_tests)
 
 -- Records that become sure.
 
@@ -79,17 +77,8 @@ range_at a (suc n) zero x is = omega (arith, same_Some _ _ is)
 range_at a (suc n) (suc k) x is = omega (arith, range_at (a + 1) n k x is)
 
 pub drop_range : (k a n : ℕ) → drop k (range_with_len a n) ≡ range_with_len (a + k) (n - k)
-drop_range zero a n = ap (λ m. range_with_len a m) (z n) ∙ ap (λ m. range_with_len m (n - 0)) (y a)
-  where
-    z : (n : ℕ) → n ≡ n - 0
-    z n = omega arith
-
-    y : (a : ℕ) → a ≡ a + 0
-    y a = omega arith
-drop_range (suc k) a zero = ap (range_with_len (a + suc k)) (z k)
-  where
-    z : (k : ℕ) → 0 ≡ 0 - suc k
-    z k = omega arith
+drop_range zero a n = grind (arith, nat_tests)
+drop_range (suc k) a zero = grind (arith, nat_tests)
 drop_range (suc k) a (suc n) = drop_range k (a + 1) n ∙ ap (λ m. range_with_len m (n - k)) (s a k) ∙ ap (range_with_len (a + suc k)) (t n k)
   where
     s : (a k : ℕ) → a + 1 + k ≡ a + suc k
@@ -104,10 +93,7 @@ pub get_map : {A B : Type 0} (f : A → B) (xs : List A) (k : ℕ) (x : A) → s
 get_map f xs k x is = slice_get-map f xs k ∙ ap (option_map f) is
 
 pub get_behind : {A : Type 0} (xs ys : List A) (n k : ℕ) (z : A) → n ≡ length xs + k → slice_get ys k ≡ Some z → slice_get (xs ++ ys) n ≡ Some z
-get_behind [] ys n k z e is = ap (slice_get ys) (same n k e) ∙ is
-  where
-    same : (n k : ℕ) → n ≡ 0 + k → n ≡ k
-    same n k e = omega (arith, e)
+get_behind [] ys n k z e is = grind (arith, nat_tests)
 get_behind (x ∷ xs) ys zero k z e is = absurd (omega (arith, e))
 get_behind (x ∷ xs) ys (suc n) k z e is = get_behind xs ys n k z (omega (arith, e)) is
 

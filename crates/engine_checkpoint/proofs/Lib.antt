@@ -61,3 +61,6 @@ pub mod Added
 pub mod HomeLives
 pub mod CalmBlocks
 pub mod LiveBytes
+pub mod GoesRows
+pub mod GoesBoth
+pub mod WaitRows

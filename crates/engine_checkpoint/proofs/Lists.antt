@@ -1,9 +1,15 @@
 -- Lists and choices: one more at the end, two behind one another, a front dropped.
 use Rattle.std.proofs.Common.{◌≡◌, ◌⊎◌, inl, inr, ⊎_elim, ℕ, zero, suc, ◌+◌, ◌<◌, List, [], ◌∷◌, ◌++◌, length, drop, map, slice_get, Some, refl, ◌∙◌, ap, arith}
+use Rattle.std.proofs.lemmas.Bool.Decides.{nat_tests}
+use Rattle.std.proofs.lemmas.List.{drop_all}
 use Rattle.std.proofs.lemmas.Option.{same_Some, none-some}
 
 pub below_none : (k : ℕ) → k < 0 → ⊥
 below_none k lt = omega (arith, lt)
+
+-- a list of no length is empty
+pub nothing_in : {A : Type 0} → (xs : List A) → length xs ≡ 0 → xs ≡ []
+nothing_in xs none = drop_all 0 xs (omega (arith, none))
 
 pub map_push : {A B : Type 0} (f : A → B) (xs : List A) (y : A) → map f (xs ++ y ∷ []) ≡ map f xs ++ f y ∷ []
 map_push f [] y = refl
@@ -28,10 +34,7 @@ either (x ∷ xs) ys zero z is = inl is
 either (x ∷ xs) ys (suc k) z is = ⊎_elim inl (λ r. inr (r.0, omega (arith, r.1), r.2)) (either xs ys k z is)
 
 pub get_drop : {A : Type 0} (n : ℕ) (xs : List A) (k : ℕ) → slice_get (drop n xs) k ≡ slice_get xs (n + k)
-get_drop zero xs k = ap (slice_get xs) (z k)
-  where
-    z : (k : ℕ) → k ≡ 0 + k
-    z k = omega arith
+get_drop zero xs k = grind (arith, nat_tests)
 get_drop (suc n) [] k = refl
 get_drop (suc n) (x ∷ xs) k = get_drop n xs k ∙ ap (slice_get (x ∷ xs)) (s n k)
   where

@@ -1,5 +1,6 @@
 -- The bytes of live blocks as the pipeline's calls go on: the steps that make no write leave them by the map, and what is written goes to blocks that have a newest payload.
 use Rattle.std.proofs.Common.{◌≡◌, ⊎_elim, ℕ, ◌-◌, ◌==◌, Bool, true, false, if◌then◌else◌, List, [], ◌∷◌, ◌++◌, map, slice_get, Option, Some, None, Result, Ok, Err, Contains, refl, sym, ◌∙◌, ap, subst, arith, append_assoc, append-nil}
+use Rattle.std.proofs.lemmas.Bool.Decides.{nat_tests}
 use Rattle.std.specs.Bool.{⊤}
 use Rattle.std.proofs.lemmas.Bool.{eqb-true}
 use Rattle.std.proofs.lemmas.Option.{none-some}
@@ -159,13 +160,7 @@ module _ (d : State) (l k : Ledger) (turned : Turned l k) (v w : Pipeline) (fron
       by (Some y) None was is = last b (calm b lives) ∙ sym (written_then b (live_turned l k turned b lives) is) ∙ map_same b ∙ payload b y lives was
 
   pub leaves_forward : LeavesBytes l v w d d
-  leaves_forward = record {
-    more = [];
-    log = sym (append-nil d.log);
-    bytes = forward_bytes;
-    wrote = λ t b x there lives. absurd (none_in (Wrote t b x) there);
-    calm = λ b lives none. calm b lives;
-  }
+  leaves_forward = grind (arith, nat_tests, append-nil, forward_bytes, none_in)
 
 -- The writes of a batch and of a header.
 

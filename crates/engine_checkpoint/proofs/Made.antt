@@ -1,5 +1,6 @@
 -- A pipeline with no record agrees with the ledger of a session on a disk that was just mounted.
-use Rattle.std.proofs.Common.{◌≡◌, ⊎_elim, ℕ, nat_lt, true, if◌then◌else◌, List, [], ◌++◌, length, map, slice_get, option_map, Option, Some, None, refl, sym, ◌∙◌, subst, ap, arith}
+use Rattle.std.proofs.Common.{◌≡◌, ⊎_elim, ℕ, true, List, [], length, map, slice_get, option_map, Option, Some, refl, sym, ◌∙◌, subst, ap, arith}
+use Rattle.std.proofs.lemmas.Bool.Decides.{nat_tests}
 use Rattle.std.proofs.lemmas.Bool.{false≢true}
 use Rattle.std.proofs.lemmas.Option.{none-some}
 use Rattle.base_types.specs.Seal.{Blocks}
@@ -22,7 +23,7 @@ use Rattle.engine_running.specs.declared.states.Placed.{Placed}
 use Rattle.engine_checkpoint.specs.declared.pipeline.Pending.{Pending}
 use Rattle.engine_checkpoint.specs.declared.pipeline.HomeWrite.{HomeWrite}
 use Rattle.engine_checkpoint.specs.declared.pipeline.Pipeline.{Pipeline}
-use Rattle.engine_checkpoint.specs.Agree.{PipelineAgrees, data_of, durable_count, header_in, ticket_in, home_pair, no_tickets, tickets_in}
+use Rattle.engine_checkpoint.specs.Agree.{PipelineAgrees, data_of, header_in, home_pair}
 use Rattle.engine_checkpoint.specs.Steps.{HasNoRecord}
 
 -- data of the same parts
@@ -57,11 +58,7 @@ module _ (g : Geometry) (h : Header) (slot : ℕ) (v : Pipeline) (e : HasNoRecor
     ring = record { geom = g; next = h.at; taken = 0 }
 
     same_data : data_at_mount h ≡ data_of v ring []
-    same_data = sym (same_parts (no_tickets (durable_count v) ++ map tickets_in v.committed.items) [] (length v.placed.items) 0 v.batch 0 (map home_pair v.home.items) [] (if nat_lt 0 v.batch then v.geom.n else 0) 0 (option_map ticket_in v.next) None h.at h.at 0 0 []
-        (ap (λ n. no_tickets n ++ map tickets_in v.committed.items) none_durable ∙ ap (map tickets_in) e.committed) no_placed e.batch (ap (map home_pair) e.home) (ap (λ n. if nat_lt 0 n then v.geom.n else 0) e.batch) (ap (option_map ticket_in) e.next) refl refl)
-      where
-        none_durable : durable_count v ≡ 0
-        none_durable = omega (arith, no_placed, no_sure, no_durable)
+    same_data = grind (arith, nat_tests, same_parts, no_placed, no_sure, no_durable)
 
     unnoticed : (t : ℕ) → is_noticed t v.notes.notes ≡ true → ⊥
     unnoticed t is = false≢true (sym (ap (λ (ns : List Note). is_noticed t ns) e.notes) ∙ is)
@@ -93,18 +90,8 @@ module _ (g : Geometry) (h : Header) (slot : ℕ) (v : Pipeline) (e : HasNoRecor
       agree = subst (DataAgree base log l) same_data agree;
       notes = λ t is. absurd (unnoticed t is);
       given = λ t is. absurd (unexpected t is);
-      expected = record {
-        records = λ k c is. absurd (in_none v.committed.items k c e.committed is);
-        home = λ k w is. absurd (in_none v.home.items k w e.home is);
-        header = λ q is. unpending q is;
-      };
-      apart = record {
-        records = λ i k c d lt is at. absurd (in_none v.committed.items i c e.committed is);
-        beside = λ k t c is held. absurd (in_none v.committed.items k c e.committed is);
-        header_apart = λ q is k w at. unpending q is;
-        records_upto = λ k t c is own. absurd (in_none v.committed.items k c e.committed is);
-        beside_upto = λ t held. ⊎_elim (λ p. absurd (in_none v.home.items p.0 p.1 e.home p.2)) (λ p. unpending p.0 p.1) held;
-      };
+      expected = grind (arith, nat_tests, in_none, unpending);
+      apart = grind (arith, nat_tests, in_none, unpending);
       sent = λ k b t is. absurd (none-some (b, t) (sym (ap (λ (hw : List HomeWrite). slice_get (map home_pair hw) k) e.home) ∙ is));
       idle = idle;
       one = subst (λ p. HasOnePending base log l p []) same_data one;

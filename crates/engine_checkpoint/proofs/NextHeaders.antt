@@ -1,6 +1,7 @@
 -- The next header is written beside the durable one.
 use Rattle.std.proofs.Common.{◌≡◌, ◌≢◌, inl, inr, ⊎_elim, ℕ, ◌+◌, ◌-◌, ◌<◌, ◌≤◌, ◌%◌, ◌==◌, ◌||◌, true, List, [], ◌∷◌, ◌++◌, length, map, Some, refl, sym, ◌∙◌, subst, ap, arith}
-use Rattle.std.proofs.lemmas.Bool.{eq-eqb, eqb-true}
+use Rattle.std.proofs.lemmas.Bool.Decides.{nat_tests}
+use Rattle.std.proofs.lemmas.Bool.{eqb-true}
 use Rattle.std.proofs.lemmas.Option.{same_Some}
 use Rattle.base_types.specs.Seal.{Blocks}
 use Rattle.disk_contract.specs.declared.event.Event.{Event}
@@ -60,11 +61,7 @@ module _ (base : Blocks) (log : List Event) (l : Ledger) (v : Pipeline) (ring : 
     agree = agree;
     notes = λ u e. noticed_before u log (Wrote t (1 - l.slot) x) (a.notes u (sym (quiet u) ∙ e));
     given = λ u e. ⊎_elim (λ own. subst (λ n. IsAccepted n (log ++ Wrote t (1 - l.slot) x ∷ [])) (eqb-true t u own) (accepted_last log t (1 - l.slot) x)) (λ was. accepted_more u log (Wrote t (1 - l.slot) x ∷ []) (a.given u was)) (one_or (t == u) (is_expected u v.notes.notes) (sym (expect u) ∙ e));
-    expected = record {
-      records = λ k c is. are_more c.tickets.items v.notes.notes notes.notes more (a.expected.records k c is);
-      home = home_more v.home.items v.notes.notes notes.notes more a.expected.home;
-      header = λ q is. expect q.ticket ∙ with_one t q.ticket (is_expected q.ticket v.notes.notes) (eq-eqb t q.ticket (ap (λ (p : Pending). p.ticket) (same_Some _ _ is)));
-    };
+    expected = grind (arith, nat_tests, are_more, home_more, with_one);
     apart = record {
       records = a.apart.records;
       beside = λ k u c is held. ⊎_elim (λ r. a.apart.beside k u c is (inl r)) (λ r. not_old log v a.apart k u c is (subst (λ n. greatest_ticket log < n) (own r.0 r.1 ∙ r.2) above)) held;

@@ -1,6 +1,7 @@
 -- Tickets that leave the notes give their room back, also where the pending header's is among them.
 use Rattle.std.proofs.Common.{◌≡◌, ℕ, suc, ◌+◌, ◌≤◌, ◌==◌, not, Bool, true, false, if◌then◌else◌, List, [], ◌∷◌, length, map, Option, Some, None, refl, sym, ◌∙◌, ap, arith}
-use Rattle.std.proofs.lemmas.Bool.{and_parts, eqb-true, eq-eqb, false≢true}
+use Rattle.std.proofs.lemmas.Bool.Decides.{nat_tests}
+use Rattle.std.proofs.lemmas.Bool.{and_parts, eqb-true, false≢true}
 use Rattle.std.proofs.lemmas.List.{length-map}
 use Rattle.engine_notes.specs.declared.notes.Note.{Note}
 use Rattle.engine_notes.specs.Notes.{Expected, ticket_of, is_expected, is_among, are_rising}
@@ -16,21 +17,11 @@ others u (t ∷ ts) = if t == u then ts else t ∷ others u ts
 
 one_fewer : (u : ℕ) (ts : List ℕ) → is_among u ts ≡ true → length ts ≡ suc (length (others u ts))
 one_fewer u [] e = absurd (false≢true e)
-one_fewer u (t ∷ ts) e = by (t == u) e (one_fewer u ts)
-  where
-    by : (v : Bool) → (if v then true else is_among u ts) ≡ true → (is_among u ts ≡ true → length ts ≡ suc (length (others u ts))) → suc (length ts) ≡ suc (length (if v then ts else t ∷ others u ts))
-    by true e rest = refl
-    by false e rest = ap suc (rest e)
+one_fewer u (t ∷ ts) e = grind (arith, nat_tests, one_fewer u ts)
 
 others_stay : (u w : ℕ) (ts : List ℕ) → (u == w) ≡ false → is_among w ts ≡ true → is_among w (others u ts) ≡ true
 others_stay u w [] other e = e
-others_stay u w (t ∷ ts) other e = by (t == u) refl (t == w) refl (others_stay u w ts other)
-  where
-    by : (p : Bool) → (t == u) ≡ p → (q : Bool) → (t == w) ≡ q → (is_among w ts ≡ true → is_among w (others u ts) ≡ true) → is_among w (if t == u then ts else t ∷ others u ts) ≡ true
-    by true f true g rest = absurd (false≢true (sym other ∙ eq-eqb u w (sym (eqb-true t u f) ∙ eqb-true t w g)))
-    by true f false g rest = ap (λ b. is_among w (if b then ts else t ∷ others u ts)) f ∙ sym (ap (λ b. if b then true else is_among w ts) g) ∙ e
-    by false f true g rest = ap (λ b. is_among w (if b then ts else t ∷ others u ts)) f ∙ ap (λ b. if b then true else is_among w (others u ts)) g
-    by false f false g rest = ap (λ b. is_among w (if b then ts else t ∷ others u ts)) f ∙ ap (λ b. if b then true else is_among w (others u ts)) g ∙ rest (sym (ap (λ b. if b then true else is_among w ts) g) ∙ e)
+others_stay u w (t ∷ ts) other e = grind (arith, nat_tests, others_stay u w ts other)
 
 -- what is expected is among the tickets of the notes
 among_notes : (u : ℕ) (ns : List Note) → is_among u (map ticket_of ns) ≡ is_expected u ns
@@ -84,23 +75,8 @@ module _ (v : Pipeline) (gone : List ℕ) (ns : Expected) (forgets : Forgets gon
 
   -- what the notes have room for, with the pending header's note, has not become less
   pub room_back : v.notes.room + header_notes v ≤ ns.room + header_notes now
-  room_back = by v.next refl
-    where
-      by : (n : Option Pending) → v.next ≡ n → v.notes.room + header_notes v ≤ ns.room + header_notes now
-      by None e = none_pending e
-      by (Some q) e = one_pending q e
+  room_back = grind (arith, nat_tests, none_pending, one_pending)
 
 -- where more is expected the pending header's note is there still
 pub header_note_stays : (v : Pipeline) (ns : Expected) → ((u : ℕ) → is_expected u v.notes.notes ≡ true → is_expected u ns.notes ≡ true) → header_notes v ≤ header_notes (record v { notes = ns })
-header_note_stays v ns more = by v.next refl
-  where
-    count : Bool → ℕ
-    count b = if b then 1 else 0
-
-    by_note : (q : Pending) (b : Bool) → is_expected q.ticket v.notes.notes ≡ b → (if is_expected q.ticket v.notes.notes then 1 else 0) ≤ (if is_expected q.ticket ns.notes then 1 else 0)
-    by_note q true e = omega (arith, ap count e, ap count (more q.ticket e))
-    by_note q false e = omega (arith, ap count e)
-
-    by : (n : Option Pending) → v.next ≡ n → header_notes v ≤ header_notes (record v { notes = ns })
-    by None e = omega (arith, ap (λ (n : Option Pending). header_notes (record v { next = n })) e)
-    by (Some q) e = omega (arith, ap (λ (n : Option Pending). header_notes (record v { next = n })) e, ap (λ (n : Option Pending). header_notes (record v { notes = ns; next = n })) e, by_note q (is_expected q.ticket v.notes.notes) refl)
+header_note_stays v ns more = grind (arith, nat_tests)

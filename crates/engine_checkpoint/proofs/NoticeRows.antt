@@ -1,5 +1,6 @@
 -- Tickets that join a set one by one, as notices or as expected ones.
 use Rattle.std.proofs.Common.{◌≡◌, ℕ, zero, suc, ◌+◌, ◌<◌, ◌==◌, ◌&&◌, ◌||◌, Bool, true, false, if◌then◌else◌, List, [], ◌∷◌, ◌++◌, length, take, slice_index_or, min, Result, Ok, Err, OnOk, refl, sym, ◌∙◌, ap, subst, arith, append_assoc, append-nil, length-append}
+use Rattle.std.proofs.lemmas.Bool.Decides.{nat_tests}
 use Rattle.std.proofs.lemmas.Bool.{false≢true, eq-eqb}
 use Rattle.disk_contract.specs.declared.event.Event.{Event}
 use Rattle.disk_contract.specs.Cell.{notices}
@@ -8,7 +9,7 @@ use Rattle.crash_argument.specs.HomeTest.{is_one_of}
 use Rattle.engine_notes.specs.declared.notes.Note.{Note}
 use Rattle.engine_notes.specs.Notes.{is_expected, is_noticed, are_expected, none_open}
 use Rattle.engine_running.specs.declared.commit.Committed.{Committed}
-use Rattle.base_types.specs.Counts.{after_call, after_calls, next_count}
+use Rattle.base_types.specs.Counts.{after_calls, next_count}
 use Rattle.disk_contract.specs.Disk.{State, Spends, OnlyPolls}
 use Rattle.engine_checkpoint.specs.Steps.{TakesAll, TakesOne, TakesNotices, PollsUpTo, is_first_settled}
 use Rattle.engine_checkpoint.specs.declared.pipeline.Pipeline.{Pipeline}
@@ -17,24 +18,8 @@ use Rattle.engine_checkpoint.proofs.Lists.{below_none}
 -- one more of the tickets is expected
 pub expect_push : (ts : List ℕ) (k d u : ℕ) (e : Bool) → k < length ts → (slice_index_or ts k d == u || (is_one_of u (take k ts) || e)) ≡ (is_one_of u (take (k + 1) ts) || e)
 expect_push [] k d u e lt = absurd (below_none k lt)
-expect_push (x ∷ xs) zero d u e lt = by (x == u)
-  where
-    by : (v : Bool) → (v || (false || e)) ≡ ((if v then true else false) || e)
-    by true = refl
-    by false = refl
-expect_push (x ∷ xs) (suc k) d u e lt = by (x == u) (expect_push xs k d u e (omega (arith, lt))) ∙ ap (λ n. is_one_of u (take n (x ∷ xs)) || e) (s k)
-  where
-    s : (k : ℕ) → suc (k + 1) ≡ suc k + 1
-    s k = omega arith
-
-    full : (w : Bool) → (w || true) ≡ true
-    full true = refl
-    full false = refl
-
-    by : (v : Bool) → (slice_index_or xs k d == u || (is_one_of u (take k xs) || e)) ≡ (is_one_of u (take (k + 1) xs) || e)
-        → (slice_index_or xs k d == u || ((if v then true else is_one_of u (take k xs)) || e)) ≡ ((if v then true else is_one_of u (take (k + 1) xs)) || e)
-    by true rest = full (slice_index_or xs k d == u)
-    by false rest = rest
+expect_push (x ∷ xs) zero d u e lt = grind (arith, nat_tests)
+expect_push (x ∷ xs) (suc k) d u e lt = grind (arith, nat_tests, expect_push xs k d u e (omega (arith, lt)))
 
 -- all of these tickets are expected, where those of a longer list are
 pub all_expected : (ts us : List ℕ) (old new : List Note) → ((u : ℕ) → is_expected u new ≡ (is_one_of u us || is_expected u old)) → ((u : ℕ) → is_one_of u ts ≡ true → is_one_of u us ≡ true) → are_expected ts new ≡ true
@@ -62,11 +47,7 @@ all_expected (t ∷ ts) us old new expect within = both (is_expected t new) (are
 -- one of two lists
 one_of_append : (u : ℕ) (ts us : List ℕ) → is_one_of u (ts ++ us) ≡ (is_one_of u ts || is_one_of u us)
 one_of_append u [] us = refl
-one_of_append u (t ∷ ts) us = by (t == u) (one_of_append u ts us)
-  where
-    by : (v : Bool) → is_one_of u (ts ++ us) ≡ (is_one_of u ts || is_one_of u us) → (if v then true else is_one_of u (ts ++ us)) ≡ ((if v then true else is_one_of u ts) || is_one_of u us)
-    by true e = refl
-    by false e = e
+one_of_append u (t ∷ ts) us = grind (arith, nat_tests, one_of_append u ts us)
 
 notices_append : (ts us : List ℕ) → notices (ts ++ us) ≡ notices ts ++ notices us
 notices_append [] us = refl
@@ -74,33 +55,14 @@ notices_append (t ∷ ts) us = ap (λ (es : List Event). Noticed t ∷ es) (noti
 
 -- one notice by itself
 pub takes_one : (t : ℕ) (old new : List Note) → ((u : ℕ) → is_expected u new ≡ is_expected u old) → ((u : ℕ) → is_noticed u new ≡ (is_noticed u old || (t == u && is_expected u old))) → TakesAll (t ∷ []) old new
-takes_one t old new same mark = record { expected = same; noticed = λ u. mark u ∙ ap (λ (v : Bool). is_noticed u old || (v && is_expected u old)) (plain (t == u)) }
-  where
-    plain : (v : Bool) → v ≡ (if v then true else false)
-    plain true = refl
-    plain false = refl
+takes_one t old new same mark = grind (arith, nat_tests)
 
 pub takes_none : (old : List Note) → TakesAll [] old old
-takes_none old = record { expected = λ u. refl; noticed = λ u. or_none (is_noticed u old) }
-  where
-    or_none : (p : Bool) → p ≡ (p || false)
-    or_none true = refl
-    or_none false = refl
+takes_none old = grind (arith, nat_tests)
 
 -- and behind others
 pub takes_more : (ts us : List ℕ) (old mid new : List Note) → TakesAll ts old mid → TakesAll us mid new → TakesAll (ts ++ us) old new
-takes_more ts us old mid new one two = record {
-  expected = λ u. two.expected u ∙ one.expected u;
-  noticed = λ u. two.noticed u ∙ ap (λ (v : Bool). is_noticed u mid || (is_one_of u us && v)) (one.expected u) ∙ ap (λ (v : Bool). v || (is_one_of u us && is_expected u old)) (one.noticed u)
-      ∙ join (is_noticed u old) (is_one_of u ts) (is_one_of u us) (is_expected u old) ∙ ap (λ (v : Bool). is_noticed u old || (v && is_expected u old)) (sym (one_of_append u ts us));
-}
-  where
-    join : (n p q e : Bool) → ((n || (p && e)) || (q && e)) ≡ (n || ((p || q) && e))
-    join true p q e = refl
-    join false true q true = refl
-    join false true true false = refl
-    join false true false false = refl
-    join false false q e = refl
+takes_more ts us old mid new one two = grind (arith, nat_tests, one_of_append)
 
 pub log_more : (ts us : List ℕ) (old mid new : List Event) → mid ≡ old ++ notices ts → new ≡ mid ++ notices us → new ≡ old ++ notices (ts ++ us)
 log_more ts us old mid new one two = two ∙ ap (λ (es : List Event). es ++ notices us) one ∙ append_assoc old (notices ts) (notices us) ∙ ap (λ (es : List Event). old ++ es) (sym (notices_append ts us))
@@ -115,20 +77,11 @@ first_is (c ∷ cs) d notes some = refl
 
 -- one poll more
 pub polls_step : (p k : ℕ) → next_count (after_calls k p) ≡ after_calls (k + 1) p
-polls_step p k = ap (λ n. after_calls n p) (s k)
-  where
-    s : (k : ℕ) → suc k ≡ k + 1
-    s k = omega arith
+polls_step p k = grind (arith, nat_tests)
 
 -- one poll more, which may have failed
 pub polls_on : (failed : Bool) (k : ℕ) (a b c : State) → Spends false 0 k a b → OnlyPolls failed b c → Spends failed 0 (k + 1) a c
-polls_on failed k a b c one two = record {
-  same = record { blocks = two.same.blocks ∙ one.same.blocks; base = two.same.base ∙ one.same.base; manner = two.same.manner ∙ one.same.manner };
-  faults = two.faults ∙ ap (after_call failed) one.faults;
-  read_faults = two.read_faults ∙ one.read_faults;
-  waits = two.waits ∙ one.waits;
-  polls = two.polls ∙ ap next_count one.polls ∙ polls_step a.polls k;
-}
+polls_on failed k a b c one two = grind (arith, nat_tests, polls_step)
 
 -- so they are few
 pub polls_few : (r failed : Bool) (k most : ℕ) (a b c : State) → r ≡ failed → k < most → Spends false 0 k a b → OnlyPolls failed b c → PollsUpTo r most a c
@@ -155,10 +108,5 @@ on_ok (Err e) p = tt
 
 pub last_taken : {E A F : Type 0} (r : Result Bool E) (result : Result A F) (n : ℕ) (u v w : Pipeline) (old mid new : State) → r ≡ Ok false → n < 64 → TakenSoFar n u v old.log mid.log → TakesOne r v w mid.log new.log → new.polls ≡ after_calls (n + 1) old.polls → TakesNotices result u w old new
 last_taken (Ok true) result n u v w old mid new e few so_far one polls = cc
-last_taken (Ok false) result n u v w old mid new e few so_far one polls = record {
-  tickets = so_far.0;
-  log = one.0 ∙ so_far.2;
-  notes = subst (λ (p : Pipeline). TakesAll so_far.0 u.notes.notes p.notes.notes) (sym one.1) so_far.3;
-  polls = on_ok result (polls ∙ ap (λ k. after_calls k old.polls) (few_polls n (length so_far.0) few so_far.1));
-}
+last_taken (Ok false) result n u v w old mid new e few so_far one polls = grind (arith, nat_tests, on_ok, few_polls)
 last_taken (Err f) result n u v w old mid new e few so_far one polls = cc

@@ -1,5 +1,6 @@
 -- A notice leaves all that the pipeline keeps.
-use Rattle.std.proofs.Common.{◌≡◌, ◌⊎◌, inl, inr, ⊎_elim, ℕ, ◌≤◌, ◌&&◌, ◌||◌, ◌==◌, Bool, true, false, List, [], ◌∷◌, ◌++◌, map, Option, Some, None, Result, Ok, Err, IsErr, refl, sym, ◌∙◌, subst, ap}
+use Rattle.std.proofs.Common.{◌≡◌, ◌⊎◌, inl, inr, ⊎_elim, ℕ, ◌≤◌, ◌&&◌, ◌||◌, ◌==◌, Bool, true, false, List, [], ◌∷◌, ◌++◌, map, Option, Some, None, Result, Ok, Err, IsErr, refl, sym, ◌∙◌, subst, ap, arith}
+use Rattle.std.proofs.lemmas.Bool.Decides.{nat_tests}
 use Rattle.std.proofs.lemmas.Bool.{eq-eqb, eqb-true, and_parts, false≢true, or_right, or_left}
 use Rattle.std.proofs.lemmas.Option.{same_Some, none-some}
 use Rattle.base_types.specs.Seal.{Blocks}
@@ -26,11 +27,7 @@ pub noticed_before : (t : ℕ) (log : List Event) (e : Event) → IsNoticed t lo
 noticed_before t [] e n = absurd (false≢true n)
 noticed_before t (Wrote u b x ∷ log) e n = noticed_before t log e n
 noticed_before t (Lost b x ∷ log) e n = noticed_before t log e n
-noticed_before t (Noticed u ∷ log) e n = by (u == t) n (noticed_before t log e)
-  where
-    by : (v : Bool) → (v || Rattle.disk_contract.specs.Cell.is_noticed t log) ≡ true → (IsNoticed t log → IsNoticed t (log ++ e ∷ [])) → (v || Rattle.disk_contract.specs.Cell.is_noticed t (log ++ e ∷ [])) ≡ true
-    by true h rest = refl
-    by false h rest = rest h
+noticed_before t (Noticed u ∷ log) e n = grind (arith, nat_tests, noticed_before t log e)
 
 last_noticed : (t : ℕ) (log : List Event) → IsNoticed t (log ++ Noticed t ∷ [])
 last_noticed t [] = or_left (t == t) false (eq-eqb t t refl)

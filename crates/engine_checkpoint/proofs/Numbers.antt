@@ -1,5 +1,6 @@
 -- Which number a record has, by the place at which it stands in its state.
 use Rattle.std.proofs.Common.{◌≡◌, ℕ, ◌+◌, ◌≤◌, ◌++◌, length, map, slice_get, Some, sym, ◌∙◌, ap, arith, length-append}
+use Rattle.std.proofs.lemmas.Bool.Decides.{nat_tests}
 use Rattle.std.proofs.lemmas.List.{length-map}
 use Rattle.engine_running.specs.declared.commit.Committed.{Committed}
 use Rattle.engine_running.specs.declared.states.Durable.{Durable}
@@ -48,10 +49,4 @@ module _ (v : Pipeline) (o : IsInOrder v) where
 
 -- there are as many numbers as records, so no fewer than sure ones
 pub sure_numbers : (v : Pipeline) → length v.sure.items ≤ length (numbers v)
-sure_numbers v = omega (
-  arith,
-  length-append (map placed_number v.placed.items) (map number_of (kept v)),
-  length-map (kept v) number_of,
-  length-append (map of_sure v.sure.items) (map of_durable v.durable.items ++ map of_committed v.committed.items),
-  length-map v.sure.items of_sure,
-)
+sure_numbers v = grind (arith, nat_tests, length-append, length-map)

@@ -1,5 +1,6 @@
 -- Where the index finds a payload, and what the newest payload is: step by step the two folds over the records go together.
 use Rattle.std.proofs.Common.{◌≡◌, ℕ, zero, suc, ◌+◌, ◌<◌, ◌==◌, Bool, true, false, if◌then◌else◌, List, [], ◌∷◌, length, ◌&&◌, drop, take, slice_get, slice_index_or, Option, Some, None, refl, sym, ◌∙◌, ap, subst, arith}
+use Rattle.std.proofs.lemmas.Bool.Decides.{nat_tests}
 use Rattle.std.specs.Bool.{⊤}
 use Rattle.std.proofs.lemmas.Bool.{eqb-true, eq-eqb, leb-true, false≢true}
 use Rattle.std.proofs.lemmas.Option.{same_Some, none-some}
@@ -131,11 +132,7 @@ found_bytes v b s ps at d f e are = f.bytes ∙ ap (λ (p : Put). Some p.bytes) 
 has_at : (ps : List Put) (i b : ℕ) (p : Put) → slice_get ps i ≡ Some p → p.block ≡ b → has_block b ps ≡ true
 has_at [] i b p is e = absurd (none-some p is)
 has_at (q ∷ ps) zero b p is e = ap (λ (v : Bool). if v then true else has_block b ps) (eq-eqb q.block b (ap (λ (r : Put). r.block) (same_Some _ _ is) ∙ e))
-has_at (q ∷ ps) (suc i) b p is e = by (q.block == b) (has_at ps i b p is e)
-  where
-    by : (v : Bool) → has_block b ps ≡ true → (if v then true else has_block b ps) ≡ true
-    by true rest = refl
-    by false rest = rest
+has_at (q ∷ ps) (suc i) b p is e = grind (arith, nat_tests, has_at ps i b p is e)
 
 -- a record of the newest payload's number has the block among its payloads: those up to a number are dropped by the payloads of the records up to it
 pub newest_is_had : (ks : List Kept) (b : ℕ) (s : Spot) → newest_spot None ks b ≡ Some s → (at : ℕ) × (k : Kept) × (slice_get ks at ≡ Some k) × (k.number ≡ s.number) × (has_block b k.payloads ≡ true)

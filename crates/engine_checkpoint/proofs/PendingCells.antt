@@ -1,6 +1,7 @@
 -- What is pending on a block, by its last write: that write where its ticket isn't noticed, and else nothing.
 use Rattle.std.proofs.Common.{◌≡◌, ◌≢◌, ◌⊎◌, inl, inr, ℕ, ◌<◌, ◌==◌, ◌||◌, Bool, true, false, List, [], ◌∷◌, ◌++◌, length, Some, None, refl, sym, ◌∙◌, ap, subst, arith, length-append}
-use Rattle.std.proofs.lemmas.Bool.{eqb-true, eq-eqb, ne_eqb, false≢true, cond-true, cond-false}
+use Rattle.std.proofs.lemmas.Bool.Decides.{nat_tests}
+use Rattle.std.proofs.lemmas.Bool.{eq-eqb, ne_eqb, false≢true, cond-true, cond-false}
 use Rattle.base_types.specs.Seal.{Blocks}
 use Rattle.disk_contract.specs.declared.event.Event.{Event}
 use Rattle.disk_contract.specs.declared.event.Event.TheVariants.{Wrote, Lost, Noticed}
@@ -24,19 +25,11 @@ none_push t (v ∷ ws) w none other = (none.0, none_push t ws w none.1 other)
 
 none_settle : (t u : ℕ) (c : Cell) (ws : List Write) → HasNone t c.pending → HasNone t ws → HasNone t (settle c (from_ticket u ws)).pending
 none_settle t u c [] here none = here
-none_settle t u c (w ∷ ws) here none = by (is_ticket u w.ticket) refl (none_settle t u c ws here none.1)
-  where
-    by : (v : Bool) → is_ticket u w.ticket ≡ v → HasNone t (settle c (from_ticket u ws)).pending → HasNone t (settle c (from_ticket u (w ∷ ws))).pending
-    by true own rest = subst (λ (us : List Write). HasNone t (settle c us).pending) (sym (cond-true (is_ticket u w.ticket) (w ∷ ws) (from_ticket u ws) own)) none.1
-    by false other rest = subst (λ (us : List Write). HasNone t (settle c us).pending) (sym (cond-false (is_ticket u w.ticket) (w ∷ ws) (from_ticket u ws) other)) rest
+none_settle t u c (w ∷ ws) here none = grind (arith, nat_tests, none_settle t u c ws here none.1)
 
 -- a write of the list adds none, where its ticket is another
 none_written : (b t d : ℕ) (c : Cell) (w : Write) → HasNone t c.pending → is_ticket t w.ticket ≡ false → HasNone t (Rattle.std.specs.Prelude.if◌then◌else◌ (d == b) (with_write c w.ticket w.bytes) c).pending
-none_written b t d c w none other = by (d == b)
-  where
-    by : (v : Bool) → HasNone t (Rattle.std.specs.Prelude.if◌then◌else◌ v (with_write c w.ticket w.bytes) c).pending
-    by true = none_push t c.pending w none other
-    by false = none
+none_written b t d c w none other = grind (arith, nat_tests, none_push)
 
 none_after : (b t : ℕ) (c : Cell) (es : List Event) → greatest_ticket es < t → HasNone t c.pending → HasNone t (after_all b c es).pending
 none_after b t c [] low none = none
@@ -55,14 +48,7 @@ pub record EndsWith (t : ℕ) (x : List ℕ) (ws : List Write) : Type 0 where
 -- behind the notice of another ticket it is so still
 ends_from : (t u : ℕ) (x : List ℕ) (c : Cell) (front : List Write) → (t == u) ≡ false → HasNone t front → EndsWith t x c.pending → EndsWith t x (settle c (from_ticket u (front ++ record { ticket = Some t; bytes = x } ∷ []))).pending
 ends_from t u x c [] other none ends = subst (λ (us : List Write). EndsWith t x (settle c us).pending) (sym (cond-false (t == u) (record { ticket = Some t; bytes = x } ∷ []) [] other)) ends
-ends_from t u x c (w ∷ front) other none ends = by (is_ticket u w.ticket) refl (ends_from t u x c front other none.1 ends)
-  where
-    rest : List Write
-    rest = front ++ record { ticket = Some t; bytes = x } ∷ []
-
-    by : (v : Bool) → is_ticket u w.ticket ≡ v → EndsWith t x (settle c (from_ticket u rest)).pending → EndsWith t x (settle c (from_ticket u (w ∷ rest))).pending
-    by true own then = subst (λ (us : List Write). EndsWith t x (settle c us).pending) (sym (cond-true (is_ticket u w.ticket) (w ∷ rest) (from_ticket u rest) own)) (record { front = front; is = refl; alone = none.1 })
-    by false other then = subst (λ (us : List Write). EndsWith t x (settle c us).pending) (sym (cond-false (is_ticket u w.ticket) (w ∷ rest) (from_ticket u rest) other)) then
+ends_from t u x c (w ∷ front) other none ends = grind (arith, nat_tests, ends_from t u x c front other none.1 ends)
 
 -- its own notice leaves nothing pending
 own_from : (t : ℕ) (x : List ℕ) (front : List Write) → HasNone t front → from_ticket t (front ++ record { ticket = Some t; bytes = x } ∷ []) ≡ record { ticket = Some t; bytes = x } ∷ []
@@ -88,11 +74,7 @@ abbrev Other : ℕ → ℕ → List Event → Type 0
 Other t u es = ((t == u) ≡ false) × (IsNoticed t (Noticed u ∷ es) → IsNoticed t es)
 
 own_or_other : (t u : ℕ) (es : List Event) → (t ≡ u) ⊎ Other t u es
-own_or_other t u es = by (t == u) refl
-  where
-    by : (v : Bool) → (t == u) ≡ v → (t ≡ u) ⊎ Other t u es
-    by true own = inl (eqb-true t u own)
-    by false other = inr (other, λ came. sym (ap (λ v. v || is_noticed t es) (ne_eqb u t (λ e. false≢true (sym other ∙ eq-eqb t u (sym e))))) ∙ came)
+own_or_other t u es = grind (arith, nat_tests, ne_eqb)
 
 -- Behind the write, where no other to the block comes: it is the last one pending until its notice, and then nothing is.
 behind : (b t : ℕ) (x : List ℕ) (c : Cell) (es : List Event) → AvoidsBlock b es → EndsWith t x c.pending → (IsNoticed t es → (after_all b c es).pending ≡ []) × ((¬ IsNoticed t es) → EndsWith t x (after_all b c es).pending)
@@ -124,21 +106,13 @@ noticed_behind : (u : ℕ) (es fs : List Event) → IsNoticed u fs → IsNoticed
 noticed_behind u [] fs came = came
 noticed_behind u (Wrote t b x ∷ es) fs came = noticed_behind u es fs came
 noticed_behind u (Lost b x ∷ es) fs came = noticed_behind u es fs came
-noticed_behind u (Noticed t ∷ es) fs came = by (t == u) (noticed_behind u es fs came)
-  where
-    by : (v : Bool) → is_noticed u (es ++ fs) ≡ true → (v || is_noticed u (es ++ fs)) ≡ true
-    by true e = refl
-    by false e = e
+noticed_behind u (Noticed t ∷ es) fs came = grind (arith, nat_tests, noticed_behind u es fs came)
 
 noticed_later : (u : ℕ) (es fs : List Event) → IsNoticed u (es ++ fs) → (¬ IsNoticed u es) → IsNoticed u fs
 noticed_later u [] fs came never = came
 noticed_later u (Wrote t b x ∷ es) fs came never = noticed_later u es fs came never
 noticed_later u (Lost b x ∷ es) fs came never = noticed_later u es fs came never
-noticed_later u (Noticed t ∷ es) fs came never = by (t == u) came never (noticed_later u es fs)
-  where
-    by : (v : Bool) → (v || is_noticed u (es ++ fs)) ≡ true → ((v || is_noticed u es) ≡ true → ⊥) → (IsNoticed u (es ++ fs) → (¬ IsNoticed u es) → IsNoticed u fs) → IsNoticed u fs
-    by true e never rest = absurd (never refl)
-    by false e never rest = rest e never
+noticed_later u (Noticed t ∷ es) fs came never = grind (arith, nat_tests, noticed_later u es fs)
 
 module _ (base : Blocks) (log : List Event) (b t : ℕ) (x : List ℕ) (w : IsLastWrite log b t x) where
   -- the block as the write comes

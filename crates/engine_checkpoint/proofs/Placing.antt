@@ -1,5 +1,6 @@
 -- Records are placed one by one, and the tickets of checkpoint writes leave the notes one by one.
 use Rattle.std.proofs.Common.{◌≡◌, ℕ, zero, suc, ◌+◌, ◌<◌, ◌≤◌, ◌==◌, ◌&&◌, ◌||◌, not, Bool, true, false, if◌then◌else◌, List, [], ◌∷◌, ◌++◌, length, take, drop, map, slice_get, slice_index_or, Option, Some, None, refl, sym, ◌∙◌, ap, arith, append_assoc}
+use Rattle.std.proofs.lemmas.Bool.Decides.{nat_tests}
 use Rattle.std.proofs.lemmas.Option.{same_Some, none-some}
 use Rattle.engine_notes.specs.Notes.{Expected, is_expected, is_noticed, is_among}
 use Rattle.engine_running.specs.States.{Forgets}
@@ -67,43 +68,15 @@ payloads_part (x ∷ xs) (suc k) = omega (arith, payloads_part xs k)
 pub have_at : (ks : List Kept) (i b : ℕ) (k : Kept) → slice_get ks i ≡ Some k → has_block b k.payloads ≡ true → have_payload b ks ≡ true
 have_at [] i b k is has = absurd (none-some k is)
 have_at (j ∷ ks) zero b k is has = ap (λ v. v || have_payload b ks) (ap (λ (x : Kept). has_block b x.payloads) (same_Some j k is) ∙ has)
-have_at (j ∷ ks) (suc i) b k is has = by (has_block b j.payloads) (have_at ks i b k is has)
-  where
-    by : (v : Bool) → have_payload b ks ≡ true → (v || have_payload b ks) ≡ true
-    by true e = refl
-    by false e = e
+have_at (j ∷ ks) (suc i) b k is has = grind (arith, nat_tests, have_at ks i b k is has)
 
 have_push : (b : ℕ) (xs : List Sure) (x : Sure) → have_payload b (map of_sure (xs ++ x ∷ [])) ≡ (have_payload b (map of_sure xs) || has_block b x.payloads.items)
-have_push b [] x = last (has_block b x.payloads.items)
-  where
-    last : (v : Bool) → (v || false) ≡ v
-    last true = refl
-    last false = refl
-have_push b (y ∷ xs) x = ap (λ v. has_block b y.payloads.items || v) (have_push b xs x) ∙ assoc (has_block b y.payloads.items) (have_payload b (map of_sure xs)) (has_block b x.payloads.items)
-  where
-    assoc : (p q r : Bool) → (p || (q || r)) ≡ ((p || q) || r)
-    assoc true q r = refl
-    assoc false q r = refl
+have_push b [] x = grind (arith, nat_tests)
+have_push b (y ∷ xs) x = grind (arith, nat_tests, have_push b xs x)
 
 -- what drops out for the first records, and then for one more
 dropped : (h one : Bool) (last : ℕ) (s mid new : Option Spot) → mid ≡ (if h && is_upto last s then None else s) → new ≡ (if one && is_upto last mid then None else mid) → new ≡ (if (h || one) && is_upto last s then None else s)
-dropped h one last s mid new was now = now ∙ ap (λ (m : Option Spot). if one && is_upto last m then None else m) was ∙ by h one (is_upto last s) refl
-  where
-    nowhere : Option Spot
-    nowhere = None
-
-    none : (v : Bool) → (if v && false then nowhere else nowhere) ≡ nowhere
-    none true = refl
-    none false = refl
-
-    stays : (v : Bool) → (if v && false then None else s) ≡ s
-    stays true = refl
-    stays false = refl
-
-    by : (h one u : Bool) → is_upto last s ≡ u → (if one && is_upto last (if h && is_upto last s then None else s) then None else (if h && is_upto last s then None else s)) ≡ (if (h || one) && is_upto last s then None else s)
-    by false one u e = refl
-    by true one true e = ap (λ v. if one && is_upto last (if v then None else s) then None else (if v then None else s)) e ∙ none one ∙ sym (ap (λ v. if v then None else s) e)
-    by true one false e = ap (λ v. if one && is_upto last (if v then None else s) then None else (if v then None else s)) e ∙ ap (λ v. if one && v then None else s) e ∙ stays one ∙ sym (ap (λ v. if v then None else s) e)
+dropped h one last s mid new was now = grind (arith, nat_tests)
 
 pub drops_next : (xs : List Sure) (x : Sure) (b last : ℕ) (s mid new : Option Spot) → mid ≡ (if have_payload b (map of_sure xs) && is_upto last s then None else s) → new ≡ (if has_block b x.payloads.items && is_upto last mid then None else mid)
     → new ≡ (if have_payload b (map of_sure (xs ++ x ∷ [])) && is_upto last s then None else s)
@@ -115,16 +88,8 @@ placed_next old xs x now new p own was push = push ∙ ap (λ (ps : List Placed)
 -- Tickets that leave the notes.
 
 among_push : (u : ℕ) (ts : List ℕ) (t : ℕ) → is_among u (ts ++ t ∷ []) ≡ (if is_among u ts then true else t == u)
-among_push u [] t = last (t == u)
-  where
-    last : (v : Bool) → (if v then true else false) ≡ v
-    last true = refl
-    last false = refl
-among_push u (s ∷ ts) t = by (s == u) (among_push u ts t)
-  where
-    by : (v : Bool) → is_among u (ts ++ t ∷ []) ≡ (if is_among u ts then true else t == u) → (if v then true else is_among u (ts ++ t ∷ [])) ≡ (if (if v then true else is_among u ts) then true else t == u)
-    by true e = refl
-    by false e = e
+among_push u [] t = grind (arith, nat_tests)
+among_push u (s ∷ ts) t = grind (arith, nat_tests, among_push u ts t)
 
 left_next : (p q e : Bool) → (not (if q then true else false) && (not p && e)) ≡ (not (if p then true else q) && e)
 left_next true true e = refl

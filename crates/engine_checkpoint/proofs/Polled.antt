@@ -1,5 +1,6 @@
 -- Polls whose answers are known, one after the other.
-use Rattle.std.proofs.Common.{◌≡◌, ℕ, suc, ◌+◌, ◌-◌, ◌<◌, ◌≤◌, Bool, true, false, List, ◌++◌, Option, Some, None, Result, Ok, Err, IsErr, is_err, refl, ◌∙◌, ap, ap₂, subst, arith}
+use Rattle.std.proofs.Common.{◌≡◌, ℕ, suc, ◌+◌, ◌-◌, ◌<◌, ◌≤◌, Bool, true, false, List, ◌++◌, Option, Some, None, Result, Ok, Err, IsErr, is_err, refl, ◌∙◌, subst, arith}
+use Rattle.std.proofs.lemmas.Bool.Decides.{nat_tests}
 use Rattle.std.proofs.lemmas.Bool.{false≢true}
 use Rattle.base_types.specs.Counts.{next_count}
 use Rattle.disk_contract.specs.declared.event.Event.{Event}
@@ -37,49 +38,19 @@ known_next m turn polls log p few e = subst (λ n. after_polls m n polls log ≡
 
 -- it gave a ticket, and the row goes on behind its notice
 pub row_more : {E : Type 0} (m m2 : Manner) (turn polls polls2 : ℕ) (log log2 : List Event) (r : Result Bool E) (p : Polled) → m2 ≡ m → turn < 64 → r ≡ Ok true → polls2 ≡ next_count polls → TakesAnswer (m2.notice polls log) r log log2 → after_polls m (64 - turn) polls log ≡ Some p → after_polls m (64 - (turn + 1)) polls2 log2 ≡ Some p
-row_more {E} m m2 turn polls polls2 log log2 r p same few is counted takes e = by (m.notice polls log) (subst (λ (k : Manner). TakesAnswer (k.notice polls log) r log log2) same takes) (known_next m turn polls log p few e)
-  where
-    by : (known : Option (Option ℕ)) → TakesAnswer known r log log2 → after_polls_on polls log (after_polls m (64 - (turn + 1))) known ≡ Some p → after_polls m (64 - (turn + 1)) polls2 log2 ≡ Some p
-    by None t e = cc
-    by (Some None) t e = absurd (apart r is t.0)
-    by (Some (Some u)) t e = ap₂ (λ (k : ℕ) (l : List Event). after_polls m (64 - (turn + 1)) k l) counted t.1 ∙ e
+row_more {E} m m2 turn polls polls2 log log2 r p same few is counted takes e = grind (arith, nat_tests, known_next, apart)
 
 -- it gave none, and the row ends
 pub row_ends : {E : Type 0} (m m2 : Manner) (turn polls polls2 : ℕ) (log log2 : List Event) (r : Result Bool E) (p : Polled) → m2 ≡ m → turn < 64 → r ≡ Ok false → polls2 ≡ next_count polls → TakesAnswer (m2.notice polls log) r log log2 → after_polls m (64 - turn) polls log ≡ Some p → (polls2 ≡ p.polls) × (log2 ≡ p.log)
-row_ends {E} m m2 turn polls polls2 log log2 r p same few is counted takes e = by (m.notice polls log) (subst (λ (k : Manner). TakesAnswer (k.notice polls log) r log log2) same takes) (known_next m turn polls log p few e)
-  where
-    some_is : (q : Polled) → Some q ≡ Some p → q ≡ p
-    some_is q f = cc
-
-    by : (known : Option (Option ℕ)) → TakesAnswer known r log log2 → after_polls_on polls log (after_polls m (64 - (turn + 1))) known ≡ Some p → (polls2 ≡ p.polls) × (log2 ≡ p.log)
-    by None t e = cc
-    by (Some None) t e = (counted ∙ ap (λ (q : Polled). q.polls) (some_is _ e), t.1 ∙ ap (λ (q : Polled). q.log) (some_is _ e))
-    by (Some (Some u)) t e = absurd (apart r t.0 is)
+row_ends {E} m m2 turn polls polls2 log log2 r p same few is counted takes e = grind (arith, nat_tests, known_next, apart)
 
 -- it can't have failed
 pub row_holds : {E : Type 0} (m m2 : Manner) (turn polls : ℕ) (log log2 : List Event) (r : Result Bool E) (p : Polled) → m2 ≡ m → turn < 64 → IsErr r → TakesAnswer (m2.notice polls log) r log log2 → after_polls m (64 - turn) polls log ≡ Some p → ⊥
-row_holds {E} m m2 turn polls log log2 r p same few failed takes e = by (m.notice polls log) (subst (λ (k : Manner). TakesAnswer (k.notice polls log) r log log2) same takes) (known_next m turn polls log p few e)
-  where
-    not_ok : (v : Bool) → r ≡ Ok v → ⊥
-    not_ok v is = false≢true (subst (λ (q : Result Bool E). is_err q ≡ true) is failed)
-
-    by : (known : Option (Option ℕ)) → TakesAnswer known r log log2 → after_polls_on polls log (after_polls m (64 - (turn + 1))) known ≡ Some p → ⊥
-    by None t e = cc
-    by (Some None) t e = not_ok false t.0
-    by (Some (Some u)) t e = not_ok true t.0
+row_holds {E} m m2 turn polls log log2 r p same few failed takes e = grind (arith, nat_tests, known_next)
 
 -- the whole row was made
 pub row_done : (m : Manner) (turn polls : ℕ) (log : List Event) (p : Polled) → 64 ≤ turn → after_polls m (64 - turn) polls log ≡ Some p → (polls ≡ p.polls) × (log ≡ p.log)
-row_done m turn polls log p all e = (ap (λ (q : Polled). q.polls) is, ap (λ (q : Polled). q.log) is)
-  where
-    none : 64 - turn ≡ 0
-    none = omega (arith, all)
-
-    some_is : (q : Polled) → Some q ≡ Some p → q ≡ p
-    some_is q f = cc
-
-    is : record { polls = polls; log = log } ≡ p
-    is = some_is _ (subst (λ n. after_polls m n polls log ≡ Some p) none e)
+row_done m turn polls log p all e = grind (arith, nat_tests)
 
 -- what was polled first stands in front of what came then
 pub polls_first : {A E : Type 0} (r : Result A E) (old mid : State) (polls : ℕ) (log : List Event) → TakesKnown r old mid → polls ≡ mid.polls → GrowsByWrites mid.log log → PollsThenWrites old.manner 64 old.polls old.log polls log

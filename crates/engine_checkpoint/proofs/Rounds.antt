@@ -7,23 +7,21 @@ use Rattle.disk_contract.specs.Disk.{State}
 use Rattle.layout_journal.specs.Ring.{RingPlaces}
 use Rattle.crash_argument.specs.Ledger.{Ledger}
 use Rattle.crash_argument.specs.Points.{MountedSession}
-use Rattle.engine_reuse.specs.Dead.{DeadBlocks, AreSound, freed_by}
-use Rattle.engine_reuse.specs.Calls.{is_given_up}
+use Rattle.engine_reuse.specs.Dead.{DeadBlocks, freed_by}
+use Rattle.engine_reuse.specs.Calls.{is_given_up, with_released}
 use Rattle.engine_running.specs.declared.commit.Committed.{Committed}
 use Rattle.engine_running.specs.declared.states.Durable.{Durable}
 use Rattle.engine_running.specs.declared.states.Sure.{Sure}
 use Rattle.engine_running.specs.declared.states.Placed.{Placed}
 use Rattle.engine_checkpoint.specs.declared.pipeline.Pipeline.{Pipeline}
 use Rattle.crash_argument.specs.PipelineData.{PipelineData, DataAgree, WaitAbove, with_waiting}
-use Rattle.engine_reuse.specs.Calls.{with_released}
-use Rattle.engine_checkpoint.specs.Advance.{StaysRight, Leaves, Turned, IsSound, IsDrained, Moves}
+use Rattle.engine_checkpoint.specs.Advance.{StaysRight, Leaves, Turned, IsSound, IsDrained}
 use Rattle.engine_checkpoint.specs.Kept.{kept, numbers, placed_number, number_of, of_sure, of_durable, of_committed}
 use Rattle.engine_checkpoint.specs.Order.{IsInOrder, HasRoom, GoesWith}
 use Rattle.engine_checkpoint.specs.Stages.{IsAtStage}
 use Rattle.engine_checkpoint.specs.Turns.{with_served, going_home}
 use Rattle.engine_checkpoint.proofs.ForwardRight.{served_right}
 use Rattle.engine_checkpoint.proofs.ForwardSound.{goes_served, index_served}
-use Rattle.engine_checkpoint.proofs.MovesRows.{ReleaseKeepsDead, moves_on, moves_more, moves_served}
 use Rattle.engine_checkpoint.proofs.Settled.{turned_on}
 use Rattle.engine_checkpoint.proofs.StageRows.{drained_lists}
 
@@ -59,9 +57,6 @@ module _ (v w : Pipeline) (ring : RingPlaces) (dead next : DeadBlocks) (serves :
   pub served_sound : IsSound v ring dead → IsInOrder w → HasRoom w → IsSound w ring next
   served_sound sound order room = record { order = order; room = room; index = index_served v w rest sound.index; goes_with = goes_served v w ring dead next serves rest sound.goes_with }
 
-  pub served_moves : (rounds : ℕ) (old : Pipeline) (old_ring : RingPlaces) (old_dead : DeadBlocks) → rounds ≤ 4 → ReleaseKeepsDead → AreSound dead → Moves rounds old v old_ring ring old_dead dead → Moves 4 old w old_ring ring old_dead next
-  served_moves rounds old old_ring old_dead le law sound moved = moves_more (rounds + 0) 4 old w old_ring ring old_dead next (omega (arith, le)) (moves_on rounds 0 old v w old_ring ring ring old_dead dead next moved (moves_served v w ring dead next law sound serves rest))
-
   pub served_drained : (rounds : ℕ) → rounds ≡ 4 → IsAtStage rounds v → IsSound v ring dead → IsDrained w next
   served_drained rounds four stage sound =
       let none = drained_lists v (subst (λ k. IsAtStage k v) four stage) in
@@ -80,7 +75,3 @@ module _ (v w : Pipeline) (ring : RingPlaces) (dead next : DeadBlocks) (serves :
   served_stays s base log l t floor taken stays fewer right =
       subst (λ (d : DeadBlocks). StaysRight s base log l t floor w ring d taken) (sym serves) (subst (λ (p : Pipeline). StaysRight s base log l t floor p ring (with_served v dead) taken) (sym rest)
       (served_right s base log l t floor taken ring dead stays fewer right.now v w.blocks right.turned right.right.safe right.right.agrees right.right.serves))
-
--- all stayed right, and stays so
-pub stays_on : (s : MountedSession) (base : Blocks) (log : List Event) (l : Ledger) (t floor : ℕ) (v : Pipeline) (ring : RingPlaces) (dead : DeadBlocks) (taken : List ℕ) (k : Ledger) → Turned l k → StaysRight s base log k t floor v ring dead taken → StaysRight s base log l t floor v ring dead taken
-stays_on s base log l t floor v ring dead taken k turned stays = record { now = stays.now; turned = turned_on l k stays.now turned stays.turned; right = stays.right }

@@ -1,5 +1,6 @@
 -- What may be taken may be so still once a batch has begun: to none of it a checkpoint write goes.
 use Rattle.std.proofs.Common.{◌≡◌, ℕ, zero, suc, ◌+◌, ◌≤◌, ◌==◌, ◌||◌, Bool, true, false, List, [], ◌∷◌, ◌++◌, length, map, take, drop, slice_get, Option, Some, None, Ok, nat_lt, is_some, refl, sym, ◌∙◌, ap, subst, arith}
+use Rattle.std.proofs.lemmas.Bool.Decides.{nat_tests}
 use Rattle.std.proofs.lemmas.List.Folds.{list_any-append}
 use Rattle.std.proofs.lemmas.Bool.{false≢true, eq-eqb, eqb-true, and_parts, cond-true, or_right, or_left}
 use Rattle.std.proofs.lemmas.Option.{none-some, same_Some}
@@ -30,11 +31,7 @@ pair_among b r (suc k) (p ∷ ps) is = or_right (block_of p == b) (is_among b (m
 home_one : (hs : List HomeWrite) (k : ℕ) (h : HomeWrite) → slice_get hs k ≡ Some h → is_one_of h.block (map home_block hs) ≡ true
 home_one [] k h is = absurd (none-some h is)
 home_one (g ∷ hs) zero h is = cond-true (g.block == h.block) true (is_one_of h.block (map home_block hs)) (eq-eqb g.block h.block (ap home_block (same_Some g h is)))
-home_one (g ∷ hs) (suc k) h is = or_else (g.block == h.block) (is_one_of h.block (map home_block hs)) (home_one hs k h is)
-  where
-    or_else : (w e : Bool) → e ≡ true → (Rattle.std.specs.Prelude.if◌then◌else◌ w true e) ≡ true
-    or_else true e is = refl
-    or_else false e is = is
+home_one (g ∷ hs) (suc k) h is = grind (arith, nat_tests, home_one hs k h is)
 
 the_some : {A : Type 0} (o : Option A) → is_some o ≡ true → (x : A) × (o ≡ Some x)
 the_some None e = absurd (false≢true e)

@@ -1,6 +1,7 @@
 -- Which freed blocks serve again, by the disk's log: those that a step gave up are those on which nothing is pending, of those whose record the newest header at rest makes sure.
-use Rattle.std.proofs.Common.{◌≡◌, ◌⊎◌, inl, inr, ⊎_elim, ℕ, zero, suc, ◌+◌, ◌-◌, ◌<◌, ◌≤◌, ◌==◌, ◌||◌, ◌&&◌, not, nat_le, nat_lt, Bool, true, false, List, [], ◌∷◌, ◌++◌, length, map, slice_get, Option, Some, None, option_map, Ok, refl, sym, ◌∙◌, ap, subst, arith}
-use Rattle.std.proofs.lemmas.Bool.{and_parts, eqb-true, false≢true, le-leb, cond-true, cond-false, or_left}
+use Rattle.std.proofs.Common.{◌≡◌, ◌⊎◌, inl, inr, ⊎_elim, ℕ, zero, suc, ◌+◌, ◌-◌, ◌<◌, ◌≤◌, ◌==◌, ◌||◌, ◌&&◌, not, nat_le, Bool, true, false, List, [], ◌∷◌, ◌++◌, length, map, slice_get, Option, Some, None, option_map, Ok, refl, sym, ◌∙◌, ap, subst, arith}
+use Rattle.std.proofs.lemmas.Bool.Decides.{nat_tests}
+use Rattle.std.proofs.lemmas.Bool.{eqb-true, false≢true, le-leb, cond-true, cond-false, or_left}
 use Rattle.std.proofs.lemmas.Option.{none-some, same_Some, slice_get_within}
 use Rattle.std.proofs.lemmas.List.Folds.{list_any-append}
 use Rattle.base_types.specs.Seal.{Blocks}
@@ -59,44 +60,17 @@ opens_both false n e f = absurd (false≢true e)
 -- what was going home is so still once a batch and a header may have been written
 module _ {A B : Type 0} (batch header : Bool) (q : A) (r : B) (w x y : Pipeline) (ring : RingPlaces) (is : is_batch_due w ≡ batch) (none : w.batch ≡ 0 → w.home.items ≡ []) (begins : BatchAdds {A = A} {E = DiskFault} batch (Ok q) w x) (adds : HeaderAdds {A = B} {E = DiskFault} header (Ok r) x y ring) where
   pub goes_on : (b : ℕ) → is_among b (going_home w.home.items w.notes.notes) ≡ true → IsGoing y b
-  goes_on b going = made header adds (begun batch is begins (going_has b w.home.items w.notes.notes going))
-    where
-      begun : (due : Bool) → is_batch_due w ≡ due → BatchAdds {A = A} {E = DiskFault} due (Ok q) w x → IsGoing w b → IsGoing x b
-      begun true due adds g = absurd (none-some g.1 (sym (ap (λ (hs : List HomeWrite). slice_get hs g.0) (none (eqb-true w.batch 0 (and_parts (w.batch == 0) (nat_lt 0 (length w.sure.items)) due).0))) ∙ g.2))
-      begun false due same g = subst (λ (p : Pipeline). IsGoing p b) (sym same) g
-
-      made : (due : Bool) → HeaderAdds {A = B} {E = DiskFault} due (Ok r) x y ring → IsGoing x b → IsGoing y b
-      made true writes g =
-          let p = and_parts (is_expected g.1.ticket x.notes.notes) (not (is_noticed g.1.ticket x.notes.notes)) g.4 in (
-            g.0,
-            g.1,
-            ap (λ (p : Pipeline). slice_get p.home.items g.0) writes.rest ∙ g.2,
-            g.3,
-            opens_both (is_expected g.1.ticket y.notes.notes) (is_noticed g.1.ticket y.notes.notes)
-                (writes.expected g.1.ticket ∙ with_old (writes.pending.ticket == g.1.ticket) (is_expected g.1.ticket x.notes.notes) p.0)
-                (ap not (writes.noticed g.1.ticket) ∙ p.1),
-          )
-      made false same g = subst (λ (p : Pipeline). IsGoing p b) (sym same) g
+  goes_on b going = grind (arith, nat_tests, going_has, opens_both, with_old)
 
   pub header_stays : y.header ≡ w.header
-  header_stays = made header adds ∙ begun batch begins
-    where
-      begun : (due : Bool) → BatchAdds {A = A} {E = DiskFault} due (Ok q) w x → x.header ≡ w.header
-      begun true begins = ap (λ (p : Pipeline). p.header) begins.0.rest
-      begun false same = ap (λ (p : Pipeline). p.header) same
-
-      made : (due : Bool) → HeaderAdds {A = B} {E = DiskFault} due (Ok r) x y ring → y.header ≡ x.header
-      made true writes = ap (λ (p : Pipeline). p.header) writes.rest
-      made false same = ap (λ (p : Pipeline). p.header) same
+  header_stays = grind (arith, nat_tests)
 
 -- What the log says.
 
 module _ (base : Blocks) (log : List Event) (l : Ledger) (y : Pipeline) (ring : RingPlaces) (waiting : List (ℕ × ℕ)) (taken : List ℕ) (keeps : IsConsistentWith base log l) (a : PipelineAgrees base log l y ring waiting taken) (knows : HearsAll log y) where
   -- an open ticket isn't noticed
   not_noticed : (t : ℕ) → is_open t y.notes.notes ≡ true → ¬ IsNoticed t log
-  not_noticed t opens came =
-      let p = and_parts (is_expected t y.notes.notes) (not (is_noticed t y.notes.notes)) opens in
-      false≢true (sym (ap not (knows t p.0 came)) ∙ p.1)
+  not_noticed t opens came = grind (arith, nat_tests)
 
   -- the durable header is the newest one at rest, where the ticket of the pending one is open
   pub newest_rests : ((q : Pending) → y.next ≡ Some q → is_open q.ticket y.notes.notes ≡ true) → IsNewestAtRest l.geom.n (cell_of base log) l.header

@@ -1,5 +1,6 @@
 -- Several records that become durable one after the other.
-use Rattle.std.proofs.Common.{◌≡◌, ℕ, ◌+◌, ◌≤◌, Bool, true, false, if◌then◌else◌, List, [], ◌∷◌, length, drop, refl, sym, ◌∙◌, ap, subst, arith, length-append}
+use Rattle.std.proofs.Common.{◌≡◌, ℕ, ◌+◌, ◌≤◌, Bool, true, false, if◌then◌else◌, List, length, drop, refl, sym, ◌∙◌, ap, subst, arith, length-append}
+use Rattle.std.proofs.lemmas.Bool.Decides.{nat_tests}
 use Rattle.std.proofs.lemmas.Bool.{false≢true}
 use Rattle.base_types.specs.Seal.{Blocks}
 use Rattle.disk_contract.specs.declared.event.Event.{Event}
@@ -9,7 +10,6 @@ use Rattle.crash_argument.specs.Points.{MountedSession, IsSafe}
 use Rattle.crash_argument.specs.Steps.{with_known}
 use Rattle.engine_notes.specs.declared.notes.Note.{Note}
 use Rattle.engine_running.specs.declared.commit.Committed.{Committed}
-use Rattle.engine_running.specs.declared.states.Durable.{Durable}
 use Rattle.engine_checkpoint.specs.declared.pipeline.Pipeline.{Pipeline}
 use Rattle.engine_checkpoint.specs.Agree.{PipelineAgrees}
 use Rattle.engine_checkpoint.specs.Steps.{SettlesFirst, SettlesSome, SettlesOrStays, is_first_settled}
@@ -24,13 +24,7 @@ settles_none v = record { kept = refl; committed = refl; durable = omega arith; 
 
 -- one more
 pub settles_more : (n : ℕ) (v w x : Pipeline) → SettlesSome n v w → SettlesFirst w x → SettlesSome (n + 1) v x
-settles_more n v w x s f = record {
-  kept = kept_settled w x f.first f.settled f.rest f.was f.durable f.keeps ∙ s.kept;
-  committed = drop_rest n v.committed.items x.committed.items f.first (sym s.committed ∙ f.was);
-  durable = omega (arith, s.durable, length-append w.durable.items (f.settled ∷ []), ap (λ (ds : List Durable). length ds) f.durable);
-  forgets = forgets_on v.notes.notes w.notes.notes x.notes.notes s.forgets (forgets_these f.first.tickets.items w.notes x.notes f.forgets);
-  rest = f.rest ∙ ap (λ (p : Pipeline). record p { committed = x.committed; durable = x.durable; notes = x.notes }) s.rest;
-}
+settles_more n v w x s f = grind (arith, nat_tests, kept_settled, drop_rest, length-append, forgets_on, forgets_these)
 
 pub turned_same : (l : Ledger) → Turned l l
 turned_same l = record { geom = refl; epoch = refl; map_before = refl; next = refl; known = omega arith }

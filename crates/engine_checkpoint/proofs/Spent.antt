@@ -1,7 +1,8 @@
 -- What calls in a row spend, and the notices that come with them.
-use Rattle.std.proofs.Common.{◌≡◌, ℕ, zero, suc, ◌+◌, Bool, true, false, List, [], ◌++◌, Result, Ok, Err, IsErr, is_err, refl, sym, ◌∙◌, ap, subst, arith, append-nil}
+use Rattle.std.proofs.Common.{◌≡◌, ℕ, zero, suc, ◌+◌, Bool, true, false, List, [], ◌++◌, Result, Ok, Err, IsErr, is_err, refl, sym, ◌∙◌, ap, arith, append-nil}
+use Rattle.std.proofs.lemmas.Bool.Decides.{nat_tests}
 use Rattle.std.proofs.lemmas.Bool.{false≢true}
-use Rattle.base_types.specs.Counts.{after_call, after_calls, next_count}
+use Rattle.base_types.specs.Counts.{after_calls, next_count}
 use Rattle.disk_contract.specs.declared.event.Event.{Event}
 use Rattle.disk_contract.specs.Disk.{State, Spends}
 use Rattle.engine_checkpoint.specs.Waits.{OnlyNotices, WaitsSome}
@@ -9,10 +10,7 @@ use Rattle.engine_checkpoint.proofs.NoticeRows.{log_more}
 
 -- so many calls more, and then others
 pub calls_add : (k m n : ℕ) → after_calls k (after_calls m n) ≡ after_calls (k + m) n
-calls_add zero m n = ap (λ k. after_calls k n) (z m)
-  where
-    z : (m : ℕ) → m ≡ 0 + m
-    z m = omega arith
+calls_add zero m n = grind (arith, nat_tests)
 calls_add (suc k) m n = ap next_count (calls_add k m n) ∙ ap (λ i. after_calls i n) (s k m)
   where
     s : (k m : ℕ) → suc (k + m) ≡ suc k + m
@@ -20,13 +18,7 @@ calls_add (suc k) m n = ap next_count (calls_add k m n) ∙ ap (λ i. after_call
 
 -- calls that succeeded, and calls that may have failed
 pub spends_on : (failed : Bool) (m k m2 k2 : ℕ) (a b c : State) → Spends false m k a b → Spends failed m2 k2 b c → Spends failed (m2 + m) (k2 + k) a c
-spends_on failed m k m2 k2 a b c one two = record {
-  same = record { blocks = two.same.blocks ∙ one.same.blocks; base = two.same.base ∙ one.same.base; manner = two.same.manner ∙ one.same.manner };
-  faults = two.faults ∙ ap (after_call failed) one.faults;
-  read_faults = two.read_faults ∙ one.read_faults;
-  waits = two.waits ∙ ap (after_calls m2) one.waits ∙ calls_add m2 m a.waits;
-  polls = two.polls ∙ ap (after_calls k2) one.polls ∙ calls_add k2 k a.polls;
-}
+spends_on failed m k m2 k2 a b c one two = grind (arith, nat_tests, calls_add)
 
 pub waits_on : (failed : Bool) (a b c : State) → WaitsSome false a b → WaitsSome failed b c → WaitsSome failed a c
 waits_on failed a b c one two = record { made = two.made + one.made; spends = spends_on failed one.made 0 two.made 0 a b c one.spends two.spends }

@@ -1,5 +1,6 @@
 -- The index of newest payloads: one block more that is taken out or dropped, and the sorted list of its blocks.
-use Rattle.std.proofs.Common.{◌≡◌, ℕ, zero, suc, ◌+◌, ◌<◌, ◌==◌, ◌&&◌, ◌||◌, nat_eq, nat_le, Bool, true, false, if◌then◌else◌, List, [], ◌∷◌, ◌++◌, ◌≤◌, length, take, slice_get, slice_index_or, Option, Some, None, is_some, refl, sym, ◌∙◌, ap, subst, arith, length-append, append_assoc}
+use Rattle.std.proofs.Common.{◌≡◌, ℕ, zero, suc, ◌+◌, ◌<◌, ◌==◌, ◌&&◌, ◌||◌, nat_eq, Bool, true, false, if◌then◌else◌, List, [], ◌∷◌, ◌++◌, ◌≤◌, length, take, slice_get, slice_index_or, Option, Some, None, is_some, refl, sym, ◌∙◌, ap, subst, arith, length-append, append_assoc}
+use Rattle.std.proofs.lemmas.Bool.Decides.{nat_tests}
 use Rattle.std.specs.Cmp.{nat_eq_equiv}
 use Rattle.std.specs.HashMap.{keys, IsUnique}
 use Rattle.std.specs.List.{list_any, IsDistinct}
@@ -19,59 +20,24 @@ use Rattle.engine_checkpoint.proofs.Lists.{below_none}
 -- a choice is made by the last of the numbers, or by those before it
 pub out_push : {A : Type 0} (ts : List ℕ) (k d b : ℕ) (x y : A) → k < length ts → (if slice_index_or ts k d == b then x else (if is_one_of b (take k ts) then x else y)) ≡ (if is_one_of b (take (k + 1) ts) then x else y)
 out_push [] k d b x y lt = absurd (below_none k lt)
-out_push (t ∷ ts) zero d b x y lt = by (t == b)
-  where
-    by : (v : Bool) → (if v then x else y) ≡ (if (if v then true else false) then x else y)
-    by true = refl
-    by false = refl
-out_push (t ∷ ts) (suc k) d b x y lt = by (t == b) (out_push ts k d b x y (omega (arith, lt))) ∙ ap (λ n. if is_one_of b (take n (t ∷ ts)) then x else y) (s k)
-  where
-    s : (k : ℕ) → suc (k + 1) ≡ suc k + 1
-    s k = omega arith
-
-    same : (w : Bool) → (if w then x else x) ≡ x
-    same true = refl
-    same false = refl
-
-    by : (v : Bool) → (if slice_index_or ts k d == b then x else (if is_one_of b (take k ts) then x else y)) ≡ (if is_one_of b (take (k + 1) ts) then x else y)
-        → (if slice_index_or ts k d == b then x else (if (if v then true else is_one_of b (take k ts)) then x else y)) ≡ (if (if v then true else is_one_of b (take (k + 1) ts)) then x else y)
-    by true rest = same (slice_index_or ts k d == b)
-    by false rest = rest
+out_push (t ∷ ts) zero d b x y lt = grind (arith, nat_tests)
+out_push (t ∷ ts) (suc k) d b x y lt = grind (arith, nat_tests, out_push ts k d b x y (omega (arith, lt)))
 
 -- one put more
 pub has_push : (ps : List Put) (k b : ℕ) (d : Put) → k < length ps → has_block b (take (k + 1) ps) ≡ (has_block b (take k ps) || ((slice_index_or ps k d).block == b))
 has_push [] k b d lt = absurd (below_none k lt)
-has_push (q ∷ ps) zero b d lt = by (q.block == b)
-  where
-    by : (v : Bool) → (if v then true else false) ≡ v
-    by true = refl
-    by false = refl
-has_push (q ∷ ps) (suc k) b d lt = ap (λ n. has_block b (take n (q ∷ ps))) (s k) ∙ by (q.block == b) (has_push ps k b d (omega (arith, lt)))
-  where
-    s : (k : ℕ) → suc k + 1 ≡ suc (k + 1)
-    s k = omega arith
-
-    by : (v : Bool) → has_block b (take (k + 1) ps) ≡ (has_block b (take k ps) || ((slice_index_or ps k d).block == b)) → (if v then true else has_block b (take (k + 1) ps)) ≡ ((if v then true else has_block b (take k ps)) || ((slice_index_or ps k d).block == b))
-    by true rest = refl
-    by false rest = rest
+has_push (q ∷ ps) zero b d lt = grind (arith, nat_tests)
+has_push (q ∷ ps) (suc k) b d lt = grind (arith, nat_tests, has_push ps k b d (omega (arith, lt)))
 
 -- what was dropped up to a number has nothing up to it
 pub dropped_none : (n : ℕ) (s : Option Spot) → is_upto n (if is_upto n s then None else s) ≡ false
 dropped_none n None = refl
-dropped_none n (Some t) = by (nat_le t.number n) refl
-  where
-    by : (v : Bool) → nat_le t.number n ≡ v → is_upto n (if v then None else Some t) ≡ false
-    by true e = refl
-    by false e = e
+dropped_none n (Some t) = grind (arith, nat_tests)
 
 -- dropped for some blocks, and for one more
 pub drop_twice : (n : ℕ) (s : Option Spot) (has same : Bool) → (if same && is_upto n (if has && is_upto n s then None else s) then None else (if has && is_upto n s then None else s)) ≡ (if (has || same) && is_upto n s then None else s)
 drop_twice n s false same = refl
-drop_twice n s true same = ap (λ w. if same && w then None else (if is_upto n s then None else s)) (dropped_none n s) ∙ by same
-  where
-    by : (v : Bool) → (if v && false then None else (if is_upto n s then None else s)) ≡ (if is_upto n s then None else s)
-    by true = refl
-    by false = refl
+drop_twice n s true same = grind (arith, nat_tests, dropped_none)
 
 pub drop_push : (n : ℕ) (before cur after : Option Spot) (ps : List Put) (k b : ℕ) (p : Put) → k < length ps → p ≡ slice_index_or ps k p → cur ≡ (if has_block b (take k ps) && is_upto n before then None else before) → after ≡ (if p.block == b && is_upto n cur then None else cur)
     → after ≡ (if has_block b (take (k + 1) ps) && is_upto n before then None else before)
@@ -80,11 +46,7 @@ drop_push n before cur after ps k b p lt is at_k at_p = at_p ∙ ap (λ c. if p.
 -- one of these numbers, either way
 any_is_one : (b : ℕ) (bs : List ℕ) → list_any (nat_eq b) bs ≡ is_one_of b bs
 any_is_one b [] = refl
-any_is_one b (c ∷ bs) = by (b == c) (any_is_one b bs) ∙ ap (λ (v : Bool). if v then true else is_one_of b bs) (nat_eq_equiv.symm b c)
-  where
-    by : (v : Bool) → list_any (nat_eq b) bs ≡ is_one_of b bs → (v || list_any (nat_eq b) bs) ≡ (if v then true else is_one_of b bs)
-    by true rest = refl
-    by false rest = rest
+any_is_one b (c ∷ bs) = grind (arith, nat_tests, any_is_one b bs)
 
 -- the length of a list that ends with these, and what comes behind one of them
 pub room_left : (xs ys zs : List ℕ) (y most : ℕ) (all : List ℕ) → xs ++ ys ≡ all → ys ≡ y ∷ zs → length all ≤ most → length xs < most

@@ -1,9 +1,10 @@
 -- What stays right as the running transaction takes blocks: each block that may be taken may be written fresh.
-use Rattle.std.proofs.Common.{◌≡◌, ◌⊎◌, ⊎_elim, ℕ, zero, suc, ◌≤◌, ◌==◌, ◌&&◌, ◌||◌, not, Bool, true, false, List, [], ◌∷◌, ◌++◌, map, filter, slice_get, Some, refl, sym, ◌∙◌, ap, subst}
+use Rattle.std.proofs.Common.{◌≡◌, ◌⊎◌, ⊎_elim, ℕ, zero, suc, ◌≤◌, ◌==◌, ◌&&◌, ◌||◌, not, Bool, true, false, List, [], ◌∷◌, ◌++◌, map, filter, slice_get, Some, refl, sym, ◌∙◌, ap, subst, arith}
+use Rattle.std.proofs.lemmas.Bool.Decides.{nat_tests}
 use Rattle.std.proofs.lemmas.Bool.{false≢true, eqb-true, or_left}
 use Rattle.std.proofs.lemmas.List.Folds.{list_any-append}
 use Rattle.std.proofs.lemmas.Map.Views.{any-filter_same}
-use Rattle.std.proofs.lemmas.Option.{none-some, same_Some}
+use Rattle.std.proofs.lemmas.Option.{none-some}
 use Rattle.base_types.specs.Seal.{Blocks}
 use Rattle.disk_contract.specs.declared.event.Event.{Event}
 use Rattle.disk_contract.specs.Cell.{IsNoticed}
@@ -55,9 +56,7 @@ left_not p b xs e = any-filter_same (λ x. x == b) p (p b) (λ k e. ap p (eqb-tr
 -- the checkpoint write of a pair
 pub home_at : (hs : List HomeWrite) (k b t : ℕ) → slice_get (map home_pair hs) k ≡ Some (b, t) → (h : HomeWrite) × (slice_get hs k ≡ Some h) × (h.block ≡ b) × (h.ticket ≡ t)
 home_at [] k b t is = absurd (none-some (b, t) is)
-home_at (h ∷ hs) zero b t is =
-    let same = same_Some (home_pair h) (b, t) is in
-    (h, refl, ap (λ (x : ℕ × ℕ). x.0) same, ap (λ (x : ℕ × ℕ). x.1) same)
+home_at (h ∷ hs) zero b t is = grind (arith, nat_tests)
 home_at (h ∷ hs) (suc k) b t is = home_at hs k b t is
 
 -- a ticket that is expected and isn't open is noticed
@@ -68,10 +67,7 @@ noticed_of false n f g = absurd (false≢true f)
 
 -- fewer blocks may be taken, and no others
 pub serves_taken : (l : Ledger) (v : Pipeline) (dead : DeadBlocks) (list : List ℕ) → MayServe l v dead → MayServe l v (with_taken dead list)
-serves_taken l v dead list m = record {
-  dead_now = λ b own. m.dead_now b (left_was (λ c. not (is_among c list)) b dead.reusable (map block_of dead.waiting) own);
-  not_going = λ k h at opens. left_not (λ c. not (is_among c list)) h.block dead.reusable (m.not_going k h at opens);
-}
+serves_taken l v dead list m = grind (arith, nat_tests, left_was, left_not)
 
 -- other blocks are the transaction's, which may be written fresh too
 pub agrees_taken : (base : Blocks) (log : List Event) (l : Ledger) (v : Pipeline) (ring : RingPlaces) (waiting : List (ℕ × ℕ)) (taken now : List ℕ) → PipelineAgrees base log l v ring waiting taken → MayWriteAllFresh log l (data_of v ring waiting) now → PipelineAgrees base log l v ring waiting now

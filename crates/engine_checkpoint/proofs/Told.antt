@@ -1,5 +1,6 @@
 -- What the newest payloads are on a disk that tells: those of the ledger's records that aren't placed, and so the newest bytes of live blocks.
 use Rattle.std.proofs.Common.{◌≡◌, ◌⊎◌, inl, inr, ⊎_elim, ℕ, zero, suc, ◌+◌, ◌-◌, ◌≤◌, Bool, true, false, IsTrue, if◌then◌else◌, List, [], ◌∷◌, ◌++◌, length, take, drop, map, slice_get, Option, Some, None, refl, sym, ◌∙◌, ap, ap₂, subst, arith, length-append, length-drop}
+use Rattle.std.proofs.lemmas.Bool.Decides.{nat_tests}
 use Rattle.std.proofs.lemmas.Bool.{false≢true, cond-false}
 use Rattle.std.proofs.lemmas.List.{length-map}
 use Rattle.std.proofs.lemmas.Option.{same_Some, none-some}
@@ -81,10 +82,7 @@ pub record SaysTheSame (b : ℕ) (k : Kept) (w : WrittenRecord) (f : List ℕ) :
   pub freed_is : f ≡ k.freed
 
 step_same : (b : ℕ) (k : Kept) (w : WrittenRecord) (f : List ℕ) (x : Option (List ℕ)) → SaysTheSame b k w f → newest_after x k b ≡ goes_after x w f b
-step_same b k w f x e =
-    ap (λ (fs : List ℕ). if is_one_of b fs then None else or_else (put_of b k.payloads) (if is_one_of b k.fresh then None else x)) (sym e.freed_is)
-    ∙ ap (λ y. if is_one_of b f then None else or_else y (if is_one_of b k.fresh then None else x)) (sym e.paid)
-    ∙ ap (λ (v : Bool). if is_one_of b f then None else or_else (payload_in w b) (if v then None else x)) (sym e.laid)
+step_same b k w f x e = grind (arith, nat_tests)
 
 rows_same : (b : ℕ) (ks : List Kept) (ws : List WrittenRecord) (fs : List (List ℕ)) (x : Option (List ℕ)) → length ks ≡ length ws → length ws ≡ length fs
     → ((i : ℕ) (k : Kept) (w : WrittenRecord) (f : List ℕ) → slice_get ks i ≡ Some k → slice_get ws i ≡ Some w → slice_get fs i ≡ Some f → SaysTheSame b k w f) → newest_in x ks b ≡ goes_home x ws fs b
@@ -157,10 +155,7 @@ module _ (l : Ledger) (new : FreshAreNew l) (freed : List (List ℕ)) (are : Are
 
   rows : (ws : List WrittenRecord) (fs : List (List ℕ)) (at : ℕ) → length ws ≡ length fs → ((i : ℕ) (w : WrittenRecord) → slice_get ws i ≡ Some w → slice_get l.records (at + i) ≡ Some w) → ((i : ℕ) (f : List ℕ) → slice_get fs i ≡ Some f → slice_get freed (at + i) ≡ Some f)
       → IsTrue (live (l.header.start + at + length ws)) → Decides ws fs ⊎ Leaves (l.header.start + at) ws fs
-  rows [] fs at same members lists lives = inr (subst (λ n. IsTrue (live n)) (z (l.header.start + at)) lives, λ c. refl, λ g. refl)
-    where
-      z : (n : ℕ) → n + 0 ≡ n
-      z n = omega arith
+  rows [] fs at same members lists lives = grind (arith, nat_tests)
   rows (w ∷ ws) [] at same members lists lives = absurd (omega (arith, same))
   rows (w ∷ ws) (f ∷ fs) at same members lists lives =
       let here : slice_get l.records at ≡ Some w = ap (slice_get l.records) (z at) ∙ members 0 w refl in

@@ -1,6 +1,7 @@
 -- The header that was written last becomes durable: records before its start are released, and those up to its `sure` are sure.
-use Rattle.std.proofs.Common.{◌≡◌, inl, inr, ⊎_elim, ℕ, zero, suc, ◌+◌, ◌-◌, ◌≤◌, ◌==◌, ◌&&◌, not, nat_le, Bool, true, false, if◌then◌else◌, List, [], ◌∷◌, ◌++◌, length, take, drop, map, slice_get, Some, Vec, Global, refl, sym, ◌∙◌, subst, ap, arith, length-append, length-drop}
-use Rattle.std.proofs.lemmas.Bool.{and_parts, eqb-true, false≢true}
+use Rattle.std.proofs.Common.{◌≡◌, inl, inr, ⊎_elim, ℕ, zero, suc, ◌+◌, ◌-◌, ◌≤◌, not, nat_le, Bool, true, false, if◌then◌else◌, List, [], ◌∷◌, ◌++◌, length, take, drop, map, slice_get, Some, Vec, Global, refl, sym, ◌∙◌, subst, ap, arith, length-append, length-drop}
+use Rattle.std.proofs.lemmas.Bool.Decides.{nat_tests}
+use Rattle.std.proofs.lemmas.Bool.{and_parts}
 use Rattle.std.proofs.lemmas.Option.{none-some, same_Some}
 use Rattle.base_types.specs.Seal.{Blocks}
 use Rattle.disk_contract.specs.declared.event.Event.{Event}
@@ -27,15 +28,12 @@ use Rattle.engine_checkpoint.specs.declared.pipeline.Pipeline.{Pipeline}
 use Rattle.engine_checkpoint.proofs.Apart.{still_one, still_all, apart_back, not_one}
 use Rattle.engine_checkpoint.proofs.Lists.{get_drop, either}
 use Rattle.engine_checkpoint.proofs.TurnedOrder.{turned_to}
-use Rattle.engine_checkpoint.specs.Agree.{PipelineAgrees, AreApart, IsOpenBeside, IsRecordAt, KeepsRecord, data_of, durable_count, no_tickets, tickets_in}
+use Rattle.engine_checkpoint.specs.Agree.{PipelineAgrees, AreApart, IsOpenBeside, IsRecordAt, data_of, durable_count, no_tickets, tickets_in}
 use Rattle.engine_checkpoint.specs.Kept.{placed_count, total}
 
 -- forgotten tickets are dropped
 drop_none : (d n : ℕ) (xs : List (List ℕ)) → d ≤ n → drop d (no_tickets n ++ xs) ≡ no_tickets (n - d) ++ xs
-drop_none zero n xs le = ap (λ m. no_tickets m ++ xs) (z n)
-  where
-    z : (n : ℕ) → n ≡ n - 0
-    z n = omega arith
+drop_none zero n xs le = grind (arith, nat_tests)
 drop_none (suc d) zero xs le = absurd (omega arith)
 drop_none (suc d) (suc n) xs le = drop_none d n xs (omega arith) ∙ ap (λ m. no_tickets m ++ xs) (s n d)
   where
@@ -57,20 +55,11 @@ waits_on sure (w ∷ ws) = record { each = λ k b r is. by (waits_on sure ws) (n
 
 -- one of a single ticket is that one
 one_alone : (t u : ℕ) → is_one_of u (t ∷ []) ≡ true → t ≡ u
-one_alone t u own = by (t == u) refl own
-  where
-    by : (v : Bool) → (t == u) ≡ v → (if v then true else false) ≡ true → t ≡ u
-    by true same e = eqb-true t u same
-    by false other e = absurd (false≢true e)
+one_alone t u own = grind (arith, nat_tests)
 
 -- a ticket that is expected and not open is noticed
 pub closed_noticed : (t : ℕ) (ns : List Note) → is_open t ns ≡ false → is_expected t ns ≡ true → is_noticed t ns ≡ true
-closed_noticed t ns closed expected = by (is_expected t ns) (is_noticed t ns) closed expected
-  where
-    by : (e n : Bool) → (e && not n) ≡ false → e ≡ true → n ≡ true
-    by e true c f = refl
-    by true false c f = absurd (false≢true (sym c))
-    by false false c f = absurd (false≢true f)
+closed_noticed t ns closed expected = grind (arith, nat_tests)
 
 -- the ring places of placed records are those of the ledger's
 same_places : (ws : List WrittenRecord) (ps : List Placed) (n : ℕ) → n ≤ length ps → ((k : ℕ) (t : Placed) → slice_get ps k ≡ Some t → (w : WrittenRecord) × (slice_get ws k ≡ Some w) × (places w.says ≡ t.count)) → all_places (all_say (take n ws)) ≡ total (map placed_count (take n ps))

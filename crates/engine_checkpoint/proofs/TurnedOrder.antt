@@ -1,10 +1,10 @@
 -- The header that was written last becomes durable: the pipeline's records stay in order, and there is room still.
-use Rattle.std.proofs.Common.{◌≡◌, ℕ, ◌+◌, ◌-◌, ◌<◌, ◌≤◌, List, [], ◌∷◌, ◌++◌, length, take, drop, map, slice_get, if◌then◌else◌, Some, None, sym, ◌∙◌, subst, ap, arith, length-append, length-drop}
-use Rattle.std.specs.List.{All, range_with_len}
+use Rattle.std.proofs.Common.{◌≡◌, ℕ, ◌+◌, ◌-◌, ◌<◌, ◌≤◌, List, [], ◌∷◌, ◌++◌, length, take, drop, map, slice_get, if◌then◌else◌, Some, None, sym, ◌∙◌, ap, arith, length-append, length-drop}
+use Rattle.std.proofs.lemmas.Bool.Decides.{nat_tests}
+use Rattle.std.specs.List.{All}
 use Rattle.std.specs.VecDeque.{deque_capacity}
 use Rattle.std.proofs.lemmas.List.{length-map, map-append, take-append-drop, drop-append-le, drop-map}
 use Rattle.std.proofs.lemmas.List.Elements.{All-head, All-tail}
-use Rattle.std.proofs.lemmas.Option.{none-some}
 use Rattle.engine_notes.specs.Notes.{Expected, is_expected}
 use Rattle.engine_running.specs.declared.states.Durable.{Durable}
 use Rattle.engine_running.specs.declared.states.Sure.{Sure}
@@ -12,7 +12,7 @@ use Rattle.engine_running.specs.declared.states.Placed.{Placed}
 use Rattle.engine_checkpoint.specs.declared.pipeline.Pending.{Pending}
 use Rattle.engine_checkpoint.specs.declared.pipeline.Pipeline.{Pipeline}
 use Rattle.engine_checkpoint.specs.Kept.{Kept, kept, numbers, number_of, count_of, placed_number, placed_count, of_sure, of_durable, of_committed, total, places_taken, payloads_in}
-use Rattle.engine_checkpoint.specs.Order.{IsInOrder, HasRoom, MovesHeader, HasPlaces, PayloadsBelow, header_written, header_notes}
+use Rattle.engine_checkpoint.specs.Order.{IsInOrder, HasRoom, MovesHeader, HasPlaces, header_notes}
 use Rattle.engine_checkpoint.specs.Turns.{AreSured}
 use Rattle.engine_checkpoint.specs.Advance.{writes_owed}
 use Rattle.engine_checkpoint.proofs.Lists.{get_old}
@@ -84,10 +84,7 @@ module _ (v : Pipeline) (order : IsInOrder v) (q : Pending) (is_next : v.next �
     sizes_durable = omega (arith, ap (λ (xs : List Durable). length xs) ds_is, length-drop grown v.durable.items)
 
     numbers_is : numbers then_is ≡ drop gone (numbers v)
-    numbers_is =
-        ap (λ (ps : List Placed). map placed_number ps ++ map number_of (kept then_is)) ps_is ∙ ap (λ (ks : List Kept). map placed_number (drop gone v.placed.items) ++ map number_of ks) kept_is
-        ∙ ap (λ (ns : List ℕ). ns ++ map number_of (kept v)) (sym (drop-map placed_number gone v.placed.items))
-        ∙ sym (drop-append-le gone (map placed_number v.placed.items) (map number_of (kept v)) (omega (arith, gone_placed, length-map v.placed.items placed_number)))
+    numbers_is = grind (arith, nat_tests, kept_is, drop-map, drop-append-le, gone_placed, length-map)
 
     count_is : length (numbers then_is) ≡ length (numbers v) - gone
     count_is = omega (arith, ap (λ (ns : List ℕ). length ns) numbers_is, length-drop gone (numbers v))
@@ -102,24 +99,7 @@ module _ (v : Pipeline) (order : IsInOrder v) (q : Pending) (is_next : v.next �
     owed_turned = ap (λ (ks : List Kept). payloads_in (drop v.batch ks) + (v.last - v.written.sure) + (v.last + 1 - v.written.start)) kept_is
 
     pub order_turned : IsInOrder then_is
-    order_turned = record {
-      numbers_are = numbers_is ∙ ap (drop gone) order.numbers_are ∙ drop_range gone v.header.start (length (numbers v)) ∙ ap (λ n. range_with_len n (length (numbers v) - gone)) (starts moves.start) ∙ ap (range_with_len q.header.start) (sym count_is);
-      last = omega (arith, order.last, count_is, many, moves.start);
-      sure = omega (arith, order.sure, sizes_placed, sizes_sure, gone_placed, moves.start, moves.sure);
-      next = λ k none. absurd (none-some k none);
-      written = order.written ∙ ap (header_written v.header) is_next;
-      batch = omega (arith, order.batch, sizes_sure);
-      none = order.none;
-      home = subst (λ (ks : List Kept). length v.home.items ≤ payloads_in (take v.batch ks)) (sym kept_is) order.home;
-      unplaced = order.unplaced ∙ ap payloads_in (sym kept_is);
-      few = omega (arith, order.unplaced, places_of (kept v) order.have_places, ap (λ (ks : List Kept). total (map count_of ks)) kept_is);
-      have_places = subst (All HasPlaces) (sym kept_is) order.have_places;
-      within = omega (arith, taken_turned, order.within);
-      below = subst (All (PayloadsBelow v.geom.n)) (sym kept_is) order.below;
-    }
-      where
-        starts : v.header.start ≤ q.header.start → v.header.start + gone ≡ q.header.start
-        starts le = omega (arith, le)
+    order_turned = grind (arith, nat_tests, numbers_is, drop_range, moves, count_is, many, sizes_placed, sizes_sure, gone_placed, kept_is, places_of, taken_turned)
 
     -- the capacities are as they were, and the notes gave the header's room back
     module _ (room : HasRoom v) (ps_room : deque_capacity out.placed ≡ deque_capacity v.placed) (ss_room : deque_capacity out.sure ≡ deque_capacity v.sure) (ds_room : deque_capacity out.durable ≡ deque_capacity v.durable)
@@ -129,14 +109,4 @@ module _ (v : Pipeline) (order : IsInOrder v) (q : Pending) (is_next : v.next �
       own_note = ap (λ o. header_notes (record v { next = o })) is_next
 
       pub room_turned : HasRoom then_is
-      room_turned = record {
-        placed = omega (arith, room.placed, count_is, ps_room);
-        sure = omega (arith, room.sure, ap (λ (ks : List Kept). length ks) kept_is, ss_room);
-        durable = omega (arith, room.durable, ds_room, sizes_durable, out.durable.ok.0, v.durable.ok.0);
-        committed = room.committed;
-        home = room.home;
-        blocks = room.blocks;
-        last = subst (λ (ks : List Kept). payloads_in (drop v.batch ks) + v.ready.payloads ≤ Rattle.engine_checkpoint.specs.Newest.spot_room v.batch_newest) (sym kept_is) room.last;
-        newest = room.newest;
-        notes = omega (arith, room.notes, own_note, more, ap (λ (ks : List Kept). payloads_in (drop v.batch ks)) kept_is, count_is);
-      }
+      room_turned = grind (arith, nat_tests, count_is, kept_is, sizes_durable, own_note)

@@ -1,5 +1,6 @@
 -- Where the tickets of the records up to a number are noticed, and those are settled that may be, that number is durable.
-use Rattle.std.proofs.Common.{◌≡◌, ⊎_elim, ℕ, ◌+◌, ◌<◌, ◌≤◌, not, ◌&&◌, Bool, true, false, List, [], ◌∷◌, length, map, slice_get, Some, refl, sym, ◌∙◌, ap, arith, length-append}
+use Rattle.std.proofs.Common.{◌≡◌, ⊎_elim, ℕ, ◌+◌, ◌<◌, ◌≤◌, true, false, List, [], ◌∷◌, length, map, slice_get, Some, refl, sym, ◌∙◌, ap, arith, length-append}
+use Rattle.std.proofs.lemmas.Bool.Decides.{nat_tests}
 use Rattle.std.proofs.lemmas.Bool.{cases_lt, false≢true}
 use Rattle.std.proofs.lemmas.List.{length-map}
 use Rattle.base_types.specs.Seal.{Blocks}
@@ -8,7 +9,7 @@ use Rattle.layout_journal.specs.Ring.{RingPlaces}
 use Rattle.crash_argument.specs.Ledger.{Ledger}
 use Rattle.crash_argument.specs.Points.{MountedSession}
 use Rattle.engine_notes.specs.declared.notes.Note.{Note}
-use Rattle.engine_notes.specs.Notes.{is_open, none_open}
+use Rattle.engine_notes.specs.Notes.{none_open}
 use Rattle.engine_reuse.specs.Dead.{DeadBlocks}
 use Rattle.engine_running.specs.declared.commit.Committed.{Committed}
 use Rattle.engine_checkpoint.specs.declared.pipeline.Pipeline.{Pipeline}
@@ -28,12 +29,7 @@ use Rattle.engine_checkpoint.proofs.StageRows.{kept_length}
 -- where no ticket is open that wasn't, of tickets none of which was open none is
 still_none : (ts : List ℕ) (old new : List Note) → OpensNone old new → none_open ts old ≡ true → none_open ts new ≡ true
 still_none [] old new fewer none = refl
-still_none (t ∷ ts) old new fewer none = by (is_open t old) (is_open t new) (fewer t) none (still_none ts old new fewer)
-  where
-    by : (was is : Bool) → (is ≡ true → was ≡ true) → (not was && none_open ts old) ≡ true → (none_open ts old ≡ true → none_open ts new ≡ true) → (not is && none_open ts new) ≡ true
-    by true is f e rest = absurd (false≢true e)
-    by false true f e rest = absurd (false≢true (f refl))
-    by false false f e rest = rest e
+still_none (t ∷ ts) old new fewer none = grind (arith, nat_tests, still_none ts old new fewer)
 
 -- all records are numbered in a row, the last ones behind the durable ones
 last_by_count : (w : Pipeline) → IsInOrder w → w.header.start + durable_count w + length w.committed.items ≡ w.last + 1

@@ -1,6 +1,7 @@
 -- Notes whose tickets ascend are no more than a list that has all these tickets.
-use Rattle.std.proofs.Common.{◌≡◌, ℕ, suc, ◌≤◌, ◌==◌, Bool, true, false, if◌then◌else◌, List, [], ◌∷◌, length, refl, sym, ◌∙◌, ap, arith}
-use Rattle.std.proofs.lemmas.Bool.{eqb-true, eq-eqb, false≢true, cond-true}
+use Rattle.std.proofs.Common.{◌≡◌, ℕ, suc, ◌≤◌, ◌==◌, true, false, if◌then◌else◌, List, [], ◌∷◌, length, refl, arith}
+use Rattle.std.proofs.lemmas.Bool.Decides.{nat_tests}
+use Rattle.std.proofs.lemmas.Bool.{eq-eqb, false≢true, cond-true}
 use Rattle.engine_notes.specs.declared.notes.Note.{Note}
 use Rattle.engine_notes.specs.Notes.{is_expected, is_among, are_rising}
 use Rattle.engine_notes.proofs.Rising.{rises, not_above}
@@ -12,36 +13,18 @@ without u (t ∷ ts) = if t == u then ts else t ∷ without u ts
 
 one_less : (u : ℕ) (ts : List ℕ) → is_among u ts ≡ true → length ts ≡ suc (length (without u ts))
 one_less u [] e = absurd (false≢true e)
-one_less u (t ∷ ts) e = by (t == u) e (one_less u ts)
-  where
-    by : (v : Bool) → (if v then true else is_among u ts) ≡ true → (is_among u ts ≡ true → length ts ≡ suc (length (without u ts))) → suc (length ts) ≡ suc (length (if v then ts else t ∷ without u ts))
-    by true e rest = refl
-    by false e rest = ap suc (rest e)
+one_less u (t ∷ ts) e = grind (arith, nat_tests, one_less u ts)
 
 others_stay : (u w : ℕ) (ts : List ℕ) → (u == w) ≡ false → is_among w ts ≡ true → is_among w (without u ts) ≡ true
 others_stay u w [] other e = e
-others_stay u w (t ∷ ts) other e = by (t == u) refl (t == w) refl (others_stay u w ts other)
-  where
-    by : (p : Bool) → (t == u) ≡ p → (q : Bool) → (t == w) ≡ q → (is_among w ts ≡ true → is_among w (without u ts) ≡ true) → is_among w (if t == u then ts else t ∷ without u ts) ≡ true
-    by true f true g rest = absurd (false≢true (sym other ∙ eq-eqb u w (sym (eqb-true t u f) ∙ eqb-true t w g)))
-    by true f false g rest = ap (λ b. is_among w (if b then ts else t ∷ without u ts)) f ∙ sym (ap (λ b. if b then true else is_among w ts) g) ∙ e
-    by false f true g rest = ap (λ b. is_among w (if b then ts else t ∷ without u ts)) f ∙ ap (λ b. if b then true else is_among w (without u ts)) g
-    by false f false g rest = ap (λ b. is_among w (if b then ts else t ∷ without u ts)) f ∙ ap (λ b. if b then true else is_among w (without u ts)) g ∙ rest (sym (ap (λ b. if b then true else is_among w ts) g) ∙ e)
+others_stay u w (t ∷ ts) other e = grind (arith, nat_tests, others_stay u w ts other)
 
 -- the first ticket isn't that of a later note
 first_alone : (n : Note) (ns : List Note) → are_rising (n ∷ ns) ≡ true → (u : ℕ) → is_expected u ns ≡ true → (n.ticket == u) ≡ false
-first_alone n ns up u e = by (n.ticket == u) refl
-  where
-    by : (v : Bool) → (n.ticket == u) ≡ v → v ≡ false
-    by true same = absurd (false≢true (sym (not_above u n.ticket ns (omega (arith, eqb-true n.ticket u same)) up) ∙ e))
-    by false same = refl
+first_alone n ns up u e = grind (arith, nat_tests, not_above)
 
 later_expected : (n : Note) (ns : List Note) (u : ℕ) → is_expected u ns ≡ true → is_expected u (n ∷ ns) ≡ true
-later_expected n ns u e = by (n.ticket == u)
-  where
-    by : (v : Bool) → (if v then true else is_expected u ns) ≡ true
-    by true = refl
-    by false = e
+later_expected n ns u e = grind (arith, nat_tests)
 
 pub no_more : (ns : List Note) (ts : List ℕ) → are_rising ns ≡ true → ((u : ℕ) → is_expected u ns ≡ true → is_among u ts ≡ true) → length ns ≤ length ts
 no_more [] ts up within = omega arith

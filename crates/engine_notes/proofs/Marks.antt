@@ -1,6 +1,7 @@
 -- What becomes of the set as a ticket is noticed. The first note of a ticket decides.
 use Rattle.std.proofs.Common.{◌≡◌, ℕ, zero, suc, ◌==◌, ◌<◌, ◌&&◌, ◌||◌, Bool, true, false, if◌then◌else◌, List, [], ◌∷◌, length, take, map, slice_get, slice_set, slice_index_or, Some, refl, sym, ◌∙◌, ap, arith}
-use Rattle.std.proofs.lemmas.Bool.{eqb-true, eq-eqb, false≢true, cond-true, cond-false}
+use Rattle.std.proofs.lemmas.Bool.Decides.{nat_tests}
+use Rattle.std.proofs.lemmas.Bool.{eq-eqb, cond-true, cond-false}
 use Rattle.engine_notes.specs.declared.notes.Note.{Note}
 use Rattle.engine_notes.specs.Notes.{ticket_of, is_expected, is_noticed}
 
@@ -20,26 +21,14 @@ tickets_set t (n ∷ ns) (suc at) own = ap (λ ts. n.ticket ∷ ts) (tickets_set
 
 -- a ticket that isn't expected by a list isn't that of its first note, nor by the rest
 other_first : (t k : ℕ) (rest : Bool) → (if k == t then true else rest) ≡ false → (k == t) ≡ false
-other_first t k rest e = by (k == t) e
-  where
-    by : (v : Bool) → (if v then true else rest) ≡ false → v ≡ false
-    by true e = absurd (false≢true (sym e))
-    by false e = refl
+other_first t k rest e = grind (arith, nat_tests)
 
 other_rest : (t k : ℕ) (rest : Bool) → (if k == t then true else rest) ≡ false → rest ≡ false
-other_rest t k rest e = by (k == t) e
-  where
-    by : (v : Bool) → (if v then true else rest) ≡ false → rest ≡ false
-    by true e = absurd (false≢true (sym e))
-    by false e = e
+other_rest t k rest e = grind (arith, nat_tests)
 
 -- two numbers that are both u are equal
 apart : (k t u : ℕ) → (k == t) ≡ false → (k == u) ≡ true → (t == u) ≡ false
-apart k t u other own = by (t == u) refl
-  where
-    by : (v : Bool) → (t == u) ≡ v → v ≡ false
-    by true e = absurd (false≢true (sym other ∙ eq-eqb k t (eqb-true k u own ∙ sym (eqb-true t u e))))
-    by false e = refl
+apart k t u other own = grind (arith, nat_tests)
 
 pub noticed_set : (t u : ℕ) (ns : List Note) (at : ℕ) → at < length ns → is_expected t (take at ns) ≡ false → ((n : Note) → slice_get ns at ≡ Some n → n.ticket ≡ t)
     → is_noticed u (slice_set ns at (marked t)) ≡ (is_noticed u ns || (t == u && is_expected u ns))
@@ -73,22 +62,12 @@ noticed_set t u (n ∷ ns) (suc at) lt none own = by (n.ticket == u) refl (notic
 
 -- a ticket that a place of the list has is expected, and the place of its first note tells its mark
 pub expected_at : (t : ℕ) (ns : List Note) (at : ℕ) → at < length ns → ((n : Note) → slice_get ns at ≡ Some n → n.ticket ≡ t) → is_expected t ns ≡ true
-expected_at t [] at lt own = absurd (below at lt)
-  where
-    below : (k : ℕ) → k < 0 → ⊥
-    below k lt = omega (arith, lt)
+expected_at t [] at lt own = grind (arith, nat_tests)
 expected_at t (n ∷ ns) zero lt own = cond-true (n.ticket == t) true (is_expected t ns) (eq-eqb n.ticket t (own n refl))
-expected_at t (n ∷ ns) (suc at) lt own = by (n.ticket == t) (expected_at t ns at (omega (arith, lt)) own)
-  where
-    by : (v : Bool) → is_expected t ns ≡ true → (if v then true else is_expected t ns) ≡ true
-    by true e = refl
-    by false e = e
+expected_at t (n ∷ ns) (suc at) lt own = grind (arith, nat_tests, expected_at t ns at (omega (arith, lt)) own)
 
 pub mark_at : (t : ℕ) (ns : List Note) (at : ℕ) (d : Note) → at < length ns → is_expected t (take at ns) ≡ false → ((n : Note) → slice_get ns at ≡ Some n → n.ticket ≡ t) → (slice_index_or ns at d).noticed ≡ is_noticed t ns
-mark_at t [] at d lt none own = absurd (below at lt)
-  where
-    below : (k : ℕ) → k < 0 → ⊥
-    below k lt = omega (arith, lt)
+mark_at t [] at d lt none own = grind (arith, nat_tests)
 mark_at t (n ∷ ns) zero d lt none own = sym (cond-true (n.ticket == t) n.noticed (is_noticed t ns) (eq-eqb n.ticket t (own n refl)))
 mark_at t (n ∷ ns) (suc at) d lt none own = mark_at t ns at d (omega (arith, lt)) (other_rest t n.ticket (is_expected t (take at ns)) none) own ∙ sym (cond-false (n.ticket == t) n.noticed (is_noticed t ns) (other_first t n.ticket (is_expected t (take at ns)) none))
 

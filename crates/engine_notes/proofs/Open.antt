@@ -1,5 +1,6 @@
 -- What is open: a ticket that is expected and isn't noticed.
-use Rattle.std.proofs.Common.{◌≡◌, ℕ, suc, ◌==◌, ◌&&◌, ◌<◌, not, Bool, true, false, if◌then◌else◌, List, [], ◌∷◌, length, take, slice_get, slice_index_or, Some, refl, sym, ◌∙◌, ap}
+use Rattle.std.proofs.Common.{◌≡◌, ℕ, suc, ◌==◌, ◌&&◌, ◌<◌, not, Bool, true, false, if◌then◌else◌, List, [], ◌∷◌, length, take, slice_get, slice_index_or, Some, refl, sym, ◌∙◌, ap, arith}
+use Rattle.std.proofs.lemmas.Bool.Decides.{nat_tests}
 use Rattle.std.proofs.lemmas.Bool.{and_parts, and_from}
 use Rattle.engine_notes.specs.declared.notes.Note.{Note}
 use Rattle.engine_notes.specs.Notes.{is_expected, is_noticed, is_open, none_open, are_expected, are_noticed}
@@ -23,11 +24,7 @@ marked_where_all t (n ∷ ns) all = by (n.ticket == t) (marked_where_all t ns (�
     by false rest = rest
 
 never_both : (b c : Bool) → b ≡ c → not (b && not c) ≡ true
-never_both b true e = one b
-  where
-    one : (b : Bool) → not (b && false) ≡ true
-    one true = refl
-    one false = refl
+never_both b true e = grind (arith, nat_tests)
 never_both b false e = ap (λ d. not (d && true)) e
 
 pub none_open_where_all : (ns : List Note) → ((k : ℕ) (n : Note) → slice_get ns k ≡ Some n → n.noticed ≡ true) → (ts : List ℕ) → none_open ts ns ≡ true
@@ -36,11 +33,7 @@ none_open_where_all ns all (t ∷ ts) = and_from (not (is_open t ns)) (none_open
 
 -- one that is expected is open or noticed
 not_twice : (b c : Bool) → b ≡ true → not (b && not c) ≡ c
-not_twice b c e = ap (λ d. not (d && not c)) e ∙ twice c
-  where
-    twice : (c : Bool) → not (not c) ≡ c
-    twice true = refl
-    twice false = refl
+not_twice b c e = grind (arith, nat_tests)
 
 pub noticed_or_open : (ts : List ℕ) (ns : List Note) → are_expected ts ns ≡ true → none_open ts ns ≡ are_noticed ts ns
 noticed_or_open [] ns e = refl

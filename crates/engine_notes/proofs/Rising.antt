@@ -1,6 +1,7 @@
 -- Notes whose tickets ascend: what a search finds among them, and how they are with a ticket more or less.
 use Rattle.std.proofs.Common.{◌≡◌, ◌≢◌, ⊎_elim, ℕ, zero, suc, ◌+◌, ◌<◌, ◌≤◌, ◌==◌, ◌&&◌, ◌||◌, nat_lt, not, Bool, true, false, if◌then◌else◌, List, [], ◌∷◌, length, take, slice_get, slice_set, slice_index_or, insert, remove, Some, refl, sym, ◌∙◌, ap, subst, arith}
-use Rattle.std.proofs.lemmas.Bool.{cases_eq, eqb-true, eq-eqb, false≢true, ltb-true, ltb-false, lt-ltb, le-ltb, and_parts, and_from, cond-true, cond-false, ne_eqb}
+use Rattle.std.proofs.lemmas.Bool.Decides.{nat_tests}
+use Rattle.std.proofs.lemmas.Bool.{cases_eq, eq-eqb, ltb-true, ltb-false, lt-ltb, le-ltb, and_parts, and_from, cond-true, cond-false, ne_eqb}
 use Rattle.std.proofs.lemmas.Option.{same_Some, none-some, slice_get-get_or}
 use Rattle.std.specs.List.Sorted.{IsPartitionedBy}
 use Rattle.engine_notes.specs.declared.notes.Note.{Note}
@@ -120,149 +121,43 @@ taken_out t (n ∷ ns) (suc at) lt low own =
 
 pub none_out : (t : ℕ) (ns : List Note) → is_expected t ns ≡ false → ns ≡ without_ticket t ns
 none_out t [] out = refl
-none_out t (n ∷ ns) out = by (n.ticket == t) refl (none_out t ns)
-  where
-    by : (v : Bool) → (n.ticket == t) ≡ v → (is_expected t ns ≡ false → ns ≡ without_ticket t ns) → n ∷ ns ≡ without_ticket t (n ∷ ns)
-    by true e rest = absurd (false≢true (sym out ∙ cond-true (n.ticket == t) true (is_expected t ns) e))
-    by false e rest = ap (λ (l : List Note). n ∷ l) (rest (sym (cond-false (n.ticket == t) true (is_expected t ns) e) ∙ out)) ∙ sym (cond-false (n.ticket == t) ns (n ∷ without_ticket t ns) e)
+none_out t (n ∷ ns) out = grind (arith, nat_tests, none_out t ns)
 
 -- The set with a ticket more.
 
 pub above_with : (s t : ℕ) (ns : List Note) → s < t → are_above s ns ≡ true → are_above s (with_ticket t ns) ≡ true
 above_with s t [] lt up = above_cons s (new_note t) [] lt refl
-above_with s t (n ∷ ns) lt up = by (nat_lt n.ticket t) refl (n.ticket == t) refl (above_with n.ticket t ns)
-  where
-    by : (u : Bool) → nat_lt n.ticket t ≡ u → (v : Bool) → (n.ticket == t) ≡ v → (n.ticket < t → are_above n.ticket ns ≡ true → are_above n.ticket (with_ticket t ns) ≡ true) → are_above s (with_ticket t (n ∷ ns)) ≡ true
-    by true e v f more = ap (are_above s) (cond-true (nat_lt n.ticket t) (n ∷ with_ticket t ns) (if n.ticket == t then n ∷ ns else new_note t ∷ n ∷ ns) e)
-        ∙ above_cons s n (with_ticket t ns) (head_above s n ns up) (more (ltb-true n.ticket t e) (rest_above s n ns up))
-    by false e true f more = ap (are_above s) (cond-false (nat_lt n.ticket t) (n ∷ with_ticket t ns) (if n.ticket == t then n ∷ ns else new_note t ∷ n ∷ ns) e ∙ cond-true (n.ticket == t) (n ∷ ns) (new_note t ∷ n ∷ ns) f) ∙ up
-    by false e false f more = ap (are_above s) (cond-false (nat_lt n.ticket t) (n ∷ with_ticket t ns) (if n.ticket == t then n ∷ ns else new_note t ∷ n ∷ ns) e ∙ cond-false (n.ticket == t) (n ∷ ns) (new_note t ∷ n ∷ ns) f)
-        ∙ above_cons s (new_note t) (n ∷ ns) lt (above_cons t n ns (strict n.ticket t (ltb-false n.ticket t e) (λ same. false≢true (sym f ∙ eq-eqb n.ticket t same))) (rest_above s n ns up))
+above_with s t (n ∷ ns) lt up = grind (arith, nat_tests, above_cons, head_above, ltb-true, rest_above, strict, ltb-false, above_with n.ticket t ns)
 
 pub rising_with : (t : ℕ) (ns : List Note) → are_rising ns ≡ true → are_rising (with_ticket t ns) ≡ true
 rising_with t [] up = refl
-rising_with t (n ∷ ns) up = by (nat_lt n.ticket t) refl (n.ticket == t) refl
-  where
-    by : (u : Bool) → nat_lt n.ticket t ≡ u → (v : Bool) → (n.ticket == t) ≡ v → are_rising (with_ticket t (n ∷ ns)) ≡ true
-    by true e v f = ap are_rising (cond-true (nat_lt n.ticket t) (n ∷ with_ticket t ns) (if n.ticket == t then n ∷ ns else new_note t ∷ n ∷ ns) e) ∙ above_with n.ticket t ns (ltb-true n.ticket t e) up
-    by false e true f = ap are_rising (cond-false (nat_lt n.ticket t) (n ∷ with_ticket t ns) (if n.ticket == t then n ∷ ns else new_note t ∷ n ∷ ns) e ∙ cond-true (n.ticket == t) (n ∷ ns) (new_note t ∷ n ∷ ns) f) ∙ up
-    by false e false f = ap are_rising (cond-false (nat_lt n.ticket t) (n ∷ with_ticket t ns) (if n.ticket == t then n ∷ ns else new_note t ∷ n ∷ ns) e ∙ cond-false (n.ticket == t) (n ∷ ns) (new_note t ∷ n ∷ ns) f)
-        ∙ above_cons t n ns (strict n.ticket t (ltb-false n.ticket t e) (λ same. false≢true (sym f ∙ eq-eqb n.ticket t same))) up
+rising_with t (n ∷ ns) up = grind (arith, nat_tests, above_with, ltb-true, above_cons, strict, ltb-false)
 
 pub expected_with : (t u : ℕ) (ns : List Note) → is_expected u (with_ticket t ns) ≡ (t == u || is_expected u ns)
-expected_with t u [] = here (t == u)
-  where
-    here : (v : Bool) → (if v then true else false) ≡ (v || false)
-    here true = refl
-    here false = refl
-expected_with t u (n ∷ ns) = by (nat_lt n.ticket t) refl (n.ticket == t) refl (expected_with t u ns)
-  where
-    shift : (v w x y : Bool) → x ≡ (w || y) → (if v then true else x) ≡ (w || (if v then true else y))
-    shift true true x y e = refl
-    shift true false x y e = refl
-    shift false w x y e = e
-
-    twice : (v w y : Bool) → v ≡ w → (if v then true else y) ≡ (w || (if v then true else y))
-    twice true true y e = refl
-    twice true false y e = absurd (false≢true (sym e))
-    twice false true y e = absurd (false≢true e)
-    twice false false y e = refl
-
-    first : (w y : Bool) → (if w then true else y) ≡ (w || y)
-    first true y = refl
-    first false y = refl
-
-    by : (c : Bool) → nat_lt n.ticket t ≡ c → (v : Bool) → (n.ticket == t) ≡ v → is_expected u (with_ticket t ns) ≡ (t == u || is_expected u ns) → is_expected u (with_ticket t (n ∷ ns)) ≡ (t == u || is_expected u (n ∷ ns))
-    by true e v f more = ap (is_expected u) (cond-true (nat_lt n.ticket t) (n ∷ with_ticket t ns) (if n.ticket == t then n ∷ ns else new_note t ∷ n ∷ ns) e) ∙ shift (n.ticket == u) (t == u) (is_expected u (with_ticket t ns)) (is_expected u ns) more
-    by false e true f more = ap (is_expected u) (cond-false (nat_lt n.ticket t) (n ∷ with_ticket t ns) (if n.ticket == t then n ∷ ns else new_note t ∷ n ∷ ns) e ∙ cond-true (n.ticket == t) (n ∷ ns) (new_note t ∷ n ∷ ns) f)
-        ∙ twice (n.ticket == u) (t == u) (is_expected u ns) (ap (λ k. k == u) (eqb-true n.ticket t f))
-    by false e false f more = ap (is_expected u) (cond-false (nat_lt n.ticket t) (n ∷ with_ticket t ns) (if n.ticket == t then n ∷ ns else new_note t ∷ n ∷ ns) e ∙ cond-false (n.ticket == t) (n ∷ ns) (new_note t ∷ n ∷ ns) f)
-        ∙ first (t == u) (is_expected u (n ∷ ns))
+expected_with t u [] = grind (arith, nat_tests)
+expected_with t u (n ∷ ns) = grind (arith, nat_tests, expected_with t u ns)
 
 pub noticed_with : (t u : ℕ) (ns : List Note) → are_rising ns ≡ true → is_noticed u (with_ticket t ns) ≡ is_noticed u ns
-noticed_with t u [] up = here (t == u)
-  where
-    here : (v : Bool) → (if v then false else false) ≡ false
-    here true = refl
-    here false = refl
-noticed_with t u (n ∷ ns) up = by (nat_lt n.ticket t) refl (n.ticket == t) refl (noticed_with t u ns (rises n.ticket ns up))
-  where
-    none : (w : Bool) → (t == u) ≡ w → is_noticed t (n ∷ ns) ≡ false → (if w then false else is_noticed u (n ∷ ns)) ≡ is_noticed u (n ∷ ns)
-    none true same e = sym (ap (λ k. is_noticed k (n ∷ ns)) (sym (eqb-true t u same)) ∙ e)
-    none false same e = refl
-
-    by : (c : Bool) → nat_lt n.ticket t ≡ c → (v : Bool) → (n.ticket == t) ≡ v → is_noticed u (with_ticket t ns) ≡ is_noticed u ns → is_noticed u (with_ticket t (n ∷ ns)) ≡ is_noticed u (n ∷ ns)
-    by true e v f more = ap (is_noticed u) (cond-true (nat_lt n.ticket t) (n ∷ with_ticket t ns) (if n.ticket == t then n ∷ ns else new_note t ∷ n ∷ ns) e) ∙ ap (λ b. if n.ticket == u then n.noticed else b) more
-    by false e true f more = ap (is_noticed u) (cond-false (nat_lt n.ticket t) (n ∷ with_ticket t ns) (if n.ticket == t then n ∷ ns else new_note t ∷ n ∷ ns) e ∙ cond-true (n.ticket == t) (n ∷ ns) (new_note t ∷ n ∷ ns) f)
-    by false e false f more = ap (is_noticed u) (cond-false (nat_lt n.ticket t) (n ∷ with_ticket t ns) (if n.ticket == t then n ∷ ns else new_note t ∷ n ∷ ns) e ∙ cond-false (n.ticket == t) (n ∷ ns) (new_note t ∷ n ∷ ns) f)
-        ∙ none (t == u) refl (cond-false (n.ticket == t) n.noticed (is_noticed t ns) f ∙ no_mark_above t n.ticket ns (ltb-false n.ticket t e) up)
+noticed_with t u [] up = grind (arith, nat_tests)
+noticed_with t u (n ∷ ns) up = grind (arith, nat_tests, rises, no_mark_above, ltb-false, noticed_with t u ns (rises n.ticket ns up))
 
 -- The set with a ticket less.
 
 pub above_without : (s t : ℕ) (ns : List Note) → are_above s ns ≡ true → are_above s (without_ticket t ns) ≡ true
 above_without s t [] up = refl
-above_without s t (n ∷ ns) up = by (n.ticket == t) refl (above_without n.ticket t ns (rest_above s n ns up))
-  where
-    by : (v : Bool) → (n.ticket == t) ≡ v → are_above n.ticket (without_ticket t ns) ≡ true → are_above s (without_ticket t (n ∷ ns)) ≡ true
-    by true e more = ap (are_above s) (cond-true (n.ticket == t) ns (n ∷ without_ticket t ns) e) ∙ lower s n.ticket ns (omega (arith, head_above s n ns up)) (rest_above s n ns up)
-    by false e more = ap (are_above s) (cond-false (n.ticket == t) ns (n ∷ without_ticket t ns) e) ∙ above_cons s n (without_ticket t ns) (head_above s n ns up) more
+above_without s t (n ∷ ns) up = grind (arith, nat_tests, rest_above, lower, head_above, above_cons, above_without n.ticket t ns (rest_above s n ns up))
 
 pub rising_without : (t : ℕ) (ns : List Note) → are_rising ns ≡ true → are_rising (without_ticket t ns) ≡ true
 rising_without t [] up = refl
-rising_without t (n ∷ ns) up = by (n.ticket == t) refl
-  where
-    by : (v : Bool) → (n.ticket == t) ≡ v → are_rising (without_ticket t (n ∷ ns)) ≡ true
-    by true e = ap are_rising (cond-true (n.ticket == t) ns (n ∷ without_ticket t ns) e) ∙ rises n.ticket ns up
-    by false e = ap are_rising (cond-false (n.ticket == t) ns (n ∷ without_ticket t ns) e) ∙ above_without n.ticket t ns up
+rising_without t (n ∷ ns) up = grind (arith, nat_tests, rises, above_without)
 
 pub expected_without : (t u : ℕ) (ns : List Note) → are_rising ns ≡ true → is_expected u (without_ticket t ns) ≡ (not (t == u) && is_expected u ns)
-expected_without t u [] up = here (t == u)
-  where
-    here : (v : Bool) → false ≡ (not v && false)
-    here true = refl
-    here false = refl
-expected_without t u (n ∷ ns) up = by (n.ticket == t) refl (expected_without t u ns (rises n.ticket ns up))
-  where
-    shift : (v w x y : Bool) → (v ≡ true → w ≡ false) → x ≡ (not w && y) → (if v then true else x) ≡ (not w && (if v then true else y))
-    shift true true x y other e = absurd (false≢true (sym (other refl)))
-    shift true false x y other e = refl
-    shift false w x y other e = e
-
-    apart : (n.ticket == t) ≡ false → (n.ticket == u) ≡ true → (t == u) ≡ false
-    apart f own = ne_eqb t u (λ same. false≢true (sym f ∙ eq-eqb n.ticket t (eqb-true n.ticket u own ∙ sym same)))
-
-    gone : (w : Bool) → (t == u) ≡ w → (n.ticket == t) ≡ true → is_expected u ns ≡ (not w && (if n.ticket == u then true else is_expected u ns))
-    gone true same f = ap (λ k. is_expected k ns) (sym (eqb-true t u same)) ∙ not_above t n.ticket ns (omega (arith, eqb-true n.ticket t f)) up
-    gone false same f = sym (cond-false (n.ticket == u) true (is_expected u ns) (ap (λ k. k == u) (eqb-true n.ticket t f) ∙ same))
-
-    by : (v : Bool) → (n.ticket == t) ≡ v → is_expected u (without_ticket t ns) ≡ (not (t == u) && is_expected u ns) → is_expected u (without_ticket t (n ∷ ns)) ≡ (not (t == u) && is_expected u (n ∷ ns))
-    by true f more = ap (is_expected u) (cond-true (n.ticket == t) ns (n ∷ without_ticket t ns) f) ∙ gone (t == u) refl f
-    by false f more = ap (is_expected u) (cond-false (n.ticket == t) ns (n ∷ without_ticket t ns) f) ∙ shift (n.ticket == u) (t == u) (is_expected u (without_ticket t ns)) (is_expected u ns) (apart f) more
+expected_without t u [] up = grind (arith, nat_tests)
+expected_without t u (n ∷ ns) up = grind (arith, nat_tests, rises, ne_eqb, not_above, expected_without t u ns (rises n.ticket ns up))
 
 pub noticed_without : (t u : ℕ) (ns : List Note) → are_rising ns ≡ true → is_noticed u (without_ticket t ns) ≡ (not (t == u) && is_noticed u ns)
-noticed_without t u [] up = here (t == u)
-  where
-    here : (v : Bool) → false ≡ (not v && false)
-    here true = refl
-    here false = refl
-noticed_without t u (n ∷ ns) up = by (n.ticket == t) refl (noticed_without t u ns (rises n.ticket ns up))
-  where
-    shift : (v w m x y : Bool) → (v ≡ true → w ≡ false) → x ≡ (not w && y) → (if v then m else x) ≡ (not w && (if v then m else y))
-    shift true true m x y other e = absurd (false≢true (sym (other refl)))
-    shift true false true x y other e = refl
-    shift true false false x y other e = refl
-    shift false w m x y other e = e
-
-    apart : (n.ticket == t) ≡ false → (n.ticket == u) ≡ true → (t == u) ≡ false
-    apart f own = ne_eqb t u (λ same. false≢true (sym f ∙ eq-eqb n.ticket t (eqb-true n.ticket u own ∙ sym same)))
-
-    gone : (w : Bool) → (t == u) ≡ w → (n.ticket == t) ≡ true → is_noticed u ns ≡ (not w && (if n.ticket == u then n.noticed else is_noticed u ns))
-    gone true same f = ap (λ k. is_noticed k ns) (sym (eqb-true t u same)) ∙ no_mark_above t n.ticket ns (omega (arith, eqb-true n.ticket t f)) up
-    gone false same f = sym (cond-false (n.ticket == u) n.noticed (is_noticed u ns) (ap (λ k. k == u) (eqb-true n.ticket t f) ∙ same))
-
-    by : (v : Bool) → (n.ticket == t) ≡ v → is_noticed u (without_ticket t ns) ≡ (not (t == u) && is_noticed u ns) → is_noticed u (without_ticket t (n ∷ ns)) ≡ (not (t == u) && is_noticed u (n ∷ ns))
-    by true f more = ap (is_noticed u) (cond-true (n.ticket == t) ns (n ∷ without_ticket t ns) f) ∙ gone (t == u) refl f
-    by false f more = ap (is_noticed u) (cond-false (n.ticket == t) ns (n ∷ without_ticket t ns) f) ∙ shift (n.ticket == u) (t == u) n.noticed (is_noticed u (without_ticket t ns)) (is_noticed u ns) (apart f) more
+noticed_without t u [] up = grind (arith, nat_tests)
+noticed_without t u (n ∷ ns) up = grind (arith, nat_tests, rises, ne_eqb, no_mark_above, noticed_without t u ns (rises n.ticket ns up))
 
 -- The set with a mark.
 

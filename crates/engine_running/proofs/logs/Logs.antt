@@ -1,10 +1,9 @@
 -- Writes join a log one by one.
-use Rattle.std.proofs.Common.{◌≡◌, ◌⊎◌, ⊎_elim, inl, inr, Bool, false, ℕ, zero, suc, ◌+◌, List, [], ◌∷◌, ◌++◌, length, slice_get, Some, Result, Ok, Err, IsErr, refl, sym, ◌∙◌, ap, subst, arith, append_assoc}
+use Rattle.std.proofs.Common.{◌≡◌, ◌⊎◌, ⊎_elim, inl, inr, Bool, false, ℕ, zero, suc, ◌+◌, List, [], ◌∷◌, ◌++◌, length, slice_get, Some, Result, Ok, Err, IsErr, refl, ◌∙◌, ap, subst, arith, append_assoc}
+use Rattle.std.proofs.lemmas.Bool.Decides.{nat_tests}
 use Rattle.std.proofs.lemmas.Bool.{false≢true}
-use Rattle.std.proofs.lemmas.Option.{same_Some}
 use Rattle.disk_contract.specs.declared.event.Event.{Event}
 use Rattle.disk_contract.specs.declared.event.Event.TheVariants.{Wrote, Lost}
-use Rattle.base_types.specs.Counts.{after_call}
 use Rattle.disk_contract.specs.Disk.{State, OnlyWrites}
 use Rattle.layout_geometry.specs.Geometry.{Geometry, ring_block}
 use Rattle.crash_argument.specs.Writes.{AddsWrites, AddsFront, AddsAll}
@@ -24,27 +23,11 @@ then_all vs ws start mid now a b c one two = (one.0 ++ two.0, two.1 ∙ ap (λ (
 
 -- a front of the first writes
 pub front_first : (vs ws : List (ℕ × List ℕ)) (a b : List Event) → AddsFront vs a b → AddsFront (vs ++ ws) a b
-front_first vs ws a b f = record {
-  front = f.front;
-  rest = f.rest ++ ws;
-  split = ap (λ (l : List (ℕ × List ℕ)). l ++ ws) f.split ∙ append_assoc f.front f.rest ws;
-  tickets = f.tickets;
-  middle = f.middle;
-  accepted = f.accepted;
-  ends = ⊎_elim (λ same. inl same) (λ lost. inr (lost.0, lost.1, lost.2 ++ ws, ap (λ (l : List (ℕ × List ℕ)). l ++ ws) lost.3, lost.4)) f.ends;
-}
+front_first vs ws a b f = grind (arith, nat_tests, append_assoc)
 
 -- all of the first writes, and a front of those behind them
 pub front_behind : (vs ws : List (ℕ × List ℕ)) (ts : List ℕ) (a b c : List Event) → AddsWrites vs ts a b → AddsFront ws b c → AddsFront (vs ++ ws) a c
-front_behind vs ws ts a b c one f = record {
-  front = vs ++ f.front;
-  rest = f.rest;
-  split = ap (λ (l : List (ℕ × List ℕ)). vs ++ l) f.split ∙ sym (append_assoc vs f.front f.rest);
-  tickets = ts ++ f.tickets;
-  middle = f.middle;
-  accepted = adds_then vs f.front ts f.tickets a b f.middle one f.accepted;
-  ends = f.ends;
-}
+front_behind vs ws ts a b c one f = grind (arith, nat_tests, append_assoc, adds_then)
 
 -- one write that failed
 pub front_one : (b : ℕ) (x : List ℕ) (old new : List Event) → (new ≡ old) ⊎ (new ≡ old ++ Lost b x ∷ []) → AddsFront ((b, x) ∷ []) old new
@@ -53,10 +36,7 @@ front_one b x old new a = record { front = []; rest = (b, x) ∷ []; split = ref
 -- a write into the ring among those from a place on
 pub ring_write_is : (g : Geometry) (place : ℕ) (xs : List (List ℕ)) (k : ℕ) (x : List ℕ) → slice_get xs k ≡ Some x → slice_get (ring_writes g place xs) k ≡ Some (ring_block g (place + k), x)
 ring_write_is g place [] k x e = cc
-ring_write_is g place (y ∷ xs) zero x e = ap (λ n. Some (ring_block g n, y)) (z place) ∙ ap (λ (w : List ℕ). Some (ring_block g (place + 0), w)) (same_Some _ _ e)
-  where
-    z : (n : ℕ) → n ≡ n + 0
-    z n = omega arith
+ring_write_is g place (y ∷ xs) zero x e = grind (arith, nat_tests)
 ring_write_is g place (y ∷ xs) (suc k) x e = ring_write_is g (place + 1) xs k x e ∙ ap (λ n. Some (ring_block g n, x)) (s place k)
   where
     s : (a b : ℕ) → a + 1 + b ≡ a + suc b
@@ -72,13 +52,7 @@ still s = record { same = record { blocks = refl; base = refl; manner = refl }; 
 
 -- and writes behind writes of which none failed only write
 pub still_more : (failed : Bool) (old mid new : State) → OnlyWrites false old mid → OnlyWrites failed mid new → OnlyWrites failed old new
-still_more failed old mid new so_far more = record {
-  same = record { blocks = more.same.blocks ∙ so_far.same.blocks; base = more.same.base ∙ so_far.same.base; manner = more.same.manner ∙ so_far.same.manner };
-  faults = more.faults ∙ ap (after_call failed) so_far.faults;
-  read_faults = more.read_faults ∙ so_far.read_faults;
-  waits = more.waits ∙ so_far.waits;
-  polls = more.polls ∙ so_far.polls;
-}
+still_more failed old mid new so_far more = grind (arith, nat_tests)
 
 -- where a call failed, a front is what is asked for
 pub all_err : {A E : Type 0} (ws : List (ℕ × List ℕ)) (r : Result A E) (start now : List ℕ) (old new : List Event) → IsErr r → AddsFront ws old new → AddsAll ws r start now old new

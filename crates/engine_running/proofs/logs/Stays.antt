@@ -1,20 +1,17 @@
 -- What is noticed stays so as writes are added.
-use Rattle.std.proofs.Common.{◌≡◌, ℕ, ◌||◌, ◌==◌, Bool, true, false, List, [], ◌∷◌, ◌++◌, refl, sym, subst}
+use Rattle.std.proofs.Common.{ℕ, List, [], ◌∷◌, ◌++◌, sym, subst, arith}
+use Rattle.std.proofs.lemmas.Bool.Decides.{nat_tests}
 use Rattle.std.proofs.lemmas.Bool.{false≢true}
 use Rattle.disk_contract.specs.declared.event.Event.{Event}
 use Rattle.disk_contract.specs.declared.event.Event.TheVariants.{Wrote, Lost, Noticed}
-use Rattle.disk_contract.specs.Cell.{IsNoticed, is_noticed}
+use Rattle.disk_contract.specs.Cell.{IsNoticed}
 use Rattle.crash_argument.specs.Writes.{AddsWrites}
 
 noticed_before : (t : ℕ) (log : List Event) (e : Event) → IsNoticed t log → IsNoticed t (log ++ e ∷ [])
 noticed_before t [] e n = absurd (false≢true n)
 noticed_before t (Wrote u b x ∷ log) e n = noticed_before t log e n
 noticed_before t (Lost b x ∷ log) e n = noticed_before t log e n
-noticed_before t (Noticed u ∷ log) e n = by (u == t) n (noticed_before t log e)
-  where
-    by : (v : Bool) → (v || is_noticed t log) ≡ true → (IsNoticed t log → IsNoticed t (log ++ e ∷ [])) → (v || is_noticed t (log ++ e ∷ [])) ≡ true
-    by true h rest = refl
-    by false h rest = rest h
+noticed_before t (Noticed u ∷ log) e n = grind (arith, nat_tests, noticed_before t log e)
 
 pub notices_stay : (ws : List (ℕ × List ℕ)) (ts : List ℕ) (old new : List Event) (t : ℕ) → AddsWrites ws ts old new → IsNoticed t old → IsNoticed t new
 notices_stay [] [] old new t a n = subst (IsNoticed t) (sym a) n

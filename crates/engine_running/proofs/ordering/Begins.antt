@@ -1,5 +1,6 @@
 -- A transaction that changed nothing is in order.
-use Rattle.std.proofs.Common.{◌≡◌, ℕ, List, [], slice_get, sym, subst, ap, ◌∙◌}
+use Rattle.std.proofs.Common.{◌≡◌, ℕ, List, [], sym, subst, arith}
+use Rattle.std.proofs.lemmas.Bool.Decides.{nat_tests}
 use Rattle.std.proofs.lemmas.Option.{none-some}
 use Rattle.engine_running.specs.declared.put.Put.{Put}
 use Rattle.engine_running.specs.Rows.{IsRising}
@@ -9,11 +10,7 @@ no_puts : (puts : List Put) → puts ≡ [] → IsRising puts
 no_puts puts e = subst IsRising (sym e) (λ i k p q lt is at. absurd (none-some p is))
 
 pub begins_ordered : (paid laid : List Put) → paid ≡ [] → laid ≡ [] → IsOrdered paid laid
-begins_ordered paid laid p l = record {
-  paid = no_puts paid p;
-  laid = no_puts laid l;
-  apart = λ k q is. absurd (none-some q (ap (λ (row : List Put). slice_get row k) (sym l) ∙ is));
-}
+begins_ordered paid laid p l = grind (arith, nat_tests, no_puts)
 
 pub no_numbers : (ns : List ℕ) → ns ≡ [] → IsRisingNumbers ns
 no_numbers ns e = subst (λ (l : List ℕ). IsRisingNumbers l) (sym e) (λ i k m n lt is at. absurd (none-some m is))

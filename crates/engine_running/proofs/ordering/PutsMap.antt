@@ -1,5 +1,6 @@
 -- The rows of a transaction are a map from blocks to the bytes that were put.
-use Rattle.std.proofs.Common.{◌≡◌, ◌<◌, ◌==◌, ℕ, nat_lt, Bool, true, false, if◌then◌else◌, List, [], ◌∷◌, Option, Some, None, refl, sym, ap, ap₂, ◌∙◌, arith}
+use Rattle.std.proofs.Common.{◌≡◌, ◌<◌, ◌==◌, ℕ, Bool, true, false, if◌then◌else◌, List, [], ◌∷◌, Option, Some, None, refl, sym, ap, ap₂, ◌∙◌, arith}
+use Rattle.std.proofs.lemmas.Bool.Decides.{nat_tests}
 use Rattle.std.proofs.lemmas.Bool.{eqb-true, ltb-true, eq-eqb, false≢true, cond-true, cond-false}
 use Rattle.layout_journal.specs.Run.{or_else}
 use Rattle.engine_running.specs.declared.put.Put.{Put}
@@ -27,21 +28,7 @@ same_block a b c e f = ap (λ n. n == c) (sym e) ∙ f
 -- a row with a put has its bytes for its block, and for others what it had
 pub put_with : (p : Put) (row : List Put) (b : ℕ) → put_of b (with_put p row) ≡ (if p.block == b then Some p.bytes else put_of b row)
 put_with p [] b = refl
-put_with p (q ∷ qs) b = by (nat_lt q.block p.block) refl (q.block == p.block) refl (put_with p qs b)
-  where
-    less : (a b c : ℕ) → a < b → (a == c) ≡ true → (b == c) ≡ true → ⊥
-    less a b c lt e f = omega (arith, lt, eqb-true a c e, eqb-true b c f)
-
-    by : (u : Bool) → nat_lt q.block p.block ≡ u → (v : Bool) → (q.block == p.block) ≡ v → put_of b (with_put p qs) ≡ (if p.block == b then Some p.bytes else put_of b qs) → put_of b (with_put p (q ∷ qs)) ≡ (if p.block == b then Some p.bytes else put_of b (q ∷ qs))
-    by true e v f rest =
-        ap (put_of b) (cond-true (nat_lt q.block p.block) (q ∷ with_put p qs) (if q.block == p.block then p ∷ qs else p ∷ q ∷ qs) e)
-        ∙ ap (λ (o : Option (List ℕ)). if q.block == b then Some q.bytes else o) rest
-        ∙ swap_tests (q.block == b) (p.block == b) (Some q.bytes) (Some p.bytes) (put_of b qs) (less q.block p.block b (ltb-true _ _ e))
-    by false e true f rest =
-        ap (put_of b) (cond-false (nat_lt q.block p.block) (q ∷ with_put p qs) (if q.block == p.block then p ∷ qs else p ∷ q ∷ qs) e ∙ cond-true (q.block == p.block) (p ∷ qs) (p ∷ q ∷ qs) f)
-        ∙ drop_test (p.block == b) (q.block == b) (Some p.bytes) (Some q.bytes) (put_of b qs) (same_block q.block p.block b (eqb-true q.block p.block f))
-    by false e false f rest =
-        ap (put_of b) (cond-false (nat_lt q.block p.block) (q ∷ with_put p qs) (if q.block == p.block then p ∷ qs else p ∷ q ∷ qs) e ∙ cond-false (q.block == p.block) (p ∷ qs) (p ∷ q ∷ qs) f)
+put_with p (q ∷ qs) b = grind (arith, nat_tests, swap_tests, ltb-true, drop_test, same_block, put_with p qs b)
 
 -- a row without a block has no bytes for it, and for others what it had
 pub put_without : (c : ℕ) (row : List Put) (b : ℕ) → IsRising row → put_of b (without_put c row) ≡ (if c == b then None else put_of b row)

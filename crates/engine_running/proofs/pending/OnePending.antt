@@ -1,5 +1,6 @@
 -- A record's writes go to idle blocks, each to another one: so no block has two writes pending after them.
 use Rattle.std.proofs.Common.{◌≡◌, ◌≢◌, ◌⊎◌, inl, inr, ⊎_elim, ℕ, zero, suc, ◌+◌, ◌-◌, ◌%◌, ◌<◌, ◌≤◌, ◌==◌, Bool, true, false, List, [], ◌∷◌, ◌++◌, length, map, slice_get, Some, refl, sym, ◌∙◌, ap, subst, arith, option_map}
+use Rattle.std.proofs.lemmas.Bool.Decides.{nat_tests}
 use Rattle.std.proofs.lemmas.Bool.{eqb-true, false≢true, cond-false}
 use Rattle.std.proofs.lemmas.Nat.{mod_below}
 use Rattle.std.proofs.lemmas.List.{length-map}
@@ -30,10 +31,7 @@ after_all-append b c (x ∷ xs) ys = after_all-append b (after b c x) xs ys
 
 -- a write to another block leaves a cell
 other_wrote : (base : Blocks) (log : List Event) (t a b : ℕ) (x : List ℕ) → a ≢ b → cell_of base (log ++ Wrote t a x ∷ []) b ≡ cell_of base log b
-other_wrote base log t a b x apart = after_all-append b _ log _ ∙ cond-false (a == b) _ _ (neq a b apart)
-  where
-    neq : (m n : ℕ) → m ≢ n → (m == n) ≡ false
-    neq m n d = grind arith
+other_wrote base log t a b x apart = grind (arith, nat_tests, after_all-append)
 
 -- the blocks of some writes, the last one first, before others
 abbrev pub under : List (ℕ × List ℕ) → List ℕ → List ℕ
@@ -78,10 +76,7 @@ either (x ∷ xs) ys (suc k) z is = ⊎_elim (λ l. inl (omega (arith, l.0), l.1
 module _ (g : Geometry) (epoch number place : ℕ) (paid laid : List Put) where
   ring_at : (at : ℕ) (xs : List (List ℕ)) (i : ℕ) (w : ℕ × List ℕ) → slice_get (ring_writes g at xs) i ≡ Some w → (i < length xs) × (w.0 ≡ ring_block g (at + i))
   ring_at at [] i w is = cc
-  ring_at at (x ∷ xs) zero w is = (omega arith, sym (ap (λ (v : ℕ × List ℕ). v.0) (same_Some _ _ is)) ∙ ap (ring_block g) (z at))
-    where
-      z : (n : ℕ) → n ≡ n + 0
-      z n = omega arith
+  ring_at at (x ∷ xs) zero w is = grind (arith, nat_tests)
   ring_at at (x ∷ xs) (suc i) w is = let r = ring_at (at + 1) xs i w is in (omega (arith, r.0), r.1 ∙ ap (ring_block g) (s at i))
     where
       s : (a b : ℕ) → a + 1 + b ≡ a + suc b
@@ -199,10 +194,7 @@ get_first (y ∷ xs) ys zero x e = e
 get_first (y ∷ xs) ys (suc k) x e = get_first xs ys k x e
 
 get_second : {A : Type 0} (xs ys : List A) (k : ℕ) → slice_get (xs ++ ys) (length xs + k) ≡ slice_get ys k
-get_second [] ys k = ap (slice_get ys) (z k)
-  where
-    z : (k : ℕ) → 0 + k ≡ k
-    z k = omega arith
+get_second [] ys k = grind (arith, nat_tests)
 get_second (x ∷ xs) ys k = ap (slice_get (x ∷ (xs ++ ys))) (s (length xs) k) ∙ get_second xs ys k
   where
     s : (n k : ℕ) → suc n + k ≡ suc (n + k)

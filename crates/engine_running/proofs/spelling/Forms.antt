@@ -1,5 +1,6 @@
 -- Facts of lists that are gone through by an index.
 use Rattle.std.proofs.Common.{◌≡◌, ℕ, zero, suc, ◌+◌, ◌<◌, ◌≤◌, List, [], ◌∷◌, ◌++◌, length, take, drop, map, slice_get, slice_index_or, Some, refl, ◌∙◌, ap, sym, arith}
+use Rattle.std.proofs.lemmas.Bool.Decides.{nat_tests}
 use Rattle.std.proofs.lemmas.Option.{same_Some}
 
 -- what is at an index within a list
@@ -21,10 +22,7 @@ index_map f (y ∷ xs) (suc k) x e = index_map f xs k x e
 
 -- a list behind another
 pub index_behind : (xs ys : List (List ℕ)) (k : ℕ) → slice_index_or (xs ++ ys) (length xs + k) [] ≡ slice_index_or ys k []
-index_behind [] ys k = ap (λ n. slice_index_or ys n []) (z k)
-  where
-    z : (k : ℕ) → 0 + k ≡ k
-    z k = omega arith
+index_behind [] ys k = grind (arith, nat_tests)
 index_behind (x ∷ xs) ys k = ap (λ n. slice_index_or (x ∷ (xs ++ ys)) n []) (s (length xs) k) ∙ index_behind xs ys k
   where
     s : (n k : ℕ) → suc n + k ≡ suc (n + k)
@@ -50,10 +48,7 @@ take_push xs k n x e = push (drop k xs) n x e
 
 -- an element behind a front
 pub get_drop : {A : Type 0} (n : ℕ) (xs : List A) (k : ℕ) → slice_get (drop n xs) k ≡ slice_get xs (n + k)
-get_drop zero xs k = ap (slice_get xs) (z k)
-  where
-    z : (k : ℕ) → k ≡ 0 + k
-    z k = omega arith
+get_drop zero xs k = grind (arith, nat_tests)
 get_drop (suc n) [] k = refl
 get_drop (suc n) (x ∷ xs) k = get_drop n xs k ∙ ap (slice_get (x ∷ xs)) (s n k)
   where

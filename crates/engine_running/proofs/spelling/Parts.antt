@@ -1,5 +1,6 @@
 -- The blocks of a record, from its puts.
-use Rattle.std.proofs.Common.{◌≡◌, ◌⊎◌, ⊎_elim, inl, inr, ℕ, suc, ◌+◌, ◌<◌, ◌≤◌, List, [], ◌∷◌, ◌++◌, length, map, slice_get, Some, Result, Ok, Err, IsErr, refl, sym, ◌∙◌, ap, arith, option_map}
+use Rattle.std.proofs.Common.{◌≡◌, ◌⊎◌, ⊎_elim, inl, inr, ℕ, suc, ◌+◌, ◌<◌, List, [], ◌∷◌, ◌++◌, length, map, slice_get, Some, Result, Ok, Err, IsErr, refl, sym, ◌∙◌, ap, arith, option_map}
+use Rattle.std.proofs.lemmas.Bool.Decides.{nat_tests}
 use Rattle.std.proofs.lemmas.Bool.{false≢true}
 use Rattle.std.proofs.lemmas.List.{length-map}
 use Rattle.std.proofs.lemmas.Option.{slice_get-map}
@@ -11,8 +12,8 @@ use Rattle.layout_journal.specs.declared.record.Commit.{Commit}
 use Rattle.layout_journal.specs.Layout.{descriptor_count}
 use Rattle.layout_journal.specs.Spelling.{commit_block}
 use Rattle.layout_journal.specs.Run.{entries, heads, places, commit_says}
-use Rattle.crash_argument.specs.Ledger.{Ledger, WrittenRecord, block_at, next_number}
-use Rattle.crash_argument.specs.Steps.{NoneIsBeingWritten, IsBeingWritten, with_record}
+use Rattle.crash_argument.specs.Ledger.{Ledger, WrittenRecord, block_at}
+use Rattle.crash_argument.specs.Steps.{NoneIsBeingWritten, with_record}
 use Rattle.crash_argument.specs.Points.{MountedSession, IsSafe}
 use Rattle.crash_argument.specs.PipelineData.{PipelineData, DataAgree}
 use Rattle.crash_argument.specs.Recording.{IsPartlyWritten}
@@ -25,13 +26,7 @@ use Rattle.engine_running.proofs.spelling.Spelled.{ring_descriptor, ring_payload
 
 -- between records nothing of the next one is issued
 pub nothing_issued : (base : Blocks) (log : List Event) (l : Ledger) (p : PipelineData) (w : WrittenRecord) (tickets : List ℕ) → NoneIsBeingWritten (cell_of base log) l → DataAgree base log l p → IsPartlyWritten base log l p w tickets 0 1
-nothing_issued base log l p w tickets idle known = record { knows = known; fresh = λ i e lt. absurd (omega arith); ring = λ i some lt. absurd (omega arith); writing = writing }
-  where
-    high : (n : ℕ) → n < next_number l → next_number l ≤ n → ⊥
-    high n lt le = omega arith
-
-    writing : IsBeingWritten (cell_of base log) l w
-    writing = record { each = λ place x d st is e from. absurd (high d.number (idle.each place x d st is e) from) }
+nothing_issued base log l p w tickets idle known = grind (arith, nat_tests)
 
 module _ (epoch number place : ℕ) (paid laid : List Put) where
   pub are_laid : AreLaid laid (written_of epoch number place paid laid)

@@ -1,17 +1,17 @@
 -- A transaction's record is spelled by its blocks.
-use Rattle.std.proofs.Common.{◌≡◌, ℕ, zero, suc, ◌+◌, ◌*◌, ◌/◌, ◌<◌, ◌≤◌, ◌==◌, Bool, true, false, IsTrue, if◌then◌else◌, List, [], ◌∷◌, ◌++◌, length, take, drop, map, slice_get, slice_index_or, Some, None, refl, sym, ◌∙◌, ap, subst, arith, length-append, length-drop}
+use Rattle.std.proofs.Common.{◌≡◌, ℕ, zero, suc, ◌+◌, ◌*◌, ◌/◌, ◌<◌, ◌≤◌, ◌==◌, Bool, true, false, IsTrue, List, [], ◌∷◌, ◌++◌, length, take, drop, map, slice_get, slice_index_or, Some, None, refl, sym, ◌∙◌, ap, subst, arith, length-append, length-drop}
+use Rattle.std.proofs.lemmas.Bool.Decides.{nat_tests}
 use Rattle.std.proofs.lemmas.List.{length-map, length-take}
 use Rattle.std.proofs.lemmas.Bool.{eqb-true, cond-true, cond-false}
-use Rattle.std.proofs.lemmas.Option.{same_Some, none-some}
+use Rattle.std.proofs.lemmas.Option.{same_Some}
 use Rattle.sha2.proofs.Facts256.{length-sha256}
 use Rattle.base_types.specs.Seal.{Blocks, sha256}
 use Rattle.layout_geometry.specs.Geometry.{Geometry, bitmap_start, data_start}
 use Rattle.layout_journal.specs.declared.record.Commit.{Commit}
 use Rattle.layout_journal.specs.declared.record.Descriptor.{Descriptor}
 use Rattle.layout_journal.specs.declared.entry.Entry.{Entry}
-use Rattle.layout_journal.specs.declared.entry.EntryKind.TheVariants.{Payload, Escaped}
 use Rattle.layout_journal.specs.Layout.{unescaped, is_stored, descriptor_count, commit_of, descriptor_of, first_named}
-use Rattle.layout_journal.specs.Spelling.{begins_tag, stored_of, stored_kind, fits_in, commit_block, descriptor_block, IsEntry, AreEntries}
+use Rattle.layout_journal.specs.Spelling.{stored_of, stored_kind, fits_in, commit_block, descriptor_block, IsEntry, AreEntries}
 use Rattle.layout_journal.specs.Run.{Record, Fits, entries_fit, entries, heads, places, names_block, is_live, commit_says, descriptor_says}
 use Rattle.crash_argument.specs.Ledger.{Ledger, IsSpelled, block_at, payload_among}
 use Rattle.crash_argument.specs.LastWrites.{IsDead}
@@ -30,10 +30,7 @@ length_descriptors epoch r i (suc more) = omega (arith, length_descriptors epoch
 
 descriptor_there : (epoch : ℕ) (r : Record) (i more k : ℕ) → k < more → slice_index_or (descriptors_from epoch r i more) k [] ≡ descriptor_block (descriptor_says epoch r (i + k))
 descriptor_there epoch r i zero k lt = absurd (omega arith)
-descriptor_there epoch r i (suc more) zero lt = ap (λ n. descriptor_block (descriptor_says epoch r n)) (z i)
-  where
-    z : (i : ℕ) → i ≡ i + 0
-    z i = omega arith
+descriptor_there epoch r i (suc more) zero lt = grind (arith, nat_tests)
 descriptor_there epoch r i (suc more) (suc k) lt = descriptor_there epoch r (i + 1) more k (omega arith) ∙ ap (λ n. descriptor_block (descriptor_says epoch r n)) (s i k)
   where
     s : (i k : ℕ) → i + 1 + k ≡ i + suc k
@@ -43,10 +40,7 @@ pub length_descriptor_blocks : (epoch : ℕ) (r : Record) → length (descriptor
 length_descriptor_blocks epoch r = length_descriptors epoch r 0 (descriptor_count (length (entries r)))
 
 pub descriptor_block_at : (epoch : ℕ) (r : Record) (i : ℕ) → i < descriptor_count (length (entries r)) → slice_index_or (descriptor_blocks epoch r) i [] ≡ descriptor_block (descriptor_says epoch r i)
-descriptor_block_at epoch r i lt = descriptor_there epoch r 0 (descriptor_count (length (entries r))) i lt ∙ ap (λ n. descriptor_block (descriptor_says epoch r n)) (z i)
-  where
-    z : (i : ℕ) → 0 + i ≡ i
-    z i = omega arith
+descriptor_block_at epoch r i lt = grind (arith, nat_tests, descriptor_there)
 
 pub descriptor_block_is : (epoch : ℕ) (r : Record) (i : ℕ) → i < descriptor_count (length (entries r)) → slice_get (descriptor_blocks epoch r) i ≡ Some (descriptor_block (descriptor_says epoch r i))
 descriptor_block_is epoch r i lt = get_is (descriptor_blocks epoch r) i [] (omega (arith, lt, length_descriptor_blocks epoch r)) ∙ ap Some (descriptor_block_at epoch r i lt)
@@ -62,19 +56,7 @@ same_descriptors epoch number a b paid laid = same_from epoch number a b paid la
 -- where the blocks of a record are in it
 pub ring_descriptor : (epoch number place : ℕ) (paid laid : List Put) (i : ℕ) → i < descriptor_count (length (entries (record_of number place paid laid)))
     → block_at (written_of epoch number place paid laid).ring (1 + i) ≡ descriptor_block (descriptor_says epoch (record_of number place paid laid) i)
-ring_descriptor epoch number place paid laid i lt =
-    ap (λ n. slice_index_or (commit_block (commit_says epoch r) ∷ (descriptor_blocks epoch r ++ map stored_put paid)) n []) (index i)
-    ∙ index_front (descriptor_blocks epoch r) (map stored_put paid) i (omega (arith, lt, length_descriptor_blocks epoch r))
-    ∙ descriptor_there epoch r 0 (descriptor_count (length (entries r))) i lt ∙ ap (λ n. descriptor_block (descriptor_says epoch r n)) (z i)
-  where
-    r : Record
-    r = record_of number place paid laid
-
-    index : (i : ℕ) → 1 + i ≡ suc i
-    index i = omega arith
-
-    z : (i : ℕ) → 0 + i ≡ i
-    z i = omega arith
+ring_descriptor epoch number place paid laid i lt = grind (arith, nat_tests, index_front, length_descriptor_blocks, descriptor_there)
 
 pub ring_payload : (epoch number place : ℕ) (paid laid : List Put) (k : ℕ) (p : Put) → slice_get paid k ≡ Some p
     → block_at (written_of epoch number place paid laid).ring (heads (record_of number place paid laid) + k) ≡ stored_of p.bytes
@@ -105,11 +87,7 @@ get_either P (z ∷ xs) ys one two zero x e = one 0 x e
 get_either P (z ∷ xs) ys one two (suc k) x e = get_either P xs ys (λ i y is. one (suc i) y is) two k x e
 
 kind_low : (g : Geometry) (x : List ℕ) (b : ℕ) → bitmap_start g ≤ b → first_named g (stored_kind x) ≤ b
-kind_low g x b le = by (begins_tag x)
-  where
-    by : (v : Bool) → first_named g (if v then Escaped else Payload) ≤ b
-    by true = le
-    by false = le
+kind_low g x b le = grind (arith, nat_tests)
 
 -- a payload of the record is that of a put
 payload_is : ((x : List ℕ) → unescaped (stored_kind x) (stored_of x) ≡ x) → (ring : List (List ℕ)) (es : List Put) (i b : ℕ) (y : List ℕ) → ((k : ℕ) (p : Put) → slice_get es k ≡ Some p → block_at ring (i + k) ≡ stored_of p.bytes) → payload_among ring i (map payload_entry es) b ≡ Some y
@@ -134,11 +112,7 @@ payload_is reads ring (p ∷ es) i b y at is = by (p.block == b) refl (payload_i
 
 payload_none : (ring : List (List ℕ)) (es : List Put) (i b : ℕ) → payload_among ring i (map payload_entry es) b ≡ None → names_block (map payload_entry es) b ≡ false
 payload_none ring [] i b is = refl
-payload_none ring (p ∷ es) i b is = by (p.block == b) refl (payload_none ring es (i + 1) b)
-  where
-    by : (v : Bool) → (p.block == b) ≡ v → (payload_among ring (i + 1) (map payload_entry es) b ≡ None → names_block (map payload_entry es) b ≡ false) → names_block (map payload_entry (p ∷ es)) b ≡ false
-    by true own rest = absurd (none-some _ (sym (sym (cond-true (p.block == b) (Some (unescaped (stored_kind p.bytes) (block_at ring i))) (payload_among ring (i + 1) (map payload_entry es) b) own) ∙ is)))
-    by false other rest = cond-false (p.block == b) true (names_block (map payload_entry es) b) other ∙ rest (sym (cond-false (p.block == b) (Some (unescaped (stored_kind p.bytes) (block_at ring i))) (payload_among ring (i + 1) (map payload_entry es) b) other) ∙ is)
+payload_none ring (p ∷ es) i b is = grind (arith, nat_tests, payload_none ring es (i + 1) b)
 
 -- what the journal's laws say of its blocks: payloads, commit blocks and descriptors read back, and entries that fit keep to the disk
 module _ (reads : (x : List ℕ) → unescaped (stored_kind x) (stored_of x) ≡ x) (stored : (x : List ℕ) → is_stored (stored_kind x) (stored_of x) ≡ true)

@@ -1,17 +1,13 @@
 -- Each turn settles one record more.
-use Rattle.std.proofs.Common.{rules, ◌≡◌, ◌∙◌, length, sym, ap, subst, arith}
+use Rattle.std.proofs.Common.{◌∙◌, sym, ap, subst, arith}
+use Rattle.std.proofs.lemmas.Bool.Decides.{nat_tests}
 use Rattle.engine_checkpoint.specs.declared.pipeline.Pipeline.{Pipeline}
 use Rattle.engine_checkpoint.specs.Steps.{SettlesSome, is_first_settled}
 use Rattle.engine_checkpoint.proofs.Settled.{settles_none, settles_more, turned_same, agrees_more, agrees_as, settled_first, stayed, none_left}
 use Rattle.engine_checkpoint.proofs.advance.settle_all.Goals as goal
 
 pub loop-turn-init : goal.loop-turn-init
-loop-turn-init c = record {
-  settles = settles_none c.args.pipeline.now;
-  order = c.requires.order;
-  room = c.requires.room;
-  agrees = λ s base log l t floor ring waiting taken safe a. record { now = l; turned = turned_same l; safe = safe; agrees = a };
-}
+loop-turn-init c = grind (arith, nat_tests, settles_none, turned_same)
 
 pub loop-turn-preserved : goal.loop-turn-preserved
 loop-turn-preserved c = record {
@@ -31,6 +27,4 @@ pub returns-then-not-settle_first-clause-due : goal.returns-then-not-settle_firs
 returns-then-not-settle_first-clause-due c = ap (λ (p : Pipeline). is_first_settled p.committed.items p.notes.notes) (stayed c.settle_first.result c.loop-turn.pipeline c.settle_first.new.pipeline c.if-not-settle_first.true c.settle_first.ensures.settles) ∙ sym c.settle_first.ensures.exact ∙ c.if-not-settle_first.true
 
 pub returns-clause-due : goal.returns-clause-due
-returns-clause-due c =
-    let all : c.len-turn-end.result ≡ length c.args.pipeline.now.committed.items = search rules in
-    none_left c.loop-turn.pipeline.committed.items c.args.pipeline.now.committed.items c.loop-turn.turn c.loop-turn.pipeline.notes.notes c.loop-turn.invariant.settles.committed (omega (arith, c.loop-turn-test.false, all))
+returns-clause-due c = grind (arith, nat_tests, none_left)

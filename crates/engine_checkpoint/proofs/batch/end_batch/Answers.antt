@@ -1,17 +1,8 @@
 -- The batch is placed, and its tickets leave the notes.
-use Rattle.std.proofs.Common.{◌≡◌, ◌++◌, ◌≤◌, ◌<◌, ◌-◌, ◌&&◌, true, List, [], None, length, take, map, slice_get, Some, if◌then◌else◌, refl, sym, ◌∙◌, ap, subst, arith}
+use Rattle.std.proofs.Common.{arith, ◌≡◌, ◌++◌, ◌≤◌, true, List, [], take, map, slice_get, sym, ◌∙◌, ap}
+use Rattle.std.proofs.lemmas.Bool.Decides.{nat_tests}
 use Rattle.std.proofs.lemmas.Option.{slice_get_read}
-use Rattle.std.proofs.lemmas.Bool.{lt-ltb, cond-true}
-use Rattle.crash_argument.specs.PipelineData.{IsHomeNoticed, with_placed}
-use Rattle.engine_notes.specs.Notes.{none_open}
-use Rattle.engine_running.specs.States.{Forgets}
-use Rattle.layout_geometry.specs.Geometry.{Geometry}
-use Rattle.engine_checkpoint.specs.declared.pipeline.HomeWrite.{HomeWrite}
 use Rattle.engine_checkpoint.specs.declared.pipeline.Pipeline.{Pipeline}
-use Rattle.engine_checkpoint.specs.Agree.{data_of, home_pair, home_ticket}
-use Rattle.engine_checkpoint.specs.Kept.{Kept, of_sure, of_durable, of_committed, kept}
-use Rattle.engine_checkpoint.specs.Newest.{spot_of, is_upto}
-use Rattle.engine_checkpoint.specs.Batch.{have_payload}
 use Rattle.engine_checkpoint.specs.Turns.{EndsBatch, last_of_batch}
 use Rattle.engine_checkpoint.proofs.Homes.{home_noticed, agrees_at_home}
 use Rattle.engine_checkpoint.proofs.BatchEnds.{take_front, few_in_batch, order_ended, room_ended, owed_ended}
@@ -19,6 +10,14 @@ use Rattle.engine_checkpoint.proofs.Numbers.{sure_number}
 use Rattle.engine_checkpoint.proofs.Index.{kept_ended}
 use Rattle.engine_checkpoint.proofs.Payloads.{index_placed_by}
 use Rattle.engine_checkpoint.proofs.Placing.{have_at}
+use Rattle.std.proofs.lemmas.Bool.{lt-ltb, cond-true}
+use Rattle.crash_argument.specs.PipelineData.{IsHomeNoticed, with_placed}
+use Rattle.engine_notes.specs.Notes.{none_open}
+use Rattle.layout_geometry.specs.Geometry.{Geometry}
+use Rattle.engine_checkpoint.specs.declared.pipeline.HomeWrite.{HomeWrite}
+use Rattle.engine_checkpoint.specs.Agree.{data_of, home_pair, home_ticket}
+use Rattle.engine_checkpoint.specs.Kept.{Kept, of_sure, of_durable, of_committed, kept}
+use Rattle.engine_checkpoint.specs.Batch.{have_payload}
 use Rattle.engine_checkpoint.proofs.batch.end_batch.Goals as goal
 
 pub place_first-pipeline-requires-clause-few : goal.place_first-pipeline-requires-clause-few
@@ -37,21 +36,7 @@ then_is c = record c.args.pipeline.now {
 }
 
 ends : (c : goal.After-clear) → EndsBatch c.args.pipeline.now (then_is c)
-ends c =
-    let v = c.args.pipeline.now in
-    let s = c.index.result.now in
-    let within : v.batch - 1 < length v.sure.items = omega (arith, c.requires.order.batch, c.if-pipeline-eq0.false) in
-    let is : slice_get v.sure.items (v.batch - 1) ≡ Some s = slice_get_read v.sure.items (length v.sure.items) (v.batch - 1) s refl within c.index.ensures in
-    let last : s.number ≡ last_of_batch v = omega (arith, sure_number v c.requires.order (v.batch - 1) s is, c.if-pipeline-eq0.false) in
-    record {
-      placed = c.place_first-pipeline.ensures.placed;
-      sure = c.place_first-pipeline.ensures.rest;
-      home = c.clear.ensures.items;
-      unplaced = c.place_first-pipeline.ensures.left;
-      forgets = subst (λ (hs : List HomeWrite). Forgets (map home_ticket hs) v.notes c.forget_all.new.notes) c.as_slice-2.ensures.value c.forget_all.ensures;
-      newest = λ b. c.place_first-pipeline.ensures.newest b ∙ ap (λ n. if have_payload b (map of_sure (take v.batch v.sure.items)) && is_upto n (spot_of v.newest b) then None else spot_of v.newest b) last;
-      rest = refl;
-    }
+ends c = grind (arith, nat_tests, slice_get_read, sure_number)
 
 pub returns-clause-ends : goal.returns-clause-ends
 returns-clause-ends c = ends c

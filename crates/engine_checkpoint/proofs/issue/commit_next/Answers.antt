@@ -1,10 +1,10 @@
 -- The record is in the ledger, and its transaction is the last one of the committed.
-use Rattle.std.proofs.Common.{◌≡◌, ℕ, ◌+◌, ◌++◌, List, [], length, map, ap, refl, sym, ◌∙◌, subst, arith}
+use Rattle.std.proofs.Common.{◌≡◌, ℕ, ◌++◌, List, [], length, ap, sym, ◌∙◌, subst, arith, refl}
+use Rattle.std.proofs.lemmas.Bool.Decides.{nat_tests}
 use Rattle.std.proofs.lemmas.List.{length-map}
 use Rattle.base_types.specs.Seal.{Blocks}
 use Rattle.layout_journal.specs.Ring.{RingPlaces, with_places}
-use Rattle.layout_geometry.specs.Geometry.{Geometry}
-use Rattle.layout_journal.specs.Run.{heads, places}
+use Rattle.layout_journal.specs.Run.{places}
 use Rattle.crash_argument.specs.Ledger.{next_number}
 use Rattle.crash_argument.specs.OnePending.{HasOnePending}
 use Rattle.crash_argument.specs.PipelineData.{with_committed, pairs_of}
@@ -12,7 +12,7 @@ use Rattle.crash_argument.specs.Recording.{IsInLedger}
 use Rattle.crash_argument.specs.Steps.{with_record}
 use Rattle.crash_argument.specs.Points.{IsSafe}
 use Rattle.engine_running.specs.declared.put.Put.{Put}
-use Rattle.engine_running.specs.Record.{AreBelow, payload_entry, record_of, written_of}
+use Rattle.engine_running.specs.Record.{record_of, written_of}
 use Rattle.engine_running.specs.Commits.{IsCommitOf, AreNotOnTheirWay, places_for}
 use Rattle.engine_checkpoint.specs.declared.pipeline.Pipeline.{Pipeline}
 use Rattle.engine_checkpoint.specs.Agree.{PipelineAgrees, HasFreed, data_of}
@@ -21,25 +21,7 @@ use Rattle.engine_checkpoint.proofs.HomeSent.{sent_committed}
 use Rattle.engine_checkpoint.proofs.issue.commit_next.Goals as goal
 
 pub accept-requires : goal.accept-requires
-accept-requires g c =
-    let q = c.args.running in
-    let tx = c.in-Ok.committed in
-    let v = c.args.pipeline.now in
-    let made = c.in-Ok.ensures.made in
-    let has = c.requires.commit.has in
-    let count : tx.count ≡ heads (record_of 0 0 q.paid q.laid) + length (map payload_entry q.paid) = made.count in
-    let tickets : length tx.tickets.items ≡ length q.laid + places_for q = made.tickets in
-    let payloads = ap (λ (ps : List Put). length ps) made.payloads in
-    record {
-      order = c.requires.order;
-      room = c.requires.room;
-      index = c.requires.index;
-      ready = record { records = c.requires.ready.records; writes = omega (arith, tickets, c.requires.ready.writes); payloads = omega (arith, payloads, c.requires.ready.payloads) };
-      next = made.number ∙ c.requires.next;
-      places = omega (arith, count, length-map q.paid payload_entry, has.free, c.requires.taken, ap (λ (k : Geometry). k.j) c.requires.ring_geom);
-      has = omega (arith, count, payloads, length-map q.paid payload_entry);
-      below = subst (λ (ps : List Put). AreBelow v.geom.n ps) (sym made.payloads) (subst (λ n. AreBelow n q.paid) (has.on_disk ∙ ap (λ (k : Geometry). k.n) c.requires.ring_geom) c.requires.paid_below);
-    }
+accept-requires g c = grind (arith, nat_tests, length-map)
 
 pub returns : goal.returns
 returns g c =

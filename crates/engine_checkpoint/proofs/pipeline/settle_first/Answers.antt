@@ -1,5 +1,9 @@
 -- The oldest committed transaction is settled: its record is known, and it is the last durable one.
-use Rattle.std.proofs.Common.{◌≡◌, ◌≤◌, ◌+◌, ◌++◌, ◌∷◌, [], List, ◌<◌, length, length-append, deque_len, deque_capacity, option_to_list, slice_get, true, ap, ◌∙◌, refl, sym, subst, arith, IfOk, OnOk}
+use Rattle.std.proofs.Common.{length, length-append, deque_len, deque_capacity, option_to_list, ap, arith, ◌≡◌, ◌≤◌, ◌+◌, ◌++◌, ◌∷◌, [], List, ◌<◌, slice_get, true, ◌∙◌, refl, sym, subst, IfOk, OnOk}
+use Rattle.std.proofs.lemmas.Bool.Decides.{nat_tests}
+use Rattle.engine_checkpoint.proofs.Dropped.{room_of_header}
+use Rattle.engine_checkpoint.proofs.Orders.{kept_settled, order_settled, room_settled}
+use Rattle.engine_checkpoint.proofs.Durables.{newly, agrees_durable}
 use Rattle.std.specs.Result.{is_ok}
 use Rattle.crash_argument.specs.Ledger.{next_number}
 use Rattle.crash_argument.specs.Steps.{with_known}
@@ -7,13 +11,9 @@ use Rattle.engine_notes.specs.Notes.{are_noticed}
 use Rattle.engine_running.specs.declared.commit.Committed.{Committed}
 use Rattle.engine_running.specs.States.{IsDurableOf, Forgets}
 use Rattle.engine_checkpoint.specs.Agree.{data_of}
-use Rattle.engine_checkpoint.specs.Steps.{is_first_settled}
 use Rattle.std.proofs.lemmas.Bool.{and_parts, cond-true}
 use Rattle.engine_running.specs.declared.states.Durable.{Durable}
 use Rattle.engine_checkpoint.specs.declared.pipeline.Pipeline.{Pipeline}
-use Rattle.engine_checkpoint.proofs.Dropped.{room_of_header}
-use Rattle.engine_checkpoint.proofs.Orders.{kept_settled, order_settled, room_settled}
-use Rattle.engine_checkpoint.proofs.Durables.{newly, agrees_durable}
 use Rattle.engine_checkpoint.proofs.pipeline.settle_first.Goals as goal
 
 pub returns-clause-agrees : goal.returns-clause-agrees
@@ -56,12 +56,7 @@ returns-clause-settles c =
     }
 
 pub returns-clause-exact : goal.returns-clause-exact
-returns-clause-exact c =
-    let v = c.args.pipeline.now in
-    let tx = c.unwrap-first.result in
-    let cs = c.pop_front.new.self in
-    let first : v.committed.items ≡ tx ∷ cs.items = c.pop_front.ensures.items ∙ ap (λ o. option_to_list o ++ cs.items) c.unwrap-first.ensures in
-    sym (ap (λ (xs : List Committed). is_first_settled xs v.notes.notes) first ∙ sym c.settled_for_good.ensures.exact ∙ ap is_ok c.unwrap-durable.ensures)
+returns-clause-exact c = grind (arith, nat_tests, option_to_list)
 
 pub unwrap-requires : goal.unwrap-requires
 unwrap-requires c = c.push_back.ensures.succeeds (omega (arith, c.requires.room.durable, c.pop_front.ensures.len, ap (λ o. length (option_to_list o)) c.unwrap-first.ensures))

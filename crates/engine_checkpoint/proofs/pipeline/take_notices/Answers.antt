@@ -1,21 +1,15 @@
 -- Each turn takes one notice more.
 use Rattle.std.proofs.Common.{Ok, true, false, is_err, refl, ◌∙◌, ap, arith}
+use Rattle.std.proofs.lemmas.Bool.Decides.{nat_tests}
 use Rattle.base_types.specs.Counts.{next_count}
-use Rattle.engine_checkpoint.specs.declared.pipeline.Pipeline.{Pipeline}
 use Rattle.engine_checkpoint.proofs.Hears.{hears_on, hears_same}
 use Rattle.engine_checkpoint.proofs.NoticeRows.{none_taken, one_taken, last_taken, polls_step, polls_on, polls_few}
 use Rattle.engine_checkpoint.proofs.Polled.{row_more, row_ends, row_holds, row_done}
+use Rattle.engine_checkpoint.specs.declared.pipeline.Pipeline.{Pipeline}
 use Rattle.engine_checkpoint.proofs.pipeline.take_notices.Goals as goal
 
 pub loop-turn-init : goal.loop-turn-init
-loop-turn-init g c = record {
-  spends = record { same = record { blocks = refl; base = refl; manner = refl }; faults = refl; read_faults = refl; waits = refl; polls = refl };
-  rest = refl;
-  hears = hears_same _;
-  takes = λ tells. none_taken c.args.pipeline.now (g.D.Disk.state c.args.disk.now).log;
-  polled = λ tells p e. e;
-  agrees = λ tells s l t floor ring waiting taken safe a. (safe, a);
-}
+loop-turn-init g c = grind (arith, nat_tests, hears_same, none_taken)
 
 pub returns-in_err-take_notice-clause-agrees : goal.returns-in_err-take_notice-clause-agrees
 returns-in_err-take_notice-clause-agrees g c = λ tells s l t floor ring waiting taken safe a. let was = c.loop-turn.invariant.agrees tells s l t floor ring waiting taken safe a in c.take_notice.ensures.agrees tells s l t floor ring waiting taken was.0 was.1
@@ -56,9 +50,7 @@ pub returns-in_err-take_notice-clause-polled : goal.returns-in_err-take_notice-c
 returns-in_err-take_notice-clause-polled g c = λ tells p e. absurd (row_holds _ _ c.loop-turn.turn _ _ _ c.take_notice.result p c.loop-turn.invariant.spends.same.manner c.loop-turn-test.true (ap is_err c.in_err-take_notice.was) (c.take_notice.ensures.answer tells) (c.loop-turn.invariant.polled tells p e))
 
 pub returns-then-not-branch-clause-polled : goal.returns-then-not-branch-clause-polled
-returns-then-not-branch-clause-polled g c = λ tells p e.
-    let ends = row_ends _ _ c.loop-turn.turn _ _ _ _ c.take_notice.result p c.loop-turn.invariant.spends.same.manner c.loop-turn-test.true (c.in_ok-take_notice.was ∙ ap Ok c.if-not-branch.true) c.take_notice.ensures.spends.polls (c.take_notice.ensures.answer tells) (c.loop-turn.invariant.polled tells p e) in
-    record { done = refl; polls = ends.0; log = ends.1 }
+returns-then-not-branch-clause-polled g c = grind (arith, nat_tests, row_ends)
 
 pub returns-clause-polled : goal.returns-clause-polled
 returns-clause-polled g c = λ tells p e.

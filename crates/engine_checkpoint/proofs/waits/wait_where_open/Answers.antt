@@ -1,13 +1,14 @@
 -- The ticket is noticed by the disk, and then by the notes; or the wait failed.
-use Rattle.std.proofs.Common.{rules, ◌≡◌, true, inl, inr, ⊎_elim, subst, sym, ◌∙◌, refl}
-use Rattle.disk_contract.specs.Cell.{IsNoticed}
-use Rattle.engine_notes.specs.Notes.{is_expected, is_noticed, is_open}
-use Rattle.engine_checkpoint.specs.Agree.{data_of}
+use Rattle.std.proofs.Common.{arith, inl, inr, ⊎_elim, subst, sym, ◌∙◌, refl}
+use Rattle.std.proofs.lemmas.Bool.Decides.{nat_tests}
 use Rattle.engine_checkpoint.proofs.Notices.{agrees_moved}
 use Rattle.engine_checkpoint.proofs.Waited.{agrees_waited, marked_before}
 use Rattle.engine_checkpoint.proofs.Given.{open_expected}
 use Rattle.engine_checkpoint.proofs.HeardRecords.{heard_alone, hears_failed, taken_is_noticed}
 use Rattle.engine_checkpoint.proofs.Spent.{on_err}
+use Rattle.disk_contract.specs.Cell.{IsNoticed}
+use Rattle.engine_notes.specs.Notes.{is_expected, is_noticed}
+use Rattle.engine_checkpoint.specs.Agree.{data_of}
 use Rattle.engine_checkpoint.proofs.waits.wait_where_open.Goals as goal
 
 pub returns-in_err-wait_for-clause-agrees : goal.returns-in_err-wait_for-clause-agrees
@@ -33,21 +34,10 @@ returns-clause-agrees g c = λ tells s l t floor ring waiting taken safe a.
     )
 
 pub returns-in_err-wait_for-clause-cause : goal.returns-in_err-wait_for-clause-cause
-returns-in_err-wait_for-clause-cause g c = λ tells given.
-    let is : is_open c.args.ticket c.args.pipeline.now.notes.notes ≡ true = search rules in
-    on_err c.from_residual.result (c.in_err-wait_for.ensures.cause tells (given c.args.ticket (open_expected c.args.ticket c.args.pipeline.now.notes.notes is)))
+returns-in_err-wait_for-clause-cause g c = grind (arith, nat_tests, on_err, open_expected)
 
 pub returns-in_err-wait_for-clause-only : goal.returns-in_err-wait_for-clause-only
-returns-in_err-wait_for-clause-only g c = λ tells alone.
-    let is : is_open c.args.ticket c.args.pipeline.now.notes.notes ≡ true = search rules in
-    hears_failed (λ u. (u ≡ c.args.ticket) × (is_open c.args.ticket c.args.pipeline.now.notes.notes ≡ true)) c.from_residual.result (g.D.Disk.state c.args.disk.now).log (g.D.Disk.state c.wait_for.new.disk).log c.args.pipeline.now.notes.notes c.from_residual.ensures.0
-    (λ u came. ⊎_elim inl (λ own. inr (own, is)) (heard_alone c.args.ticket (g.D.Disk.state c.args.disk.now).log (g.D.Disk.state c.wait_for.new.disk).log (c.wait_for.ensures.alone tells alone) u came))
+returns-in_err-wait_for-clause-only g c = grind (arith, nat_tests, hears_failed, heard_alone)
 
 pub returns-clause-only : goal.returns-clause-only
-returns-clause-only g c = λ tells alone.
-    let is : is_open c.args.ticket c.args.pipeline.now.notes.notes ≡ true = search rules in
-    let came = heard_alone c.args.ticket (g.D.Disk.state c.args.disk.now).log (g.D.Disk.state c.wait_for.new.disk).log (c.wait_for.ensures.alone tells alone) in
-    let known = taken_is_noticed c.args.ticket c.args.pipeline.now.notes.notes c.noticed.new.self.notes is c.noticed.ensures.noticed in record {
-      only = λ u now. ⊎_elim inl (λ own. inr (own, is)) (came u now);
-      heard = λ u now. ⊎_elim inl (λ own. inr (subst (λ n. is_noticed n c.noticed.new.self.notes ≡ true) (sym own) known)) (came u now);
-    }
+returns-clause-only g c = grind (arith, nat_tests, heard_alone, taken_is_noticed)

@@ -1,5 +1,6 @@
 -- The ticket goes from where the search says, or is nowhere.
-use Rattle.std.proofs.Common.{◌≡◌, OnSome, Some, Option, sym, subst, ◌∙◌}
+use Rattle.std.proofs.Common.{◌≡◌, OnSome, Some, Option, sym, subst, ◌∙◌, arith}
+use Rattle.std.proofs.lemmas.Bool.Decides.{nat_tests}
 use Rattle.std.proofs.lemmas.Bool.{false≢true}
 use Rattle.engine_notes.specs.declared.notes.Note.{Note}
 use Rattle.engine_notes.proofs.Rising.{new_note, taken_out, none_out, lacks}
@@ -10,10 +11,7 @@ held : (P : Type 0) (r : Option Note) (n : Note) → r ≡ Some n → OnSome r P
 held P r n e h = subst (λ (q : Option Note). OnSome q P) e h
 
 pub returns-then-is_at-clause-items : goal.returns-then-is_at-clause-items
-returns-then-is_at-clause-items c =
-    let there = c.is_at.ensures.there c.if-is_at.true in
-    held _ c.remove.result _ (c.remove.ensures.succeeds (new_note 0) there.0) c.remove.ensures.items
-    ∙ taken_out c.args.ticket c.args.notes.now.items c.place_of-at.result there.1 c.place_of-at.ensures.below there.2
+returns-then-is_at-clause-items c = grind (arith, nat_tests, held, new_note, taken_out)
 
 pub returns-else-is_at-clause-items : goal.returns-else-is_at-clause-items
 returns-else-is_at-clause-items c = none_out c.args.ticket c.args.notes.now.items (lacks c.args.ticket c.args.notes.now.items c.place_of-at.result c.requires c.place_of-at.ensures.below c.place_of-at.ensures.above (λ n is same. false≢true (sym c.if-is_at.false ∙ c.is_at.ensures.other n is same)))

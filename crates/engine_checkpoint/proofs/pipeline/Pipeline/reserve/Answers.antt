@@ -1,4 +1,6 @@
 -- The pipeline is the same, and there is room for what is ready now.
+use Rattle.std.proofs.Common.{arith}
+use Rattle.std.proofs.lemmas.Bool.Decides.{nat_tests}
 use Rattle.engine_checkpoint.proofs.Same.{same_twice, same_ready, no_less_twice, order_stays, records_stay, payloads_stay, agrees_stays, ready_now}
 use Rattle.engine_checkpoint.proofs.pipeline.Pipeline.reserve.Goals as goal
 
@@ -9,17 +11,10 @@ pub returns-in_err-reserve_payloads-clause-agrees : goal.returns-in_err-reserve_
 returns-in_err-reserve_payloads-clause-agrees c = agrees_stays c.args.self.now c.reserve_payloads.new.self (same_twice c.args.self.now c.reserve_states.new.self c.reserve_payloads.new.self c.reserve_states.ensures.same c.reserve_payloads.ensures.same)
 
 pub returns-in_err-reserve_notes-clause-agrees : goal.returns-in_err-reserve_notes-clause-agrees
-returns-in_err-reserve_notes-clause-agrees c =
-    let both = same_twice c.args.self.now c.reserve_states.new.self c.reserve_payloads.new.self c.reserve_states.ensures.same c.reserve_payloads.ensures.same in
-    agrees_stays c.args.self.now c.reserve_notes.new.self (same_twice c.args.self.now c.reserve_payloads.new.self c.reserve_notes.new.self both c.reserve_notes.ensures.same)
+returns-in_err-reserve_notes-clause-agrees c = grind (arith, nat_tests, same_twice, agrees_stays)
 
 pub returns-clause-agrees : goal.returns-clause-agrees
-returns-clause-agrees c =
-    let v = c.args.self.now in
-    let w = c.reserve_notes.new.self in
-    let both = same_twice v c.reserve_states.new.self c.reserve_payloads.new.self c.reserve_states.ensures.same c.reserve_payloads.ensures.same in
-    let all = same_twice v c.reserve_payloads.new.self w both c.reserve_notes.ensures.same in
-    agrees_stays v (record w { ready = c.ready_upto-ready.result }) (same_ready v w c.ready_upto-ready.result all)
+returns-clause-agrees c = grind (arith, nat_tests, same_twice, agrees_stays, same_ready)
 
 pub returns-clause-fit : goal.returns-clause-fit
 returns-clause-fit c =
