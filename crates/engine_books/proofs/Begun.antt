@@ -110,5 +110,4 @@ mounted_kept law g bitmap c dead live limits size others d sound e count =
     }) e (ap (λ (x : DeadBlocks). x.held) d) refl refl refl
   where
     twice : (u : Bool) → u ≡ not (not u)
-    twice true = refl
-    twice false = refl
+    twice u = grind arith
