@@ -110,4 +110,5 @@ mounted_kept law g bitmap c dead live limits size others d sound e count =
     }) e (ap (λ (x : DeadBlocks). x.held) d) refl refl refl
   where
     twice : (u : Bool) → u ≡ not (not u)
-    twice u = grind arith
+    twice true = refl
+    twice false = refl

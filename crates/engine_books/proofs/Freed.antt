@@ -183,7 +183,8 @@ module _ (v : TransactionBooks) (bitmap : List (List ℕ)) (mid c : Changes) (de
   marks x = ap (λ u. nat_lt x v.geom.n && u) (bits x) ∙ by (x == b) (nat_lt x v.geom.n) (bit_now v x)
     where
       by : (e u w : Bool) → (u && cond e false w) ≡ cond e false (u && w)
-      by e u w = grind arith
+      by true u w = and-false u
+      by false u w = refl
 
   pub books_freed : FreedLaw → (q : Bookkeeping) → with_books q (freed_books v bitmap c dead live) ≡ after_free (with_books q v) b
   books_freed law q =
@@ -203,7 +204,8 @@ module _ (v : TransactionBooks) (bitmap : List (List ℕ)) (mid c : Changes) (de
   }
     where
       by : (e w : Bool) → cond e false (not w) ≡ not (e || w)
-      by e w = grind arith
+      by true w = refl
+      by false w = refl
 
   where_paid : (x : ℕ) (P : ℕ → Type 0) → has_put x c.paid ≡ true → P (bit_block v.geom b) → (has_put x v.changes.paid ≡ true → P x) → P x
   where_paid x P is here old = at_each (λ y. has_put y c.paid ≡ true → (has_put y v.changes.paid ≡ true → P y) → P y)

@@ -82,10 +82,12 @@ module _ (v : TransactionBooks) (c : Changes) (b : ℕ) (bytes : List ℕ) (clas
   taken_same x = ap (λ (ns : List ℕ). is_one_of x ns && bit_now v x) now.taken
 
   is_laid : (f : Bool) → is_some (cond f (Some bytes) None) ≡ f
-  is_laid f = grind arith
+  is_laid true = refl
+  is_laid false = refl
 
   is_paid : (f : Bool) → is_some (cond f None (Some bytes)) ≡ not f
-  is_paid f = grind arith
+  is_paid true = refl
+  is_paid false = refl
 
   role_here : roles_of (put_books v c) b ≡ role_by fresh (not fresh) (is_taken_now v b)
   role_here =
@@ -150,7 +152,8 @@ module _ (v : TransactionBooks) (c : Changes) (b : ℕ) (bytes : List ℕ) (clas
   -- The last point.
 
   either_row : (f : Bool) → or_else (cond f (Some bytes) None) (cond f None (Some bytes)) ≡ Some bytes
-  either_row f = grind arith
+  either_row true = refl
+  either_row false = refl
 
   bytes_other : (last : Blocks) (x : ℕ) → x ≢ b → bytes_over c last x ≡ bytes_over v.changes last x
   bytes_other last x d = same_bytes v.changes c last x (laid_other x d) (paid_other x d)

@@ -62,6 +62,19 @@ taken_role : (hb h t b : Bool) (x : List ℕ) (l p : Option (List ℕ)) → (hb 
     → role_by (is_some (cond hb None (cond h None l))) (is_some (cond hb (Some x) (cond h None p))) ((h || t) && (h || b)) ≡ cond h Bare (cond hb Changed (role_by (is_some l) (is_some p) (t && b)))
 taken_role hb h t b x l p e f = grind (arith, e, f)
 
+taken_mark : (x y z : Bool) → (y ≡ true → x ≡ true) → (x && (y || z)) ≡ (y || (x && z))
+taken_mark x y z e = grind (arith, e)
+
+-- where a put is one of before
+paid_where : (x y : Bool) (new : List ℕ) (o : Option (List ℕ)) → is_some (cond x (Some new) (cond y None o)) ≡ true → (x ≡ true) ⊎ ((y ≡ false) × (is_some o ≡ true))
+paid_where x y new o is = grind (arith, is)
+
+laid_where : (x y : Bool) (o : Option (List ℕ)) → is_some (cond x None (cond y None o)) ≡ true → (y ≡ false) × (is_some o ≡ true)
+laid_where x y o is = grind (arith, is)
+
+none_is : (o : Option (List ℕ)) → is_some o ≡ false → o ≡ None
+none_is o e = grind (arith, e)
+
 module _ (v : TransactionBooks) (bitmap : List (List ℕ)) (c : Changes) (bs : List ℕ) (k : AreKept v) (may : MayBeTaken v.geom (is_free_now v) bs) (h : HasTaken bs v (record v { bitmap = bitmap; changes = c })) where
   lies : (b : ℕ) → has bs b ≡ true → LiesIn v.geom Data b
   lies b is = let one = among (MayTake v.geom (is_free_now v)) bs may.each b is in record { from = one.from; below = one.below }
@@ -96,10 +109,7 @@ module _ (v : TransactionBooks) (bitmap : List (List ℕ)) (c : Changes) (bs : L
       (λ is. not_has b (omega (arith, (in_bitmap b is).1))) (λ is. not_taken b (omega (arith, (in_bitmap b is).1)))
 
   marks : (b : ℕ) → is_marked (taken_books v bitmap c bs) b ≡ (has bs b || is_marked v b)
-  marks b = ap (λ x. nat_lt b v.geom.n && x) (h.bits b) ∙ by (nat_lt b v.geom.n) (has bs b) (bit_now v b) (λ is. lt-ltb b v.geom.n (lies b is).below)
-    where
-      by : (x y z : Bool) → (y ≡ true → x ≡ true) → (x && (y || z)) ≡ (y || (x && z))
-      by x y z e = grind (arith, e)
+  marks b = ap (λ x. nat_lt b v.geom.n && x) (h.bits b) ∙ taken_mark (nat_lt b v.geom.n) (has bs b) (bit_now v b) (λ is. lt-ltb b v.geom.n (lies b is).below)
 
   frees : (b : ℕ) → is_free_now (taken_books v bitmap c bs) b ≡ (not (has bs b) && is_free_now v b)
   frees b = any-filter_same (λ x. x == b) (λ x. not (is_among x bs)) (not (is_among b bs)) (λ x e. ap (λ y. not (is_among y bs)) (eqb-true x b e)) v.dead.reusable ∙ ap (λ u. not u && is_among b v.dead.reusable) (any_is_has b bs)
@@ -120,7 +130,8 @@ module _ (v : TransactionBooks) (bitmap : List (List ℕ)) (c : Changes) (bs : L
   }
     where
       by : (u w : Bool) → (u || not w) ≡ not (not u && w)
-      by u w = grind arith
+      by true w = refl
+      by false w = refl
 
   lie_kept : IsOrdered c.paid c.laid → IsRisingNumbers c.taken → ChangesLie (taken_books v bitmap c bs)
   lie_kept o r = record {
@@ -137,12 +148,6 @@ module _ (v : TransactionBooks) (bitmap : List (List ℕ)) (c : Changes) (bs : L
       now_taken : (b : ℕ) → (has bs b || is_one_of b v.changes.taken) ≡ true → (has bs b ≡ true) ⊎ (has bs b ≡ false) → LiesIn v.geom Data b
       now_taken b is (inl e) = lies b e
       now_taken b is (inr f) = k.lie.taken b (sym (ap (λ u. u || is_one_of b v.changes.taken) f) ∙ is)
-
-      paid_where : (x y : Bool) (new : List ℕ) (o : Option (List ℕ)) → is_some (cond x (Some new) (cond y None o)) ≡ true → (x ≡ true) ⊎ ((y ≡ false) × (is_some o ≡ true))
-      paid_where x y new o is = grind (arith, is)
-
-      laid_where : (x y : Bool) (o : Option (List ℕ)) → is_some (cond x None (cond y None o)) ≡ true → (y ≡ false) × (is_some o ≡ true)
-      laid_where x y o is = grind (arith, is)
 
   kept_taken : TakenLaw → length bs ≤ v.spare.takes → AreSound (with_taken v.dead bs) → IsOrdered c.paid c.laid → IsRisingNumbers c.taken → AreKept (taken_books v bitmap c bs)
   kept_taken law few sound o r = record {
@@ -166,10 +171,7 @@ module _ (v : TransactionBooks) (bitmap : List (List ℕ)) (c : Changes) (bs : L
   -- The last point.
 
   no_laid : (b : ℕ) → b < data_start v.geom → put_of b v.changes.laid ≡ None
-  no_laid b low = none (put_of b v.changes.laid) (false_from_ne_true (has_put b v.changes.laid) (λ is. false≢true (sym (not_taken b low) ∙ and_first (is_one_of b v.changes.taken) (bit_now v b) (k.lie.laid b is))))
-    where
-      none : (o : Option (List ℕ)) → is_some o ≡ false → o ≡ None
-      none o e = grind (arith, e)
+  no_laid b low = none_is (put_of b v.changes.laid) (false_from_ne_true (has_put b v.changes.laid) (λ is. false≢true (sym (not_taken b low) ∙ and_first (is_one_of b v.changes.taken) (bit_now v b) (k.lie.laid b is))))
 
   -- the puts of a block that isn't taken and has none of the bits
   paid_same : (b : ℕ) → has_bit v.geom bs b ≡ false → has bs b ≡ false → put_of b c.paid ≡ put_of b v.changes.paid
@@ -234,7 +236,8 @@ module _ (v : TransactionBooks) (bitmap : List (List ℕ)) (c : Changes) (bs : L
   }
     where
       by : (u w : Bool) → (u || w) ≡ cond u true w
-      by u w = grind arith
+      by true w = refl
+      by false w = refl
 
       stays : (b : ℕ) → has_bit v.geom bs b ≡ false → (has bs b ≡ true) ⊎ (has bs b ≡ false) → map_of (taken_books v bitmap c bs) last b ≡ map_of v last b
       stays b out (inl e) =
@@ -243,7 +246,8 @@ module _ (v : TransactionBooks) (bitmap : List (List ℕ)) (c : Changes) (bs : L
           ∙ sym (map_nowhere v last b (data_undefined v.geom (is_marked v b) (is_bare (roles_of v b)) b (lies b e).from (ap (λ u. (nat_lt b v.geom.n && u) && not (is_bare (roles_of v b))) (was_clear b e) ∙ dead (nat_lt b v.geom.n) (not (is_bare (roles_of v b))))))
         where
           dead : (u w : Bool) → ((u && false) && w) ≡ false
-          dead u w = grind arith
+          dead true w = refl
+          dead false w = refl
       stays b out (inr f) =
           ap₂ (λ d x. cond d x [])
           (ap₂ (λ m r. defined_by v.geom m (is_bare r) b) (marks b ∙ ap (λ u. u || is_marked v b) f) (roles b ∙ ap₂ (λ x y. cond x Bare (cond y Changed (roles_of v b))) f out))

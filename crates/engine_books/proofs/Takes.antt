@@ -52,6 +52,24 @@ none_taken v = record {
   frees = refl;
 }
 
+-- the puts of a block over those of a list
+both : (p q r s p' q' : Bool) (here mid now : List ℕ) (x : Option (List ℕ)) → p' ≡ p → q' ≡ q → (p ≡ true → here ≡ now) → (r ≡ true → q ≡ false) → (r ≡ true → p ≡ false → mid ≡ now)
+    → cond p (Some here) (cond q None (cond r (Some mid) (cond s None x))) ≡ cond (r || p') (Some now) (cond (s || q') None x)
+both p q r s p' q' here mid now x e f own apart same = grind (arith, e, f, own, apart, same)
+
+shift : (p q r s p' q' : Bool) (x : Option (List ℕ)) → p' ≡ p → q' ≡ q → cond p None (cond q None (cond r None (cond s None x))) ≡ cond (r || p') None (cond (s || q') None x)
+shift p q r s p' q' x e f = grind (arith, e, f)
+
+-- one block more among those of a list
+set_too : (u x y : Bool) → cond u true (x || y) ≡ ((x || u) || y)
+set_too u x y = grind arith
+
+one_too : (u x y : Bool) → (u || (x || y)) ≡ ((x || u) || y)
+one_too u x y = grind arith
+
+or_before : (u w : Bool) → (u || w) ≡ true → w ≡ false → u ≡ true
+or_before u w e f = grind (arith, e, f)
+
 -- what one more leaves, for books that are the old ones but for the bitmap and the changes
 module _ (v : TransactionBooks) (mid now : List (List ℕ)) (cm cn : Changes) (xs : List ℕ) (b : ℕ) (limits : IsGeometry v.geom) (from : data_start v.geom ≤ b) (below : b < v.geom.n) (low : (x : ℕ) → has xs x ≡ true → x < v.geom.n)
     (h : HasTaken xs v (record v { bitmap = mid; changes = cm })) (t : TakesOne b (record v { bitmap = mid; changes = cm }) (record v { bitmap = now; changes = cn })) where
@@ -70,12 +88,6 @@ module _ (v : TransactionBooks) (mid now : List (List ℕ)) (cm cn : Changes) (x
   laid_one c = ap (put_of c) t.puts.laid ∙ put_without (bit_block v.geom b) t.taken.laid c t.ordered_then.laid
       ∙ ap (λ (o : Option (List ℕ)). cond (bit_block v.geom b == c) None o) (ap (put_of c) (t.takes.laid ∙ t.forgets.laid) ∙ put_without b cm.laid c t.ordered.laid)
 
-  -- what stays of the other blocks
-  -- the puts of a block over those of a list
-  both : (p q r s p' q' : Bool) (here mid now : List ℕ) (x : Option (List ℕ)) → p' ≡ p → q' ≡ q → (p ≡ true → here ≡ now) → (r ≡ true → q ≡ false) → (r ≡ true → p ≡ false → mid ≡ now)
-      → cond p (Some here) (cond q None (cond r (Some mid) (cond s None x))) ≡ cond (r || p') (Some now) (cond (s || q') None x)
-  both p q r s p' q' here mid now x e f own apart same = grind (arith, e, f, own, apart, same)
-
   more_paid : (c : ℕ) → put_of c cn.paid ≡ cond (has_bit v.geom (xs ++ b ∷ []) c) (Some (blocks_of now (c - bitmap_start v.geom))) (cond (has (xs ++ b ∷ []) c) None (put_of c v.changes.paid))
   more_paid c =
       paid_one c ∙ ap (λ (o : Option (List ℕ)). cond (bit_block v.geom b == c) (Some (blocks_of now (b / 8192))) (cond (b == c) None o)) (h.paid c)
@@ -92,9 +104,6 @@ module _ (v : TransactionBooks) (mid now : List (List ℕ)) (cm cn : Changes) (x
       laid_one c ∙ ap (λ (o : Option (List ℕ)). cond (bit_block v.geom b == c) None (cond (b == c) None o)) (h.laid c)
       ∙ shift (bit_block v.geom b == c) (b == c) (has_bit v.geom xs c) (has xs c) (c == bit_block v.geom b) (c == b) (put_of c v.changes.laid) (eqb_sym c (bit_block v.geom b)) (eqb_sym c b)
       ∙ ap₂ (λ u w. cond u None (cond w None (put_of c v.changes.laid))) (sym (has_bit_push v.geom xs b c)) (sym (has_push xs b c))
-    where
-      shift : (p q r s p' q' : Bool) (x : Option (List ℕ)) → p' ≡ p → q' ≡ q → cond p None (cond q None (cond r None (cond s None x))) ≡ cond (r || p') None (cond (s || q') None x)
-      shift p q r s p' q' x e f = grind (arith, e, f)
 
   -- the blocks of the bitmap that weren't put, and the room for puts
   more_boxes : (puts bits : ℕ) → length (xs ++ b ∷ []) ≤ bits → HasBoxes puts bits v → HasBoxes puts (bits - length (xs ++ b ∷ [])) (record v { bitmap = now; changes = cn })
@@ -118,17 +127,11 @@ module _ (v : TransactionBooks) (mid now : List (List ℕ)) (cm cn : Changes) (x
   )
 
   more_bits : (k : ℕ) → bit_in (blocks_of now) k ≡ (has (xs ++ b ∷ []) k || bit_now v k)
-  more_bits k = t.bits k ∙ ap (λ u. cond (k == b) true u) (h.bits k) ∙ by (k == b) (has xs k) (bit_now v k) ∙ ap (λ u. u || bit_now v k) (sym (has_push xs b k))
-    where
-      by : (u x y : Bool) → cond u true (x || y) ≡ ((x || u) || y)
-      by u x y = grind arith
+  more_bits k = t.bits k ∙ ap (λ u. cond (k == b) true u) (h.bits k) ∙ set_too (k == b) (has xs k) (bit_now v k) ∙ ap (λ u. u || bit_now v k) (sym (has_push xs b k))
 
   more_taken : (c : ℕ) → is_one_of c cn.taken ≡ (has (xs ++ b ∷ []) c || is_one_of c v.changes.taken)
   more_taken c = ap (is_one_of c) (t.puts.taken ∙ t.takes.taken) ∙ one_with b t.forgotten.taken c ∙ ap (λ u. (c == b) || u) (ap (is_one_of c) t.forgets.taken ∙ h.taken c)
-      ∙ by (c == b) (has xs c) (is_one_of c v.changes.taken) ∙ ap (λ u. u || is_one_of c v.changes.taken) (sym (has_push xs b c))
-    where
-      by : (u x y : Bool) → (u || (x || y)) ≡ ((x || u) || y)
-      by u x y = grind arith
+      ∙ one_too (c == b) (has xs c) (is_one_of c v.changes.taken) ∙ ap (λ u. u || is_one_of c v.changes.taken) (sym (has_push xs b c))
 
   more_others : (k : ℕ) → has_bit v.geom (xs ++ b ∷ []) (bitmap_start v.geom + k) ≡ false → blocks_of now k ≡ blocks_of v.bitmap k
   more_others k out =
@@ -143,9 +146,6 @@ module _ (v : TransactionBooks) (mid now : List (List ℕ)) (cm cn : Changes) (x
         let old = or_before (has_bit v.geom xs c) (c == bit_block v.geom b) (sym (has_bit_push v.geom xs b c) ∙ is) (ne_eqb c (bit_block v.geom b) d) in
         ap (λ (x : List ℕ). length x) (t.others (c - bitmap_start v.geom) (let r = bit_of_one v.geom xs c old in λ q. d (omega (arith, q, r.2)))) ∙ h.whole c old
   ]
-    where
-      or_before : (u w : Bool) → (u || w) ≡ true → w ≡ false → u ≡ true
-      or_before u w e f = grind (arith, e, f)
 
   pub taken_then : bit_in (blocks_of mid) b ≡ false → HasTaken (xs ++ b ∷ []) v (record v { bitmap = now; changes = cn })
   taken_then clear = record {
