@@ -1,8 +1,9 @@
 -- A bit of the bitmap is written by its block.
 use Rattle.std.proofs.Common.{◌≡◌, ◌≢◌, ℕ, ◌+◌, ◌/◌, ◌%◌, ◌<◌, ◌==◌, Bool, cond, List, [], ◌∷◌, length, slice_set, slice_index, sym, ap, ap₂, ◌∙◌, arith, ◌⊎◌, inl, inr}
-use Rattle.std.proofs.lemmas.Bool.{cases_eq, cond-false, eq-eqb, ne_eqb, eqb-false}
+use Rattle.std.proofs.lemmas.Bool.{cases_eq, cond-false, ne_eqb, eqb-false}
 use Rattle.std.proofs.lemmas.List.{get_or-set_same, get_or-set_other}
 use Rattle.std.specs.Int.{bit_at}
+use Rattle.std.proofs.lemmas.Bool.Decides.{nat_tests}
 use Rattle.base_types.specs.Seal.{blocks_of}
 use Rattle.layout_geometry.specs.Geometry.{Geometry, bitmap_start}
 use Rattle.layout_bytes.specs.Bitmap.{bit_in, is_set}
@@ -21,11 +22,7 @@ alone x c =
     ∙ ap₂ (λ r s. bit_at (slice_index x (r / 8)) s == 1) {x = c % 8192 % 8192} {y = c % 8192} {u = c % 8192 % 8} {v = c % 8} (omega arith) (omega arith)
 
 same_test : (b c : ℕ) → c / 8192 ≡ b / 8192 → (c % 8192 == b % 8192) ≡ has (b ∷ []) c
-same_test b c e = by (cases_eq c b) ∙ sym (has_one b c)
-  where
-    by : (c ≡ b) ⊎ (c ≢ b) → (c % 8192 == b % 8192) ≡ (c == b)
-    by (inl h) = eq-eqb (c % 8192) (b % 8192) (ap (λ k. k % 8192) h) ∙ sym (eq-eqb c b h)
-    by (inr d) = ne_eqb (c % 8192) (b % 8192) (λ h. d (omega (arith, h, e))) ∙ sym (ne_eqb c b d)
+same_test b c e = grind (arith, nat_tests, e)
 
 pub bits_written : (g : Geometry) (now new : List (List ℕ)) (b : ℕ) (bit : Bool) (x x' : List ℕ) (at : ℕ) → new ≡ slice_set now at x' → at ≡ bit_block g b → at < length now → x ≡ blocks_of now at
     → ((k : ℕ) → bit_in (blocks_of (x' ∷ [])) k ≡ cond (k == b % 8192) bit (bit_in (blocks_of (x ∷ [])) k)) → IsWithBits g (blocks_of now) (blocks_of new) (b ∷ []) bit
@@ -38,13 +35,10 @@ bits_written g now new b bit x x' at set place low was written = record {
     elsewhere : (c : ℕ) → c ≢ at → blocks_of new c ≡ blocks_of now c
     elsewhere c d = ap (λ l. blocks_of l c) set ∙ get_or-set_other now at c x' [] d
 
-    here : blocks_of new at ≡ x'
-    here = ap (λ l. blocks_of l at) set ∙ get_or-set_same now at x' [] low
-
     by : (c : ℕ) → (c / 8192 ≡ b / 8192) ⊎ (c / 8192 ≢ b / 8192) → is_set g (blocks_of new) c ≡ cond (has (b ∷ []) c) bit (is_set g (blocks_of now) c)
     by c (inl e) =
         ap (λ i. bit_there (blocks_of new i) c) {x = bitmap_start g + c / 8192} {y = at} (omega (arith, e, place))
-        ∙ ap (λ y. bit_there y c) here
+        ∙ ap (λ y. bit_there y c) (ap (λ l. blocks_of l at) set ∙ get_or-set_same now at x' [] low)
         ∙ sym (alone x' c)
         ∙ written (c % 8192)
         ∙ ap₂ (λ t y. cond t bit y) (same_test b c e) (alone x c ∙ ap (λ y. bit_there y c) was ∙ ap (λ i. bit_there (blocks_of now i) c) {x = at} {y = bitmap_start g + c / 8192} (omega (arith, e, place)))

@@ -1,9 +1,11 @@
 -- What a put, a take, a free and a sync leave of a map on the blocks where it is defined.
-use Rattle.std.proofs.Common.{◌≡◌, ℕ, ◌<◌, ◌≤◌, ◌==◌, nat_le, nat_lt, Bool, true, false, not, ◌&&◌, ◌||◌, cond, List, [], ◌∷◌, refl, sym, ap, ap₂, ◌∙◌, arith, ◌⊎◌, inl, inr}
-use Rattle.std.proofs.lemmas.Bool.{cases_Bool, cases_lt, cond-true, cond-false, eq-eqb, ne_eqb, le-leb, lt-ltb, ltb-true, and_parts, false≢true}
+use Rattle.std.proofs.Common.{◌≡◌, ℕ, ◌<◌, ◌≤◌, ◌==◌, nat_le, nat_lt, Bool, true, false, not, ◌&&◌, ◌||◌, cond, List, [], ◌∷◌, refl, sym, ap, ap₂, ◌∙◌, arith, inl, inr}
+use Rattle.std.proofs.lemmas.Bool.{cases_Bool, cases_lt, cond-true, eq-eqb, ne_eqb, ltb-true, and_parts}
+use Rattle.std.proofs.lemmas.Bool.Decides.{nat_tests}
 use mathlib.Core.Path.{fun_ext}
 use Rattle.base_types.specs.Seal.{Blocks, blocks_of}
 use Rattle.base_types.specs.declared.words.Class.{Class}
+use Rattle.engine_blocks.specs.declared.role.Role.{Role}
 use Rattle.layout_geometry.specs.Geometry.{bitmap_start, table_start, data_start}
 use Rattle.layout_bytes.specs.Bitmap.{is_set}
 use Rattle.layout_journal.specs.Run.{is_live}
@@ -15,7 +17,6 @@ use Rattle.engine_blocks.specs.Crashes.{HasLiveBlocks}
 use Rattle.engine_blocks.specs.Plain.{IsWithBits}
 use Rattle.engine_blocks.specs.Defined.{defined_at, undefined_at, bitmap_bit, disk_bit}
 use Rattle.engine_blocks.proofs.Members.{has_one, has_bit_one, among}
-use Rattle.engine_blocks.proofs.Fills.{put_fills}
 
 -- where the mark and the role of a block stay, the map has its bytes as before
 same_there : (k l : Bookkeeping) (old new : Blocks) (c : ℕ) → is_defined l c ≡ is_defined k c → new c ≡ old c → defined_part l new c ≡ defined_part k old c
@@ -29,78 +30,48 @@ same_part k l old new geom marked before after now = fun_ext (λ c. same_there k
 
 -- A put.
 
-or_true : (x : Bool) → (x || true) ≡ true
-or_true true = refl
-or_true false = refl
+-- no block is bare after a put
+put_fills : (class : Class) (r : Role) → is_bare (put_role class r) ≡ false
+put_fills class r = grind arith
 
 data_defined : (k : Bookkeeping) (b : ℕ) → table_start k.geom ≤ b → b < k.geom.n → (data_start k.geom ≤ b → k.marked b ≡ true) → is_bare (k.running.roles b) ≡ false → is_defined k b ≡ true
-data_defined k b from low marked filled = by (cases_lt b (data_start k.geom))
-  where
-    first : nat_le (bitmap_start k.geom) b ≡ true
-    first = le-leb (bitmap_start k.geom) b (omega (arith, from))
-
-    by : (b < data_start k.geom) ⊎ (data_start k.geom ≤ b) → is_defined k b ≡ true
-    by (inl early) = ap₂ (λ x y. x && (y || (nat_lt b k.geom.n && (k.marked b && not (is_bare (k.running.roles b)))))) first (lt-ltb b (data_start k.geom) early)
-    by (inr late) =
-        ap₂ (λ x y. x && (nat_lt b (data_start k.geom) || (y && (k.marked b && not (is_bare (k.running.roles b)))))) first (lt-ltb b k.geom.n low)
-        ∙ ap₂ (λ x y. nat_lt b (data_start k.geom) || (x && not y)) (marked late) filled
-        ∙ or_true (nat_lt b (data_start k.geom))
+data_defined k b from low marked filled = elim (cases_lt b (data_start k.geom)) [
+  | inl early ↦ grind (arith, nat_tests, from, early)
+  | inr late ↦ grind (arith, nat_tests, from, low, late, marked late, filled)
+]
 
 pub put_told : (k : Bookkeeping) (old new : Blocks) (b : ℕ) (class : Class) (bytes : List ℕ) → table_start k.geom ≤ b → b < k.geom.n → (data_start k.geom ≤ b → k.marked b ≡ true) → IsWithBlock old new b bytes
     → IsWithBlock (defined_part k old) (defined_part (after_put k b class) new) b bytes
 put_told k old new b class bytes from low marked w = record {
-  own = defined_at (after_put k b class) new b (data_defined (after_put k b class) b from low marked (ap is_bare (cond-true (b == b) (put_role class (k.running.roles b)) (k.running.roles b) (eq-eqb b b refl)) ∙ put_fills class (k.running.roles b))) ∙ w.own;
-  others = λ c d. same_there k (after_put k b class) old new c
-      (ap (λ r. defined_by k.geom (k.marked c) (is_bare r) c) (cond-false (c == b) (put_role class (k.running.roles b)) (k.running.roles c) (ne_eqb c b d)))
-      (w.others c d);
+  own = defined_at (after_put k b class) new b (data_defined (after_put k b class) b from low marked (grind (arith, nat_tests, put_fills class (k.running.roles b)))) ∙ w.own;
+  others = λ c d. same_there k (after_put k b class) old new c (grind (arith, nat_tests, d)) (w.others c d);
 }
 
 -- A take.
 
--- the map isn't defined on a data block that isn't marked, or is bare
-no_mark : (x y : Bool) → (y && (false && x)) ≡ false
-no_mark x true = refl
-no_mark x false = refl
-
-no_put : (x y : Bool) → (y && (x && false)) ≡ false
-no_put true true = refl
-no_put false true = refl
-no_put x false = refl
-
-and_false : (x : Bool) → (x && false) ≡ false
-and_false true = refl
-and_false false = refl
-
 late_by : (k : Bookkeeping) (c : ℕ) → data_start k.geom ≤ c → (nat_lt c k.geom.n && (k.marked c && not (is_bare (k.running.roles c)))) ≡ false → is_defined k c ≡ false
-late_by k c from e =
-    ap₂ (λ x y. nat_le (bitmap_start k.geom) c && (x || y)) (late (cases_Bool (nat_lt c (data_start k.geom)))) e
-    ∙ and_false (nat_le (bitmap_start k.geom) c)
-  where
-    late : (nat_lt c (data_start k.geom) ≡ true) ⊎ (nat_lt c (data_start k.geom) ≡ false) → nat_lt c (data_start k.geom) ≡ false
-    late (inl t) = absurd (omega (arith, ltb-true c (data_start k.geom) t, from))
-    late (inr f) = f
+late_by k c from e = grind (arith, nat_tests, from, e)
 
 pub unmarked_undefined : (k : Bookkeeping) (c : ℕ) → data_start k.geom ≤ c → k.marked c ≡ false → is_defined k c ≡ false
-unmarked_undefined k c from e = late_by k c from (ap (λ x. nat_lt c k.geom.n && (x && not (is_bare (k.running.roles c)))) e ∙ no_mark (not (is_bare (k.running.roles c))) (nat_lt c k.geom.n))
+unmarked_undefined k c from e = late_by k c from (grind (arith, e))
 
 pub bare_undefined : (k : Bookkeeping) (c : ℕ) → data_start k.geom ≤ c → is_bare (k.running.roles c) ≡ true → is_defined k c ≡ false
-bare_undefined k c from e = late_by k c from (ap (λ x. nat_lt c k.geom.n && (k.marked c && not x)) e ∙ no_put (k.marked c) (nat_lt c k.geom.n))
+bare_undefined k c from e = late_by k c from (grind (arith, e))
 
 pub take_told : (k : Bookkeeping) (old new : Blocks) (bs : List ℕ) → MayBeTaken k.geom k.reusable bs → ((b : ℕ) → IsReusable k.geom k.reusable b → k.marked b ≡ false) → IsWithBits k.geom old new bs true
     → IsWithTaken k.geom (defined_part k old) (defined_part (after_take k bs) new) bs
 take_told k old new bs may unmarked w = record {
   bits = λ b low. bitmap_bit (after_take k bs) new b low ∙ w.bits b ∙ ap (λ x. cond (has bs b) true x) (sym (bitmap_bit k old b low));
-  others = λ c out. by c out (cases_Bool (has bs c));
-}
-  where
-    by : (c : ℕ) → has_bit k.geom bs c ≡ false → (has bs c ≡ true) ⊎ (has bs c ≡ false) → defined_part (after_take k bs) new c ≡ defined_part k old c
-    by c out (inl is) =
+  others = λ c out. elim (cases_Bool (has bs c)) [
+    | inl is ↦
         let r = among (IsReusable k.geom k.reusable) bs may.each c is in
         undefined_at (after_take k bs) new c (bare_undefined (after_take k bs) c r.from (ap is_bare (cond-true (has bs c) Bare (cond (has_bit k.geom bs c) Changed (k.running.roles c)) is)))
         ∙ sym (undefined_at k old c (unmarked_undefined k c r.from (unmarked c r)))
-    by c out (inr not_is) = same_there k (after_take k bs) old new c
+    | inr not_is ↦ same_there k (after_take k bs) old new c
         (ap₂ (λ x y. defined_by k.geom (x || k.marked c) (is_bare (cond x Bare (cond y Changed (k.running.roles c)))) c) not_is out)
         (w.others c out)
+  ];
+}
 
 -- A free.
 
@@ -116,10 +87,7 @@ free_told k old new b from w = record {
 -- A point.
 
 live_by : (x n d s m z : Bool) → m ≡ s → z ≡ true → (x && (n && (d || s))) ≡ true → (x && (d || (n && (m && z)))) ≡ true
-live_by false n d s m z e f h = h
-live_by true false d s m z e f h = absurd (false≢true h)
-live_by true true true s m z e f h = refl
-live_by true true false s m z e f h = ap₂ (λ a b. a && b) (e ∙ h) f
+live_by x n d s m z e f h = grind (arith, e, f, h)
 
 -- where no block is bare, the map is defined on each live block
 pub live_defined : (k : Bookkeeping) (m : Blocks) (b : ℕ) → HasNoBare k.running → (b < k.geom.n → k.marked b ≡ is_set k.geom m b) → is_live k.geom m b ≡ true → is_defined k b ≡ true

@@ -26,11 +26,10 @@ points_kept saved now (start ∷ starts) b x before is behind =
 -- what is in the block now doesn't matter where it is written at last
 undone_over : (ss : List Saved) (now : List (List ℕ)) (b : ℕ) (x y : List ℕ) → slice_set (undone ss (slice_set now b x)) b y ≡ slice_set (undone ss now) b y
 undone_over [] now b x y = set-set now b x y
-undone_over (s ∷ ss) now b x y = by (cases_eq s.block b) (undone_over ss now b x y)
-  where
-    by : (s.block ≡ b) ⊎ (s.block ≢ b) → slice_set (undone ss (slice_set now b x)) b y ≡ slice_set (undone ss now) b y → slice_set (slice_set (undone ss (slice_set now b x)) s.block s.bytes) b y ≡ slice_set (slice_set (undone ss now) s.block s.bytes) b y
-    by (inl e) rec = ap (λ k. slice_set (slice_set (undone ss (slice_set now b x)) k s.bytes) b y) e ∙ set-set (undone ss (slice_set now b x)) b s.bytes y ∙ rec ∙ sym (ap (λ k. slice_set (slice_set (undone ss now) k s.bytes) b y) e ∙ set-set (undone ss now) b s.bytes y)
-    by (inr d) rec = set_comm (undone ss (slice_set now b x)) s.block b s.bytes y d ∙ ap (λ ys. slice_set ys s.block s.bytes) rec ∙ sym (set_comm (undone ss now) s.block b s.bytes y d)
+undone_over (s ∷ ss) now b x y = elim (cases_eq s.block b) [
+  | inl e ↦ grind (arith, e, set-set, undone_over ss now b x y)
+  | inr d ↦ grind (arith, d, set_comm, undone_over ss now b x y)
+]
 
 -- nor where an entry is of it
 undone_has : (ss : List Saved) (now : List (List ℕ)) (b j : ℕ) (x : List ℕ) → j < length ss → ((d : Saved) → (get_or ss j d).block ≡ b) → undone ss (slice_set now b x) ≡ undone ss now

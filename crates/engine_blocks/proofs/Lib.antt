@@ -12,7 +12,5 @@ pub mod PlainPoints
 pub mod PlainSyncs
 pub mod PlainServes
 pub mod Begins
-pub mod Fills
 pub mod DefinedSteps
 pub mod Growths
-pub mod Syncing

@@ -1,8 +1,10 @@
 -- What a put, a take and a free leave of the parts of a map of blocks in memory.
-use Rattle.std.proofs.Common.{◌≡◌, ◌≢◌, ℕ, ◌+◌, ◌-◌, ◌/◌, ◌%◌, ◌<◌, ◌≤◌, ◌==◌, nat_lt, Bool, true, false, not, ◌&&◌, ◌||◌, cond, List, [], ◌∷◌, length, get_or, slice_set, slice_index, refl, sym, ap, ap₂, ◌∙◌, arith, ◌⊎◌, inl, inr}
-use Rattle.std.proofs.lemmas.Bool.{cases_Bool, cases_eq, cond-true, cond-false, eq-eqb, ne_eqb, lt-ltb, ltb-true, false≢true}
+use Rattle.std.proofs.Common.{◌≡◌, ◌≢◌, ℕ, ◌+◌, ◌-◌, ◌/◌, ◌%◌, ◌<◌, ◌≤◌, ◌==◌, Bool, true, false, not, ◌&&◌, ◌||◌, cond, List, [], ◌∷◌, length, get_or, slice_set, slice_index, refl, sym, ap, ap₂, ◌∙◌, arith, inl, inr}
+use Rattle.std.proofs.lemmas.Bool.{cases_eq, cond-true, cond-false, eq-eqb, ne_eqb, false≢true}
 use Rattle.std.proofs.lemmas.List.{get_or-set_same, get_or-set_other, length-set, get_or_default}
 use Rattle.std.specs.Int.{bit_at}
+use Rattle.std.proofs.lemmas.Bool.Decides.{nat_tests}
+use Rattle.std.proofs.lemmas.Grind.{common_steps}
 use mathlib.Core.Path.{fun_ext}
 use Rattle.base_types.specs.Seal.{Blocks, blocks_of}
 use Rattle.base_types.specs.declared.words.Class.{Class}
@@ -10,8 +12,8 @@ use Rattle.layout_geometry.specs.Geometry.{Geometry, bitmap_start, table_start, 
 use Rattle.layout_bytes.specs.Bitmap.{bit_in, is_set}
 use Rattle.layout_bitmap.specs.Bits.{IsFree, BitBecomes, free_blocks}
 use Rattle.engine_blocks.specs.declared.role.Role.{Role}
-use Rattle.engine_blocks.specs.declared.role.Role.TheVariants.{Untouched, Changed, Bare, NewMeta, Fresh}
-use Rattle.engine_blocks.specs.Running.{put_role, is_taken, has, has_bit, bit_block, with_put, with_takes, with_free, count_roles}
+use Rattle.engine_blocks.specs.declared.role.Role.TheVariants.{Untouched, Changed, Bare}
+use Rattle.engine_blocks.specs.Running.{put_role, is_taken, has, bit_block, with_put, with_takes, with_free, count_roles}
 use Rattle.engine_blocks.specs.State.{Bookkeeping, after_put, after_take, after_free}
 use Rattle.engine_blocks.specs.Plain.{role_in, bits_of, marks_of, clear_in, IsWithBits}
 use Rattle.engine_blocks.proofs.Members.{has_one, has_bit_one}
@@ -22,10 +24,7 @@ use Rattle.engine_blocks.proofs.Ranges.{one_from}
 
 -- one role is written
 pub role_set : (roles : List Role) (b : ℕ) (r : Role) (c : ℕ) → b < length roles → role_in (slice_set roles b r) c ≡ cond (c == b) r (role_in roles c)
-role_set roles b r c low = elim (cases_eq c b) [
-  | inl e ↦ ap (role_in (slice_set roles b r)) e ∙ get_or-set_same roles b r Untouched low ∙ sym (cond-true (c == b) r (role_in roles c) (eq-eqb c b e))
-  | inr d ↦ get_or-set_other roles b c r Untouched d ∙ sym (cond-false (c == b) r (role_in roles c) (ne_eqb c b d))
-]
+role_set roles b r c low = grind (arith, nat_tests, common_steps)
 
 pub put_roles : (roles : List Role) (b : ℕ) (class : Class) (before : Role) → b < length roles → before ≡ get_or roles b before
     → role_in (slice_set roles b (put_role class before)) ≡ with_put (role_in roles) b class
@@ -50,34 +49,14 @@ free_roles g roles b low_a low_b = fun_ext (λ c. two_roles roles (bit_block g b
 
 -- How many were taken.
 
-put_taken : (class : Class) (r : Role) → is_taken (put_role class r) ≡ true → is_taken r ≡ true
-put_taken class Untouched e = e
-put_taken class Changed e = e
-put_taken class Bare e = refl
-put_taken class NewMeta e = refl
-put_taken class Fresh e = refl
-
 pub put_took : (g : Geometry) (roles : ℕ → Role) (b : ℕ) (class : Class) → count_roles g is_taken (with_put roles b class) ≤ count_roles g is_taken roles
-put_took g roles b class = fewer_from (λ c. is_taken (roles c)) (λ c. is_taken (with_put roles b class c)) 0 g.n (λ k from. by k (cases_eq k b))
-  where
-    by : (k : ℕ) → (k ≡ b) ⊎ (k ≢ b) → is_taken (with_put roles b class k) ≡ true → is_taken (roles k) ≡ true
-    by k (inl e) is = ap (λ x. is_taken (roles x)) e ∙ put_taken class (roles b) (ap is_taken (sym (cond-true (k == b) (put_role class (roles b)) (roles k) (eq-eqb k b e))) ∙ is)
-    by k (inr d) is = ap is_taken (sym (cond-false (k == b) (put_role class (roles b)) (roles k) (ne_eqb k b d))) ∙ is
-
-changed_taken : (x : Bool) (r : Role) → is_taken (cond x Changed r) ≡ true → is_taken r ≡ true
-changed_taken true r e = absurd (false≢true e)
-changed_taken false r e = e
+put_took g roles b class = fewer_from (λ c. is_taken (roles c)) (λ c. is_taken (with_put roles b class c)) 0 g.n (λ k from is. grind (arith, nat_tests, is))
 
 pub take_took : (g : Geometry) (roles : ℕ → Role) (b : ℕ) → count_roles g is_taken (with_takes g roles (b ∷ [])) ≤ count_roles g is_taken roles + 1
-take_took g roles b = one_from (λ c. is_taken (roles c)) (λ c. is_taken (with_takes g roles (b ∷ []) c)) b 0 g.n (λ k d is.
-    changed_taken (has_bit g (b ∷ []) k) (roles k) (ap is_taken (sym (cond-false (has (b ∷ []) k) Bare (cond (has_bit g (b ∷ []) k) Changed (roles k)) (has_one b k ∙ ne_eqb k b d))) ∙ is))
+take_took g roles b = one_from (λ c. is_taken (roles c)) (λ c. is_taken (with_takes g roles (b ∷ []) c)) b 0 g.n (λ k d is. grind (arith, nat_tests, is, d))
 
 pub free_took : (g : Geometry) (roles : ℕ → Role) (b : ℕ) → count_roles g is_taken (with_free g roles b) ≤ count_roles g is_taken roles
-free_took g roles b = fewer_from (λ c. is_taken (roles c)) (λ c. is_taken (with_free g roles b c)) 0 g.n (λ k from is. changed_taken (k == bit_block g b) (roles k) (other (k == b) (cond (k == bit_block g b) Changed (roles k)) is))
-  where
-    other : (x : Bool) (r : Role) → is_taken (cond x Untouched r) ≡ true → is_taken r ≡ true
-    other true r e = absurd (false≢true e)
-    other false r e = e
+free_took g roles b = fewer_from (λ c. is_taken (roles c)) (λ c. is_taken (with_free g roles b c)) 0 g.n (λ k from is. grind (arith, is))
 
 -- Bits.
 
@@ -88,11 +67,7 @@ bit_kept g now new b x e from k low =
     (ap (λ l. blocks_of l (bitmap_start g + k / 8192)) e ∙ get_or-set_other now b (bitmap_start g + k / 8192) x [] (λ h. omega (arith, h, from, low)))
 
 pub marks_kept : (g : Geometry) (now new : List (List ℕ)) (b : ℕ) (x : List ℕ) → new ≡ slice_set now b x → table_start g ≤ b → marks_of g (blocks_of new) ≡ marks_of g (blocks_of now)
-marks_kept g now new b x e from = fun_ext (λ k. by k (cases_Bool (nat_lt k g.n)))
-  where
-    by : (k : ℕ) → (nat_lt k g.n ≡ true) ⊎ (nat_lt k g.n ≡ false) → marks_of g (blocks_of new) k ≡ marks_of g (blocks_of now) k
-    by k (inl t) = ap (λ y. nat_lt k g.n && y) (bit_kept g now new b x e from k (ltb-true k g.n t))
-    by k (inr f) = ap (λ y. y && is_set g (blocks_of new) k) f ∙ sym (ap (λ y. y && is_set g (blocks_of now) k) f)
+marks_kept g now new b x e from = fun_ext (λ k. grind (arith, nat_tests, bit_kept g now new b x e from k))
 
 pub free_kept : (g : Geometry) (now new : List (List ℕ)) (b : ℕ) (x : List ℕ) → new ≡ slice_set now b x → table_start g ≤ b → length (free_blocks g (bits_of g (blocks_of new))) ≡ length (free_blocks g (bits_of g (blocks_of now)))
 free_kept g now new b x e from = ap length (same_from (λ k. not (is_set g (blocks_of new) k)) (λ k. not (is_set g (blocks_of now) k)) (data_start g) (g.n - data_start g)
@@ -109,33 +84,13 @@ pub becomes_one : (g : Geometry) (old new : Blocks) (b : ℕ) (bit : Bool) → I
 becomes_one g old new b bit w k = w.bits k ∙ ap (λ x. cond x bit (is_set g old k)) (has_one b k)
 
 pub take_marks : (g : Geometry) (old new : Blocks) (b : ℕ) → b < g.n → IsWithBits g old new (b ∷ []) true → marks_of g new ≡ (λ k. has (b ∷ []) k || marks_of g old k)
-take_marks g old new b low w = fun_ext (λ k. ap (λ x. nat_lt k g.n && x) (w.bits k) ∙ by k (cases_eq k b))
-  where
-    by : (k : ℕ) → (k ≡ b) ⊎ (k ≢ b) → (nat_lt k g.n && cond (has (b ∷ []) k) true (is_set g old k)) ≡ (has (b ∷ []) k || (nat_lt k g.n && is_set g old k))
-    by k (inl e) =
-        ap₂ (λ x y. x && cond y true (is_set g old k)) (lt-ltb k g.n (omega (arith, e, low))) (has_one b k ∙ eq-eqb k b e)
-        ∙ sym (ap (λ y. y || (nat_lt k g.n && is_set g old k)) (has_one b k ∙ eq-eqb k b e))
-    by k (inr d) =
-        ap (λ y. nat_lt k g.n && cond y true (is_set g old k)) (has_one b k ∙ ne_eqb k b d)
-        ∙ sym (ap (λ y. y || (nat_lt k g.n && is_set g old k)) (has_one b k ∙ ne_eqb k b d))
+take_marks g old new b low w = fun_ext (λ k. grind (arith, nat_tests, w.bits k, low))
 
 pub free_marks : (g : Geometry) (old new : Blocks) (b : ℕ) → b < g.n → IsWithBits g old new (b ∷ []) false → marks_of g new ≡ (λ k. cond (k == b) false (marks_of g old k))
-free_marks g old new b low w = fun_ext (λ k. ap (λ x. nat_lt k g.n && x) (w.bits k) ∙ by k (cases_eq k b))
-  where
-    by : (k : ℕ) → (k ≡ b) ⊎ (k ≢ b) → (nat_lt k g.n && cond (has (b ∷ []) k) false (is_set g old k)) ≡ cond (k == b) false (nat_lt k g.n && is_set g old k)
-    by k (inl e) =
-        ap₂ (λ x y. x && cond y false (is_set g old k)) (lt-ltb k g.n (omega (arith, e, low))) (has_one b k ∙ eq-eqb k b e)
-        ∙ sym (ap (λ y. cond y false (nat_lt k g.n && is_set g old k)) (eq-eqb k b e))
-    by k (inr d) =
-        ap (λ y. nat_lt k g.n && cond y false (is_set g old k)) (has_one b k ∙ ne_eqb k b d)
-        ∙ sym (ap (λ y. cond y false (nat_lt k g.n && is_set g old k)) (ne_eqb k b d))
+free_marks g old new b low w = fun_ext (λ k. grind (arith, nat_tests, w.bits k, low))
 
 pub take_reusable : (old new : Blocks) (b : ℕ) → BitBecomes old new b true → clear_in new ≡ (λ k. not (has (b ∷ []) k) && clear_in old k)
-take_reusable old new b w = fun_ext (λ k. ap not (w k) ∙ by (k == b) (bit_in old k) ∙ ap (λ x. not x && not (bit_in old k)) (sym (has_one b k)))
-  where
-    by : (x y : Bool) → not (cond x true y) ≡ (not x && not y)
-    by true y = refl
-    by false y = refl
+take_reusable old new b w = fun_ext (λ k. grind (arith, w k))
 
 -- what held of equal lists
 pub becomes_along : (old new old' new' : List (List ℕ)) (b : ℕ) (bit : Bool) → old' ≡ old → new' ≡ new → BitBecomes (blocks_of old) (blocks_of new) b bit → BitBecomes (blocks_of old') (blocks_of new') b bit
@@ -144,25 +99,23 @@ becomes_along old new old' new' b bit e f w k = ap (λ l. bit_in (blocks_of l) k
 pub bit_here : (old new : Blocks) (b : ℕ) (bit : Bool) → BitBecomes old new b bit → bit_in new b ≡ bit
 bit_here old new b bit w = w b ∙ cond-true (b == b) bit (bit_in old b) (eq-eqb b b refl)
 
-pub bit_elsewhere : (old new : Blocks) (b : ℕ) (bit : Bool) → BitBecomes old new b bit → (k : ℕ) → k ≢ b → bit_in new k ≡ bit_in old k
+bit_elsewhere : (old new : Blocks) (b : ℕ) (bit : Bool) → BitBecomes old new b bit → (k : ℕ) → k ≢ b → bit_in new k ≡ bit_in old k
 bit_elsewhere old new b bit w k d = w k ∙ cond-false (k == b) bit (bit_in old k) (ne_eqb k b d)
 
 -- what may be taken isn't marked, after a block was taken
 pub take_unmarked : (g : Geometry) (bits bits' busy busy' : Blocks) (b : ℕ) → BitBecomes busy busy' b true → BitBecomes bits bits' b true → ((k : ℕ) → IsFree g busy k → bit_in bits k ≡ false)
     → (k : ℕ) → IsFree g busy' k → bit_in bits' k ≡ false
-take_unmarked g bits bits' busy busy' b w v unmarked k free = by (cases_eq k b)
-  where
-    by : (k ≡ b) ⊎ (k ≢ b) → bit_in bits' k ≡ false
-    by (inl e) = absurd (false≢true (sym free.clear ∙ ap (bit_in busy') e ∙ bit_here busy busy' b true w))
-    by (inr d) = bit_elsewhere bits bits' b true v k d ∙ unmarked k (record { from = free.from; below = free.below; clear = sym (bit_elsewhere busy busy' b true w k d) ∙ free.clear })
+take_unmarked g bits bits' busy busy' b w v unmarked k free = elim (cases_eq k b) [
+  | inl e ↦ absurd (false≢true (sym free.clear ∙ ap (bit_in busy') e ∙ bit_here busy busy' b true w))
+  | inr d ↦ bit_elsewhere bits bits' b true v k d ∙ unmarked k (record { from = free.from; below = free.below; clear = sym (bit_elsewhere busy busy' b true w k d) ∙ free.clear })
+]
 
 -- and after one was freed
 pub free_unmarked : (g : Geometry) (bits bits' busy : Blocks) (b : ℕ) → BitBecomes bits bits' b false → ((k : ℕ) → IsFree g busy k → bit_in bits k ≡ false) → (k : ℕ) → IsFree g busy k → bit_in bits' k ≡ false
-free_unmarked g bits bits' busy b v unmarked k free = by (cases_eq k b)
-  where
-    by : (k ≡ b) ⊎ (k ≢ b) → bit_in bits' k ≡ false
-    by (inl e) = ap (bit_in bits') e ∙ bit_here bits bits' b false v
-    by (inr d) = bit_elsewhere bits bits' b false v k d ∙ unmarked k free
+free_unmarked g bits bits' busy b v unmarked k free = elim (cases_eq k b) [
+  | inl e ↦ ap (bit_in bits') e ∙ bit_here bits bits' b false v
+  | inr d ↦ bit_elsewhere bits bits' b false v k d ∙ unmarked k free
+]
 
 -- a block that is marked is one of the live ones
 pub some_live : (g : Geometry) (bits bits' : Blocks) (live : ℕ) → live + length (free_blocks g bits) ≡ g.n - data_start g → length (free_blocks g bits') ≡ length (free_blocks g bits) + 1 → 1 ≤ live

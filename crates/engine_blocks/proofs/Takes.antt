@@ -1,8 +1,9 @@
 -- Blocks of a list are taken one by one.
 use Rattle.std.proofs.Common.{◌≡◌, ◌≢◌, ℕ, zero, suc, ◌+◌, ◌-◌, ◌<◌, ◌==◌, Bool, true, false, not, ◌&&◌, ◌||◌, cond, List, [], ◌∷◌, ◌++◌, length, take, get_or, AllPairs, refl, sym, ap, ap₂, ◌∙◌, arith}
-use Rattle.std.proofs.lemmas.Bool.{ne_eqb, false≢true, or_parts}
+use Rattle.std.proofs.lemmas.Bool.{ne_eqb, or_parts}
 use Rattle.std.proofs.lemmas.List.{length_push}
 use Rattle.std.proofs.lemmas.List.Elements.{All-take}
+use Rattle.std.proofs.lemmas.Bool.Decides.{nat_tests}
 use mathlib.Core.Path.{fun_ext}
 use Rattle.base_types.specs.Seal.{Blocks}
 use Rattle.layout_geometry.specs.Geometry.{Geometry}
@@ -18,32 +19,16 @@ use Rattle.engine_blocks.proofs.Members.{has_one, has_bit_one, has_push, has_bit
 
 -- the number t is the last one, u is its bit's block, h is among the others, and v is a bit's block of theirs
 role_by : (t u h v : Bool) (r : Role) → (h ≡ true → u ≡ false) → cond t Bare (cond u Changed (cond h Bare (cond v Changed r))) ≡ cond (h || t) Bare (cond (v || u) Changed r)
-role_by true u true v r apart = refl
-role_by true u false v r apart = refl
-role_by false true true v r apart = absurd (false≢true (sym (apart refl)))
-role_by false true false true r apart = refl
-role_by false true false false r apart = refl
-role_by false false true v r apart = refl
-role_by false false false true r apart = refl
-role_by false false false false r apart = refl
+role_by t u h v r apart = grind (arith, apart)
 
 mark_by : (t h m : Bool) → (t || (h || m)) ≡ ((h || t) || m)
-mark_by true true m = refl
-mark_by true false m = refl
-mark_by false true m = refl
-mark_by false false m = refl
+mark_by t h m = grind arith
 
 clear_by : (t h u : Bool) → (not t && (not h && u)) ≡ (not (h || t) && u)
-clear_by true true u = refl
-clear_by true false u = refl
-clear_by false true u = refl
-clear_by false false u = refl
+clear_by t h u = grind arith
 
 bit_by : (t h o : Bool) → cond t true (cond h true o) ≡ cond (h || t) true o
-bit_by true true o = refl
-bit_by true false o = refl
-bit_by false true o = refl
-bit_by false false o = refl
+bit_by t h o = grind arith
 
 -- One more.
 
@@ -88,9 +73,7 @@ take_more_bits g old mid new xs b v w = record {
 pub not_before : (xs : List ℕ) (i d : ℕ) → i < length xs → AllPairs (λ a b. a ≢ b) xs → has (take i xs) (get_or xs i d) ≡ false
 not_before [] i d low pairs = absurd (omega (arith, low))
 not_before (x ∷ xs) zero d low pairs = refl
-not_before (x ∷ xs) (suc i) d low pairs =
-    ap (λ t. t || has (take i xs) (get_or xs i d)) (ne_eqb (get_or xs i d) x (λ e. pairs 0 (suc i) d (omega arith) low (sym e)))
-    ∙ not_before xs i d (omega (arith, low)) (λ j k e a b. pairs (suc j) (suc k) e (omega (arith, a)) (omega (arith, b)))
+not_before (x ∷ xs) (suc i) d low pairs = grind (arith, nat_tests, pairs 0 (suc i) d, low, not_before xs i d (omega (arith, low)) (λ j k e a b. pairs (suc j) (suc k) e (omega (arith, a)) (omega (arith, b))))
 
 -- the next one may be taken after those before it
 pub may_next : (k : Bookkeeping) (xs : List ℕ) (i d : ℕ) → i < length xs → MayBeTaken k.geom k.reusable xs → IsReusable k.geom (after_take k (take i xs)).reusable (get_or xs i d)

@@ -79,10 +79,7 @@ nothing_on old mid new a b = record {
   awaits = λ p t. (λ is. (a.awaits p t).0 ((b.awaits p t).0 is), λ is. (b.awaits p t).1 ((a.awaits p t).1 is));
 }
 
--- the disk is left alone, twice
-pub leaves_on : (tells : Bool) (old mid new : State) → LeavesDisk tells old mid → LeavesDisk tells mid new → LeavesDisk tells old new
-leaves_on tells old mid new a b = record { counts = b.counts ∙ a.counts; crash = λ t. nothing_on old mid new (a.crash t) (b.crash t) }
-
+-- the disk is left alone where nothing is done
 pub leaves_not : (tells : Bool) (s : State) → LeavesDisk tells s s
 leaves_not tells s = record {
   counts = refl;
@@ -122,13 +119,4 @@ disk_on failed old mid new a b = record {
   stopped = b.stopped;
   read_faults = b.read_faults ∙ a.read_faults;
   waits = omega (arith, a.waits, b.waits);
-}
-
--- the disk's counts where it was used in the midst alone
-pub disk_along : (failed : Bool) (old s t new : State) → s.counts ≡ old.counts → UsesDisk failed s t → new.counts ≡ t.counts → new.books.stopped ≡ t.books.stopped → UsesDisk failed old new
-disk_along failed old s t new before d after stays = record {
-  faults = ap (λ c. c.faults) after ∙ d.faults ∙ ap (λ c. after_call failed c.faults) before;
-  stopped = stays ∙ d.stopped;
-  read_faults = ap (λ c. c.read_faults) after ∙ d.read_faults ∙ ap (λ c. c.read_faults) before;
-  waits = omega (arith, ap (λ c. c.waits) before, d.waits, ap (λ c. c.waits) after);
 }

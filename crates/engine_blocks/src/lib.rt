@@ -6,7 +6,6 @@
 
 mod bits;
 mod blocks;
-mod clients;
 mod figures;
 mod formatting;
 mod history;
@@ -16,7 +15,6 @@ mod refusals;
 mod role;
 
 pub use blocks::Blocks;
-pub use clients::{fill_lowest, put_all, tick_then_sync};
 pub use figures::Figures;
 pub use laws::{a_commit_grows_by_each_call, calls_compose, the_lowest_may_be_taken};
 pub use plain::PlainBlocks;

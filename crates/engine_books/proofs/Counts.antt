@@ -1,6 +1,7 @@
 -- How many numbers of a range pass a test that changes at one number, or that a row or a list decides.
-use Rattle.std.proofs.Common.{◌≡◌, ◌≢◌, ℕ, zero, suc, ◌+◌, ◌<◌, ◌≤◌, ◌==◌, Bool, true, false, cond, List, [], ◌∷◌, length, Some, is_some, refl, sym, ap, ◌∙◌, arith, ◌⊎◌, inl, inr}
-use Rattle.std.proofs.lemmas.Bool.{cases_Bool, cases_eq, cond-true, cond-false, eq-eqb, ne_eqb}
+use Rattle.std.proofs.Common.{◌≡◌, ◌≢◌, ℕ, zero, suc, ◌+◌, ◌<◌, ◌≤◌, ◌==◌, Bool, true, false, cond, List, [], ◌∷◌, length, Some, is_some, refl, sym, ap, ◌∙◌, arith, inl, inr}
+use Rattle.std.proofs.lemmas.Bool.Decides.{nat_tests}
+use Rattle.std.proofs.lemmas.Bool.{cases_eq, cond-true, cond-false, eq-eqb, ne_eqb}
 use Rattle.crash_argument.specs.HomeTest.{is_one_of}
 use Rattle.engine_running.specs.declared.put.Put.{Put}
 use Rattle.engine_running.specs.Rows.{IsRising, put_of}
@@ -19,63 +20,47 @@ as_many p q a n same = ap length (same_from p q a n same)
 -- one number passes no more
 pub one_less : (p q : ℕ → Bool) (x a n : ℕ) → a ≤ x → x < a + n → p x ≡ true → q x ≡ false → ((k : ℕ) → a ≤ k → k < a + n → k ≢ x → q k ≡ p k) → counted q a n + 1 ≡ counted p a n
 one_less p q x a zero low high is not_now others = absurd (omega (arith, low, high))
-one_less p q x a (suc n) low high is not_now others = by (cases_eq a x) (cases_Bool (p a)) (λ d. one_less p q x (a + 1) n (omega (arith, low, d)) (omega (arith, high)) is not_now (λ k from below. others k (omega (arith, from)) (omega (arith, below))))
-  where
-    behind : a ≡ x → counted q (a + 1) n ≡ counted p (a + 1) n
-    behind e = as_many q p (a + 1) n (λ b from below. others b (omega (arith, from)) (omega (arith, below)) (λ h. omega (arith, h, e, from)))
+one_less p q x a (suc n) low high is not_now others = elim (cases_eq a x) [
+  | inl e ↦ omega (arith, first_passes p a n (ap p e ∙ is), first_fails q a n (ap q e ∙ not_now), as_many q p (a + 1) n (λ b from below. others b (omega (arith, from)) (omega (arith, below)) (λ h. omega (arith, h, e, from))))
+  | inr d ↦ grind (
+    arith,
+    first_passes p a n,
+    first_passes q a n,
+    first_fails p a n,
+    first_fails q a n,
+    others a (omega arith) (omega arith) d,
+    one_less p q x (a + 1) n (omega (arith, low, d)) (omega (arith, high)) is not_now (λ k from below. others k (omega (arith, from)) (omega (arith, below))),
+  )
+]
 
-    by : (a ≡ x) ⊎ (a ≢ x) → (p a ≡ true) ⊎ (p a ≡ false) → (a ≢ x → counted q (a + 1) n + 1 ≡ counted p (a + 1) n) → counted q a (suc n) + 1 ≡ counted p a (suc n)
-    by (inl e) c rest = omega (arith, first_passes p a n (ap p e ∙ is), first_fails q a n (ap q e ∙ not_now), behind e)
-    by (inr d) (inl f) rest = omega (arith, first_passes p a n f, first_passes q a n (others a (omega arith) (omega arith) d ∙ f), rest d)
-    by (inr d) (inr f) rest = omega (arith, first_fails p a n f, first_fails q a n (others a (omega arith) (omega arith) d ∙ f), rest d)
+-- a test that fails passes none
+none_pass : (a n : ℕ) → counted (λ b. false) a n ≡ 0
+none_pass a zero = refl
+none_pass a (suc n) = none_pass (a + 1) n
 
 -- the number of blocks that ascending puts are of
 pub row_counted : (row : List Put) (n : ℕ) → IsRising row → ((b : ℕ) → has_put b row ≡ true → b < n) → counted (λ b. has_put b row) 0 n ≡ length row
-row_counted [] n rising below = none 0 n
-  where
-    none : (a n : ℕ) → counted (λ b. has_put b []) a n ≡ 0
-    none a zero = refl
-    none a (suc n) = none (a + 1) n
+row_counted [] n rising below = none_pass 0 n
 row_counted (q ∷ qs) n rising below =
     omega (
       arith,
       one_less (λ b. has_put b (q ∷ qs)) (λ b. has_put b qs) q.block 0 n (omega arith) (omega (arith, below q.block here)) here
-          (ap is_some (none_put q.block qs (λ k p is e. above q.block p.block (rising_head q qs rising k p is) e)))
+          (ap is_some (none_put q.block qs (λ k p is e. omega (arith, rising_head q qs rising k p is, e))))
           (λ k from upto d. sym (ap is_some (cond-false (q.block == k) (Some q.bytes) (put_of k qs) (ne_eqb q.block k (λ e. d (sym e)))))),
-      row_counted qs n (rising_tail q qs rising) (λ b is. below b (more b (q.block == b) is)),
+      row_counted qs n (rising_tail q qs rising) (λ b is. below b (grind (arith, is))),
     )
   where
     here : has_put q.block (q ∷ qs) ≡ true
     here = ap is_some (cond-true (q.block == q.block) (Some q.bytes) (put_of q.block qs) (eq-eqb q.block q.block refl))
 
-    above : (a b : ℕ) → a < b → b ≢ a
-    above a b lt e = omega (arith, lt, e)
-
-    more : (b : ℕ) (u : Bool) → has_put b qs ≡ true → is_some (cond u (Some q.bytes) (put_of b qs)) ≡ true
-    more b true is = refl
-    more b false is = is
-
 -- a list has no more numbers than places
 pub list_counted : (ns : List ℕ) (a n : ℕ) → counted (λ b. is_one_of b ns) a n ≤ length ns
-list_counted [] a n = none a n
-  where
-    none : (a n : ℕ) → counted (λ b. is_one_of b []) a n ≤ 0
-    none a zero = omega arith
-    none a (suc n) = none (a + 1) n
+list_counted [] a n = omega (arith, none_pass a n)
 list_counted (m ∷ ms) a n = omega (arith, one_more (λ b. is_one_of b ms) m a n, list_counted ms a n)
   where
     one_more : (p : ℕ → Bool) (m a n : ℕ) → counted (λ b. cond (m == b) true (p b)) a n ≤ counted p a n + 1
     one_more p m a zero = omega arith
-    one_more p m a (suc n) = by (cases_eq m a) (cases_Bool (p a)) (one_more p m (a + 1) n)
-      where
-        q : ℕ → Bool
-        q b = cond (m == b) true (p b)
-
-        behind : m ≡ a → counted q (a + 1) n ≡ counted p (a + 1) n
-        behind e = as_many q p (a + 1) n (λ b from below. cond-false (m == b) true (p b) (ne_eqb m b (λ h. omega (arith, h, e, from))))
-
-        by : (m ≡ a) ⊎ (m ≢ a) → (p a ≡ true) ⊎ (p a ≡ false) → counted q (a + 1) n ≤ counted p (a + 1) n + 1 → counted q a (suc n) ≤ counted p a (suc n) + 1
-        by (inl e) (inl f) rest = omega (arith, first_passes q a n (cond-true (m == a) true (p a) (eq-eqb m a e)), first_passes p a n f, behind e)
-        by (inl e) (inr f) rest = omega (arith, first_passes q a n (cond-true (m == a) true (p a) (eq-eqb m a e)), first_fails p a n f, behind e)
-        by (inr d) (inl f) rest = omega (arith, first_passes q a n (cond-false (m == a) true (p a) (ne_eqb m a d) ∙ f), first_passes p a n f, rest)
-        by (inr d) (inr f) rest = omega (arith, first_fails q a n (cond-false (m == a) true (p a) (ne_eqb m a d) ∙ f), first_fails p a n f, rest)
+    one_more p m a (suc n) = elim (cases_eq m a) [
+      | inl e ↦ grind (arith, e, as_many (λ b. cond (m == b) true (p b)) p (a + 1) n (λ b from below. cond-false (m == b) true (p b) (ne_eqb m b (λ h. omega (arith, h, e, from)))))
+      | inr d ↦ grind (arith, nat_tests, d, one_more p m (a + 1) n)
+    ]

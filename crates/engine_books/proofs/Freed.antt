@@ -1,10 +1,11 @@
 -- The books once a block is freed.
-use Rattle.std.proofs.Common.{◌≡◌, ◌≢◌, ℕ, ◌+◌, ◌-◌, ◌/◌, ◌<◌, ◌≤◌, ◌==◌, nat_lt, Bool, true, false, not, ◌||◌, ◌&&◌, cond, List, [], ◌∷◌, ◌++◌, length, Option, Some, None, is_some, refl, sym, ap, ap₂, subst, ◌∙◌, arith, ◌⊎◌, inl, inr, length-append}
-use Rattle.std.proofs.lemmas.Bool.{cases_Bool, cases_eq, cond-true, cond-false, eq-eqb, lt-ltb, false≢true, ne_eqb}
+use Rattle.std.proofs.Common.{◌≡◌, ◌≢◌, ℕ, ◌+◌, ◌-◌, ◌/◌, ◌<◌, ◌≤◌, ◌==◌, nat_lt, Bool, true, false, not, ◌||◌, ◌&&◌, cond, List, [], ◌∷◌, ◌++◌, length, Option, Some, None, is_some, refl, sym, ap, ap₂, subst, ◌∙◌, arith, inl, inr, length-append}
+use Rattle.std.proofs.lemmas.Bool.{cases_Bool, cases_eq, cond-true, cond-false, eq-eqb, lt-ltb, false≢true, ne_eqb, not-false, false_from_ne_true}
 use Rattle.std.proofs.lemmas.Option.{same_Some, none-some}
+use Rattle.std.proofs.Math.Bool.{and-false}
 use mathlib.Core.Path.{fun_ext}
 use Rattle.base_types.specs.Seal.{Blocks, blocks_of}
-use Rattle.layout_geometry.specs.Geometry.{LiesIn, bitmap_start, bitmap_blocks, data_start}
+use Rattle.layout_geometry.specs.Geometry.{LiesIn, bitmap_start, data_start}
 use Rattle.layout_geometry.specs.Geometry.Area.{Data}
 use Rattle.layout_bitmap.specs.Bits.{bit_in, free_blocks}
 use Rattle.layout_journal.specs.Run.{or_else, otherwise}
@@ -22,7 +23,7 @@ use Rattle.engine_books.specs.Books.{TransactionBooks, has_put, bit_now, is_take
 use Rattle.engine_books.specs.Kept.{AreKept, BitsAgree, HasBoxes}
 use Rattle.engine_books.specs.Point.{BeganAt}
 use Rattle.engine_books.specs.Taking.{GivesUp, bits_put}
-use Rattle.engine_books.proofs.Tests.{eqb_sym, not_true}
+use Rattle.engine_books.proofs.Tests.{eqb_sym}
 use Rattle.engine_books.proofs.Rows.{put_with, put_without}
 use Rattle.engine_books.proofs.Numbers.{one_is_any}
 use Rattle.engine_books.proofs.Counts.{as_many}
@@ -58,10 +59,6 @@ one_in x xs ys is = one_is_any x (xs ++ ys) ∙ among_first x xs ys (sym (one_is
 
 one_last : (x : ℕ) (xs : List ℕ) → is_one_of x (xs ++ x ∷ []) ≡ true
 one_last x xs = one_is_any x (xs ++ x ∷ []) ∙ among_last x xs (x ∷ []) (ap (λ u. u || false) (eq-eqb x x refl))
-
-and_false : (u : Bool) → (u && false) ≡ false
-and_false true = refl
-and_false false = refl
 
 module _ (v : TransactionBooks) (bitmap : List (List ℕ)) (mid c : Changes) (dead : DeadBlocks) (live b : ℕ) (k : AreKept v) (from : data_start v.geom ≤ b) (below : b < v.geom.n)
     (h : GivesUp b v (record v { bitmap = bitmap; changes = mid; dead = dead; live = live })) (o1 : IsOrdered mid.paid mid.laid) (put : Puts false (bits_put (record v { bitmap = bitmap }) b) mid c) where
@@ -99,15 +96,11 @@ module _ (v : TransactionBooks) (bitmap : List (List ℕ)) (mid c : Changes) (de
   ]
     where
       unmarked : bit_now v b ≡ false → length v.dead.held + cond (is_marked v b) 1 0 ≡ length v.dead.held
-      unmarked f = ap (λ u. length v.dead.held + cond (nat_lt b v.geom.n && u) 1 0) f ∙ ap (λ u. length v.dead.held + cond u 1 0) (and_false (nat_lt b v.geom.n)) ∙ omega arith
-
-      off : (u : Bool) → not u ≡ false → u ≡ true
-      off true e = refl
-      off false e = absurd (false≢true (sym e))
+      unmarked f = ap (λ u. length v.dead.held + cond (nat_lt b v.geom.n && u) 1 0) f ∙ ap (λ u. length v.dead.held + cond u 1 0) (and-false (nat_lt b v.geom.n)) ∙ omega arith
 
       among_it : (x : ℕ) → bit_now v b ≡ false → is_among x (dead_blocks v.dead) ≡ (b == x || is_among x (dead_blocks v.dead))
       among_it x f = elim (cases_eq b x) [
-        | inl e ↦ ap (λ y. is_among y (dead_blocks v.dead)) (sym e) ∙ off (is_among b (dead_blocks v.dead)) (sym (k.bits.same b lies) ∙ f) ∙ sym (ap (λ u. u || is_among x (dead_blocks v.dead)) (eq-eqb b x e))
+        | inl e ↦ ap (λ y. is_among y (dead_blocks v.dead)) (sym e) ∙ not-false (is_among b (dead_blocks v.dead)) (sym (k.bits.same b lies) ∙ f) ∙ sym (ap (λ u. u || is_among x (dead_blocks v.dead)) (eq-eqb b x e))
         | inr d ↦ sym (ap (λ u. u || is_among x (dead_blocks v.dead)) (ne_eqb b x d))
       ]
 
@@ -140,6 +133,13 @@ module _ (v : TransactionBooks) (bitmap : List (List ℕ)) (mid c : Changes) (de
   apart : bit_block v.geom b ≢ b
   apart e = omega (arith, e, from, below)
 
+  -- what holds of the block, of that with its bit, and of the others holds of each
+  at_each : (P : ℕ → Type 0) → P b → P (bit_block v.geom b) → ((x : ℕ) → x ≢ b → x ≢ bit_block v.geom b → P x) → (x : ℕ) → P x
+  at_each P here there other x = elim (cases_eq x b) [
+    | inl e ↦ subst P (sym e) here
+    | inr d ↦ elim (cases_eq x (bit_block v.geom b)) [ inl e ↦ subst P (sym e) there | inr a ↦ other x d a ]
+  ]
+
   -- the puts of the block, of that with its bit, and of the others
   paid_here : put_of b c.paid ≡ None
   paid_here = paid b ∙ cond-false (bit_block v.geom b == b) (Some (blocks_of bitmap (b / 8192))) (cond (b == b) None (put_of b v.changes.paid)) (ne_eqb (bit_block v.geom b) b apart) ∙ cond-true (b == b) None (put_of b v.changes.paid) (eq-eqb b b refl)
@@ -160,7 +160,7 @@ module _ (v : TransactionBooks) (bitmap : List (List ℕ)) (mid c : Changes) (de
   laid_other x d a = laid x ∙ cond-false (bit_block v.geom b == x) None (cond (b == x) None (put_of x v.changes.laid)) (ne_eqb (bit_block v.geom b) x (λ e. a (sym e))) ∙ cond-false (b == x) None (put_of x v.changes.laid) (ne_eqb b x (λ e. d (sym e)))
 
   not_taken : (x : ℕ) → x < data_start v.geom → is_one_of x v.changes.taken ≡ false
-  not_taken x low = not_true (is_one_of x v.changes.taken) (λ is. omega (arith, low, (k.lie.taken x is).from))
+  not_taken x low = false_from_ne_true (is_one_of x v.changes.taken) (λ is. omega (arith, low, (k.lie.taken x is).from))
 
   -- The bookkeeping.
 
@@ -170,26 +170,20 @@ module _ (v : TransactionBooks) (bitmap : List (List ℕ)) (mid c : Changes) (de
       ∙ ap₂ (λ y z. role_by (has_put x v.changes.laid) (has_put x v.changes.paid) (y && z)) (ap (is_one_of x) taken) (bit_other x d)
 
   roles : (x : ℕ) → roles_of (freed_books v bitmap c dead live) x ≡ with_free v.geom (roles_of v) b x
-  roles x = by (cases_eq x b) (cases_eq x (bit_block v.geom b))
-    where
-      by : (x ≡ b) ⊎ (x ≢ b) → (x ≡ bit_block v.geom b) ⊎ (x ≢ bit_block v.geom b) → roles_of (freed_books v bitmap c dead live) x ≡ cond (x == b) Untouched (cond (x == bit_block v.geom b) Changed (roles_of v x))
-      by (inl e) a =
-          ap (roles_of (freed_books v bitmap c dead live)) e
-          ∙ ap₂ (λ y z. role_by (is_some y) (is_some z) (is_taken_now (freed_books v bitmap c dead live) b)) laid_here paid_here
-          ∙ ap (λ y. role_by false false (is_one_of b c.taken && y)) bit_here ∙ ap (role_by false false) (and_false (is_one_of b c.taken))
-          ∙ sym (cond-true (x == b) Untouched (cond (x == bit_block v.geom b) Changed (roles_of v x)) (eq-eqb x b e))
-      by (inr d) (inl e) =
-          ap (roles_of (freed_books v bitmap c dead live)) e
-          ∙ ap₂ (λ y z. role_by (is_some y) (is_some z) (is_taken_now (freed_books v bitmap c dead live) (bit_block v.geom b))) laid_bits paid_bits
-          ∙ ap (λ y. role_by false true (y && bit_in (blocks_of bitmap) (bit_block v.geom b))) (ap (is_one_of (bit_block v.geom b)) taken ∙ not_taken (bit_block v.geom b) (omega (arith, below)))
-          ∙ sym (cond-false (x == b) Untouched (cond (x == bit_block v.geom b) Changed (roles_of v x)) (ne_eqb x b d) ∙ cond-true (x == bit_block v.geom b) Changed (roles_of v x) (eq-eqb x (bit_block v.geom b) e))
-      by (inr d) (inr a) = role_other x d a ∙ sym (cond-false (x == b) Untouched (cond (x == bit_block v.geom b) Changed (roles_of v x)) (ne_eqb x b d) ∙ cond-false (x == bit_block v.geom b) Changed (roles_of v x) (ne_eqb x (bit_block v.geom b) a))
+  roles = at_each (λ x. roles_of (freed_books v bitmap c dead live) x ≡ with_free v.geom (roles_of v) b x)
+      (ap₂ (λ y z. role_by (is_some y) (is_some z) (is_taken_now (freed_books v bitmap c dead live) b)) laid_here paid_here
+      ∙ ap (λ y. role_by false false (is_one_of b c.taken && y)) bit_here ∙ ap (role_by false false) (and-false (is_one_of b c.taken))
+      ∙ sym (cond-true (b == b) Untouched (cond (b == bit_block v.geom b) Changed (roles_of v b)) (eq-eqb b b refl)))
+      (ap₂ (λ y z. role_by (is_some y) (is_some z) (is_taken_now (freed_books v bitmap c dead live) (bit_block v.geom b))) laid_bits paid_bits
+      ∙ ap (λ y. role_by false true (y && bit_in (blocks_of bitmap) (bit_block v.geom b))) (ap (is_one_of (bit_block v.geom b)) taken ∙ not_taken (bit_block v.geom b) (omega (arith, below)))
+      ∙ sym (cond-false (bit_block v.geom b == b) Untouched (cond (bit_block v.geom b == bit_block v.geom b) Changed (roles_of v (bit_block v.geom b))) (ne_eqb (bit_block v.geom b) b apart) ∙ cond-true (bit_block v.geom b == bit_block v.geom b) Changed (roles_of v (bit_block v.geom b)) (eq-eqb (bit_block v.geom b) (bit_block v.geom b) refl)))
+      (λ x d a. role_other x d a ∙ sym (cond-false (x == b) Untouched (cond (x == bit_block v.geom b) Changed (roles_of v x)) (ne_eqb x b d) ∙ cond-false (x == bit_block v.geom b) Changed (roles_of v x) (ne_eqb x (bit_block v.geom b) a)))
 
   marks : (x : ℕ) → is_marked (freed_books v bitmap c dead live) x ≡ cond (x == b) false (is_marked v x)
   marks x = ap (λ u. nat_lt x v.geom.n && u) (bits x) ∙ by (x == b) (nat_lt x v.geom.n) (bit_now v x)
     where
       by : (e u w : Bool) → (u && cond e false w) ≡ cond e false (u && w)
-      by true u w = and_false u
+      by true u w = and-false u
       by false u w = refl
 
   pub books_freed : FreedLaw → (q : Bookkeeping) → with_books q (freed_books v bitmap c dead live) ≡ after_free (with_books q v) b
@@ -200,9 +194,6 @@ module _ (v : TransactionBooks) (bitmap : List (List ℕ)) (mid c : Changes) (de
       ∙ ap (λ (w : List (ℕ × ℕ)). record (after_free (with_books q v) b) { waiting = length w }) t.waiting
 
   -- What holds at all times.
-
-  not_bits : (x : ℕ) → data_start v.geom ≤ x → x ≢ bit_block v.geom b
-  not_bits x low e = omega (arith, e, low, below)
 
   bits_kept : FreedLaw → BitsAgree (freed_books v bitmap c dead live)
   bits_kept law = let t = dead_then law in record {
@@ -217,20 +208,13 @@ module _ (v : TransactionBooks) (bitmap : List (List ℕ)) (mid c : Changes) (de
       by false w = refl
 
   where_paid : (x : ℕ) (P : ℕ → Type 0) → has_put x c.paid ≡ true → P (bit_block v.geom b) → (has_put x v.changes.paid ≡ true → P x) → P x
-  where_paid x P is here old = by (cases_eq x b) (cases_eq x (bit_block v.geom b))
-    where
-      by : (x ≡ b) ⊎ (x ≢ b) → (x ≡ bit_block v.geom b) ⊎ (x ≢ bit_block v.geom b) → P x
-      by (inl e) a = absurd (false≢true (sym (ap is_some paid_here) ∙ ap (λ y. has_put y c.paid) (sym e) ∙ is))
-      by (inr d) (inl e) = subst P (sym e) here
-      by (inr d) (inr a) = old (sym (ap is_some (paid_other x d a)) ∙ is)
+  where_paid x P is here old = at_each (λ y. has_put y c.paid ≡ true → (has_put y v.changes.paid ≡ true → P y) → P y)
+      (λ put _. absurd (false≢true (sym (ap is_some paid_here) ∙ put))) (λ _ _. here) (λ y d a put was. was (sym (ap is_some (paid_other y d a)) ∙ put)) x is old
 
   where_laid : (x : ℕ) → has_put x c.laid ≡ true → is_taken_now (freed_books v bitmap c dead live) x ≡ true
-  where_laid x is = by (cases_eq x b) (cases_eq x (bit_block v.geom b))
-    where
-      by : (x ≡ b) ⊎ (x ≢ b) → (x ≡ bit_block v.geom b) ⊎ (x ≢ bit_block v.geom b) → is_taken_now (freed_books v bitmap c dead live) x ≡ true
-      by (inl e) a = absurd (false≢true (sym (ap is_some laid_here) ∙ ap (λ y. has_put y c.laid) (sym e) ∙ is))
-      by (inr d) (inl e) = absurd (false≢true (sym (ap is_some laid_bits) ∙ ap (λ y. has_put y c.laid) (sym e) ∙ is))
-      by (inr d) (inr a) = ap₂ (λ y z. y && z) (ap (is_one_of x) taken) (bit_other x d) ∙ k.lie.laid x (sym (ap is_some (laid_other x d a)) ∙ is)
+  where_laid = at_each (λ x. has_put x c.laid ≡ true → is_taken_now (freed_books v bitmap c dead live) x ≡ true)
+      (λ is. absurd (false≢true (sym (ap is_some laid_here) ∙ is))) (λ is. absurd (false≢true (sym (ap is_some laid_bits) ∙ is)))
+      (λ x d a is. ap₂ (λ y z. y && z) (ap (is_one_of x) taken) (bit_other x d) ∙ k.lie.laid x (sym (ap is_some (laid_other x d a)) ∙ is))
 
   boxes : 0 < v.spare.frees → HasBoxes v.spare.puts (v.spare.takes + (v.spare.frees - 1)) (freed_books v bitmap c dead live)
   boxes some = omega (
@@ -271,49 +255,32 @@ module _ (v : TransactionBooks) (bitmap : List (List ℕ)) (mid c : Changes) (de
 
   pub began_freed : FreedLaw → length (blocks_of bitmap (b / 8192)) ≡ 1024 → (last : Blocks) → BeganAt v last → BeganAt (freed_books v bitmap c dead live) last
   began_freed law full last began = let t = dead_then law in record {
-    bitmap = λ i low. bitmap_now i low (cases_eq i (b / 8192));
+    bitmap = λ i low. elim (cases_eq i (b / 8192)) [
+      | inl e ↦ ap (λ j. bytes_over c last (bitmap_start v.geom + j)) e ∙ ap₂ (λ x y. otherwise (or_else x y) (last (bit_block v.geom b))) laid_bits paid_bits ∙ ap (blocks_of bitmap) (sym e)
+      | inr d ↦
+          let not_it : bitmap_start v.geom + i ≢ b = λ e. omega (arith, e, low, from) in
+          let not_at : bitmap_start v.geom + i ≢ bit_block v.geom b = λ e. d (omega (arith, e)) in
+          same_bytes v.changes c last (bitmap_start v.geom + i) (laid_other (bitmap_start v.geom + i) not_it not_at) (paid_other (bitmap_start v.geom + i) not_it not_at) ∙ began.bitmap i low ∙ sym (h.others i d)
+    ];
     was_dead = λ x is. began.was_dead x (ap (is_one_of x) (sym taken) ∙ is);
     took = λ x low is out. ap (is_one_of x) taken ∙ began.took x low (sym (bit_other x (λ e. false≢true (sym bit_here ∙ ap (bit_in (blocks_of bitmap)) (sym e) ∙ is))) ∙ is) out;
     killed = λ x low is set. ap (is_one_of x) put.freed ∙ elim (cases_Bool (bit_now v x)) [
-      | inl e ↦ was_it t x is e (cases_eq x b)
+      | inl e ↦ elim (cases_eq x b) [ inl s ↦ ap (λ y. is_one_of y mid.freed) s ∙ t.it (ap (bit_now v) (sym s) ∙ e) | inr d ↦ absurd (false≢true (sym is ∙ bit_other x d ∙ e)) ]
       | inr f ↦ t.more x (began.killed x low f set)
     ];
-    marked = λ x low is. shown x low is (cases_eq x b);
-    whole = λ x bytes is. all x bytes is (cases_eq x b) (cases_eq x (bit_block v.geom b));
+    marked = at_each (λ x. data_start v.geom ≤ x → is_some (bytes_put c x) ≡ true → bit_in (blocks_of bitmap) x ≡ true)
+        (λ low is. absurd (false≢true (sym (ap₂ (λ y z. is_some (or_else y z)) laid_here paid_here) ∙ is))) (λ low is. absurd (omega (arith, low, below)))
+        (λ x d a low is. bit_other x d ∙ began.marked x low (sym (ap₂ (λ y z. is_some (or_else y z)) (laid_other x d a) (paid_other x d a)) ∙ is));
+    whole = at_each (λ x. (bytes : List ℕ) → bytes_put c x ≡ Some bytes → length bytes ≡ 1024)
+        (λ bytes is. absurd (none-some bytes (sym (ap₂ or_else laid_here paid_here) ∙ is)))
+        (λ bytes is. ap (λ (y : List ℕ). length y) (sym (same_Some (blocks_of bitmap (b / 8192)) bytes (sym (ap₂ or_else laid_bits paid_bits) ∙ is))) ∙ full)
+        (λ x d a bytes is. began.whole x bytes (sym (ap₂ or_else (laid_other x d a) (paid_other x d a)) ∙ is));
   }
-    where
-      was_it : DeadThen v b bitmap mid.freed dead live → (x : ℕ) → bit_in (blocks_of bitmap) x ≡ false → bit_now v x ≡ true → (x ≡ b) ⊎ (x ≢ b) → is_one_of x mid.freed ≡ true
-      was_it t x is e (inl s) = ap (λ y. is_one_of y mid.freed) s ∙ t.it (ap (bit_now v) (sym s) ∙ e)
-      was_it t x is e (inr d) = absurd (false≢true (sym is ∙ bit_other x d ∙ e))
-
-      bitmap_now : (i : ℕ) → i < bitmap_blocks v.geom → (i ≡ b / 8192) ⊎ (i ≢ b / 8192) → bytes_over c last (bitmap_start v.geom + i) ≡ blocks_of bitmap i
-      bitmap_now i low (inl e) =
-          ap (λ j. bytes_over c last (bitmap_start v.geom + j)) e
-          ∙ ap₂ (λ x y. otherwise (or_else x y) (last (bit_block v.geom b))) laid_bits paid_bits
-          ∙ ap (blocks_of bitmap) (sym e)
-      bitmap_now i low (inr d) =
-          same_bytes v.changes c last (bitmap_start v.geom + i) (laid_other (bitmap_start v.geom + i) (not_it i low) (not_at i d)) (paid_other (bitmap_start v.geom + i) (not_it i low) (not_at i d))
-          ∙ began.bitmap i low ∙ sym (h.others i d)
-        where
-          not_it : (i : ℕ) → i < bitmap_blocks v.geom → bitmap_start v.geom + i ≢ b
-          not_it i low e = omega (arith, e, low, from)
-
-          not_at : (i : ℕ) → i ≢ b / 8192 → bitmap_start v.geom + i ≢ bit_block v.geom b
-          not_at i d e = d (omega (arith, e))
-
-      shown : (x : ℕ) → data_start v.geom ≤ x → is_some (bytes_put c x) ≡ true → (x ≡ b) ⊎ (x ≢ b) → bit_in (blocks_of bitmap) x ≡ true
-      shown x low is (inl e) = absurd (false≢true (sym (ap₂ (λ y z. is_some (or_else y z)) laid_here paid_here) ∙ ap (λ y. is_some (bytes_put c y)) (sym e) ∙ is))
-      shown x low is (inr d) = bit_other x d ∙ began.marked x low (sym (ap₂ (λ y z. is_some (or_else y z)) (laid_other x d (not_bits x low)) (paid_other x d (not_bits x low))) ∙ is)
-
-      all : (x : ℕ) (bytes : List ℕ) → bytes_put c x ≡ Some bytes → (x ≡ b) ⊎ (x ≢ b) → (x ≡ bit_block v.geom b) ⊎ (x ≢ bit_block v.geom b) → length bytes ≡ 1024
-      all x bytes is (inl e) a = absurd (none-some bytes (sym (ap (bytes_put c) e ∙ ap₂ or_else laid_here paid_here) ∙ is))
-      all x bytes is (inr d) (inl e) = ap (λ (y : List ℕ). length y) (sym (same_Some (blocks_of bitmap (b / 8192)) bytes (sym (ap (bytes_put c) e ∙ ap₂ or_else laid_bits paid_bits) ∙ is))) ∙ full
-      all x bytes is (inr d) (inr a) = began.whole x bytes (sym (ap₂ or_else (laid_other x d a) (paid_other x d a)) ∙ is)
 
   pub map_freed : FreedLaw → length (blocks_of bitmap (b / 8192)) ≡ 1024 → (last : Blocks) → BeganAt v last → IsWithFreed v.geom (map_of v last) (map_of (freed_books v bitmap c dead live) last) b
   map_freed law full last began = record {
     own = map_nowhere (freed_books v bitmap c dead live) last b (data_undefined v.geom (is_marked (freed_books v bitmap c dead live) b) (is_bare (roles_of (freed_books v bitmap c dead live) b)) b from
-        (ap (λ u. u && not (is_bare (roles_of (freed_books v bitmap c dead live) b))) (ap (λ u. nat_lt b v.geom.n && u) bit_here ∙ and_false (nat_lt b v.geom.n))));
+        (ap (λ u. u && not (is_bare (roles_of (freed_books v bitmap c dead live) b))) (ap (λ u. nat_lt b v.geom.n && u) bit_here ∙ and-false (nat_lt b v.geom.n))));
     bits = λ x low. map_bit (freed_books v bitmap c dead live) last x (began_freed law full last began) low ∙ bits x ∙ ap (cond (x == b) false) (sym (map_bit v last x began low));
     others = λ x d a. ap₂ (λ y z. cond y z [])
         (ap₂ (λ m r. defined_by v.geom m (is_bare r) x) (marks x ∙ cond-false (x == b) false (is_marked v x) (ne_eqb x b d)) (role_other x d a))

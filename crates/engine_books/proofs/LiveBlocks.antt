@@ -1,7 +1,6 @@
 -- The map by the books needs only the live blocks of the map at which the transaction began.
-use Rattle.std.proofs.Common.{◌≡◌, ⊎_elim, ℕ, ◌+◌, ◌*◌, ◌/◌, ◌%◌, ◌<◌, ◌≤◌, ◌==◌, nat_lt, nat_le, slice_index, Bool, true, false, not, ◌||◌, ◌&&◌, List, Option, Some, None, is_some, refl, sym, ap, ◌∙◌, arith}
-use Rattle.std.proofs.lemmas.Bool.{cases_lt, cases_Bool, leb-true, ltb-true, le-ltb, false≢true}
-use Rattle.std.proofs.lemmas.Option.{none-some}
+use Rattle.std.proofs.Common.{◌≡◌, ⊎_elim, ℕ, ◌+◌, ◌*◌, ◌/◌, ◌%◌, ◌<◌, ◌≤◌, ◌==◌, nat_lt, nat_le, slice_index, Bool, true, false, not, ◌||◌, ◌&&◌, List, Option, None, is_some, sym, ap, ◌∙◌, arith}
+use Rattle.std.proofs.lemmas.Bool.{cases_lt, cases_Bool, leb-true, ltb-true, le-ltb, both_ways, not-true}
 use Rattle.std.specs.Int.{bit_at}
 use mathlib.Core.Path.{fun_ext}
 use Rattle.base_types.specs.Seal.{Blocks}
@@ -23,10 +22,7 @@ use Rattle.engine_books.proofs.Maps.{map_there, map_nowhere}
 
 -- what lies between the journal and the data is live
 early_live : (v : TransactionBooks) (m : Blocks) (b : ℕ) → AreKept v → bitmap_start v.geom ≤ b → b < data_start v.geom → is_live v.geom m b ≡ true
-early_live v m b k from early = live_by v.geom m b from (omega (arith, early, k.limits.data_room)) (λ late. absurd (never early late))
-  where
-    never : b < data_start v.geom → data_start v.geom ≤ b → ⊥
-    never lt le = omega (arith, lt, le)
+early_live v m b k from early = live_by v.geom m b from (omega (arith, early, k.limits.data_room)) (λ late. absurd (omega (arith, early, late)))
 
 -- two maps with the same live blocks have the same bits
 same_bit : (v : TransactionBooks) (last next : Blocks) (b : ℕ) → AreKept v → HasSameLive v last next → b < 8192 * bitmap_blocks v.geom → is_set v.geom next b ≡ is_set v.geom last b
@@ -44,18 +40,11 @@ same_live v last next b k same = ⊎_elim
 
 -- bytes over one map and another, where they are the same if nothing was put
 by_put : (o : Option (List ℕ)) (x y : List ℕ) → (o ≡ None → x ≡ y) → otherwise o x ≡ otherwise o y
-by_put (Some z) x y same = refl
-by_put None x y same = same refl
+by_put o x y same = grind (arith, same)
 
 -- a block that was put in neither row and is taken is bare
 bare_of : (laid paid : Option (List ℕ)) (taken : Bool) → or_else laid paid ≡ None → taken ≡ true → is_bare (role_by (is_some laid) (is_some paid) taken) ≡ true
-bare_of (Some x) paid taken none is = absurd (none-some x (sym none))
-bare_of None (Some x) taken none is = absurd (none-some x (sym none))
-bare_of None None taken none is = ap (λ t. is_bare (role_by false false t)) is
-
-not_false : (x : Bool) → not x ≡ true → x ≡ true → ⊥
-not_false true e f = false≢true e
-not_false false e f = false≢true f
+bare_of laid paid taken none is = grind (arith, none, is)
 
 -- where the map is defined and nothing was put, the block is live in the map at which the transaction began
 pub unput_live : (v : TransactionBooks) (last : Blocks) (b : ℕ) → AreKept v → BeganAt v last → defined_by v.geom (is_marked v b) (is_bare (roles_of v b)) b ≡ true → bytes_put v.changes b ≡ None → is_live v.geom last b ≡ true
@@ -72,7 +61,7 @@ unput_live v last b k began is none = ⊎_elim (λ early. early_live v last b k 
         let filled : not (is_bare (roles_of v b)) ≡ true = and_last (is_marked v b) _ (and_last (nat_lt b v.geom.n) _ there) in
         let set : bit_now v b ≡ true = and_last (nat_lt b v.geom.n) _ marked in
         live_by v.geom last b from below (λ _. ⊎_elim (λ was. was)
-        (λ wasnt. absurd (not_false (is_bare (roles_of v b)) filled (bare_of (put_of b v.changes.laid) (put_of b v.changes.paid) (is_one_of b v.changes.taken && bit_now v b) none (both (began.took b (omega (arith, below)) set wasnt) set))))
+        (λ wasnt. absurd (both_ways (is_bare (roles_of v b)) (not-true (is_bare (roles_of v b)) filled) (bare_of (put_of b v.changes.laid) (put_of b v.changes.paid) (is_one_of b v.changes.taken && bit_now v b) none (both (began.took b (omega (arith, below)) set wasnt) set))))
         (cases_Bool (is_set v.geom last b)))
 
 -- the map by the books over one map and another with its live blocks

@@ -1,8 +1,9 @@
 -- The map of blocks by the books, where it is defined, and its bits.
-use Rattle.std.proofs.Common.{◌≡◌, ℕ, ◌+◌, ◌*◌, ◌/◌, ◌%◌, ◌<◌, ◌≤◌, ◌==◌, nat_lt, nat_le, Bool, true, false, not, ◌||◌, ◌&&◌, [], refl, ap, ap₂, ◌∙◌, arith}
-use Rattle.std.proofs.lemmas.Bool.{cond-true, cond-false, le-leb, lt-ltb, le-ltb}
+use Rattle.std.proofs.Common.{◌≡◌, ℕ, ◌+◌, ◌*◌, ◌/◌, ◌%◌, ◌<◌, ◌≤◌, ◌==◌, nat_lt, Bool, true, false, not, ◌||◌, ◌&&◌, [], ap, ap₂, ◌∙◌, arith}
+use Rattle.std.proofs.lemmas.Bool.{cond-true, cond-false, le-leb, lt-ltb}
 use Rattle.std.specs.Int.{bit_at}
 use Rattle.std.specs.Prelude.{slice_index}
+use Rattle.std.proofs.lemmas.Bool.Decides.{nat_tests}
 use Rattle.base_types.specs.Seal.{Blocks}
 use Rattle.layout_geometry.specs.Geometry.{Geometry, bitmap_start, bitmap_blocks, data_start}
 use Rattle.layout_bytes.specs.Bitmap.{is_set}
@@ -20,22 +21,10 @@ table_defined g m bare b from below = ap₂ (λ x y. x && (y || (nat_lt b g.n &&
 
 -- on a data block it is defined where the block is marked and isn't bare
 pub data_undefined : (g : Geometry) (m bare : Bool) (b : ℕ) → data_start g ≤ b → (m && not bare) ≡ false → defined_by g m bare b ≡ false
-data_undefined g m bare b from e =
-    ap₂ (λ x y. nat_le (bitmap_start g) b && (x || (nat_lt b g.n && y))) (le-ltb b (data_start g) from) e ∙ by (nat_le (bitmap_start g) b) (nat_lt b g.n)
-  where
-    by : (x y : Bool) → (x && (false || (y && false))) ≡ false
-    by true true = refl
-    by true false = refl
-    by false y = refl
+data_undefined g m bare b from e = grind (arith, nat_tests, from, e)
 
 pub data_defined : (g : Geometry) (m bare : Bool) (b : ℕ) → data_start g ≤ b → b < g.n → m ≡ true → bare ≡ false → defined_by g m bare b ≡ true
-data_defined g m bare b from below e f =
-    ap₂ (λ x y. x && (nat_lt b (data_start g) || (y && (m && not bare)))) (le-leb (bitmap_start g) b (omega (arith, from))) (lt-ltb b g.n below)
-    ∙ ap₂ (λ x y. nat_lt b (data_start g) || (x && not y)) e f ∙ by (nat_lt b (data_start g))
-  where
-    by : (x : Bool) → (x || true) ≡ true
-    by true = refl
-    by false = refl
+data_defined g m bare b from below e f = grind (arith, nat_tests, from, below, e, f)
 
 -- the bytes of a block whose puts are the same
 pub same_bytes : (c d : Changes) (last : Blocks) (b : ℕ) → put_of b d.laid ≡ put_of b c.laid → put_of b d.paid ≡ put_of b c.paid → bytes_over d last b ≡ bytes_over c last b

@@ -1,6 +1,6 @@
 -- The map now, where a transaction put something and where it didn't, and which blocks are live in it.
-use Rattle.std.proofs.Common.{◌≡◌, ℕ, ◌+◌, ◌<◌, ◌≤◌, nat_le, nat_lt, Bool, true, false, ◌||◌, List, [], ◌∷◌, length, slice_get, Option, Some, None, is_some, refl, sym, ap, ap₂, ◌∙◌, arith, ◌⊎◌, inl, inr}
-use Rattle.std.proofs.lemmas.Bool.{cases_lt, cases_Bool, le-leb, lt-ltb, le-ltb, leb-true, ltb-true, false≢true}
+use Rattle.std.proofs.Common.{◌≡◌, ℕ, ◌+◌, ◌<◌, ◌≤◌, nat_le, nat_lt, Bool, true, false, ◌||◌, List, [], ◌∷◌, length, slice_get, Option, Some, is_some, refl, sym, ap, ap₂, ◌∙◌, arith, inl, inr}
+use Rattle.std.proofs.lemmas.Bool.{cases_lt, le-leb, lt-ltb, le-ltb, leb-true, ltb-true, false≢true, true_from_ne_false, false_from_ne_true}
 use Rattle.base_types.specs.Seal.{Blocks}
 use Rattle.layout_geometry.specs.Geometry.{Geometry, bitmap_start, data_start}
 use Rattle.layout_bytes.specs.Bitmap.{is_set}
@@ -10,11 +10,10 @@ use Rattle.engine_running.specs.declared.put.Put.{Put}
 use Rattle.engine_running.specs.Rows.{put_of}
 use Rattle.engine_running.specs.Running.{bytes_put}
 use Rattle.engine_blocks.specs.Running.{is_bare, HasNoBare}
-use Rattle.engine_blocks.specs.State.{defined_by}
 use Rattle.engine_books.specs.Books.{TransactionBooks, bit_now, has_put, is_taken_now, is_marked, role_by, roles_of, running_of, bytes_over, map_of}
 use Rattle.engine_books.specs.Kept.{AreKept}
 use Rattle.engine_books.specs.Point.{BeganAt, HasBitmap}
-use Rattle.engine_books.proofs.Tests.{and_first, and_last, not_true}
+use Rattle.engine_books.proofs.Tests.{and_first, and_last}
 use Rattle.engine_books.proofs.Rows.{none_put}
 use Rattle.engine_books.proofs.Maps.{table_defined, data_defined, map_there, map_bit}
 use Rattle.engine_books.proofs.Sound.{laid_lies, freed_clear}
@@ -29,11 +28,10 @@ pub record IsLiveNow (v : TransactionBooks) (b : ℕ) : Type 0 where
 
 -- what is live, by facts
 pub live_by : (g : Geometry) (m : Blocks) (b : ℕ) → bitmap_start g ≤ b → b < g.n → (data_start g ≤ b → is_set g m b ≡ true) → is_live g m b ≡ true
-live_by g m b from below set = both (le-leb (bitmap_start g) b from) (both (lt-ltb b g.n below) (by (cases_lt b (data_start g))))
-  where
-    by : (b < data_start g) ⊎ (data_start g ≤ b) → (nat_lt b (data_start g) || is_set g m b) ≡ true
-    by (inl early) = ap (λ u. u || is_set g m b) (lt-ltb b (data_start g) early)
-    by (inr late) = ap₂ (λ u w. u || w) (le-ltb b (data_start g) late) (set late)
+live_by g m b from below set = both (le-leb (bitmap_start g) b from) (both (lt-ltb b g.n below) (elim (cases_lt b (data_start g)) [
+  | inl early ↦ ap (λ u. u || is_set g m b) (lt-ltb b (data_start g) early)
+  | inr late ↦ ap₂ (λ u w. u || w) (le-ltb b (data_start g) late) (set late)
+]))
 
 pub live_from : (g : Geometry) (m : Blocks) (b : ℕ) → is_live g m b ≡ true → bitmap_start g ≤ b
 live_from g m b is = leb-true (bitmap_start g) b (and_first (nat_le (bitmap_start g) b) _ is)
@@ -57,11 +55,10 @@ live_now v last b began is = record {
 
 -- the map has bytes there, where nothing is bare
 pub live_bytes : (v : TransactionBooks) (last : Blocks) (b : ℕ) → HasNoBare (running_of v) → IsLiveNow v b → map_of v last b ≡ bytes_over v.changes last b
-live_bytes v last b filled l = map_there v last b (by (cases_lt b (data_start v.geom)))
-  where
-    by : (b < data_start v.geom) ⊎ (data_start v.geom ≤ b) → defined_by v.geom (is_marked v b) (is_bare (roles_of v b)) b ≡ true
-    by (inl early) = table_defined v.geom (is_marked v b) (is_bare (roles_of v b)) b l.from early
-    by (inr late) = data_defined v.geom (is_marked v b) (is_bare (roles_of v b)) b late l.below (both (lt-ltb b v.geom.n l.below) (l.set late)) (filled b)
+live_bytes v last b filled l = map_there v last b (elim (cases_lt b (data_start v.geom)) [
+  | inl early ↦ table_defined v.geom (is_marked v b) (is_bare (roles_of v b)) b l.from early
+  | inr late ↦ data_defined v.geom (is_marked v b) (is_bare (roles_of v b)) b late l.below (both (lt-ltb b v.geom.n l.below) (l.set late)) (filled b)
+])
 
 -- The puts.
 
@@ -98,25 +95,17 @@ unput : (v : TransactionBooks) (last : Blocks) (b : ℕ) → has_put b v.changes
 unput v last b e f = by (put_of b v.changes.laid) (put_of b v.changes.paid) e f
   where
     by : (x y : Option (List ℕ)) → is_some x ≡ false → is_some y ≡ false → otherwise (or_else x y) (last b) ≡ last b
-    by None None e f = refl
-    by None (Some y) e f = absurd (false≢true (sym f))
-    by (Some x) y e f = absurd (false≢true (sym e))
+    by x y e f = grind (arith, e, f)
 
 not_taken : (v : TransactionBooks) (b : ℕ) → HasNoBare (running_of v) → has_put b v.changes.laid ≡ false → has_put b v.changes.paid ≡ false → is_taken_now v b ≡ false
 not_taken v b filled e f = by (has_put b v.changes.laid) (has_put b v.changes.paid) (is_taken_now v b) e f (filled b)
   where
     by : (l p t : Bool) → l ≡ false → p ≡ false → is_bare (role_by l p t) ≡ false → t ≡ false
-    by l p false e f bare = refl
-    by false false true e f bare = bare
-    by true p true e f bare = absurd (false≢true (sym e))
-    by false true true e f bare = absurd (false≢true (sym f))
+    by l p t e f bare = grind (arith, e, f, bare)
 
 pub unput_set : (v : TransactionBooks) (last : Blocks) (b : ℕ) → BeganAt v last → HasNoBare (running_of v) → IsLiveNow v b → data_start v.geom ≤ b → has_put b v.changes.laid ≡ false → has_put b v.changes.paid ≡ false → is_set v.geom last b ≡ true
-unput_set v last b began filled l late e f = by (cases_Bool (is_set v.geom last b))
-  where
-    by : (is_set v.geom last b ≡ true) ⊎ (is_set v.geom last b ≡ false) → is_set v.geom last b ≡ true
-    by (inl is) = is
-    by (inr out) = absurd (false≢true (sym (not_taken v b filled e f) ∙ both (began.took b (omega (arith, l.below)) (l.set late) out) (l.set late)))
+unput_set v last b began filled l late e f =
+    true_from_ne_false (is_set v.geom last b) (λ out. false≢true (sym (not_taken v b filled e f) ∙ both (began.took b (omega (arith, l.below)) (l.set late) out) (l.set late)))
 
 -- a block that lives and wasn't put lived before, and has the bytes of the last point
 pub unput_same : (v : TransactionBooks) (last : Blocks) (b : ℕ) → BeganAt v last → HasNoBare (running_of v) → has_put b v.changes.paid ≡ false → has_put b v.changes.laid ≡ false → is_live v.geom (map_of v last) b ≡ true
@@ -128,19 +117,19 @@ unput_same v last b began filled paid laid is =
 -- The blocks freed.
 
 pub killed_freed : (v : TransactionBooks) (last : Blocks) (b : ℕ) → BeganAt v last → data_start v.geom ≤ b → is_live v.geom last b ≡ true → is_live v.geom (map_of v last) b ≡ false → is_one_of b v.changes.freed ≡ true
-killed_freed v last b began late is out = began.killed b (omega (arith, live_below v.geom last b is)) (not_true (bit_now v b) (λ set. false≢true (sym out ∙ live_there v last b began (record { from = live_from v.geom last b is; below = live_below v.geom last b is; set = λ x. set })))) (live_set v.geom last b is late)
+killed_freed v last b began late is out = began.killed b (omega (arith, live_below v.geom last b is)) (false_from_ne_true (bit_now v b) (λ set. false≢true (sym out ∙ live_there v last b began (record { from = live_from v.geom last b is; below = live_below v.geom last b is; set = λ x. set })))) (live_set v.geom last b is late)
 
 pub freed_dead : (v : TransactionBooks) (last : Blocks) (b : ℕ) → AreKept v → BeganAt v last → is_one_of b v.changes.freed ≡ true → is_live v.geom (map_of v last) b ≡ false
 freed_dead v last b kept began is =
     let clear = freed_clear v b kept is in
-    not_true (is_live v.geom (map_of v last) b) (λ live. false≢true (sym clear.1 ∙ (live_now v last b began live).set clear.0.from))
+    false_from_ne_true (is_live v.geom (map_of v last) b) (λ live. false≢true (sym clear.1 ∙ (live_now v last b began live).set clear.0.from))
 
 -- Something is a payload where something is written in place: the block of the bitmap that has its bit.
 
 -- without payloads the last point has the bitmap of now
 bitmap_stays : (v : TransactionBooks) (last : Blocks) → AreKept v → BeganAt v last → v.changes.paid ≡ [] → HasBitmap v last
 bitmap_stays v last kept began none k low =
-    sym (unput v last (bitmap_start v.geom + k) (not_true (has_put (bitmap_start v.geom + k) v.changes.laid) (λ is. omega (arith, low, (laid_lies v (bitmap_start v.geom + k) kept is).from))) (ap (λ row. has_put (bitmap_start v.geom + k) row) none))
+    sym (unput v last (bitmap_start v.geom + k) (false_from_ne_true (has_put (bitmap_start v.geom + k) v.changes.laid) (λ is. omega (arith, low, (laid_lies v (bitmap_start v.geom + k) kept is).from))) (ap (λ row. has_put (bitmap_start v.geom + k) row) none))
     ∙ began.bitmap k low
 
 first_put : (row : List Put) → 0 < length row → (p : Put) × (slice_get row 0 ≡ Some p)

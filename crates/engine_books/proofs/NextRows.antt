@@ -1,6 +1,6 @@
 -- Rows of puts as the entries of a record.
-use Rattle.std.proofs.Common.{◌≡◌, ℕ, zero, suc, ◌+◌, ◌<◌, ◌≤◌, ◌==◌, Bool, true, false, not, ◌&&◌, cond, List, [], ◌∷◌, map, slice_get, Some, is_some, IsTrue, refl, ap, ap₂, subst, ◌∙◌, arith}
-use Rattle.std.proofs.lemmas.Bool.{cond-true, cond-false, le-leb, lt-ltb, ne_eqb}
+use Rattle.std.proofs.Common.{◌≡◌, ℕ, zero, suc, ◌+◌, ◌<◌, ◌≤◌, ◌==◌, Bool, true, false, not, ◌&&◌, List, [], ◌∷◌, map, slice_get, Some, is_some, IsTrue, refl, ap, ap₂, subst, ◌∙◌, arith}
+use Rattle.std.proofs.lemmas.Bool.{cond-true, cond-false, le-leb, lt-ltb, ne_eqb, eq-eqb}
 use Rattle.std.proofs.lemmas.Option.{none-some, same_Some}
 use Rattle.layout_geometry.specs.Geometry.{Geometry, LiesIn, bitmap_start, data_start}
 use Rattle.layout_geometry.specs.Geometry.Area.{Data}
@@ -10,7 +10,6 @@ use Rattle.engine_running.specs.declared.put.Put.{Put}
 use Rattle.engine_running.specs.Rows.{IsRising, put_of}
 use Rattle.engine_running.specs.Record.{payload_entry, fresh_entry, record_of}
 use Rattle.engine_books.specs.Books.{has_put}
-use Rattle.engine_books.proofs.Tests.{eqb_refl}
 use Rattle.engine_books.proofs.Rows.{rising_tail, rising_head}
 
 -- each entry is of its put's block
@@ -23,7 +22,7 @@ both e f = ap₂ (λ x y. x && y) e f
 -- the bytes of a put that stands in a row
 pub put_at : (row : List Put) → IsRising row → (k : ℕ) (p : Put) → slice_get row k ≡ Some p → put_of p.block row ≡ Some p.bytes
 put_at [] rising k p is = absurd (none-some p is)
-put_at (q ∷ qs) rising zero p is = subst (λ (r : Put). put_of r.block (q ∷ qs) ≡ Some r.bytes) (same_Some q p is) (cond-true (q.block == q.block) (Some q.bytes) (put_of q.block qs) (eqb_refl q.block))
+put_at (q ∷ qs) rising zero p is = subst (λ (r : Put). put_of r.block (q ∷ qs) ≡ Some r.bytes) (same_Some q p is) (cond-true (q.block == q.block) (Some q.bytes) (put_of q.block qs) (eq-eqb q.block q.block refl))
 put_at (q ∷ qs) rising (suc k) p is =
     cond-false (q.block == p.block) (Some q.bytes) (put_of p.block qs) (ne_eqb q.block p.block (λ e. omega (arith, e, rising_head q qs rising k p is)))
     ∙ put_at qs (rising_tail q qs rising) k p is
@@ -34,11 +33,7 @@ has_it row rising k p is = ap is_some (put_at row rising k p is)
 -- its entries name the blocks of a row
 pub names_puts : (f : Put → Entry) → SameBlocks f → (row : List Put) (b : ℕ) → names_block (map f row) b ≡ has_put b row
 names_puts f same [] b = refl
-names_puts f same (q ∷ qs) b = ap (λ n. cond (n == b) true (names_block (map f qs) b)) (same q) ∙ by (q.block == b) (names_puts f same qs b)
-  where
-    by : (u : Bool) → names_block (map f qs) b ≡ has_put b qs → cond u true (names_block (map f qs) b) ≡ is_some (cond u (Some q.bytes) (put_of b qs))
-    by true rest = refl
-    by false rest = rest
+names_puts f same (q ∷ qs) b = grind (arith, same q, names_puts f same qs b)
 
 -- they ascend as the puts do
 pub ascends : (f : Put → Entry) → SameBlocks f → (low high : ℕ) (row : List Put) → IsRising row → ((k : ℕ) (p : Put) → slice_get row k ≡ Some p → low ≤ p.block) → ((k : ℕ) (p : Put) → slice_get row k ≡ Some p → p.block < high)

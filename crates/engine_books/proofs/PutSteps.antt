@@ -1,6 +1,6 @@
 -- The books after a put.
-use Rattle.std.proofs.Common.{◌≡◌, ◌≢◌, ℕ, ◌+◌, ◌-◌, ◌<◌, ◌≤◌, ◌==◌, Bool, true, false, not, ◌&&◌, cond, List, [], length, Some, None, is_some, refl, sym, ap, ap₂, subst, ◌∙◌, arith, ◌⊎◌, inl, inr}
-use Rattle.std.proofs.lemmas.Bool.{cases_eq, cases_lt, cond-true, cond-false, eq-eqb, lt-ltb, false≢true, ne_eqb}
+use Rattle.std.proofs.Common.{◌≡◌, ◌≢◌, ℕ, ◌+◌, ◌-◌, ◌<◌, ◌≤◌, ◌==◌, Bool, true, false, not, ◌&&◌, cond, List, [], length, Some, None, is_some, refl, sym, ap, ap₂, subst, ◌∙◌, arith, inl, inr}
+use Rattle.std.proofs.lemmas.Bool.{cases_eq, cases_lt, cond-true, cond-false, eq-eqb, lt-ltb, ne_eqb}
 use Rattle.std.proofs.lemmas.Option.{same_Some}
 use mathlib.Core.Path.{fun_ext}
 use Rattle.base_types.specs.Seal.{Blocks}
@@ -33,41 +33,18 @@ fresh_now Meta t = false
 fresh_now Content t = t
 
 fresh_is : (class : Class) (bit : Bool) (taken : List ℕ) (b : ℕ) → is_fresh (class_for bit class) taken b ≡ fresh_now class (is_one_of b taken && bit)
-fresh_is Meta bit taken b = refl
-fresh_is Content true taken b = by (is_one_of b taken)
-  where
-    by : (u : Bool) → u ≡ (u && true)
-    by true = refl
-    by false = refl
-fresh_is Content false taken b = by (is_one_of b taken)
-  where
-    by : (u : Bool) → false ≡ (u && false)
-    by true = refl
-    by false = refl
+fresh_is class bit taken b = grind arith
 
 fresh_taken : (class : Class) (t : Bool) → fresh_now class t ≡ true → t ≡ true
-fresh_taken Meta t e = absurd (false≢true e)
-fresh_taken Content t e = e
+fresh_taken class t e = grind (arith, e)
 
 -- the role that a put gives
 given_role : (class : Class) (l p t : Bool) → (l ≡ true → t ≡ true) → role_by (fresh_now class t) (not (fresh_now class t)) t ≡ put_role class (role_by l p t)
-given_role class true p false e = absurd (false≢true (e refl))
-given_role Meta true p true e = refl
-given_role Content true p true e = refl
-given_role Meta false true true e = refl
-given_role Content false true true e = refl
-given_role Meta false false true e = refl
-given_role Content false false true e = refl
-given_role Meta false true false e = refl
-given_role Content false true false e = refl
-given_role Meta false false false e = refl
-given_role Content false false false e = refl
+given_role class l p t e = grind (arith, e)
 
 -- a role that was given isn't bare
 given_not_bare : (f t : Bool) → is_bare (role_by f (not f) t) ≡ false
-given_not_bare true t = refl
-given_not_bare false true = refl
-given_not_bare false false = refl
+given_not_bare f t = grind arith
 
 -- the rows after a put, whether or not it will be written in place
 row_of : (fresh : Bool) (p : Put) (old new : Changes) → IsOrdered old.paid old.laid → Puts fresh p old new → (b : ℕ)
@@ -174,15 +151,15 @@ module _ (v : TransactionBooks) (c : Changes) (b : ℕ) (bytes : List ℕ) (clas
 
   -- The last point.
 
+  either_row : (f : Bool) → or_else (cond f (Some bytes) None) (cond f None (Some bytes)) ≡ Some bytes
+  either_row true = refl
+  either_row false = refl
+
   bytes_other : (last : Blocks) (x : ℕ) → x ≢ b → bytes_over c last x ≡ bytes_over v.changes last x
   bytes_other last x d = same_bytes v.changes c last x (laid_other x d) (paid_other x d)
 
   bytes_here : (last : Blocks) → bytes_over c last b ≡ bytes
-  bytes_here last = ap₂ (λ x y. otherwise (or_else x y) (last b)) laid_here paid_here ∙ by fresh
-    where
-      by : (f : Bool) → otherwise (or_else (cond f (Some bytes) None) (cond f None (Some bytes))) (last b) ≡ bytes
-      by true = refl
-      by false = refl
+  bytes_here last = ap₂ (λ x y. otherwise (or_else x y) (last b)) laid_here paid_here ∙ ap (λ o. otherwise o (last b)) (either_row fresh)
 
   pub began_put : length bytes ≡ 1024 → (last : Blocks) → (data_start v.geom ≤ b → bit_now v b ≡ true) → BeganAt v last → BeganAt (put_books v c) last
   began_put full last marked began = record {
@@ -195,27 +172,19 @@ module _ (v : TransactionBooks) (c : Changes) (b : ℕ) (bytes : List ℕ) (clas
       | inr d ↦ began.marked x at (sym (ap₂ (λ y z. is_some (or_else y z)) (laid_other x d) (paid_other x d)) ∙ is)
     ];
     whole = λ x all is. elim (cases_eq x b) [
-      | inl e ↦ ap (λ (y : List ℕ). length y) (sym (same_Some bytes all (sym (ap (bytes_put c) e ∙ put_here) ∙ is))) ∙ full
+      | inl e ↦ ap (λ (y : List ℕ). length y) (sym (same_Some bytes all (sym (ap (bytes_put c) e ∙ ap₂ or_else laid_here paid_here ∙ either_row fresh) ∙ is))) ∙ full
       | inr d ↦ began.whole x all (sym (ap₂ or_else (laid_other x d) (paid_other x d)) ∙ is)
     ];
   }
-    where
-      put_here : bytes_put c b ≡ Some bytes
-      put_here = ap₂ or_else laid_here paid_here ∙ by fresh
-        where
-          by : (f : Bool) → or_else (cond f (Some bytes) None) (cond f None (Some bytes)) ≡ Some bytes
-          by true = refl
-          by false = refl
 
   pub map_put : (last : Blocks) → (data_start v.geom ≤ b → bit_now v b ≡ true) → IsWithBlock (map_of v last) (map_of (put_books v c) last) b bytes
   map_put last marked = record {
-    own = map_there (put_books v c) last b (by (cases_lt b (data_start v.geom))) ∙ bytes_here last;
+    own = map_there (put_books v c) last b (elim (cases_lt b (data_start v.geom)) [
+      | inl early ↦ table_defined v.geom (is_marked (put_books v c) b) (is_bare (roles_of (put_books v c) b)) b (omega (arith, from)) early
+      | inr late ↦ data_defined v.geom (is_marked (put_books v c) b) (is_bare (roles_of (put_books v c) b)) b late below (ap₂ (λ x y. x && y) (lt-ltb b v.geom.n below) (marked late)) (ap is_bare role_here ∙ given_not_bare fresh (is_taken_now v b))
+    ]) ∙ bytes_here last;
     others = λ x d. ap₂ (λ y z. cond y z []) (ap (λ r. defined_by v.geom (is_marked v x) (is_bare r) x) (role_other x d)) (bytes_other last x d);
   }
-    where
-      by : (b < data_start v.geom) ⊎ (data_start v.geom ≤ b) → defined_by v.geom (is_marked (put_books v c) b) (is_bare (roles_of (put_books v c) b)) b ≡ true
-      by (inl early) = table_defined v.geom (is_marked (put_books v c) b) (is_bare (roles_of (put_books v c) b)) b (omega (arith, from)) early
-      by (inr late) = data_defined v.geom (is_marked (put_books v c) b) (is_bare (roles_of (put_books v c) b)) b late below (ap₂ (λ x y. x && y) (lt-ltb b v.geom.n below) (marked late)) (ap is_bare role_here ∙ given_not_bare fresh (is_taken_now v b))
 
 -- what a put leaves, in one
 pub record PutLeaves (v now : TransactionBooks) (b : ℕ) (bytes : List ℕ) (class : Class) : Type 0 where

@@ -1,6 +1,7 @@
 -- The books are sound: their numbers, and what a commit would have.
 use Rattle.std.proofs.Common.{◌≡◌, ℕ, ◌+◌, ◌-◌, ◌<◌, ◌≤◌, nat_lt, Bool, true, false, not, ◌&&◌, List, length, is_some, refl, sym, ap, subst, ◌∙◌, arith}
 use Rattle.std.proofs.lemmas.Bool.{lt-ltb}
+use Rattle.std.proofs.Math.Bool.{and-false}
 use Rattle.base_types.specs.Seal.{Blocks}
 use Rattle.layout_geometry.specs.Geometry.{Geometry, LiesIn, bitmap_start, data_start}
 use Rattle.layout_geometry.specs.Geometry.Area.{Data}
@@ -35,18 +36,10 @@ live_is k v kept = omega (
 -- What a commit has.
 
 payload_is : (l p t : Bool) → (l ≡ true → p ≡ false) → is_payload (role_by l p t) ≡ p
-payload_is true p t e = sym (e refl)
-payload_is false true true e = refl
-payload_is false true false e = refl
-payload_is false false true e = refl
-payload_is false false false e = refl
+payload_is l p t e = grind (arith, e)
 
 fresh_is : (l p t : Bool) → is_fresh (role_by l p t) ≡ l
-fresh_is true p t = refl
-fresh_is false true true = refl
-fresh_is false true false = refl
-fresh_is false false true = refl
-fresh_is false false false = refl
+fresh_is l p t = grind arith
 
 pub laid_lies : (v : TransactionBooks) (b : ℕ) → AreKept v → has_put b v.changes.laid ≡ true → LiesIn v.geom Data b
 laid_lies v b k is = k.lie.taken b (and_first (is_one_of b v.changes.taken) (bit_now v b) (k.lie.laid b is))
@@ -78,7 +71,7 @@ pub books_sound : AccountsLaw → (k : Bookkeeping) (v : TransactionBooks) → A
 books_sound law k v kept floor places = record {
   accounts = omega (arith, accounts, live_is k v kept, count, reusable, same_count, live_same);
   area = refl;
-  unmarked = λ b r. ap (λ u. nat_lt b v.geom.n && u) (kept.bits.same b (record { from = r.from; below = r.below }) ∙ ap not (among_first b v.dead.reusable _ r.free)) ∙ off (nat_lt b v.geom.n);
+  unmarked = λ b r. ap (λ u. nat_lt b v.geom.n && u) (kept.bits.same b (record { from = r.from; below = r.below }) ∙ ap not (among_first b v.dead.reusable _ r.free)) ∙ and-false (nat_lt b v.geom.n);
   fits = kept.fits;
   room = refl;
   took = took_them v kept;
@@ -100,10 +93,6 @@ books_sound law k v kept floor places = record {
 
     live_same : length (live_blocks (with_books k v)) ≡ length (data_blocks_that v.geom (bit_now v))
     live_same = as_many (is_marked v) (bit_now v) (data_start v.geom) (v.geom.n - data_start v.geom) (λ b low high. ap (λ u. u && bit_now v b) (lt-ltb b v.geom.n (omega (arith, low, high))))
-
-    off : (u : Bool) → (u && false) ≡ false
-    off true = refl
-    off false = refl
 
 -- The blocks freed, and the blocks that a commit writes in place.
 

@@ -1,7 +1,7 @@
 -- The books once all blocks of a list are taken.
 use Rattle.std.proofs.Common.{◌≡◌, ℕ, ◌+◌, ◌-◌, ◌*◌, ◌<◌, ◌≤◌, ◌==◌, nat_lt, Bool, true, false, not, ◌||◌, ◌&&◌, cond, List, [], length, get_or, take, Option, Some, None, is_some, All, refl, sym, ap, ap₂, subst, ◌∙◌, arith, ◌⊎◌, inl, inr}
-use Rattle.std.proofs.lemmas.Bool.{cases_Bool, cond-true, lt-ltb, false≢true, eqb-true}
-use Rattle.std.proofs.lemmas.List.{take_more, length-take-le}
+use Rattle.std.proofs.lemmas.Bool.{cases_Bool, cond-true, lt-ltb, false≢true, eqb-true, or_parts, false_from_ne_true}
+use Rattle.std.proofs.lemmas.List.{take_more, length-take-le, take_all}
 use Rattle.std.proofs.lemmas.Option.{same_Some, none-some}
 use Rattle.std.proofs.lemmas.Map.Views.{any-filter_same}
 use mathlib.Core.Path.{fun_ext}
@@ -24,8 +24,10 @@ use Rattle.engine_books.specs.Books.{TransactionBooks, has_put, bit_now, is_take
 use Rattle.engine_books.specs.Kept.{AreKept, BitsAgree, ChangesLie}
 use Rattle.engine_books.specs.Point.{BeganAt}
 use Rattle.engine_books.specs.Taking.{HasTaken, TakesOne}
-use Rattle.engine_books.proofs.Tests.{not_true, and_first}
-use Rattle.engine_books.proofs.Numbers.{one_is_any, any_is_has, among, bit_of_one, not_before, front_all}
+use Rattle.engine_books.proofs.Tests.{and_first}
+use Rattle.engine_books.proofs.Numbers.{one_is_any, any_is_has, among, bit_of_one, not_before}
+use Rattle.std.proofs.lemmas.List.Elements.{All-take}
+use Rattle.std.proofs.Math.Bool.{and-false}
 use Rattle.engine_books.proofs.Takes.{more_taken_books}
 use Rattle.engine_books.proofs.Members.{among_first, still_good}
 use Rattle.engine_books.proofs.Maps.{data_undefined, same_bytes, map_nowhere, map_bit}
@@ -58,11 +60,20 @@ all_reusable v bs e may i d low = let one = may.each i d low in record {
 -- the roles after blocks were taken
 taken_role : (hb h t b : Bool) (x : List ℕ) (l p : Option (List ℕ)) → (hb ≡ true → h ≡ false) → (hb ≡ true → t ≡ false)
     → role_by (is_some (cond hb None (cond h None l))) (is_some (cond hb (Some x) (cond h None p))) ((h || t) && (h || b)) ≡ cond h Bare (cond hb Changed (role_by (is_some l) (is_some p) (t && b)))
-taken_role true true t b x l p e f = absurd (false≢true (sym (e refl)))
-taken_role true false true b x l p e f = absurd (false≢true (sym (f refl)))
-taken_role true false false b x l p e f = refl
-taken_role false true t b x l p e f = refl
-taken_role false false t b x l p e f = refl
+taken_role hb h t b x l p e f = grind (arith, e, f)
+
+taken_mark : (x y z : Bool) → (y ≡ true → x ≡ true) → (x && (y || z)) ≡ (y || (x && z))
+taken_mark x y z e = grind (arith, e)
+
+-- where a put is one of before
+paid_where : (x y : Bool) (new : List ℕ) (o : Option (List ℕ)) → is_some (cond x (Some new) (cond y None o)) ≡ true → (x ≡ true) ⊎ ((y ≡ false) × (is_some o ≡ true))
+paid_where x y new o is = grind (arith, is)
+
+laid_where : (x y : Bool) (o : Option (List ℕ)) → is_some (cond x None (cond y None o)) ≡ true → (y ≡ false) × (is_some o ≡ true)
+laid_where x y o is = grind (arith, is)
+
+none_is : (o : Option (List ℕ)) → is_some o ≡ false → o ≡ None
+none_is o e = grind (arith, e)
 
 module _ (v : TransactionBooks) (bitmap : List (List ℕ)) (c : Changes) (bs : List ℕ) (k : AreKept v) (may : MayBeTaken v.geom (is_free_now v) bs) (h : HasTaken bs v (record v { bitmap = bitmap; changes = c })) where
   lies : (b : ℕ) → has bs b ≡ true → LiesIn v.geom Data b
@@ -77,16 +88,16 @@ module _ (v : TransactionBooks) (bitmap : List (List ℕ)) (c : Changes) (bs : L
 
   -- a block of the bitmap isn't one of them, and was never taken
   not_taken : (b : ℕ) → b < data_start v.geom → is_one_of b v.changes.taken ≡ false
-  not_taken b low = not_true (is_one_of b v.changes.taken) (λ is. omega (arith, low, (k.lie.taken b is).from))
+  not_taken b low = false_from_ne_true (is_one_of b v.changes.taken) (λ is. omega (arith, low, (k.lie.taken b is).from))
 
   not_has : (b : ℕ) → b < data_start v.geom → has bs b ≡ false
-  not_has b low = not_true (has bs b) (λ is. omega (arith, low, (lies b is).from))
+  not_has b low = false_from_ne_true (has bs b) (λ is. omega (arith, low, (lies b is).from))
 
   in_bitmap : (b : ℕ) → has_bit v.geom bs b ≡ true → (bitmap_start v.geom ≤ b) × (b < bitmap_start v.geom + bitmap_blocks v.geom)
   in_bitmap b is = let r = bit_of_one v.geom bs b is in (omega (arith, r.2), omega (arith, r.2, (lies r.0 r.1).below))
 
   no_bits : (b : ℕ) → data_start v.geom ≤ b → has_bit v.geom bs b ≡ false
-  no_bits b from = not_true (has_bit v.geom bs b) (λ is. omega (arith, from, (in_bitmap b is).1))
+  no_bits b from = false_from_ne_true (has_bit v.geom bs b) (λ is. omega (arith, from, (in_bitmap b is).1))
 
   -- The bookkeeping.
 
@@ -98,16 +109,12 @@ module _ (v : TransactionBooks) (bitmap : List (List ℕ)) (c : Changes) (bs : L
       (λ is. not_has b (omega (arith, (in_bitmap b is).1))) (λ is. not_taken b (omega (arith, (in_bitmap b is).1)))
 
   marks : (b : ℕ) → is_marked (taken_books v bitmap c bs) b ≡ (has bs b || is_marked v b)
-  marks b = ap (λ x. nat_lt b v.geom.n && x) (h.bits b) ∙ by (cases_Bool (has bs b))
-    where
-      by : (has bs b ≡ true) ⊎ (has bs b ≡ false) → (nat_lt b v.geom.n && (has bs b || bit_now v b)) ≡ (has bs b || (nat_lt b v.geom.n && bit_now v b))
-      by (inl e) = ap₂ (λ x y. x && (y || bit_now v b)) (lt-ltb b v.geom.n (lies b e).below) e ∙ sym (ap (λ y. y || (nat_lt b v.geom.n && bit_now v b)) e)
-      by (inr f) = ap (λ y. nat_lt b v.geom.n && (y || bit_now v b)) f ∙ sym (ap (λ y. y || (nat_lt b v.geom.n && bit_now v b)) f)
+  marks b = ap (λ x. nat_lt b v.geom.n && x) (h.bits b) ∙ taken_mark (nat_lt b v.geom.n) (has bs b) (bit_now v b) (λ is. lt-ltb b v.geom.n (lies b is).below)
 
   frees : (b : ℕ) → is_free_now (taken_books v bitmap c bs) b ≡ (not (has bs b) && is_free_now v b)
   frees b = any-filter_same (λ x. x == b) (λ x. not (is_among x bs)) (not (is_among b bs)) (λ x e. ap (λ y. not (is_among y bs)) (eqb-true x b e)) v.dead.reusable ∙ ap (λ u. not u && is_among b v.dead.reusable) (any_is_has b bs)
 
-  pub books_taken : (q : Bookkeeping) → with_books q (taken_books v bitmap c bs) ≡ after_take (with_books q v) bs
+  books_taken : (q : Bookkeeping) → with_books q (taken_books v bitmap c bs) ≡ after_take (with_books q v) bs
   books_taken q =
       ap₂ (λ r m. record (with_books q (taken_books v bitmap c bs)) { running = record { roles = r; weight = v.weight; held = length v.dead.held; took = v.took + length bs }; marked = m }) (fun_ext roles) (fun_ext marks)
       ∙ ap (λ u. record (after_take (with_books q v) bs) { reusable = u }) (fun_ext frees)
@@ -117,7 +124,7 @@ module _ (v : TransactionBooks) (bitmap : List (List ℕ)) (c : Changes) (bs : L
   bits_kept : TakenLaw → BitsAgree (taken_books v bitmap c bs)
   bits_kept law = record {
     size = h.rest.size ∙ k.bits.size;
-    others = still_good v.geom (blocks_of v.bitmap) (blocks_of bitmap) (λ b out. h.bits b ∙ ap (λ u. u || bit_now v b) (not_true (has bs b) (λ is. out (lies b is)))) k.bits.others;
+    others = still_good v.geom (blocks_of v.bitmap) (blocks_of bitmap) (λ b out. h.bits b ∙ ap (λ u. u || bit_now v b) (false_from_ne_true (has bs b) (λ is. out (lies b is)))) k.bits.others;
     same = λ b lie. h.bits b ∙ ap (λ u. has bs b || u) (k.bits.same b lie) ∙ by (has bs b) (is_among b (dead_blocks v.dead)) ∙ sym (ap not (law v.dead bs b k.sound (all_reusable v bs k.geom may) ∙ ap (λ u. not u && is_among b (dead_blocks v.dead)) (any_is_has b bs)));
     counted = omega (arith, h.free, k.bits.counted);
   }
@@ -131,30 +138,18 @@ module _ (v : TransactionBooks) (bitmap : List (List ℕ)) (c : Changes) (bs : L
     ordered = o;
     rising = r;
     taken = λ b is. now_taken b (sym (h.taken b) ∙ is) (cases_Bool (has bs b));
-    paid_from = λ b is. paid_where b (sym (ap is_some (h.paid b)) ∙ is) (cases_Bool (has_bit v.geom bs b)) (cases_Bool (has bs b)) (λ x. bitmap_start v.geom ≤ x) (λ i. (in_bitmap b i).0) (k.lie.paid_from b);
-    paid_below = λ b is. paid_where b (sym (ap is_some (h.paid b)) ∙ is) (cases_Bool (has_bit v.geom bs b)) (cases_Bool (has bs b)) (λ x. x < v.geom.n) (λ i. omega (arith, (in_bitmap b i).1, k.limits.data_room)) (k.lie.paid_below b);
-    laid = λ b is. laid_where b (sym (ap is_some (h.laid b)) ∙ is) (cases_Bool (has_bit v.geom bs b)) (cases_Bool (has bs b));
+    paid_from = λ b is. elim (paid_where (has_bit v.geom bs b) (has bs b) _ _ (sym (ap is_some (h.paid b)) ∙ is)) [ inl i ↦ (in_bitmap b i).0 | inr was ↦ k.lie.paid_from b was.1 ];
+    paid_below = λ b is. elim (paid_where (has_bit v.geom bs b) (has bs b) _ _ (sym (ap is_some (h.paid b)) ∙ is)) [ inl i ↦ omega (arith, (in_bitmap b i).1, k.limits.data_room) | inr was ↦ k.lie.paid_below b was.1 ];
+    laid = λ b is.
+        let was = laid_where (has_bit v.geom bs b) (has bs b) _ (sym (ap is_some (h.laid b)) ∙ is) in
+        ap₂ (λ x y. x && y) (h.taken b) (h.bits b) ∙ ap (λ u. (u || is_one_of b v.changes.taken) && (u || bit_now v b)) was.0 ∙ k.lie.laid b was.1;
   }
     where
       now_taken : (b : ℕ) → (has bs b || is_one_of b v.changes.taken) ≡ true → (has bs b ≡ true) ⊎ (has bs b ≡ false) → LiesIn v.geom Data b
       now_taken b is (inl e) = lies b e
       now_taken b is (inr f) = k.lie.taken b (sym (ap (λ u. u || is_one_of b v.changes.taken) f) ∙ is)
 
-      paid_where : (b : ℕ) → is_some (cond (has_bit v.geom bs b) (Some (blocks_of bitmap (b - bitmap_start v.geom))) (cond (has bs b) None (put_of b v.changes.paid))) ≡ true → (has_bit v.geom bs b ≡ true) ⊎ (has_bit v.geom bs b ≡ false)
-          → (has bs b ≡ true) ⊎ (has bs b ≡ false) → (P : ℕ → Type 0) → (has_bit v.geom bs b ≡ true → P b) → (has_put b v.changes.paid ≡ true → P b) → P b
-      paid_where b is (inl e) s P new old = new e
-      paid_where b is (inr f) (inl e) P new old =
-          absurd (false≢true (sym (ap₂ (λ x y. is_some (cond x (Some (blocks_of bitmap (b - bitmap_start v.geom))) (cond y None (put_of b v.changes.paid)))) f e) ∙ is))
-      paid_where b is (inr f) (inr e) P new old = old (sym (ap₂ (λ x y. is_some (cond x (Some (blocks_of bitmap (b - bitmap_start v.geom))) (cond y None (put_of b v.changes.paid)))) f e) ∙ is)
-
-      laid_where : (b : ℕ) → is_some (cond (has_bit v.geom bs b) None (cond (has bs b) None (put_of b v.changes.laid))) ≡ true → (has_bit v.geom bs b ≡ true) ⊎ (has_bit v.geom bs b ≡ false) → (has bs b ≡ true) ⊎ (has bs b ≡ false)
-          → is_taken_now (taken_books v bitmap c bs) b ≡ true
-      laid_where b is (inl e) s = absurd (false≢true (sym (ap (λ x. is_some (cond x None (cond (has bs b) None (put_of b v.changes.laid)))) e) ∙ is))
-      laid_where b is (inr f) (inl e) = absurd (false≢true (sym (ap₂ (λ x y. is_some (cond x None (cond y None (put_of b v.changes.laid)))) f e) ∙ is))
-      laid_where b is (inr f) (inr e) = ap₂ (λ x y. x && y) (h.taken b) (h.bits b) ∙ ap (λ u. (u || is_one_of b v.changes.taken) && (u || bit_now v b)) e
-          ∙ k.lie.laid b (sym (ap₂ (λ x y. is_some (cond x None (cond y None (put_of b v.changes.laid)))) f e) ∙ is)
-
-  pub kept_taken : TakenLaw → length bs ≤ v.spare.takes → AreSound (with_taken v.dead bs) → IsOrdered c.paid c.laid → IsRisingNumbers c.taken → AreKept (taken_books v bitmap c bs)
+  kept_taken : TakenLaw → length bs ≤ v.spare.takes → AreSound (with_taken v.dead bs) → IsOrdered c.paid c.laid → IsRisingNumbers c.taken → AreKept (taken_books v bitmap c bs)
   kept_taken law few sound o r = record {
     limits = k.limits;
     geom = k.geom;
@@ -176,11 +171,7 @@ module _ (v : TransactionBooks) (bitmap : List (List ℕ)) (c : Changes) (bs : L
   -- The last point.
 
   no_laid : (b : ℕ) → b < data_start v.geom → put_of b v.changes.laid ≡ None
-  no_laid b low = none (put_of b v.changes.laid) (not_true (has_put b v.changes.laid) (λ is. false≢true (sym (not_taken b low) ∙ and_first (is_one_of b v.changes.taken) (bit_now v b) (k.lie.laid b is))))
-    where
-      none : (o : Option (List ℕ)) → is_some o ≡ false → o ≡ None
-      none None e = refl
-      none (Some x) e = absurd (false≢true (sym e))
+  no_laid b low = none_is (put_of b v.changes.laid) (false_from_ne_true (has_put b v.changes.laid) (λ is. false≢true (sym (not_taken b low) ∙ and_first (is_one_of b v.changes.taken) (bit_now v b) (k.lie.laid b is))))
 
   -- the puts of a block that isn't taken and has none of the bits
   paid_same : (b : ℕ) → has_bit v.geom bs b ≡ false → has bs b ≡ false → put_of b c.paid ≡ put_of b v.changes.paid
@@ -203,23 +194,19 @@ module _ (v : TransactionBooks) (bitmap : List (List ℕ)) (c : Changes) (bs : L
       by (inr f) = same_bytes v.changes c last (bitmap_start v.geom + i) (laid_same (bitmap_start v.geom + i) f (not_has (bitmap_start v.geom + i) (omega (arith, low)))) (paid_same (bitmap_start v.geom + i) f (not_has (bitmap_start v.geom + i) (omega (arith, low))))
           ∙ began.bitmap i low ∙ sym (h.others i f)
 
-  pub began_taken : HeldLaw → (last : Blocks) → BeganAt v last → BeganAt (taken_books v bitmap c bs) last
+  began_taken : HeldLaw → (last : Blocks) → BeganAt v last → BeganAt (taken_books v bitmap c bs) last
   began_taken held last began = record {
     bitmap = bitmap_now last began;
     was_dead = λ b is. dead b (sym (h.taken b) ∙ is) (cases_Bool (has bs b));
     took = λ b low is out. h.taken b ∙ came b low (sym (h.bits b) ∙ is) out (has bs b) refl;
-    killed = λ b low is set. ap (is_one_of b) h.freed ∙ began.killed b low (last_of (has bs b) (bit_now v b) (sym (h.bits b) ∙ is)) set;
+    killed = λ b low is set. ap (is_one_of b) h.freed ∙ began.killed b low ((or_parts (has bs b) (bit_now v b) (sym (h.bits b) ∙ is)).1) set;
     marked = λ b from is. h.bits b ∙ shown b from is (cases_Bool (has bs b));
     whole = λ b bytes is. full b bytes is (cases_Bool (has_bit v.geom bs b)) (cases_Bool (has bs b));
   }
     where
-      last_of : (u w : Bool) → (u || w) ≡ false → w ≡ false
-      last_of true w e = absurd (false≢true (sym e))
-      last_of false w e = e
-
       dead : (b : ℕ) → (has bs b || is_one_of b v.changes.taken) ≡ true → (has bs b ≡ true) ⊎ (has bs b ≡ false) → is_set v.geom last b ≡ false
       dead b is (inr f) = began.was_dead b (sym (ap (λ u. u || is_one_of b v.changes.taken) f) ∙ is)
-      dead b is (inl e) = not_true (is_set v.geom last b) (λ set. false≢true (sym (held v.dead b k.sound
+      dead b is (inl e) = false_from_ne_true (is_set v.geom last b) (λ set. false≢true (sym (held v.dead b k.sound
           (sym (one_is_any b v.dead.held) ∙ ap (is_one_of b) (sym k.freed) ∙ began.killed b (omega (arith, (lies b e).below)) (was_clear b e) set)) ∙ is_free b e))
 
       came : (b : ℕ) → b < 8192 * bitmap_blocks v.geom → (has bs b || bit_now v b) ≡ true → is_set v.geom last b ≡ false → (u : Bool) → has bs b ≡ u → (has bs b || is_one_of b v.changes.taken) ≡ true
@@ -242,7 +229,7 @@ module _ (v : TransactionBooks) (bitmap : List (List ℕ)) (c : Changes) (bs : L
           (h.paid b ∙ ap₂ (λ x y. cond x (Some (blocks_of bitmap (b - bitmap_start v.geom))) (cond y None (put_of b v.changes.paid))) f e)) ∙ is))
       full b bytes is (inr f) (inr e) = began.whole b bytes (sym (ap₂ or_else (laid_same b f e) (paid_same b f e)) ∙ is)
 
-  pub map_taken : HeldLaw → (last : Blocks) → BeganAt v last → IsWithTaken v.geom (map_of v last) (map_of (taken_books v bitmap c bs) last) bs
+  map_taken : HeldLaw → (last : Blocks) → BeganAt v last → IsWithTaken v.geom (map_of v last) (map_of (taken_books v bitmap c bs) last) bs
   map_taken held last began = record {
     bits = λ b low. map_bit (taken_books v bitmap c bs) last b (began_taken held last began) low ∙ h.bits b ∙ by (has bs b) (bit_now v b) ∙ ap (λ u. cond (has bs b) true u) (sym (map_bit v last b began low));
     others = λ b out. stays b out (cases_Bool (has bs b));
@@ -255,13 +242,9 @@ module _ (v : TransactionBooks) (bitmap : List (List ℕ)) (c : Changes) (bs : L
       stays : (b : ℕ) → has_bit v.geom bs b ≡ false → (has bs b ≡ true) ⊎ (has bs b ≡ false) → map_of (taken_books v bitmap c bs) last b ≡ map_of v last b
       stays b out (inl e) =
           map_nowhere (taken_books v bitmap c bs) last b (data_undefined v.geom (is_marked (taken_books v bitmap c bs) b) (is_bare (roles_of (taken_books v bitmap c bs) b)) b (lies b e).from
-          (ap (λ r. is_marked (taken_books v bitmap c bs) b && not (is_bare r)) (roles b ∙ cond-true (has bs b) Bare (cond (has_bit v.geom bs b) Changed (roles_of v b)) e) ∙ off (is_marked (taken_books v bitmap c bs) b)))
+          (ap (λ r. is_marked (taken_books v bitmap c bs) b && not (is_bare r)) (roles b ∙ cond-true (has bs b) Bare (cond (has_bit v.geom bs b) Changed (roles_of v b)) e) ∙ and-false (is_marked (taken_books v bitmap c bs) b)))
           ∙ sym (map_nowhere v last b (data_undefined v.geom (is_marked v b) (is_bare (roles_of v b)) b (lies b e).from (ap (λ u. (nat_lt b v.geom.n && u) && not (is_bare (roles_of v b))) (was_clear b e) ∙ dead (nat_lt b v.geom.n) (not (is_bare (roles_of v b))))))
         where
-          off : (u : Bool) → (u && false) ≡ false
-          off true = refl
-          off false = refl
-
           dead : (u w : Bool) → ((u && false) && w) ≡ false
           dead true w = refl
           dead false w = refl
@@ -270,8 +253,14 @@ module _ (v : TransactionBooks) (bitmap : List (List ℕ)) (c : Changes) (bs : L
           (ap₂ (λ m r. defined_by v.geom m (is_bare r) b) (marks b ∙ ap (λ u. u || is_marked v b) f) (roles b ∙ ap₂ (λ x y. cond x Bare (cond y Changed (roles_of v b))) f out))
           (same_bytes v.changes c last b (laid_same b out f) (paid_same b out f))
 
--- The list.
+-- What taking a list leaves, in one.
+pub record TakeLeaves (v now : TransactionBooks) (bs : List ℕ) : Type 0 where
+  pub kept : AreKept now
+  pub books : (q : Bookkeeping) → with_books q now ≡ after_take (with_books q v) bs
+  pub began : (last : Blocks) → BeganAt v last → BeganAt now last
+  pub map : (last : Blocks) → BeganAt v last → IsWithTaken v.geom (map_of v last) (map_of now last) bs
 
+-- The list.
 -- there is a box for the next one
 pub has_box : (v w : TransactionBooks) (xs : List ℕ) (i : ℕ) → AreKept v → length xs ≤ v.spare.takes → i < length xs → HasTaken (take i xs) v w → 0 < w.changes.puts
 has_box v w xs i k few low h =
@@ -284,13 +273,26 @@ pub next_taken : (v w z : TransactionBooks) (xs : List ℕ) (i : ℕ) → AreKep
 next_taken v w z xs i k may low h t =
     let one : MayTake v.geom (is_free_now v) (get_or xs i 0) = may.each i 0 low in
     subst (λ ys. HasTaken ys v z) (sym (take_more xs i 0 low))
-    (more_taken_books v w z (take i xs) (get_or xs i 0) k.limits one.from one.below (λ x is. (among (MayTake v.geom (is_free_now v)) (take i xs) (front_all (MayTake v.geom (is_free_now v)) i xs may.each) x is).below)
+    (more_taken_books v w z (take i xs) (get_or xs i 0) k.limits one.from one.below (λ x is. (among (MayTake v.geom (is_free_now v)) (take i xs) (All-take (MayTake v.geom (is_free_now v)) i xs may.each) x is).below)
     (h.bits (get_or xs i 0) ∙ ap (λ u. u || bit_now v (get_or xs i 0)) (not_before xs i 0 low may.distinct) ∙ k.bits.same (get_or xs i 0) (record { from = one.from; below = one.below }) ∙ ap not (among_first (get_or xs i 0) v.dead.reusable _ one.free))
     h t)
 
 -- the dead blocks and the counts are told
-pub told : (v x : TransactionBooks) (bs : List ℕ) (dead : DeadBlocks) (count : ℕ) → x ≡ record v { bitmap = x.bitmap; changes = x.changes } → dead ≡ with_taken x.dead bs → count ≡ length bs
+told : (v x : TransactionBooks) (bs : List ℕ) (dead : DeadBlocks) (count : ℕ) → x ≡ record v { bitmap = x.bitmap; changes = x.changes } → dead ≡ with_taken x.dead bs → count ≡ length bs
     → record x { dead = dead; live = x.live + count; took = x.took + count; spare = record x.spare { takes = x.spare.takes - count } } ≡ taken_books v x.bitmap x.changes bs
 told v x bs dead count e d n =
     ap₂ (λ y m. record x { dead = y; live = x.live + m; took = x.took + m; spare = record x.spare { takes = x.spare.takes - m } }) d n
     ∙ ap (λ (y : TransactionBooks). record y { bitmap = x.bitmap; changes = x.changes; dead = with_taken y.dead bs; live = y.live + length bs; took = y.took + length bs; spare = record y.spare { takes = y.spare.takes - length bs } }) e
+
+pub take_leaves : (v w x : TransactionBooks) (bs : List ℕ) (i : ℕ) (dead : DeadBlocks) (count : ℕ) → x ≡ w → length bs ≤ i → HasTaken (take i bs) v w → AreKept v → MayBeTaken v.geom (is_free_now v) bs → TakenLaw → HeldLaw → length bs ≤ v.spare.takes
+    → dead ≡ with_taken x.dead bs → AreSound dead → count ≡ length bs → IsOrdered x.changes.paid x.changes.laid → IsRisingNumbers x.changes.taken
+    → TakeLeaves v (record x { dead = dead; live = x.live + count; took = x.took + count; spare = record x.spare { takes = x.spare.takes - count } }) bs
+take_leaves v w x bs i dead count e all taken k may law held few d sound n o r =
+    let h = subst (λ y. HasTaken bs v y) (sym e) (subst (λ ys. HasTaken ys v w) (take_all i bs all) taken) in
+    let h1 = subst (λ y. HasTaken bs v y) h.rest.same h in
+    subst (λ y. TakeLeaves v y bs) (sym (told v x bs dead count h.rest.same d n)) (record {
+      kept = kept_taken v x.bitmap x.changes bs k may h1 law few (subst AreSound (d ∙ ap (λ (y : TransactionBooks). with_taken y.dead bs) h.rest.same) sound) o r;
+      books = books_taken v x.bitmap x.changes bs k may h1;
+      began = began_taken v x.bitmap x.changes bs k may h1 held;
+      map = map_taken v x.bitmap x.changes bs k may h1 held;
+    })

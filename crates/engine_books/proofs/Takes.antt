@@ -1,6 +1,6 @@
 -- One block is taken, and then the next.
-use Rattle.std.proofs.Common.{◌≡◌, ◌≢◌, ℕ, ◌+◌, ◌-◌, ◌/◌, ◌<◌, ◌≤◌, ◌==◌, Bool, true, false, not, ◌||◌, cond, List, [], ◌∷◌, ◌++◌, length, Option, Some, None, is_some, refl, sym, ap, ap₂, subst, ◌∙◌, arith, ◌⊎◌, inl, inr, length-append}
-use Rattle.std.proofs.lemmas.Bool.{cases_Bool, cases_eq, cond-true, cond-false, eq-eqb, false≢true, ne_eqb}
+use Rattle.std.proofs.Common.{◌≡◌, ◌≢◌, ℕ, ◌+◌, ◌-◌, ◌/◌, ◌<◌, ◌≤◌, ◌==◌, Bool, true, false, not, ◌||◌, cond, List, [], ◌∷◌, ◌++◌, length, Option, Some, None, is_some, refl, sym, ap, ap₂, subst, ◌∙◌, arith, inl, inr, length-append}
+use Rattle.std.proofs.lemmas.Bool.{cases_eq, cond-true, cond-false, eq-eqb, false≢true, ne_eqb, eqb-true, eqb-false, or_parts}
 use Rattle.base_types.specs.Seal.{blocks_of}
 use Rattle.layout_geometry.specs.Geometry.{IsGeometry, bitmap_start, bitmap_blocks, data_start}
 use Rattle.layout_bitmap.specs.Bits.{bit_in, free_blocks, BitBecomes}
@@ -11,7 +11,7 @@ use Rattle.engine_blocks.specs.Running.{has, has_bit, bit_block}
 use Rattle.engine_books.specs.Books.{TransactionBooks, has_put, bit_now}
 use Rattle.engine_books.specs.Kept.{HasBoxes}
 use Rattle.engine_books.specs.Taking.{TakesOne, HasTaken, bits_put}
-use Rattle.engine_books.proofs.Tests.{eqb_sym, or_first, or_last}
+use Rattle.engine_books.proofs.Tests.{eqb_sym}
 use Rattle.engine_books.proofs.Rows.{put_with, put_without}
 use Rattle.engine_books.proofs.Numbers.{has_push, has_bit_push, bit_of_one, one_with, with_one_more}
 use Rattle.engine_books.proofs.Counts.{one_less}
@@ -52,6 +52,24 @@ none_taken v = record {
   frees = refl;
 }
 
+-- the puts of a block over those of a list
+both : (p q r s p' q' : Bool) (here mid now : List ℕ) (x : Option (List ℕ)) → p' ≡ p → q' ≡ q → (p ≡ true → here ≡ now) → (r ≡ true → q ≡ false) → (r ≡ true → p ≡ false → mid ≡ now)
+    → cond p (Some here) (cond q None (cond r (Some mid) (cond s None x))) ≡ cond (r || p') (Some now) (cond (s || q') None x)
+both p q r s p' q' here mid now x e f own apart same = grind (arith, e, f, own, apart, same)
+
+shift : (p q r s p' q' : Bool) (x : Option (List ℕ)) → p' ≡ p → q' ≡ q → cond p None (cond q None (cond r None (cond s None x))) ≡ cond (r || p') None (cond (s || q') None x)
+shift p q r s p' q' x e f = grind (arith, e, f)
+
+-- one block more among those of a list
+set_too : (u x y : Bool) → cond u true (x || y) ≡ ((x || u) || y)
+set_too u x y = grind arith
+
+one_too : (u x y : Bool) → (u || (x || y)) ≡ ((x || u) || y)
+one_too u x y = grind arith
+
+or_before : (u w : Bool) → (u || w) ≡ true → w ≡ false → u ≡ true
+or_before u w e f = grind (arith, e, f)
+
 -- what one more leaves, for books that are the old ones but for the bitmap and the changes
 module _ (v : TransactionBooks) (mid now : List (List ℕ)) (cm cn : Changes) (xs : List ℕ) (b : ℕ) (limits : IsGeometry v.geom) (from : data_start v.geom ≤ b) (below : b < v.geom.n) (low : (x : ℕ) → has xs x ≡ true → x < v.geom.n)
     (h : HasTaken xs v (record v { bitmap = mid; changes = cm })) (t : TakesOne b (record v { bitmap = mid; changes = cm }) (record v { bitmap = now; changes = cn })) where
@@ -70,63 +88,22 @@ module _ (v : TransactionBooks) (mid now : List (List ℕ)) (cm cn : Changes) (x
   laid_one c = ap (put_of c) t.puts.laid ∙ put_without (bit_block v.geom b) t.taken.laid c t.ordered_then.laid
       ∙ ap (λ (o : Option (List ℕ)). cond (bit_block v.geom b == c) None o) (ap (put_of c) (t.takes.laid ∙ t.forgets.laid) ∙ put_without b cm.laid c t.ordered.laid)
 
-  -- what stays of the other blocks
-  both : (u v w : Bool) (x : Option (List ℕ)) → w ≡ u → cond u None (cond v None x) ≡ cond (v || w) None x
-  both true true w x e = refl
-  both true false w x e = sym (cond-true w None x e)
-  both false true w x e = refl
-  both false false w x e = sym (cond-false w None x e)
-
   more_paid : (c : ℕ) → put_of c cn.paid ≡ cond (has_bit v.geom (xs ++ b ∷ []) c) (Some (blocks_of now (c - bitmap_start v.geom))) (cond (has (xs ++ b ∷ []) c) None (put_of c v.changes.paid))
-  more_paid c = elim (cases_eq c (bit_block v.geom b)) [
-    | inl e ↦ paid_one c ∙ cond-true (bit_block v.geom b == c) (Some (blocks_of now (b / 8192))) (cond (b == c) None (put_of c cm.paid)) (eq-eqb (bit_block v.geom b) c (sym e))
-        ∙ ap (λ k. Some (blocks_of now k)) (place e)
-        ∙ sym (cond-true (has_bit v.geom (xs ++ b ∷ []) c) (Some (blocks_of now (c - bitmap_start v.geom))) (cond (has (xs ++ b ∷ []) c) None (put_of c v.changes.paid)) (has_bit_push v.geom xs b c ∙ last (has_bit v.geom xs c) (eq-eqb c (bit_block v.geom b) e)))
-    | inr d ↦ paid_one c ∙ cond-false (bit_block v.geom b == c) (Some (blocks_of now (b / 8192))) (cond (b == c) None (put_of c cm.paid)) (ne_eqb (bit_block v.geom b) c (λ e. d (sym e)))
-        ∙ ap (λ (o : Option (List ℕ)). cond (b == c) None o) (h.paid c) ∙ by d (cases_Bool (has_bit v.geom xs c))
-  ]
+  more_paid c =
+      paid_one c ∙ ap (λ (o : Option (List ℕ)). cond (bit_block v.geom b == c) (Some (blocks_of now (b / 8192))) (cond (b == c) None o)) (h.paid c)
+      ∙ both (bit_block v.geom b == c) (b == c) (has_bit v.geom xs c) (has xs c) (c == bit_block v.geom b) (c == b) (blocks_of now (b / 8192)) (blocks_of mid (c - bitmap_start v.geom)) (blocks_of now (c - bitmap_start v.geom)) (put_of c v.changes.paid)
+      (eqb_sym c (bit_block v.geom b)) (eqb_sym c b) (λ u. ap (blocks_of now) (place (eqb-true _ _ u))) (λ u. ne_eqb b c (λ q. of_bits c u (sym q)))
+      (λ u f. sym (t.others (c - bitmap_start v.geom) (let r = bit_of_one v.geom xs c u in λ q. eqb-false _ _ f (omega (arith, q, r.2)))))
+      ∙ ap₂ (λ u w. cond u (Some (blocks_of now (c - bitmap_start v.geom))) (cond w None (put_of c v.changes.paid))) (sym (has_bit_push v.geom xs b c)) (sym (has_push xs b c))
     where
-      last : (u : Bool) {w : Bool} → w ≡ true → (u || w) ≡ true
-      last true e = refl
-      last false e = e
-
-      place : c ≡ bit_block v.geom b → b / 8192 ≡ c - bitmap_start v.geom
+      place : bit_block v.geom b ≡ c → b / 8192 ≡ c - bitmap_start v.geom
       place e = omega (arith, e)
-
-      old : Option (List ℕ)
-      old = put_of c v.changes.paid
-
-      by : c ≢ bit_block v.geom b → (has_bit v.geom xs c ≡ true) ⊎ (has_bit v.geom xs c ≡ false)
-          → cond (b == c) None (cond (has_bit v.geom xs c) (Some (blocks_of mid (c - bitmap_start v.geom))) (cond (has xs c) None old)) ≡ cond (has_bit v.geom (xs ++ b ∷ []) c) (Some (blocks_of now (c - bitmap_start v.geom))) (cond (has (xs ++ b ∷ []) c) None old)
-      by d (inl e) =
-          cond-false (b == c) None (cond (has_bit v.geom xs c) (Some (blocks_of mid (c - bitmap_start v.geom))) (cond (has xs c) None old)) (ne_eqb b c (λ q. of_bits c e (sym q)))
-          ∙ cond-true (has_bit v.geom xs c) (Some (blocks_of mid (c - bitmap_start v.geom))) (cond (has xs c) None old) e
-          ∙ ap (λ x. Some x) (sym (t.others (c - bitmap_start v.geom) (let r = bit_of_one v.geom xs c e in λ q. d (omega (arith, q, r.2)))))
-          ∙ sym (cond-true (has_bit v.geom (xs ++ b ∷ []) c) (Some (blocks_of now (c - bitmap_start v.geom))) (cond (has (xs ++ b ∷ []) c) None old) (has_bit_push v.geom xs b c ∙ ap (λ u. u || (c == bit_block v.geom b)) e))
-      by d (inr f) =
-          ap (λ (o : Option (List ℕ)). cond (b == c) None o) (cond-false (has_bit v.geom xs c) (Some (blocks_of mid (c - bitmap_start v.geom))) (cond (has xs c) None old) f)
-          ∙ both (b == c) (has xs c) (c == b) old (eqb_sym c b)
-          ∙ ap (λ u. cond u None old) (sym (has_push xs b c))
-          ∙ sym (cond-false (has_bit v.geom (xs ++ b ∷ []) c) (Some (blocks_of now (c - bitmap_start v.geom))) (cond (has (xs ++ b ∷ []) c) None old) (has_bit_push v.geom xs b c ∙ ap (λ u. u || (c == bit_block v.geom b)) f ∙ ne_eqb c (bit_block v.geom b) d))
 
   more_laid : (c : ℕ) → put_of c cn.laid ≡ cond (has_bit v.geom (xs ++ b ∷ []) c) None (cond (has (xs ++ b ∷ []) c) None (put_of c v.changes.laid))
   more_laid c =
       laid_one c ∙ ap (λ (o : Option (List ℕ)). cond (bit_block v.geom b == c) None (cond (b == c) None o)) (h.laid c)
       ∙ shift (bit_block v.geom b == c) (b == c) (has_bit v.geom xs c) (has xs c) (c == bit_block v.geom b) (c == b) (put_of c v.changes.laid) (eqb_sym c (bit_block v.geom b)) (eqb_sym c b)
       ∙ ap₂ (λ u w. cond u None (cond w None (put_of c v.changes.laid))) (sym (has_bit_push v.geom xs b c)) (sym (has_push xs b c))
-    where
-      shift : (p q r s p' q' : Bool) (x : Option (List ℕ)) → p' ≡ p → q' ≡ q → cond p None (cond q None (cond r None (cond s None x))) ≡ cond (r || p') None (cond (s || q') None x)
-      shift p q r s p' q' x e f = flat p q r s x ∙ sym (ap₂ (λ a b. cond (r || a) None (cond (s || b) None x)) e f)
-        where
-          flat : (p q r s : Bool) (x : Option (List ℕ)) → cond p None (cond q None (cond r None (cond s None x))) ≡ cond (r || p) None (cond (s || q) None x)
-          flat true q true s x = refl
-          flat true q false s x = refl
-          flat false true true s x = refl
-          flat false true false true x = refl
-          flat false true false false x = refl
-          flat false false true s x = refl
-          flat false false false true x = refl
-          flat false false false false x = refl
 
   -- the blocks of the bitmap that weren't put, and the room for puts
   more_boxes : (puts bits : ℕ) → length (xs ++ b ∷ []) ≤ bits → HasBoxes puts bits v → HasBoxes puts (bits - length (xs ++ b ∷ [])) (record v { bitmap = now; changes = cn })
@@ -150,42 +127,25 @@ module _ (v : TransactionBooks) (mid now : List (List ℕ)) (cm cn : Changes) (x
   )
 
   more_bits : (k : ℕ) → bit_in (blocks_of now) k ≡ (has (xs ++ b ∷ []) k || bit_now v k)
-  more_bits k = t.bits k ∙ ap (λ u. cond (k == b) true u) (h.bits k) ∙ by (k == b) (has xs k) (bit_now v k) ∙ ap (λ u. u || bit_now v k) (sym (has_push xs b k))
-    where
-      by : (u x y : Bool) → cond u true (x || y) ≡ ((x || u) || y)
-      by true true y = refl
-      by true false y = refl
-      by false true y = refl
-      by false false y = refl
+  more_bits k = t.bits k ∙ ap (λ u. cond (k == b) true u) (h.bits k) ∙ set_too (k == b) (has xs k) (bit_now v k) ∙ ap (λ u. u || bit_now v k) (sym (has_push xs b k))
 
   more_taken : (c : ℕ) → is_one_of c cn.taken ≡ (has (xs ++ b ∷ []) c || is_one_of c v.changes.taken)
   more_taken c = ap (is_one_of c) (t.puts.taken ∙ t.takes.taken) ∙ one_with b t.forgotten.taken c ∙ ap (λ u. (c == b) || u) (ap (is_one_of c) t.forgets.taken ∙ h.taken c)
-      ∙ by (c == b) (has xs c) (is_one_of c v.changes.taken) ∙ ap (λ u. u || is_one_of c v.changes.taken) (sym (has_push xs b c))
-    where
-      by : (u x y : Bool) → (u || (x || y)) ≡ ((x || u) || y)
-      by true true y = refl
-      by true false y = refl
-      by false true y = refl
-      by false false y = refl
+      ∙ one_too (c == b) (has xs c) (is_one_of c v.changes.taken) ∙ ap (λ u. u || is_one_of c v.changes.taken) (sym (has_push xs b c))
 
   more_others : (k : ℕ) → has_bit v.geom (xs ++ b ∷ []) (bitmap_start v.geom + k) ≡ false → blocks_of now k ≡ blocks_of v.bitmap k
   more_others k out =
       let split = sym (has_bit_push v.geom xs b (bitmap_start v.geom + k)) ∙ out in
-      t.others k (λ e. false≢true (sym (or_last (has_bit v.geom xs (bitmap_start v.geom + k)) (bitmap_start v.geom + k == bit_block v.geom b) split) ∙ eq-eqb (bitmap_start v.geom + k) (bit_block v.geom b) (ap (λ n. bitmap_start v.geom + n) e)))
-      ∙ h.others k (or_first (has_bit v.geom xs (bitmap_start v.geom + k)) (bitmap_start v.geom + k == bit_block v.geom b) split)
+      t.others k (λ e. false≢true (sym (or_parts (has_bit v.geom xs (bitmap_start v.geom + k)) (bitmap_start v.geom + k == bit_block v.geom b) split).1 ∙ eq-eqb (bitmap_start v.geom + k) (bit_block v.geom b) (ap (λ n. bitmap_start v.geom + n) e)))
+      ∙ h.others k ((or_parts (has_bit v.geom xs (bitmap_start v.geom + k)) (bitmap_start v.geom + k == bit_block v.geom b) split).0)
 
   more_whole : (c : ℕ) → has_bit v.geom (xs ++ b ∷ []) c ≡ true → length (blocks_of now (c - bitmap_start v.geom)) ≡ 1024
-  more_whole c is = by (cases_eq c (bit_block v.geom b))
-    where
-      by : (c ≡ bit_block v.geom b) ⊎ (c ≢ bit_block v.geom b) → length (blocks_of now (c - bitmap_start v.geom)) ≡ 1024
-      by (inl e) = ap (λ k. length (blocks_of now k)) {y = b / 8192} (omega (arith, e)) ∙ t.whole
-      by (inr d) =
-          let old = or_before (has_bit v.geom xs c) (c == bit_block v.geom b) (sym (has_bit_push v.geom xs b c) ∙ is) (ne_eqb c (bit_block v.geom b) d) in
-          ap (λ (x : List ℕ). length x) (t.others (c - bitmap_start v.geom) (let r = bit_of_one v.geom xs c old in λ q. d (omega (arith, q, r.2)))) ∙ h.whole c old
-        where
-          or_before : (u w : Bool) → (u || w) ≡ true → w ≡ false → u ≡ true
-          or_before true w e f = refl
-          or_before false w e f = absurd (false≢true (sym f ∙ e))
+  more_whole c is = elim (cases_eq c (bit_block v.geom b)) [
+    | inl e ↦ ap (λ k. length (blocks_of now k)) {y = b / 8192} (omega (arith, e)) ∙ t.whole
+    | inr d ↦
+        let old = or_before (has_bit v.geom xs c) (c == bit_block v.geom b) (sym (has_bit_push v.geom xs b c) ∙ is) (ne_eqb c (bit_block v.geom b) d) in
+        ap (λ (x : List ℕ). length x) (t.others (c - bitmap_start v.geom) (let r = bit_of_one v.geom xs c old in λ q. d (omega (arith, q, r.2)))) ∙ h.whole c old
+  ]
 
   pub taken_then : bit_in (blocks_of mid) b ≡ false → HasTaken (xs ++ b ∷ []) v (record v { bitmap = now; changes = cn })
   taken_then clear = record {

@@ -1,6 +1,6 @@
 -- What a read of a block may give after more events, and caches that go on agreeing with a disk.
-use Rattle.std.proofs.Common.{◌≡◌, ◌≢◌, ◌⊎◌, inl, inr, ℕ, ◌==◌, Bool, true, false, if◌then◌else◌, List, [], ◌∷◌, ◌++◌, Contains, Option, Some, None, IfSome, is_some, Result, Ok, Err, refl, sym, ap, subst, ◌∙◌, append-nil}
-use Rattle.std.proofs.lemmas.Bool.{cases_eq, eq-eqb, ne_eqb, true≢false, false≢true, cond-true, cond-false}
+use Rattle.std.proofs.Common.{◌≡◌, ◌≢◌, ◌⊎◌, inl, inr, ℕ, ◌==◌, Bool, true, false, if◌then◌else◌, List, [], ◌∷◌, ◌++◌, Contains, Option, Some, None, IfSome, is_some, Result, Ok, Err, refl, sym, ap, subst, ◌∙◌, append-nil, arith}
+use Rattle.std.proofs.lemmas.Bool.{cases_eq, eq-eqb, ne_eqb, true≢false, cond-true, cond-false}
 use Rattle.std.proofs.Math.Logic.{∥∥₁_map}
 use Rattle.std.specs.FinMap.{get, get-empty, get-remove}
 use Rattle.std.specs.Cmp.{nat_cmp_total, unsigned_ties}
@@ -21,8 +21,7 @@ record MayGive (last : List ℕ) (lost : Bool) (others : List (List ℕ)) (x : L
 -- these bytes stay among those of a longer list
 among_more : (xs ys : List (List ℕ)) (x : List ℕ) → IsOneOf xs x → IsOneOf (xs ++ ys) x
 among_more [] ys x h = absurd h
-among_more (y ∷ xs) ys x (inl e) = inl e
-among_more (y ∷ xs) ys x (inr h) = inr (among_more xs ys x h)
+among_more (y ∷ xs) ys x h = grind (arith, h, among_more xs ys x)
 
 -- none of these events is an accepted write to the block
 abbrev NoneWrites : ℕ → List Event → Type 0
@@ -86,31 +85,17 @@ reads_written n t old new x log =
     let last : accepted new.base new.log n ≡ x = rw log (accepted-append n (new.base n) old.log (Wrote t n x ∷ []) ∙ cond-true (n == n) _ _ (eq-eqb n n refl)) in
     record { calm = λ _. sym last; one = ∣ inl (sym last) ∣₁ }
 
--- the block of a write
-block_of : Event → ℕ
-block_of (Wrote t b y) = b
-block_of (Lost b y) = b
-block_of (Noticed t) = 0
-
--- whether an event is an accepted write
-is_accepted : Event → Bool
-is_accepted (Wrote t b y) = true
-is_accepted (Lost b y) = false
-is_accepted (Noticed t) = false
-
 -- an accepted write to another block isn't one to this block
 writes_elsewhere : (n t b : ℕ) (x : List ℕ) → n ≢ b → NoneWrites n (Wrote t b x ∷ [])
-unfolding block_of
 writes_elsewhere n t b x apart u y there = elim (Contains-cons (Wrote t b x) [] (Wrote u n y) there) [
-  | inl same ↦ apart (sym (ap block_of same))
+  | inl same ↦ apart (cc same)
   | inr none ↦ Contains-nil (Wrote u n y) none
 ]
 
 -- nor is a write that was lost
 lost_writes_nothing : (n b : ℕ) (x : List ℕ) → NoneWrites n (Lost b x ∷ [])
-unfolding is_accepted
 lost_writes_nothing n b x u y there = elim (Contains-cons (Lost b x) [] (Wrote u n y) there) [
-  | inl same ↦ false≢true (ap is_accepted same)
+  | inl same ↦ cc same
   | inr none ↦ Contains-nil (Wrote u n y) none
 ]
 

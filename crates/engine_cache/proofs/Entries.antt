@@ -1,6 +1,6 @@
 -- The entries of an `LruCache`, the last used one first, as the finite map that contracts see of them.
-use Rattle.std.proofs.Common.{◌≡◌, ◌≢◌, ℕ, zero, suc, ◌+◌, ◌-◌, ◌<◌, ◌≤◌, nat_eq, Bool, true, false, cond, inl, inr, List, [], ◌∷◌, length, take, Option, Some, None, is_some, IfSome, IsSome, option_map, Result, Ok, Err, OnOk, OnErr, IsOk, refl, sym, ap, subst, ◌∙◌, arith, nat_cmp}
-use Rattle.std.proofs.lemmas.Bool.{eqb-true, eq-eqb, ne_eqb, cond-true, cond-false, cases_Bool, cases_eq, cases_lt, false≢true}
+use Rattle.std.proofs.Common.{◌≡◌, ◌≢◌, ℕ, zero, suc, ◌+◌, ◌-◌, ◌<◌, ◌≤◌, nat_eq, Bool, false, cond, inl, inr, List, [], ◌∷◌, length, take, Option, Some, None, is_some, IfSome, IsSome, option_map, Result, Ok, Err, OnOk, OnErr, IsOk, refl, sym, ap, subst, ◌∙◌, arith, nat_cmp}
+use Rattle.std.proofs.lemmas.Bool.{eqb-true, eq-eqb, ne_eqb, cond-true, cond-false, cases_Bool, cases_lt, false≢true}
 use Rattle.std.proofs.lemmas.List.{take_all, length-take}
 use Rattle.std.specs.Cmp.{nat_cmp_total, nat_eq_equiv, unsigned_ties}
 use Rattle.std.specs.List.{IsDistinct, AllByRecursion}
@@ -10,6 +10,7 @@ use Rattle.std.specs.Map.{keys_of, lookup, lookup_entry, remove_entry}
 use Rattle.std.specs.FinMap.{FinMap, get, contains_key, len, insert, get-insert, remove, from_entries, find, nat_cmp-IsAntisymmetric, get-from_entries, get-remove, len-insert, len-empty, same_map}
 use Rattle.std.proofs.lemmas.Map.{lookup-remove_entry}
 use Rattle.std.proofs.lemmas.Map.Keys.{IsDistinct-head, IsDistinct-tail}
+use Rattle.std.proofs.lemmas.Bool.Decides.{nat_tests}
 use Rattle.lru.specs.LruCache.{LruCache, lru_cache, IsValid, promoted, put_entries}
 use Rattle.lru.proofs.CallerLemmas.{Contains-lookup_entry}
 use Rattle.lru.proofs.Pairs.{lookup-lookup_entry}
@@ -59,41 +60,25 @@ len_seen (e ∷ es) single =
 -- another number is found as before once an entry is taken out
 other_stays : (k q : ℕ) → q ≢ k → (es : Entries) → lookup (nat_eq q) (remove_entry (nat_eq k) es) ≡ lookup (nat_eq q) es
 other_stays k q apart [] = refl
-other_stays k q apart (e ∷ es) = elim (cases_Bool (nat_eq k e.0)) [
-  | inl yes' ↦ ap (lookup (nat_eq q)) (cond-true (nat_eq k e.0) es _ yes') ∙ sym (cond-false (nat_eq q e.0) _ _ (ne_eqb q e.0 (λ same. apart (same ∙ sym (eqb-true k e.0 yes')))))
-  | inr no' ↦ ap (lookup (nat_eq q)) (cond-false (nat_eq k e.0) es _ no') ∙ ap (cond (nat_eq q e.0) (Some e.1)) (other_stays k q apart es)
-]
+other_stays k q apart (e ∷ es) = grind (arith, apart, other_stays k q apart es, nat_tests)
 
 -- the number k as the first entry, in place of the entry that it had
 in_front : (k : ℕ) (v : List ℕ) (es : Entries) (q : ℕ) → lookup (nat_eq q) ((k, v) ∷ remove_entry (nat_eq k) es) ≡ cond (nat_eq q k) (Some v) (lookup (nat_eq q) es)
-in_front k v es q = elim (cases_eq q k) [
-  | inl same ↦ cond-true (nat_eq q k) _ _ (eq-eqb q k same) ∙ sym (cond-true (nat_eq q k) _ _ (eq-eqb q k same))
-  | inr apart ↦ cond-false (nat_eq q k) _ _ (ne_eqb q k apart) ∙ other_stays k q apart es ∙ sym (cond-false (nat_eq q k) _ _ (ne_eqb q k apart))
-]
+in_front k v es q = grind (arith, other_stays k q, nat_tests)
 
 -- an entry that is found for a number has that number
 found_key : (k : ℕ) (es : Entries) (e : ℕ × List ℕ) → lookup_entry (nat_eq k) es ≡ Some e → e.0 ≡ k
 found_key k es e h = sym (eqb-true k e.0 (Contains-lookup_entry (nat_eq k) es e h).1)
 
--- and what is found for it is that entry's bytes
-found_bytes : (k : ℕ) (es : Entries) (e : ℕ × List ℕ) → lookup_entry (nat_eq k) es ≡ Some e → lookup (nat_eq k) es ≡ Some e.1
-found_bytes k es e h = sym (lookup-lookup_entry (nat_eq k) es) ∙ ap (option_map (λ f. f.1)) h
-
--- where no entry is found for it, nothing is
-found_none : (k : ℕ) (es : Entries) → lookup_entry (nat_eq k) es ≡ None → lookup (nat_eq k) es ≡ None
-found_none k es h = sym (lookup-lookup_entry (nat_eq k) es) ∙ ap (option_map (λ f. f.1)) h
+-- and what is found for it are the bytes of the entry that is
+found_as : (k : ℕ) (es : Entries) (o : Option (ℕ × List ℕ)) → lookup_entry (nat_eq k) es ≡ o → lookup (nat_eq k) es ≡ option_map (λ f. f.1) o
+found_as k es o h = sym (lookup-lookup_entry (nat_eq k) es) ∙ ap (option_map (λ f. f.1)) h
 
 -- an entry that was found first is looked up as before
 used_last : (k q : ℕ) (es : Entries) (o : Option (ℕ × List ℕ)) → lookup_entry (nat_eq k) es ≡ o
     → lookup (nat_eq q) (option_map_or (λ e. e ∷ remove_entry (nat_eq k) es) o es) ≡ lookup (nat_eq q) es
 used_last k q es None h = refl
-used_last k q es (Some e) h = subst (λ n. lookup (nat_eq q) ((n, e.1) ∷ remove_entry (nat_eq k) es) ≡ lookup (nat_eq q) es) (sym (found_key k es e h)) (in_front k e.1 es q ∙ as_before)
-  where
-    as_before : cond (nat_eq q k) (Some e.1) (lookup (nat_eq q) es) ≡ lookup (nat_eq q) es
-    as_before = elim (cases_eq q k) [
-      | inl same ↦ cond-true (nat_eq q k) _ _ (eq-eqb q k same) ∙ subst (λ n. Some e.1 ≡ lookup (nat_eq n) es) (sym same) (sym (found_bytes k es e h))
-      | inr apart ↦ cond-false (nat_eq q k) _ _ (ne_eqb q k apart)
-    ]
+used_last k q es (Some e) h = rw (found_key k es e h) (grind (arith, in_front k e.1 es q, found_as k es (Some e) h, nat_tests))
 
 -- what is kept stays so when a block is asked for
 pub asked_for : (a b : LruCache ℕ (List ℕ)) (old : Cache) (k : ℕ) → seen a ≡ old → b ≡ lru_cache (promoted (nat_eq k) a.entries) a.cap → seen b ≡ old
@@ -119,8 +104,7 @@ itself None p e = tt
 itself (Some x) p e = sym e
 
 one_more_at_most : (b : Bool) (n : ℕ) → n ≤ cond b n (n + 1)
-one_more_at_most true n = omega arith
-one_more_at_most false n = omega arith
+one_more_at_most b n = grind arith
 
 -- a block comes in, and no other one goes
 comes_in_alone : (es fs : Entries) (most k : ℕ) (v : List ℕ) → ((q : ℕ) → lookup (nat_eq q) fs ≡ cond (nat_eq q k) (Some v) (lookup (nat_eq q) es))
@@ -150,12 +134,7 @@ comes_in_alone es fs most k v found = record {
 found_among : (n : ℕ) (es : Entries) (q : ℕ) → IfSome (lookup (nat_eq q) (take n es)) (λ x. lookup (nat_eq q) es ≡ Some x)
 found_among zero es q = tt
 found_among (suc n) [] q = tt
-found_among (suc n) (e ∷ es) q = at_head (nat_eq q e.0) (found_among n es q)
-  where
-    at_head : (b : Bool) → IfSome (lookup (nat_eq q) (take n es)) (λ x. lookup (nat_eq q) es ≡ Some x)
-        → IfSome (cond b (Some e.1) (lookup (nat_eq q) (take n es))) (λ x. cond b (Some e.1) (lookup (nat_eq q) es) ≡ Some x)
-    at_head true h = refl
-    at_head false h = h
+found_among (suc n) (e ∷ es) q = elim (cases_Bool (nat_eq q e.0)) [ inl yes' ↦ rw yes' refl | inr no' ↦ rw no' (found_among n es q) ]
 
 -- a new block comes into a full cache, and the entry that was used the longest ago goes
 comes_in_full : (es : Entries) (most k : ℕ) (v : List ℕ) → AreSingle es → AreSingle ((k, v) ∷ take (most - 1) es) → 0 < most → length es ≡ most → lookup (nat_eq k) es ≡ None
@@ -190,7 +169,7 @@ comes_in_again es most k v e h = subst (λ n. ComesIn k v (seen (lru_cache es mo
 put_comes_in : (es : Entries) (most k : ℕ) (v : List ℕ) (o : Option (ℕ × List ℕ)) → lookup_entry (nat_eq k) es ≡ o → (fs : Entries) → fs ≡ option_map_or (λ e. (e.0, v) ∷ remove_entry (nat_eq k) es) o ((k, v) ∷ take (most - 1) es)
     → AreSingle es → AreSingle fs → 0 < most → length es ≤ most → ComesIn k v (seen (lru_cache es most)) (seen (lru_cache fs most))
 put_comes_in es most k v None h fs is single_old single some within = subst (λ l. ComesIn k v (seen (lru_cache es most)) (seen (lru_cache l most))) (sym is)
-    (comes_in_new es most k v single_old (subst AreSingle is single) some within (found_none k es h))
+    (comes_in_new es most k v single_old (subst AreSingle is single) some within (found_as k es None h))
 put_comes_in es most k v (Some e) h fs is single_old single some within = subst (λ l. ComesIn k v (seen (lru_cache es most)) (seen (lru_cache l most))) (sym is) (comes_in_again es most k v e h)
 
 -- a block that wasn't kept, and for which there is no memory, leaves all as it was

@@ -1,21 +1,15 @@
 -- What records leave in a block is what its last payload stands for.
-use Rattle.std.proofs.Common.{◌≡◌, ℕ, ◌+◌, ◌==◌, Bool, true, false, if◌then◌else◌, List, [], ◌∷◌, Option, Some, None, refl, ◌∙◌, ap}
+use Rattle.std.proofs.Common.{◌≡◌, ℕ, ◌+◌, Bool, true, false, if◌then◌else◌, List, [], ◌∷◌, Option, Some, None, refl, ◌∙◌, ap, arith}
 use Rattle.base_types.specs.Seal.{Blocks}
-use Rattle.layout_geometry.specs.Geometry.{Geometry, ring_block}
+use Rattle.layout_geometry.specs.Geometry.{Geometry}
 use Rattle.layout_journal.specs.declared.entry.Entry.{Entry}
 use Rattle.layout_journal.specs.declared.entry.EntryKind.{EntryKind}
-use Rattle.layout_journal.specs.Layout.{unescaped}
 use Rattle.layout_journal.specs.Run.{Record, heads, payload_from, names_block, or_else, covered_by}
 use Rattle.engine_recover.specs.Payload.{stored_from, stored_in, or_before, stored_next, stored_after, bytes_of}
 
 from_is : (g : Geometry) (img : Blocks) (place : ℕ) (es : List Entry) (b : ℕ) → payload_from g img place es b ≡ bytes_of img (stored_from g place es b)
 from_is g img place [] b = refl
-from_is g img place (e ∷ es) b = by (e.block == b) (from_is g img (place + 1) es b)
-  where
-    by : (t : Bool) → payload_from g img (place + 1) es b ≡ bytes_of img (stored_from g (place + 1) es b)
-        → (if t then Some (unescaped e.kind (img (ring_block g place))) else payload_from g img (place + 1) es b) ≡ bytes_of img (if t then Some (ring_block g place, e.kind) else stored_from g (place + 1) es b)
-    by true rest = refl
-    by false rest = rest
+from_is g img place (e ∷ es) b = grind (arith, from_is g img (place + 1) es b)
 
 next_is : (img : Blocks) (x o : Option (ℕ × EntryKind)) (f : Bool) → or_else (bytes_of img x) (if f then None else bytes_of img o) ≡ bytes_of img (or_before x (if f then None else o))
 next_is img (Some x) o f = refl

@@ -1,6 +1,6 @@
 -- No epoch on the disk is above the greatest.
 use Rattle.std.proofs.Common.{◌≡◌, ◌⊎◌, ⊎_elim, inl, inr, ℕ, zero, suc, ◌+◌, ◌<◌, ◌≤◌, ◌%◌, max, Bool, true, false, ◌&&◌, ◌||◌, if◌then◌else◌, List, Option, Some, None, refl, sym, ◌∙◌, ap, ap₂, subst, arith}
-use Rattle.std.proofs.lemmas.Bool.{and_parts, or_right}
+use Rattle.std.proofs.lemmas.Bool.{and_parts, or_right, cases_lt}
 use Rattle.std.proofs.lemmas.Nat.{mod_below}
 use Rattle.std.proofs.Math.Nat.{mod-mod}
 use Rattle.std.proofs.lemmas.Option.{same_Some}
@@ -22,12 +22,10 @@ greatest_of g img (suc k) = max (greatest_of g img k) (record_epoch (img (ring_b
 -- the epochs of the places below k
 places_below : (g : Geometry) (img : Blocks) (k p : ℕ) → p < k → record_epoch (img (ring_block g p)) ≤ greatest_of g img k
 places_below g img zero p lt = absurd (omega (arith, lt))
-places_below g img (suc k) p lt = ⊎_elim
-    (λ e. subst (λ n. record_epoch (img (ring_block g n)) ≤ max (greatest_of g img k) (record_epoch (img (ring_block g k)))) (sym e) (omega arith))
-    (λ under. omega (arith, places_below g img k p under)) (split p k lt)
-  where
-    split : (p k : ℕ) → p < suc k → (p ≡ k) ⊎ (p < k)
-    split p k lt = grind arith
+places_below g img (suc k) p lt = elim (cases_lt p k) [
+  | inl under ↦ omega (arith, places_below g img k p under)
+  | inr over ↦ omega (arith, ap (λ n. record_epoch (img (ring_block g n))) {x = p} {y = k} (omega (arith, lt, over)))
+]
 
 -- those of the slots
 slots_below : (g : Geometry) (img : Blocks) (k : ℕ) → max (header_epoch g.n (img 0)) (header_epoch g.n (img 1)) ≤ greatest_of g img k
@@ -37,20 +35,17 @@ slots_below g img (suc k) = omega (arith, slots_below g img k)
 slot_below : (g : Geometry) (img : Blocks) (s : ℕ) (h : Header) → s < 2 → header_of g.n (img s) ≡ Some h → h.epoch ≤ greatest_of g img g.j
 slot_below g img s h lt is =
     let own : header_epoch g.n (img s) ≡ h.epoch = ap epoch_of is in
-    ⊎_elim (λ e. omega (arith, slots_below g img g.j, own, ap (λ n. header_epoch g.n (img n)) e)) (λ e. omega (arith, slots_below g img g.j, own, ap (λ n. header_epoch g.n (img n)) e)) (slot s lt)
-  where
-    slot : (s : ℕ) → s < 2 → (s ≡ 0) ⊎ (s ≡ 1)
-    slot s lt = grind arith
+    let slot : (s ≡ 0) ⊎ (s ≡ 1) = grind (arith, lt) in
+    ⊎_elim (λ e. omega (arith, slots_below g img g.j, own, ap (λ n. header_epoch g.n (img n)) e)) (λ e. omega (arith, slots_below g img g.j, own, ap (λ n. header_epoch g.n (img n)) e)) slot
 
 -- 0, or an epoch on the disk
 abbrev IsOne : Geometry → Blocks → ℕ → Type 0
 IsOne g img e = (e ≡ 0) ⊎ (IsHeaderEpoch g img e ⊎ IsRecordEpoch g img e)
 
 one_of_two : (P : ℕ → Type 0) (a b : ℕ) → P a → P b → P (max a b)
-one_of_two P a b p q = ⊎_elim (λ e. subst P (sym e) p) (λ e. subst P (sym e) q) (which a b)
-  where
-    which : (a b : ℕ) → (max a b ≡ a) ⊎ (max a b ≡ b)
-    which a b = grind arith
+one_of_two P a b p q =
+    let which : (max a b ≡ a) ⊎ (max a b ≡ b) = grind arith in
+    ⊎_elim (λ e. subst P (sym e) p) (λ e. subst P (sym e) q) which
 
 one_of_slot : (g : Geometry) (img : Blocks) (s : ℕ) (o : Option Header) → s < 2 → header_of g.n (img s) ≡ o → IsOne g img (epoch_of o)
 one_of_slot g img s None lt is = inl refl

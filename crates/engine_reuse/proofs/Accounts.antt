@@ -1,13 +1,11 @@
 -- How many dead blocks there are, what calls make of them, and when a freed one may be taken again.
-use Rattle.std.proofs.Common.{◌≡◌, ℕ, zero, suc, ◌+◌, ◌-◌, ◌<◌, ◌≤◌, ◌==◌, ◌&&◌, ◌||◌, not, Bool, true, false, cond, Option, Some, List, [], ◌∷◌, ◌++◌, length, take, filter, map, slice_get, slice_index_or, refl, sym, ap, subst, ◌∙◌, arith}
-use Rattle.std.proofs.lemmas.Bool.{cond-true, eq-eqb, eqb-true, false≢true, or_left, or_right}
-use Rattle.std.proofs.lemmas.List.{length-take, get_or-take}
-use Rattle.std.proofs.lemmas.List.Elements.{All-head, All-tail, All-take}
-use Rattle.std.proofs.lemmas.List.Folds.{list_any_at}
-use Rattle.std.proofs.lemmas.List.FromFn.{length-range_with_len, get_or-range_with_len}
-use Rattle.std.proofs.lemmas.List.Kept.{AllPairs-filter}
+use Rattle.std.proofs.Common.{inl, inr, ◌≡◌, ℕ, zero, suc, ◌+◌, ◌-◌, ◌≤◌, ◌==◌, ◌&&◌, ◌||◌, not, Bool, true, false, cond, Option, Some, List, [], ◌∷◌, ◌++◌, length, filter, map, slice_get, sym, ap, ◌∙◌, arith}
+use Rattle.std.proofs.lemmas.Bool.{cond-true, eq-eqb, false≢true, or_right, cases_Bool, or_parts}
+use Rattle.std.proofs.lemmas.List.Elements.{All-head, All-tail}
 use Rattle.std.proofs.lemmas.Option.{none-some, same_Some}
-use Rattle.std.specs.List.{range_with_len, All, AllPairs}
+use Rattle.std.specs.List.{All}
+use Rattle.std.proofs.lemmas.Bool.Decides.{nat_tests}
+use Rattle.std.proofs.Math.Bool.{or-false}
 use Rattle.layout_geometry.specs.Geometry.{LiesIn, data_start}
 use Rattle.layout_geometry.specs.Geometry.Area.{Data}
 use Rattle.engine_reuse.specs.Numbers.{is_among}
@@ -15,30 +13,22 @@ use Rattle.engine_reuse.specs.Dead.{DeadBlocks, block_of, dead_blocks, data_bloc
 use Rattle.engine_reuse.specs.Calls.{with_sealed, with_released, with_taken, is_given_up, given_up}
 use Rattle.engine_reuse.proofs.Ranges.{among-filter}
 use Rattle.engine_reuse.proofs.Counts.{count_others, among-append, times_none, times_some, none_from_times, some_from_times}
-use Rattle.engine_reuse.proofs.Sound.{among_data, dead_times, dead_count, times_given, released_no_more}
+use Rattle.engine_reuse.proofs.Sound.{among_data, dead_times, dead_count, times_given, released_no_more, inside}
 
 pub add_up : (v : DeadBlocks) (marked : ℕ → Bool) → AreSound v → ((b : ℕ) → LiesIn v.geom Data b → marked b ≡ not (is_among b (dead_blocks v)))
     → length v.reusable + length (data_blocks_that v.geom marked) + length v.held + length v.waiting ≡ v.geom.n - data_start v.geom
-add_up v marked h is =
-    omega (
-      arith,
-      dead_count v,
-      count_others (data_start v.geom) (v.geom.n - data_start v.geom) (dead_blocks v) marked inside h.once
-          (λ b from below. is b (record { from = from; below = omega (arith, from, below) })),
-    )
-  where
-    inside : (b : ℕ) → is_among b (dead_blocks v) ≡ true → (data_start v.geom ≤ b) × (b < data_start v.geom + (v.geom.n - data_start v.geom))
-    inside b among = let lies = h.lie b among in (lies.from, omega (arith, lies.from, lies.below))
+add_up v marked h is = omega (
+  arith,
+  dead_count v,
+  count_others (data_start v.geom) (v.geom.n - data_start v.geom) (dead_blocks v) marked (inside v h) h.once (λ b from below. is b (record { from = from; below = omega (arith, from, below) })),
+)
 
 -- a block is dead where it is there at least once
 dead_at_least : (v : DeadBlocks) (b : ℕ) → 1 ≤ times b v.reusable + times b v.held + times b (map block_of v.waiting) → is_among b (dead_blocks v) ≡ true
 dead_at_least v b some = some_from_times b (dead_blocks v) (omega (arith, some, dead_times b v))
 
 same_truth : (s t : Bool) → (s ≡ true → t ≡ true) → (t ≡ true → s ≡ true) → s ≡ t
-same_truth true true f g = refl
-same_truth true false f g = sym (f refl)
-same_truth false true f g = g refl
-same_truth false false f g = refl
+same_truth s t f g = grind (arith, f, g)
 
 -- A pair at a place of a list.
 
@@ -50,11 +40,10 @@ block_among (q ∷ qs) (suc k) p at = or_right (block_of q == block_of p) (is_am
 pub kept_pair : (test : ℕ × ℕ → Bool) (ps : List (ℕ × ℕ)) (k : ℕ) (p : ℕ × ℕ) → slice_get ps k ≡ Some p → test p ≡ true → (i : ℕ) × (slice_get (filter test ps) i ≡ Some p)
 kept_pair test [] k p at passes = absurd (none-some p at)
 kept_pair test (q ∷ qs) zero p at passes = (0, ap (λ zs. slice_get zs 0) (cond-true (test q) (q ∷ filter test qs) (filter test qs) (ap test (same_Some q p at) ∙ passes)) ∙ at)
-kept_pair test (q ∷ qs) (suc k) p at passes = by (test q) (kept_pair test qs k p at passes)
-  where
-    by : (t : Bool) → (i : ℕ) × (slice_get (filter test qs) i ≡ Some p) → (i : ℕ) × (slice_get (cond t (q ∷ filter test qs) (filter test qs)) i ≡ Some p)
-    by true h = (suc h.0, h.1)
-    by false h = h
+kept_pair test (q ∷ qs) (suc k) p at passes = let h = kept_pair test qs k p at passes in elim (cases_Bool (test q)) [
+  | inl e ↦ (suc h.0, ap (λ t. slice_get (cond t (q ∷ filter test qs) (filter test qs)) (suc h.0)) e ∙ h.1)
+  | inr e ↦ (h.0, ap (λ t. slice_get (cond t (q ∷ filter test qs) (filter test qs)) h.0) e ∙ h.1)
+]
 
 behind : {X : Type 0} (xs ys : List X) (k : ℕ) → slice_get (xs ++ ys) (length xs + k) ≡ slice_get ys k
 behind [] ys k = ap (slice_get ys) {x = 0 + k} {y = k} (omega arith)
@@ -86,99 +75,55 @@ pub released_exactly : (v : DeadBlocks) (sure : ℕ) (home : List ℕ) (k : ℕ)
 released_exactly v sure home k p h at =
     among_data v.geom (λ b. is_among b given || is_among b v.reusable) (block_of p) (lies_pair v k p h at)
     ∙ ap (λ t. is_among (block_of p) given || t) (waiting_apart v (block_of p) h (block_among v.waiting k p at))
-    ∙ by (is_given_up sure home p) refl
+    ∙ or-false (is_among (block_of p) given)
+    ∙ elim (cases_Bool (is_given_up sure home p)) [
+      | inl is ↦ let there = kept_pair (is_given_up sure home) v.waiting k p at is in block_among (filter (is_given_up sure home) v.waiting) there.0 p there.1 ∙ sym is
+      | inr is ↦ none_from_times (block_of p) given (
+          let there = kept_pair (λ q. not (is_given_up sure home q)) v.waiting k p at (ap not is) in
+          omega (arith, h.once (block_of p), dead_times (block_of p) v, times_given (is_given_up sure home) (block_of p) v.waiting, times_some (block_of p) _ (block_among _ there.0 p there.1))
+          ) ∙ sym is
+    ]
   where
     given : List ℕ
     given = given_up sure home v.waiting
-
-    stay : List ℕ
-    stay = map block_of (filter (λ q. not (is_given_up sure home q)) v.waiting)
-
-    by : (t : Bool) → is_given_up sure home p ≡ t → (is_among (block_of p) given || false) ≡ t
-    by true is =
-        let there = kept_pair (is_given_up sure home) v.waiting k p at is in
-        or_left (is_among (block_of p) given) false (block_among (filter (is_given_up sure home) v.waiting) there.0 p there.1)
-    by false is = ap (λ t. t || false) (none_from_times (block_of p) given none)
-      where
-        none : times (block_of p) given ≡ 0
-        none =
-            let there = kept_pair (λ q. not (is_given_up sure home q)) v.waiting k p at (ap not is) in
-            omega (arith, h.once (block_of p), dead_times (block_of p) v, times_given (is_given_up sure home) (block_of p) v.waiting, times_some (block_of p) stay (block_among _ there.0 p there.1))
 
 -- What calls make of the dead blocks.
 
 pub dead_released : (v : DeadBlocks) (sure : ℕ) (home : List ℕ) (c : ℕ) → AreSound v → is_among c (dead_blocks (with_released v sure home)) ≡ is_among c (dead_blocks v)
-dead_released v sure home c h = same_truth (is_among c (dead_blocks (with_released v sure home))) (is_among c (dead_blocks v)) fewer more
+dead_released v sure home c h = same_truth (is_among c (dead_blocks (with_released v sure home))) (is_among c (dead_blocks v)) fewer (λ is. elim (cases_Bool (test c)) [
+  | inl passes ↦ dead_at_least (with_released v sure home) c (omega (arith, times_some c (data_blocks_that v.geom test) (among_data v.geom test c (h.lie c is) ∙ passes)))
+  | inr fails ↦ dead_at_least (with_released v sure home) c
+      (omega (arith, times_some c (dead_blocks v) is, dead_times c v, times_none c (given_up sure home v.waiting) (or_parts _ _ fails).0, times_none c v.reusable (or_parts _ _ fails).1, times_given (is_given_up sure home) c v.waiting))
+])
   where
-    given : List ℕ
-    given = given_up sure home v.waiting
-
     test : ℕ → Bool
-    test b = is_among b given || is_among b v.reusable
+    test b = is_among b (given_up sure home v.waiting) || is_among b v.reusable
 
     fewer : is_among c (dead_blocks (with_released v sure home)) ≡ true → is_among c (dead_blocks v) ≡ true
     fewer is = some_from_times c (dead_blocks v) (omega (arith, released_no_more v sure home c, times_some c (dead_blocks (with_released v sure home)) is))
 
-    more : is_among c (dead_blocks v) ≡ true → is_among c (dead_blocks (with_released v sure home)) ≡ true
-    more is = by (is_among c given) refl (is_among c v.reusable) refl
-      where
-        serves : test c ≡ true → is_among c (dead_blocks (with_released v sure home)) ≡ true
-        serves passes = dead_at_least (with_released v sure home) c (omega (arith, times_some c (data_blocks_that v.geom test) (among_data v.geom test c (h.lie c is) ∙ passes)))
-
-        by : (s : Bool) → is_among c given ≡ s → (t : Bool) → is_among c v.reusable ≡ t → is_among c (dead_blocks (with_released v sure home)) ≡ true
-        by true e t f = serves (or_left (is_among c given) (is_among c v.reusable) e)
-        by false e true f = serves (or_right (is_among c given) (is_among c v.reusable) f)
-        by false e false f =
-            dead_at_least (with_released v sure home) c
-            (omega (arith, times_some c (dead_blocks v) is, dead_times c v, times_none c given e, times_none c v.reusable f, times_given (is_given_up sure home) c v.waiting))
-
 one_of_all : (P : ℕ → Type 0) (bs : List ℕ) (c : ℕ) → All P bs → is_among c bs ≡ true → P c
 one_of_all P [] c each is = absurd (false≢true is)
-one_of_all P (b ∷ bs) c each is = by (b == c) refl is (one_of_all P bs c (All-tail P b bs each))
-  where
-    by : (t : Bool) → (b == c) ≡ t → (t || is_among c bs) ≡ true → (is_among c bs ≡ true → P c) → P c
-    by true e _ rest = subst P (eqb-true b c e) (All-head P b bs each)
-    by false e f rest = rest f
+one_of_all P (b ∷ bs) c each is = grind (arith, nat_tests, is, All-head P b bs each, one_of_all P bs c (All-tail P b bs each))
 
 pub dead_taken : (v : DeadBlocks) (bs : List ℕ) (c : ℕ) → AreSound v → All (IsReusable v) bs → is_among c (dead_blocks (with_taken v bs)) ≡ (not (is_among c bs) && is_among c (dead_blocks v))
-dead_taken v bs c h each = by (is_among c bs) refl
-  where
-    left : List ℕ
-    left = filter (λ b. not (is_among b bs)) v.reusable
-
-    by : (t : Bool) → is_among c bs ≡ t → is_among c (dead_blocks (with_taken v bs)) ≡ (not t && is_among c (dead_blocks v))
-    by true e =
-        none_from_times c (dead_blocks (with_taken v bs))
-        (omega (
-          arith,
-          dead_times c (with_taken v bs),
-          dead_times c v,
-          h.once c,
-          times_some c v.reusable (one_of_all (IsReusable v) bs c each e).among,
-          times_none c left (among-filter (λ b. not (is_among b bs)) c v.reusable ∙ ap (λ t. not t && is_among c v.reusable) e),
-        ))
-    by false e =
-        among-append c left (v.held ++ map block_of v.waiting)
-        ∙ ap (λ t. t || is_among c (v.held ++ map block_of v.waiting)) (among-filter (λ b. not (is_among b bs)) c v.reusable ∙ ap (λ t. not t && is_among c v.reusable) e)
-        ∙ sym (among-append c v.reusable (v.held ++ map block_of v.waiting))
-
--- The least numbers that may be taken.
-
-pub each_may : (v : DeadBlocks) (n : ℕ) → AreSound v → All (IsReusable v) (take n v.reusable)
-each_may v n h = All-take (IsReusable v) n v.reusable (λ k d low.
-    let there : is_among (slice_index_or v.reusable k d) v.reusable ≡ true = list_any_at (λ x. x == slice_index_or v.reusable k d) v.reusable k d low (eq-eqb _ _ refl) in
-    record { lies = h.lie (slice_index_or v.reusable k d) (dead_at_least v (slice_index_or v.reusable k d) (omega (arith, times_some _ v.reusable there))); among = there })
-
-pub they_ascend : (v : DeadBlocks) (n : ℕ) → AreSound v → AllPairs (λ a b. a < b) (take n v.reusable)
-they_ascend v n h i j d before low =
-    let size : j < n = omega (arith, low, length-take n v.reusable) in
-    let within : j < length v.reusable = omega (arith, low, length-take n v.reusable) in
-    omega (arith, get_or-take n v.reusable i d (omega (arith, before, size)), get_or-take n v.reusable j d size, all i j d before within)
-  where
-    range : List ℕ
-    range = range_with_len (data_start v.geom) (v.geom.n - data_start v.geom)
-
-    all : AllPairs (λ a b. a < b) v.reusable
-    all = subst (AllPairs (λ a b. a < b)) (sym h.ascending) (AllPairs-filter (λ a b. a < b) (λ b. is_among b v.reusable) range (λ i j d before low.
-        let len = length-range_with_len (data_start v.geom) (v.geom.n - data_start v.geom) in
-        omega (arith, before, get_or-range_with_len (data_start v.geom) (v.geom.n - data_start v.geom) i d (omega (arith, before, low, len)), get_or-range_with_len (data_start v.geom) (v.geom.n - data_start v.geom) j d (omega (arith, low, len)))))
+dead_taken v bs c h each = elim (cases_Bool (is_among c bs)) [
+  | inl e ↦
+      none_from_times c (dead_blocks (with_taken v bs))
+      (omega (
+        arith,
+        dead_times c (with_taken v bs),
+        dead_times c v,
+        h.once c,
+        times_some c v.reusable (one_of_all (IsReusable v) bs c each e).among,
+        times_none c (filter (λ b. not (is_among b bs)) v.reusable) (among-filter (λ b. not (is_among b bs)) c v.reusable ∙ ap (λ t. not t && is_among c v.reusable) e),
+      ))
+      ∙ sym (ap (λ t. not t && is_among c (dead_blocks v)) e)
+  | inr e ↦ grind (
+    arith,
+    e,
+    among-append c (filter (λ b. not (is_among b bs)) v.reusable) (v.held ++ map block_of v.waiting),
+    among-filter (λ b. not (is_among b bs)) c v.reusable,
+    among-append c v.reusable (v.held ++ map block_of v.waiting),
+  )
+]

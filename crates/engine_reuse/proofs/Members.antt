@@ -1,12 +1,15 @@
 -- The members of a set of numbers, as its bits change.
-use Rattle.std.proofs.Common.{◌≡◌, ◌≢◌, ℕ, zero, suc, ◌+◌, ◌-◌, ◌*◌, ◌/◌, ◌%◌, ◌^◌, ◌<◌, ◌≤◌, ◌==◌, ◌&&◌, ◌||◌, not, Bool, true, false, ◌⊎◌, inl, inr, List, [], ◌∷◌, ◌++◌, length, take, min, slice_index, if◌then◌else◌, refl, sym, ap, ap₂, ◌∙◌, arith, append-nil}
-use Rattle.std.proofs.Math.Bool.{and-true, and-false, or-false, or_comm, or_assoc}
+use Rattle.std.proofs.Common.{◌≡◌, ◌≢◌, ℕ, ◌+◌, ◌-◌, ◌*◌, ◌/◌, ◌%◌, ◌^◌, ◌<◌, ◌≤◌, ◌==◌, ◌&&◌, ◌||◌, not, Bool, true, false, ◌⊎◌, inl, inr, List, [], ◌∷◌, ◌++◌, length, take, min, slice_index, if◌then◌else◌, refl, sym, ap, ap₂, ◌∙◌, arith, append-nil}
+use Rattle.std.proofs.Math.Bool.{and-true, and-false}
 use Rattle.std.proofs.lemmas.Bool.{cases_eq, cases_lt, eq-eqb, ne_eqb, false≢true}
 use Rattle.std.proofs.lemmas.List.{get_or_past, take_at, take_min}
 use Rattle.std.proofs.lemmas.List.Folds.{list_any-append}
 use Rattle.std.proofs.lemmas.Nat.Bits.{bit_at-zero}
 use Rattle.std.specs.Int.{bit_at}
 use Rattle.std.specs.List.{filter, range_with_len}
+use Rattle.std.proofs.lemmas.Bool.Decides.{nat_tests}
+use Rattle.std.proofs.lemmas.List.FromFn.{length-range_with_len}
+use Rattle.std.proofs.lemmas.List.Filters.{length-filter_both}
 use Rattle.engine_reuse.specs.Numbers.{is_among, numbers_below, NumberSet, set_of}
 use Rattle.engine_reuse.specs.Words.{has_bit, numbers_in, SaysFilled, AreRows}
 use Rattle.engine_reuse.proofs.Ranges.{among-filter, among_inside, among_outside, same_from, none_from, kept_split, one_more}
@@ -34,27 +37,20 @@ pub no_member_past : (limit : ℕ) (test : ℕ → Bool) (b : ℕ) → limit ≤
 no_member_past limit test b past = among-filter test b (range_with_len 0 limit) ∙ ap (λ t. test b && t) (among_outside b 0 limit (inr (omega (arith, past)))) ∙ and-false (test b)
 
 pub bit_within : (words : List ℕ) (b : ℕ) → has_bit words b ≡ true → b < 64 * length words
-bit_within words b has = by (cases_lt b (64 * length words))
-  where
-    by : (b < 64 * length words) ⊎ (64 * length words ≤ b) → b < 64 * length words
-    by (inl l) = l
-    by (inr past) = absurd (false≢true (sym (no_bit_past words b past) ∙ has))
+bit_within words b has = elim (cases_lt b (64 * length words)) [
+  | inl l ↦ l
+  | inr past ↦ absurd (false≢true (sym (no_bit_past words b past) ∙ has))
+]
 
 pub is_member : (words : List ℕ) (b : ℕ) → has_bit words b ≡ is_among b (numbers_in words)
-is_member words b = by (cases_lt b (64 * length words))
-  where
-    by : (b < 64 * length words) ⊎ (64 * length words ≤ b) → has_bit words b ≡ is_among b (numbers_in words)
-    by (inl l) = member_is words b l
-    by (inr past) = no_bit_past words b past ∙ sym (no_member_past (64 * length words) (has_bit words) b past)
+is_member words b = elim (cases_lt b (64 * length words)) [
+  | inl l ↦ member_is words b l
+  | inr past ↦ no_bit_past words b past ∙ sym (no_member_past (64 * length words) (has_bit words) b past)
+]
 
 -- there are no more members than numbers below the limit
 pub few_kept : (p : ℕ → Bool) (a n : ℕ) → length (filter p (range_with_len a n)) ≤ n
-few_kept p a zero = omega arith
-few_kept p a (suc n) = by (p a) (few_kept p (a + 1) n)
-  where
-    by : (t : Bool) → length (filter p (range_with_len (a + 1) n)) ≤ n → length (if t then a ∷ filter p (range_with_len (a + 1) n) else filter p (range_with_len (a + 1) n)) ≤ suc n
-    by true le = omega (arith, le)
-    by false le = omega (arith, le)
+few_kept p a n = omega (arith, length-filter_both p (λ b. not (p b)) (λ b. refl) (range_with_len a n), length-range_with_len a n)
 
 pub few_rows : (words filled : List ℕ) (count : ℕ) → AreRows words filled count → count + 1 < 2 ^ 32
 few_rows words filled count rows = omega (arith, rows.count_is, rows.few_words, few_kept (has_bit words) 0 (64 * length words))
@@ -83,7 +79,10 @@ pub record HasPut (words new : List ℕ) (b : ℕ) : Type 0 where
 pub rows_with : (words filled new_words new_filled : List ℕ) (count b : ℕ) → AreRows words filled count → b < 64 * length words → has_bit words b ≡ false
     → HasPut words new_words b → HasPut filled new_filled (b / 64) → AreRows new_words new_filled (count + 1)
 rows_with words filled new_words new_filled count b rows low out put mark = record {
-  says = says;
+  says = λ w. elim (cases_eq w (b / 64)) [
+    | inl e ↦ mark.bits w ∙ ap (λ t. t || has_bit filled w) (eq-eqb w (b / 64) e) ∙ ap not (sym (ap (λ v. slice_index new_words v == 0) e ∙ filled_word new_words b own))
+    | inr d ↦ mark.bits w ∙ ap (λ t. t || has_bit filled w) (ne_eqb w (b / 64) d) ∙ rows.says w ∙ ap (λ x. not (x == 0)) (sym (put.others w d))
+  ];
   count_is = omega (arith, rows.count_is, more);
   enough = omega (arith, rows.enough, put.len, mark.len);
   few_words = omega (arith, rows.few_words, put.len);
@@ -99,15 +98,6 @@ rows_with words filled new_words new_filled count b rows low out put mark = reco
         ∙ one_more (has_bit new_words) (has_bit words) b 0 (64 * length words) (omega arith) (omega (arith, low)) own out
         (λ k apart. sym (put.bits k ∙ ap (λ t. t || has_bit words k) (ne_eqb k b apart)))
 
-    says : SaysFilled new_words new_filled
-    says w = by (cases_eq w (b / 64))
-      where
-        by : (w ≡ b / 64) ⊎ (w ≢ b / 64) → has_bit new_filled w ≡ not (slice_index new_words w == 0)
-        by (inl e) =
-            mark.bits w ∙ ap (λ t. t || has_bit filled w) (eq-eqb w (b / 64) e)
-            ∙ ap not (sym (ap (λ v. slice_index new_words v == 0) e ∙ filled_word new_words b own))
-        by (inr d) = mark.bits w ∙ ap (λ t. t || has_bit filled w) (ne_eqb w (b / 64) d) ∙ rows.says w ∙ ap (λ x. not (x == 0)) (sym (put.others w d))
-
 -- the set then has the number
 pub set_with : (words new : List ℕ) (b : ℕ) → HasPut words new b
     → (let s : NumberSet = record { limit = 64 * length new; members = numbers_in new } in s ≡ set_of (64 * length words) (λ c. c == b || is_among c (numbers_in words)))
@@ -118,15 +108,10 @@ set_with words new b put =
 -- and a number that is a member already changes nothing
 pub put_again : (words : List ℕ) (b : ℕ) → has_bit words b ≡ true
     → (let s : NumberSet = record { limit = 64 * length words; members = numbers_in words } in s ≡ set_of s.limit (λ c. c == b || is_among c s.members))
-put_again words b has = same_set_of (64 * length words) (has_bit words) (λ c. c == b || is_among c (numbers_in words)) (λ c below. by c below (cases_eq c b))
-  where
-    either : (t u : Bool) → u ≡ true → u ≡ (t || u)
-    either true u e = e
-    either false u e = refl
-
-    by : (c : ℕ) → c < 64 * length words → (c ≡ b) ⊎ (c ≢ b) → has_bit words c ≡ (c == b || is_among c (numbers_in words))
-    by c below (inl e) = member_is words c below ∙ either (c == b) (is_among c (numbers_in words)) (sym (member_is words c below) ∙ ap (has_bit words) e ∙ has)
-    by c below (inr d) = member_is words c below ∙ ap (λ t. t || is_among c (numbers_in words)) (sym (ne_eqb c b d))
+put_again words b has = same_set_of (64 * length words) (has_bit words) (λ c. c == b || is_among c (numbers_in words)) (λ c below. elim (cases_eq c b) [
+  | inl e ↦ ap (has_bit words) e ∙ has ∙ sym (ap (λ t. t || is_among c (numbers_in words)) (eq-eqb c b e))
+  | inr d ↦ member_is words c below ∙ ap (λ t. t || is_among c (numbers_in words)) (sym (ne_eqb c b d))
+])
 
 -- nor does a number past the limit
 pub put_past : (words : List ℕ) (b : ℕ) → 64 * length words ≤ b
@@ -148,7 +133,14 @@ pub rows_without : (words filled new_words new_filled : List ℕ) (count b : ℕ
 rows_without words filled new_words new_filled count b rows low own out mark same = (
   omega (arith, rows.count_is, fewer),
   record {
-    says = says;
+    says = λ w. elim (cases_eq w (b / 64)) [
+      | inl e ↦
+          mark w ∙ ap₂ (λ t u. not (t && slice_index new_words (b / 64) == 0) && u) (eq-eqb w (b / 64) e) (ap (has_bit filled) e ∙ rows.says (b / 64) ∙ ap not (filled_word words b own))
+          ∙ and-true (not (slice_index new_words (b / 64) == 0)) ∙ ap (λ v. not (slice_index new_words v == 0)) (sym e)
+      | inr d ↦
+          mark w ∙ ap (λ t. not (t && slice_index new_words (b / 64) == 0) && has_bit filled w) (ne_eqb w (b / 64) d)
+          ∙ rows.says w ∙ ap (λ x. not (x == 0)) (sym (out.others w d))
+    ];
     count_is = omega (arith, rows.count_is, fewer);
     enough = omega (arith, rows.enough, out.len, same);
     few_words = omega (arith, rows.few_words, out.len);
@@ -156,30 +148,11 @@ rows_without words filled new_words new_filled count b rows low own out mark sam
   },
 )
   where
-    gone : has_bit new_words b ≡ false
-    gone = out.bits b ∙ ap (λ t. not t && has_bit words b) (eq-eqb b b refl)
-
     fewer : length (numbers_in words) ≡ length (numbers_in new_words) + 1
     fewer =
-        one_more (has_bit words) (has_bit new_words) b 0 (64 * length words) (omega arith) (omega (arith, low)) own gone
+        one_more (has_bit words) (has_bit new_words) b 0 (64 * length words) (omega arith) (omega (arith, low)) own (out.bits b ∙ ap (λ t. not t && has_bit words b) (eq-eqb b b refl))
         (λ k apart. out.bits k ∙ ap (λ t. not t && has_bit words k) (ne_eqb k b apart))
         ∙ ap (λ n. length (numbers_below (64 * n) (has_bit new_words)) + 1) (sym out.len)
-
-    says : SaysFilled new_words new_filled
-    says w = by (cases_eq w (b / 64))
-      where
-        own_word : (t u : Bool) → u ≡ true → (not (true && t) && u) ≡ not t
-        own_word true u e = refl
-        own_word false u e = e
-
-        by : (w ≡ b / 64) ⊎ (w ≢ b / 64) → has_bit new_filled w ≡ not (slice_index new_words w == 0)
-        by (inl e) =
-            mark w ∙ ap (λ t. not (t && slice_index new_words (b / 64) == 0) && has_bit filled w) (eq-eqb w (b / 64) e)
-            ∙ own_word (slice_index new_words (b / 64) == 0) (has_bit filled w) (ap (has_bit filled) e ∙ rows.says (b / 64) ∙ ap not (filled_word words b own))
-            ∙ ap (λ v. not (slice_index new_words v == 0)) (sym e)
-        by (inr d) =
-            mark w ∙ ap (λ t. not (t && slice_index new_words (b / 64) == 0) && has_bit filled w) (ne_eqb w (b / 64) d)
-            ∙ rows.says w ∙ ap (λ x. not (x == 0)) (sym (out.others w d))
 
 pub set_without : (words new : List ℕ) (b : ℕ) → HasTakenOut words new b
     → (let s : NumberSet = record { limit = 64 * length new; members = numbers_in new } in s ≡ set_of (64 * length words) (λ c. not (c == b) && is_among c (numbers_in words)))
@@ -189,46 +162,28 @@ set_without words new b out =
 
 pub none_to_take : (words : List ℕ) (b : ℕ) → has_bit words b ≡ false
     → (let s : NumberSet = record { limit = 64 * length words; members = numbers_in words } in s ≡ set_of s.limit (λ c. not (c == b) && is_among c s.members))
-none_to_take words b hasnt = same_set_of (64 * length words) (has_bit words) (λ c. not (c == b) && is_among c (numbers_in words)) (λ c below. by c below (cases_eq c b))
-  where
-    neither : (t u : Bool) → u ≡ false → u ≡ (not t && u)
-    neither true u e = e
-    neither false u e = refl
-
-    by : (c : ℕ) → c < 64 * length words → (c ≡ b) ⊎ (c ≢ b) → has_bit words c ≡ (not (c == b) && is_among c (numbers_in words))
-    by c below (inl e) = member_is words c below ∙ neither (c == b) (is_among c (numbers_in words)) (sym (member_is words c below) ∙ ap (has_bit words) e ∙ hasnt)
-    by c below (inr d) = member_is words c below ∙ ap (λ t. not t && is_among c (numbers_in words)) (sym (ne_eqb c b d))
+none_to_take words b hasnt = same_set_of (64 * length words) (has_bit words) (λ c. not (c == b) && is_among c (numbers_in words)) (λ c below. elim (cases_eq c b) [
+  | inl e ↦ ap (has_bit words) e ∙ hasnt ∙ sym (ap (λ t. not t && is_among c (numbers_in words)) (eq-eqb c b e))
+  | inr d ↦ member_is words c below ∙ ap (λ t. not t && is_among c (numbers_in words)) (sym (ne_eqb c b d))
+])
 
 -- The members after many steps.
 
 -- one number more at the end of a list
 among_push : (b : ℕ) (xs : List ℕ) (x : ℕ) → is_among b (xs ++ x ∷ []) ≡ (b == x || is_among b xs)
-among_push b xs x =
-    list_any-append (λ y. y == b) xs (x ∷ []) ∙ ap (λ t. is_among b xs || t) (or-false (x == b) ∙ turned (cases_eq x b)) ∙ or_comm (is_among b xs) (b == x)
-  where
-    turned : (x ≡ b) ⊎ (x ≢ b) → (x == b) ≡ (b == x)
-    turned (inl e) = eq-eqb x b e ∙ sym (eq-eqb b x (sym e))
-    turned (inr d) = ne_eqb x b d ∙ sym (ne_eqb b x (λ e. d (sym e)))
+among_push b xs x = grind (arith, nat_tests, list_any-append (λ y. y == b) xs (x ∷ []))
 
 pub put_next : (limit : ℕ) (xs old : List ℕ) (x : ℕ) (s new : NumberSet) → s ≡ set_of limit (λ b. is_among b xs || is_among b old) → new ≡ set_of s.limit (λ b. b == x || is_among b s.members)
     → new ≡ set_of limit (λ b. is_among b (xs ++ x ∷ []) || is_among b old)
 put_next limit xs old x s new before after =
     after ∙ ap (λ (q : NumberSet). set_of q.limit (λ b. b == x || is_among b q.members)) before
-    ∙ same_set_of limit _ _ (λ b below.
-    ap (λ t. b == x || t) (among_below limit (λ c. is_among c xs || is_among c old) b below)
-    ∙ sym (or_assoc (b == x) (is_among b xs) (is_among b old)) ∙ ap (λ t. t || is_among b old) (sym (among_push b xs x)))
+    ∙ same_set_of limit _ _ (λ b below. grind (arith, among_below limit (λ c. is_among c xs || is_among c old) b below, among_push b xs x))
 
 pub take_out_next : (limit : ℕ) (xs old : List ℕ) (x : ℕ) (s new : NumberSet) → s ≡ set_of limit (λ b. not (is_among b xs) && is_among b old) → new ≡ set_of s.limit (λ b. not (b == x) && is_among b s.members)
     → new ≡ set_of limit (λ b. not (is_among b (xs ++ x ∷ [])) && is_among b old)
 take_out_next limit xs old x s new before after =
     after ∙ ap (λ (q : NumberSet). set_of q.limit (λ b. not (b == x) && is_among b q.members)) before
-    ∙ same_set_of limit _ _ (λ b below.
-    ap (λ t. not (b == x) && t) (among_below limit (λ c. not (is_among c xs) && is_among c old) b below)
-    ∙ joined (b == x) (is_among b xs) (is_among b old) ∙ ap (λ t. not t && is_among b old) (sym (among_push b xs x)))
-  where
-    joined : (t u v : Bool) → (not t && (not u && v)) ≡ (not (t || u) && v)
-    joined true u v = refl
-    joined false u v = refl
+    ∙ same_set_of limit _ _ (λ b below. grind (arith, among_below limit (λ c. not (is_among c xs) && is_among c old) b below, among_push b xs x))
 
 -- The least members, found one by one.
 
@@ -258,44 +213,33 @@ one_found words found from b h low high has before = record {
         (ap (λ a. filter (has_bit words) (range_with_len a 1)) {x = 0 + from + (b - from)} {y = b} (omega (arith, low)) ∙ one)
 
 -- what was found are the first members, and all where none is left
-pub found_first : (words found : List ℕ) (from : ℕ) → AreFound words found from → found ≡ take (length found) (numbers_in words)
-found_first words found from h = sym (ap (take (length found)) whole ∙ take_at found rest (length found) refl)
-  where
-    rest : List ℕ
-    rest = filter (has_bit words) (range_with_len (0 + from) (64 * length words - from))
+-- the members are those that were found, and those from this number on
+found_split : (words found : List ℕ) (from : ℕ) → AreFound words found from → numbers_in words ≡ found ++ filter (has_bit words) (range_with_len (0 + from) (64 * length words - from))
+found_split words found from h =
+    ap (λ n. numbers_below n (has_bit words)) {x = 64 * length words} {y = from + (64 * length words - from)} (omega (arith, h.below))
+    ∙ kept_split (has_bit words) 0 from (64 * length words - from) ∙ ap (λ xs. xs ++ filter (has_bit words) (range_with_len (0 + from) (64 * length words - from))) (sym h.are)
 
-    whole : numbers_in words ≡ found ++ rest
-    whole =
-        ap (λ n. numbers_below n (has_bit words)) {x = 64 * length words} {y = from + (64 * length words - from)} (omega (arith, h.below))
-        ∙ kept_split (has_bit words) 0 from (64 * length words - from) ∙ ap (λ xs. xs ++ rest) (sym h.are)
+pub found_first : (words found : List ℕ) (from : ℕ) → AreFound words found from → found ≡ take (length found) (numbers_in words)
+found_first words found from h = sym (ap (take (length found)) (found_split words found from h) ∙ take_at found _ (length found) refl)
 
 pub found_enough : (words found : List ℕ) (from n : ℕ) → AreFound words found from → min n (length (numbers_in words)) ≤ length found → length found ≤ min n (length (numbers_in words)) → found ≡ take n (numbers_in words)
 found_enough words found from n h least most =
     found_first words found from h ∙ ap (λ k. take k (numbers_in words)) {x = length found} {y = min n (length (numbers_in words))} (omega (arith, least, most)) ∙ take_min n (numbers_in words)
 
 pub found_all : (words found : List ℕ) (from n : ℕ) → AreFound words found from → ((c : ℕ) → from ≤ c → has_bit words c ≡ false) → length found ≤ min n (length (numbers_in words)) → found ≡ take n (numbers_in words)
-found_all words found from n h none most = found_enough words found from n h (omega (arith, count)) most
+found_all words found from n h none most = found_enough words found from n h (omega (arith, ap length whole)) most
   where
-    left : filter (has_bit words) (range_with_len (0 + from) (64 * length words - from)) ≡ []
-    left = none_from (has_bit words) (0 + from) (64 * length words - from) (λ c l u. none c (omega (arith, l)))
-
     whole : numbers_in words ≡ found
-    whole =
-        ap (λ n. numbers_below n (has_bit words)) {x = 64 * length words} {y = from + (64 * length words - from)} (omega (arith, h.below))
-        ∙ kept_split (has_bit words) 0 from (64 * length words - from) ∙ ap₂ ◌++◌ (sym h.are) left ∙ append-nil found
-
-    count : length (numbers_in words) ≡ length found
-    count = ap length whole
+    whole = found_split words found from h ∙ ap (λ xs. found ++ xs) (none_from (has_bit words) (0 + from) (64 * length words - from) (λ c l u. none c (omega (arith, l)))) ∙ append-nil found
 
 -- The first member behind those of a word.
 
 -- no bit of the words between, where the second row has none
 pub none_between : (words filled : List ℕ) (w v c : ℕ) → SaysFilled words filled → ((u : ℕ) → w ≤ u → u < v → has_bit filled u ≡ false) → 64 * w ≤ c → c < 64 * v → has_bit words c ≡ false
-none_between words filled w v c says none low high = by (cases_eq (slice_index words (c / 64)) 0)
-  where
-    by : (slice_index words (c / 64) ≡ 0) ⊎ (slice_index words (c / 64) ≢ 0) → has_bit words c ≡ false
-    by (inl e) = ap (λ x. x == 1) (ap (λ x. bit_at x (c % 64)) e ∙ bit_at-zero (c % 64))
-    by (inr d) = absurd (false≢true (sym (none (c / 64) (omega (arith, low)) (omega (arith, high))) ∙ says (c / 64) ∙ ap not (ne_eqb (slice_index words (c / 64)) 0 d)))
+none_between words filled w v c says none low high = elim (cases_eq (slice_index words (c / 64)) 0) [
+  | inl e ↦ ap (λ x. x == 1) (ap (λ x. bit_at x (c % 64)) e ∙ bit_at-zero (c % 64))
+  | inr d ↦ absurd (false≢true (sym (none (c / 64) (omega (arith, low)) (omega (arith, high))) ∙ says (c / 64) ∙ ap not (ne_eqb (slice_index words (c / 64)) 0 d)))
+]
 
 -- a bit of the row is that of its word
 bit_in_word : (words : List ℕ) (w i : ℕ) → i < 64 → bit_at (slice_index words w) i ≡ 0 → (c : ℕ) → c ≡ 64 * w + i → has_bit words c ≡ false

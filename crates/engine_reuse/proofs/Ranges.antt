@@ -1,9 +1,10 @@
 -- What a test keeps of a range of numbers.
-use Rattle.std.proofs.Common.{◌≡◌, ◌≢◌, ℕ, zero, suc, ◌+◌, ◌<◌, ◌≤◌, ◌==◌, ◌&&◌, ◌||◌, Bool, true, false, cond, ◌⊎◌, inl, inr, List, [], ◌∷◌, ◌++◌, length, filter, refl, sym, ap, ap₂, ◌∙◌, arith}
-use Rattle.std.proofs.lemmas.Bool.{cases_eq, eq-eqb, eqb-true, ne_eqb, cond-true, cond-false}
+use Rattle.std.proofs.Common.{◌≡◌, ◌≢◌, ℕ, zero, suc, ◌+◌, ◌<◌, ◌≤◌, ◌==◌, ◌&&◌, Bool, true, false, cond, ◌⊎◌, inl, inr, List, [], ◌∷◌, ◌++◌, length, filter, refl, sym, ap, ap₂, ◌∙◌, arith}
+use Rattle.std.proofs.lemmas.Bool.{cases_eq, eqb-true}
 use Rattle.std.proofs.lemmas.List.Elements.{filter-append}
 use Rattle.std.specs.List.{range_with_len}
 use Rattle.std.proofs.lemmas.Map.Views.{any-filter_same}
+use Rattle.std.proofs.lemmas.Bool.Decides.{nat_tests}
 use Rattle.engine_reuse.specs.Numbers.{is_among}
 
 -- a number passes the filter where it is there and passes the test
@@ -13,28 +14,11 @@ among-filter p b xs = any-filter_same (λ x. x == b) p (p b) (λ k e. ap p (eqb-
 -- a number is in a range, or it isn't
 pub among_inside : (b a n : ℕ) → a ≤ b → b < a + n → is_among b (range_with_len a n) ≡ true
 among_inside b a zero low high = absurd (omega (arith, low, high))
-among_inside b a (suc n) low high = by (cases_eq a b) (λ d. among_inside b (a + 1) n (omega (arith, low, d)) (omega (arith, high)))
-  where
-    rest : (t u : Bool) → u ≡ true → (t || u) ≡ true
-    rest true u e = refl
-    rest false u e = e
-
-    by : (a ≡ b) ⊎ (a ≢ b) → (a ≢ b → is_among b (range_with_len (a + 1) n) ≡ true) → ((a == b) || is_among b (range_with_len (a + 1) n)) ≡ true
-    by (inl e) later = ap (λ t. t || is_among b (range_with_len (a + 1) n)) (eq-eqb a b e)
-    by (inr d) later = rest (a == b) (is_among b (range_with_len (a + 1) n)) (later d)
+among_inside b a (suc n) low high = grind (arith, nat_tests, low, high, among_inside b (a + 1) n)
 
 pub among_outside : (b a n : ℕ) → (b < a) ⊎ (a + n ≤ b) → is_among b (range_with_len a n) ≡ false
 among_outside b a zero out = refl
-among_outside b a (suc n) out =
-    ap (λ t. t || is_among b (range_with_len (a + 1) n)) (ne_eqb a b (apart out)) ∙ among_outside b (a + 1) n (later out)
-  where
-    apart : (b < a) ⊎ (a + suc n ≤ b) → a ≡ b → ⊥
-    apart (inl l) e = omega (arith, l, e)
-    apart (inr h) e = omega (arith, h, e)
-
-    later : (b < a) ⊎ (a + suc n ≤ b) → (b < a + 1) ⊎ (a + 1 + n ≤ b)
-    later (inl l) = inl (omega (arith, l))
-    later (inr h) = inr (omega (arith, h))
+among_outside b a (suc n) out = grind (arith, nat_tests, out, among_outside b (a + 1) n)
 
 -- two tests that agree on a range keep the same of it
 pub same_from : (p q : ℕ → Bool) (a n : ℕ) → ((b : ℕ) → a ≤ b → b < a + n → p b ≡ q b) → filter p (range_with_len a n) ≡ filter q (range_with_len a n)
@@ -45,9 +29,7 @@ same_from p q a (suc n) same =
 -- nothing is kept where nothing passes
 pub none_from : (p : ℕ → Bool) (a n : ℕ) → ((b : ℕ) → a ≤ b → b < a + n → p b ≡ false) → filter p (range_with_len a n) ≡ []
 none_from p a zero fails = refl
-none_from p a (suc n) fails =
-    cond-false (p a) (a ∷ filter p (range_with_len (a + 1) n)) (filter p (range_with_len (a + 1) n)) (fails a (omega arith) (omega arith))
-    ∙ none_from p (a + 1) n (λ b from below. fails b (omega (arith, from)) (omega (arith, below)))
+none_from p a (suc n) fails = grind (arith, fails a, none_from p (a + 1) n (λ b from below. fails b (omega (arith, from)) (omega (arith, below))))
 
 -- what is kept of a range is what is kept of its two parts
 range_split : (a m k : ℕ) → range_with_len a (m + k) ≡ range_with_len a m ++ range_with_len (a + m) k
@@ -64,19 +46,7 @@ kept_split p a m k = ap (filter p) (range_split a m k) ∙ filter-append p (rang
 pub one_more : (p q : ℕ → Bool) (b a n : ℕ) → a ≤ b → b < a + n → p b ≡ true → q b ≡ false → ((k : ℕ) → k ≢ b → q k ≡ p k)
     → length (filter p (range_with_len a n)) ≡ length (filter q (range_with_len a n)) + 1
 one_more p q b a zero low high has hasnt same = absurd (omega (arith, low, high))
-one_more p q b a (suc n) low high has hasnt same = by (cases_eq a b) (λ d. one_more p q b (a + 1) n (omega (arith, low, d)) (omega (arith, high)) has hasnt same)
-  where
-    more : (t : Bool) (xs ys : List ℕ) → length xs ≡ length ys + 1 → length (cond t (a ∷ xs) xs) ≡ length (cond t (a ∷ ys) ys) + 1
-    more true xs ys e = omega (arith, e)
-    more false xs ys e = e
-
-    by : (a ≡ b) ⊎ (a ≢ b) → (a ≢ b → length (filter p (range_with_len (a + 1) n)) ≡ length (filter q (range_with_len (a + 1) n)) + 1)
-        → length (filter p (range_with_len a (suc n))) ≡ length (filter q (range_with_len a (suc n))) + 1
-    by (inl e) later =
-        ap length (cond-true (p a) (a ∷ filter p (range_with_len (a + 1) n)) (filter p (range_with_len (a + 1) n)) (ap p e ∙ has))
-        ∙ ap (λ xs. length (a ∷ xs)) (same_from p q (a + 1) n (λ k from below. sym (same k (λ is. omega (arith, is, from, e)))))
-        ∙ omega arith
-        ∙ ap (λ xs. length xs + 1) (sym (cond-false (q a) (a ∷ filter q (range_with_len (a + 1) n)) (filter q (range_with_len (a + 1) n)) (ap q e ∙ hasnt)))
-    by (inr d) later =
-        more (p a) (filter p (range_with_len (a + 1) n)) (filter q (range_with_len (a + 1) n)) (later d)
-        ∙ ap (λ t. length (cond t (a ∷ filter q (range_with_len (a + 1) n)) (filter q (range_with_len (a + 1) n))) + 1) (sym (same a d))
+one_more p q b a (suc n) low high has hasnt same = elim (cases_eq a b) [
+  | inl e ↦ grind (arith, e, has, hasnt, same_from p q (a + 1) n (λ k from below. sym (same k (λ is. omega (arith, is, from, e)))))
+  | inr d ↦ grind (arith, same a d, one_more p q b (a + 1) n (omega (arith, low, d)) (omega (arith, high)) has hasnt same)
+]

@@ -18,14 +18,8 @@ parted xs sure up i j d le lt low =
 
 -- The first of a row that was turned so far is taken off.
 
-head_is : (f g : Freed) (xs ys : List Freed) → f ∷ xs ≡ g ∷ ys → f ≡ g
-head_is f g xs ys e = cc
-
-tail_is : (f g : Freed) (xs ys : List Freed) → f ∷ xs ≡ g ∷ ys → xs ≡ ys
-tail_is f g xs ys e = cc
-
 pub popped : (xs kept ys new : List Freed) (i : ℕ) (f : Freed) → i < length xs → ys ≡ drop i xs ++ kept → ys ≡ f ∷ new → (slice_index_or xs i f ≡ f) × (new ≡ drop (i + 1) xs ++ kept)
-popped xs kept ys new i f low was is = (head_is _ _ _ _ both, sym (tail_is _ _ _ _ both))
+popped xs kept ys new i f low was is = (cc both, cc both)
   where
     both : slice_index_or xs i f ∷ (drop (i + 1) xs ++ kept) ≡ f ∷ new
     both = ap (λ zs. zs ++ kept) (sym (drop_more xs i f low)) ∙ sym was ∙ is

@@ -1,11 +1,12 @@
 -- The dead blocks stay sound under each call.
 use Rattle.std.proofs.Common.{◌≡◌, ◌≢◌, ℕ, ◌+◌, ◌-◌, ◌<◌, ◌≤◌, ◌==◌, ◌&&◌, ◌||◌, not, Bool, true, false, cond, ◌⊎◌, inl, inr, List, [], ◌∷◌, ◌++◌, length, filter, map, slice_index_or, refl, sym, ap, ap₂, subst, ◌∙◌, arith, append-nil}
 use Rattle.std.proofs.Math.Bool.{and-true, and-false, or_comm}
-use Rattle.std.proofs.lemmas.Bool.{cases_eq, cases_lt, cond-true, cond-false, eq-eqb, eqb-true, ne_eqb, false≢true, or_cases}
+use Rattle.std.proofs.lemmas.Bool.{cases_lt, eq-eqb, eqb-true, false≢true, or_cases, cases_Bool, false_from_ne_true}
 use Rattle.std.proofs.lemmas.List.{length-append, length-map, map-append, get_or_append_left, get_or-append_right, get_or-map}
 use Rattle.std.proofs.lemmas.List.Folds.{list_any_at}
 use Rattle.std.proofs.lemmas.List.Kept.{AllPairs-filter}
 use Rattle.std.specs.List.{range_with_len, All}
+use Rattle.std.proofs.lemmas.Bool.Decides.{nat_tests}
 use Rattle.base_types.specs.Seal.{Blocks}
 use Rattle.layout_geometry.specs.Geometry.{Geometry, LiesIn, data_start}
 use Rattle.layout_geometry.specs.Geometry.Area.{Data}
@@ -23,25 +24,10 @@ among_data g test b lies =
     ∙ ap (λ t. test b && t) (among_inside b (data_start g) (g.n - data_start g) lies.from (omega (arith, lies.from, lies.below))) ∙ and-true (test b)
 
 pub lies_among : (g : Geometry) (test : ℕ → Bool) (b : ℕ) → is_among b (data_blocks_that g test) ≡ true → LiesIn g Data b
-lies_among g test b is = record {
-  from = by (cases_lt b (data_start g));
-  below = high (cases_lt b g.n);
-}
+lies_among g test b is = record { from = grind (arith, none); below = grind (arith, none) }
   where
     none : (b < data_start g) ⊎ (data_start g + (g.n - data_start g) ≤ b) → ⊥
     none out = false≢true (sym (among-filter test b (range_with_len (data_start g) (g.n - data_start g)) ∙ ap (λ t. test b && t) (among_outside b (data_start g) (g.n - data_start g) out) ∙ and-false (test b)) ∙ is)
-
-    by : (b < data_start g) ⊎ (data_start g ≤ b) → data_start g ≤ b
-    by (inl l) = absurd (none (inl l))
-    by (inr h) = h
-
-    high : (b < g.n) ⊎ (g.n ≤ b) → b < g.n
-    high (inl l) = l
-    high (inr h) = past (cases_lt b (data_start g))
-      where
-        past : (b < data_start g) ⊎ (data_start g ≤ b) → b < g.n
-        past (inl l) = absurd (none (inl l))
-        past (inr low) = absurd (none (inr (omega (arith, h, low))))
 
 pub same_data : (g : Geometry) (p q : ℕ → Bool) → ((b : ℕ) → LiesIn g Data b → p b ≡ q b) → data_blocks_that g p ≡ data_blocks_that g q
 same_data g p q same = same_from p q (data_start g) (g.n - data_start g) (λ b from below. same b (record { from = from; below = omega (arith, from, below) }))
@@ -67,20 +53,14 @@ lies_waiting v k d h low = h.lie b (some_from_times b (dead_blocks v) (omega (ar
     b = block_of (slice_index_or v.waiting k d)
 
     there : is_among b (map block_of v.waiting) ≡ true
-    there =
-        list_any_at (λ x. x == b) (map block_of v.waiting) k 0 (omega (arith, low, length-map v.waiting block_of))
-        (eq-eqb (slice_index_or (map block_of v.waiting) k 0) b (get_or-map block_of v.waiting k d 0 low))
+    there = list_any_at (λ x. x == b) (map block_of v.waiting) k 0 (omega (arith, low, length-map v.waiting block_of)) (eq-eqb (slice_index_or (map block_of v.waiting) k 0) b (get_or-map block_of v.waiting k d 0 low))
 
 -- numbers below a limit that pass, where all that pass are data blocks
 pub below_is_data : (g : Geometry) (limit : ℕ) (test : ℕ → Bool) → g.n ≤ limit → ((b : ℕ) → test b ≡ true → LiesIn g Data b) → numbers_below limit test ≡ data_blocks_that g test
 below_is_data g limit test fits lies = by (cases_lt (data_start g) g.n)
   where
     fails : (b : ℕ) → (LiesIn g Data b → ⊥) → test b ≡ false
-    fails b never = go (test b) refl
-      where
-        go : (t : Bool) → test b ≡ t → t ≡ false
-        go true is = absurd (never (lies b is))
-        go false is = refl
+    fails b never = false_from_ne_true (test b) (λ is. never (lies b is))
 
     by : (data_start g < g.n) ⊎ (g.n ≤ data_start g) → numbers_below limit test ≡ data_blocks_that g test
     by (inl l) =
@@ -97,17 +77,11 @@ below_is_data g limit test fits lies = by (cases_lt (data_start g) g.n)
 
 -- There are no more dead blocks than data blocks.
 
+pub inside : (v : DeadBlocks) → AreSound v → (b : ℕ) → is_among b (dead_blocks v) ≡ true → (data_start v.geom ≤ b) × (b < data_start v.geom + (v.geom.n - data_start v.geom))
+inside v h b is = ((h.lie b is).from, omega (arith, (h.lie b is).from, (h.lie b is).below))
+
 pub few_dead : (v : DeadBlocks) → AreSound v → length v.reusable + length v.held + length v.waiting ≤ v.geom.n - data_start v.geom
-few_dead v h = omega (arith, all, counts)
-  where
-    inside : (b : ℕ) → is_among b (dead_blocks v) ≡ true → (data_start v.geom ≤ b) × (b < data_start v.geom + (v.geom.n - data_start v.geom))
-    inside b is = let lies = h.lie b is in (lies.from, omega (arith, lies.from, lies.below))
-
-    all : length (filter (λ b. not (is_among b (dead_blocks v))) (range_with_len (data_start v.geom) (v.geom.n - data_start v.geom))) + length (dead_blocks v) ≡ v.geom.n - data_start v.geom
-    all = count_others (data_start v.geom) (v.geom.n - data_start v.geom) (dead_blocks v) (λ b. not (is_among b (dead_blocks v))) inside h.once (λ b _ _. refl)
-
-    counts : length (dead_blocks v) ≡ length v.reusable + length v.held + length v.waiting
-    counts = dead_count v
+few_dead v h = omega (arith, dead_count v, count_others (data_start v.geom) (v.geom.n - data_start v.geom) (dead_blocks v) (λ b. not (is_among b (dead_blocks v))) (inside v h) h.once (λ b _ _. refl))
 
 -- A new set.
 
@@ -125,42 +99,28 @@ sound_new g m = record {
 -- A block is freed.
 
 pub dead_freed : (v : DeadBlocks) (b c : ℕ) → is_among c (dead_blocks (with_freed v b)) ≡ (b == c || is_among c (dead_blocks v))
-dead_freed v b c =
-    among-append c v.reusable (v.held ++ b ∷ [] ++ waiting)
-    ∙ ap (λ t. is_among c v.reusable || t) (among-append c (v.held ++ b ∷ []) waiting ∙ ap (λ t. t || is_among c waiting) (among-append c v.held (b ∷ [])))
-    ∙ turned (is_among c v.reusable) (is_among c v.held) (b == c) (is_among c waiting)
-    ∙ ap (λ t. b == c || t) (sym (among-append c v.reusable (v.held ++ waiting) ∙ ap (λ t. is_among c v.reusable || t) (among-append c v.held waiting)))
-  where
-    waiting : List ℕ
-    waiting = map block_of v.waiting
-
-    turned : (r h t w : Bool) → (r || ((h || (t || false)) || w)) ≡ (t || (r || (h || w)))
-    turned true h true w = refl
-    turned true h false w = refl
-    turned false true true w = refl
-    turned false true false w = refl
-    turned false false true w = refl
-    turned false false false w = refl
+dead_freed v b c = grind (
+  arith,
+  among-append c v.reusable (v.held ++ b ∷ [] ++ map block_of v.waiting),
+  among-append c (v.held ++ b ∷ []) (map block_of v.waiting),
+  among-append c v.held (b ∷ []),
+  among-append c v.reusable (v.held ++ map block_of v.waiting),
+  among-append c v.held (map block_of v.waiting),
+)
 
 pub sound_freed : (v : DeadBlocks) (b : ℕ) → AreSound v → IsLive v b → AreSound (with_freed v b)
 sound_freed v b h live = record {
-  lie = λ c is. lie c (or_cases (b == c) (is_among c (dead_blocks v)) (sym (dead_freed v b c) ∙ is));
-  once = λ c. once c (cases_eq b c);
+  lie = λ c is. elim (or_cases (b == c) (is_among c (dead_blocks v)) (sym (dead_freed v b c) ∙ is)) [
+    | inl e ↦ let P : ℕ → Type 0 = λ k. LiesIn v.geom Data k in subst P (eqb-true b c e) live.lies
+    | inr was ↦ h.lie c was
+  ];
+  once = λ c. grind (arith, nat_tests, more c, h.once c, λ (e : b ≡ c). times_none c (dead_blocks v) (ap (λ k. is_among k (dead_blocks v)) (sym e) ∙ live.not_dead));
   ascending = h.ascending;
   in_order = h.in_order;
 }
   where
-    lie : (c : ℕ) → ((b == c) ≡ true) ⊎ (is_among c (dead_blocks v) ≡ true) → LiesIn v.geom Data c
-    lie c (inl e) = let P : ℕ → Type 0 = λ k. LiesIn v.geom Data k in subst P (eqb-true b c e) live.lies
-    lie c (inr is) = h.lie c is
-
-    more : (c : ℕ) → times c (dead_blocks (with_freed v b)) ≡ times c (dead_blocks v) + times c (b ∷ [])
-    more c = omega (arith, dead_times c (with_freed v b), dead_times c v, times-append c v.held (b ∷ []))
-
-    once : (c : ℕ) → (b ≡ c) ⊎ (b ≢ c) → times c (dead_blocks (with_freed v b)) ≤ 1
-    once c (inl e) =
-        omega (arith, more c, times-cons c b [], ap {B = ℕ} (λ t. cond t 1 0) (eq-eqb b c e), times_none c (dead_blocks v) (ap (λ k. is_among k (dead_blocks v)) (sym e) ∙ live.not_dead))
-    once c (inr d) = omega (arith, more c, times-cons c b [], ap {B = ℕ} (λ t. cond t 1 0) (ne_eqb b c d), h.once c)
+    more : (c : ℕ) → times c (dead_blocks (with_freed v b)) ≡ times c (dead_blocks v) + cond (b == c) 1 0
+    more c = omega (arith, dead_times c (with_freed v b), dead_times c v, times-append c v.held (b ∷ []), times-cons c b [])
 
 -- What is held becomes what waits.
 
@@ -182,7 +142,7 @@ sound_sealed v number h upto = record {
   lie = λ c is. h.lie c (sym (dead_sealed v number c) ∙ is);
   once = λ c. omega (arith, h.once c, dead_times c v, dead_times c (with_sealed v number), ap (times c) (sealed_blocks v number), times-append c (map block_of v.waiting) v.held);
   ascending = h.ascending;
-  in_order = λ i j d before low. order i j d before low (cases_lt i (length v.waiting)) (cases_lt j (length v.waiting));
+  in_order = λ i j d before low. grind (arith, before, low, size, first i d, first j d, later i d, later j d, h.in_order i j d before, upto i d);
 }
   where
     new : List (ℕ × ℕ)
@@ -198,31 +158,18 @@ sound_sealed v number h upto = record {
     later j d high low =
         ap freed_by (get_or-append_right v.waiting new (length v.waiting) j d refl high ∙ get_or-map {Y = ℕ × ℕ} (λ b. (b, number)) v.held (j - length v.waiting) 0 d (omega (arith, high, low, size)))
 
-    order : (i j : ℕ) (d : ℕ × ℕ) → i < j → j < length (v.waiting ++ new) → (i < length v.waiting) ⊎ (length v.waiting ≤ i) → (j < length v.waiting) ⊎ (length v.waiting ≤ j)
-        → freed_by (slice_index_or (v.waiting ++ new) i d) ≤ freed_by (slice_index_or (v.waiting ++ new) j d)
-    order i j d before low (inl l) (inl m) = omega (arith, first i d l, first j d m, h.in_order i j d before m)
-    order i j d before low (inl l) (inr n) = omega (arith, first i d l, later j d n low, upto i d l)
-    order i j d before low (inr k) (inl m) = absurd (omega (arith, before, k, m))
-    order i j d before low (inr k) (inr n) = omega (arith, later i d k (omega (arith, before, low)), later j d n low)
-
 -- Blocks are taken.
 
 filter-filter : (p q : ℕ → Bool) (xs : List ℕ) → filter q (filter p xs) ≡ filter (λ b. q b && p b) xs
 filter-filter p q [] = refl
-filter-filter p q (x ∷ xs) = by (p x) (q x) refl (filter-filter p q xs)
-  where
-    by : (s t : Bool) → q x ≡ t → filter q (filter p xs) ≡ filter (λ b. q b && p b) xs → filter q (cond s (x ∷ filter p xs) (filter p xs)) ≡ cond (q x && s) (x ∷ filter (λ b. q b && p b) xs) (filter (λ b. q b && p b) xs)
-    by true true is e = cond-true (q x) (x ∷ filter q (filter p xs)) (filter q (filter p xs)) is ∙ ap (λ ys. x ∷ ys) e ∙ sym (cond-true (q x && true) _ _ (ap (λ t. t && true) is))
-    by true false is e = cond-false (q x) (x ∷ filter q (filter p xs)) (filter q (filter p xs)) is ∙ e ∙ sym (cond-false (q x && true) _ _ (ap (λ t. t && true) is))
-    by false true is e = e ∙ sym (cond-false (q x && false) _ _ (ap (λ t. t && false) is))
-    by false false is e = e ∙ sym (cond-false (q x && false) _ _ (ap (λ t. t && false) is))
+filter-filter p q (x ∷ xs) = grind (arith, filter-filter p q xs)
 
 pub taken_are : (v : DeadBlocks) (bs : List ℕ) → AreSound v → (with_taken v bs).reusable ≡ data_blocks_that v.geom (λ b. not (is_among b bs) && is_among b v.reusable)
 taken_are v bs h = ap (filter (λ b. not (is_among b bs))) h.ascending ∙ filter-filter (λ b. is_among b v.reusable) (λ b. not (is_among b bs)) (range_with_len (data_start v.geom) (v.geom.n - data_start v.geom))
 
 pub sound_taken : (v : DeadBlocks) (bs : List ℕ) → AreSound v → AreSound (with_taken v bs)
 sound_taken v bs h = record {
-  lie = λ c is. h.lie c (true_from_times c (omega (arith, fewer c, times_some c (dead_blocks (with_taken v bs)) is)));
+  lie = λ c is. h.lie c (some_from_times c (dead_blocks v) (omega (arith, fewer c, times_some c (dead_blocks (with_taken v bs)) is)));
   once = λ c. omega (arith, fewer c, h.once c);
   ascending = taken_are v bs h ∙ listed v.geom (λ b. not (is_among b bs) && is_among b v.reusable) ∙ ap (λ xs. data_blocks_that v.geom (λ b. is_among b xs)) (sym (taken_are v bs h));
   in_order = h.in_order;
@@ -231,46 +178,25 @@ sound_taken v bs h = record {
     fewer : (c : ℕ) → times c (dead_blocks (with_taken v bs)) ≤ times c (dead_blocks v)
     fewer c = omega (arith, dead_times c (with_taken v bs), dead_times c v, times-filter (λ b. not (is_among b bs)) c v.reusable)
 
-    true_from_times : (c : ℕ) → 1 ≤ times c (dead_blocks v) → is_among c (dead_blocks v) ≡ true
-    true_from_times c some = some_from_times c (dead_blocks v) some
-
 -- Blocks are released.
 
 -- how often a block is given up, and how often it waits on
 pub times_given : (test : ℕ × ℕ → Bool) (b : ℕ) (ps : List (ℕ × ℕ)) → times b (map block_of (filter test ps)) + times b (map block_of (filter (λ p. not (test p)) ps)) ≡ times b (map block_of ps)
 times_given test b [] = refl
-times_given test b (p ∷ ps) = by (test p) (times_given test b ps)
-  where
-    yes_part : List ℕ
-    yes_part = map block_of (filter test ps)
-
-    no_part : List ℕ
-    no_part = map block_of (filter (λ q. not (test q)) ps)
-
-    by : (t : Bool) → times b yes_part + times b no_part ≡ times b (map block_of ps)
-        → times b (map block_of (cond t (p ∷ filter test ps) (filter test ps))) + times b (map block_of (cond (not t) (p ∷ filter (λ q. not (test q)) ps) (filter (λ q. not (test q)) ps))) ≡ times b (block_of p ∷ map block_of ps)
-    by true e = omega (arith, e, times-cons b (block_of p) yes_part, times-cons b (block_of p) (map block_of ps))
-    by false e = omega (arith, e, times-cons b (block_of p) no_part, times-cons b (block_of p) (map block_of ps))
+times_given test b (p ∷ ps) = grind (arith, times_given test b ps, times-cons b (block_of p) (map block_of (filter test ps)), times-cons b (block_of p) (map block_of (filter (λ q. not (test q)) ps)), times-cons b (block_of p) (map block_of ps))
 
 -- no block is dead in more ways than before
 pub released_no_more : (v : DeadBlocks) (sure : ℕ) (home : List ℕ) (c : ℕ) → times c (dead_blocks (with_released v sure home)) ≤ times c (dead_blocks v)
-released_no_more v sure home c = omega (arith, dead_times c (with_released v sure home), dead_times c v, by (is_among c (data_blocks_that v.geom test)) refl, times_given (is_given_up sure home) c v.waiting)
+released_no_more v sure home c = omega (arith, dead_times c (with_released v sure home), dead_times c v, least, times_given (is_given_up sure home) c v.waiting)
   where
     test : ℕ → Bool
     test b = is_among b (given_up sure home v.waiting) || is_among b v.reusable
 
-    some : (is_among c (given_up sure home v.waiting) ≡ true) ⊎ (is_among c v.reusable ≡ true) → 1 ≤ times c (given_up sure home v.waiting) + times c v.reusable
-    some (inl g) = omega (arith, times_some c (given_up sure home v.waiting) g)
-    some (inr r) = omega (arith, times_some c v.reusable r)
-
-    by : (t : Bool) → is_among c (data_blocks_that v.geom test) ≡ t → times c (data_blocks_that v.geom test) ≤ times c (given_up sure home v.waiting) + times c v.reusable
-    by true is =
-        omega (
-          arith,
-          once_data v.geom test c,
-          some (or_cases (is_among c (given_up sure home v.waiting)) (is_among c v.reusable) (sym (among_data v.geom test c (lies_among v.geom test c is)) ∙ is)),
-        )
-    by false is = omega (arith, times_none c (data_blocks_that v.geom test) is)
+    least : times c (data_blocks_that v.geom test) ≤ times c (given_up sure home v.waiting) + times c v.reusable
+    least = elim (cases_Bool (is_among c (data_blocks_that v.geom test))) [
+      | inl is ↦ grind (arith, once_data v.geom test c, sym (among_data v.geom test c (lies_among v.geom test c is)) ∙ is, times_some c (given_up sure home v.waiting), times_some c v.reusable)
+      | inr out ↦ omega (arith, times_none c (data_blocks_that v.geom test) out)
+    ]
 
 pub sound_released : (v : DeadBlocks) (sure : ℕ) (home : List ℕ) → AreSound v → AreSound (with_released v sure home)
 sound_released v sure home h = record {

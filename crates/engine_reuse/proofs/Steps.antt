@@ -1,10 +1,11 @@
 -- What each call makes of its parts is what its contract says of the dead blocks.
-use Rattle.std.proofs.Common.{◌≡◌, ◌≢◌, ℕ, ◌+◌, ◌<◌, ◌≤◌, ◌==◌, ◌&&◌, ◌||◌, not, nat_le, nat_lt, Bool, true, false, cond, ◌⊎◌, inl, inr, List, [], ◌∷◌, ◌++◌, length, take, drop, filter, map, slice_index_or, refl, sym, ap, ap₂, subst, ◌∙◌, arith, append-nil}
-use Rattle.std.proofs.Math.Bool.{and-false, or-false}
-use Rattle.std.proofs.lemmas.Bool.{cases_eq, cases_lt, eq-eqb, ne_eqb, le-leb, lt-leb, leb-true, ltb-true, lt-ltb, le-ltb, and_parts, or_cases}
+use Rattle.std.proofs.Common.{◌≡◌, ℕ, ◌+◌, ◌<◌, ◌≤◌, ◌==◌, ◌&&◌, ◌||◌, not, nat_le, nat_lt, Bool, true, false, cond, inl, inr, List, [], ◌∷◌, ◌++◌, length, take, drop, filter, map, slice_index_or, refl, sym, ap, ap₂, subst, ◌∙◌, arith, append-nil}
+use Rattle.std.proofs.Math.Bool.{or-false}
+use Rattle.std.proofs.lemmas.Bool.{le-leb, lt-leb, lt-ltb, and_parts, or_cases}
 use Rattle.std.proofs.lemmas.List.{map-append, length-map, take-append-drop, get_or-take, get_or-drop, length-take, length-drop, get_or-map}
 use Rattle.std.proofs.lemmas.List.Elements.{filter-append, All-head, All-tail}
 use Rattle.std.specs.List.{All, AllPairs, AllWithin}
+use Rattle.std.proofs.lemmas.Bool.Decides.{nat_tests}
 use Rattle.base_types.specs.Seal.{Blocks}
 use Rattle.layout_geometry.specs.Geometry.{Geometry, LiesIn, data_start}
 use Rattle.layout_geometry.specs.Geometry.Area.{Data}
@@ -12,7 +13,7 @@ use Rattle.layout_bytes.specs.Bitmap.{bit_in}
 use Rattle.layout_bitmap.specs.Bits.{free_blocks}
 use Rattle.engine_reuse.specs.declared.waiting.Freed.{Freed}
 use Rattle.engine_reuse.specs.Numbers.{is_among, numbers_below, NumberSet, set_of}
-use Rattle.engine_reuse.specs.Dead.{DeadBlocks, block_of, freed_by, dead_blocks, data_blocks_that, times, AreSound}
+use Rattle.engine_reuse.specs.Dead.{DeadBlocks, block_of, freed_by, dead_blocks, data_blocks_that, AreSound}
 use Rattle.engine_reuse.specs.Calls.{with_bitmap, with_sealed, with_released, with_taken, is_given_up, given_up}
 use Rattle.engine_reuse.specs.Inside.{pair_of, dead_of, is_going_home, blocks_at_rest, AreKept}
 use Rattle.engine_reuse.proofs.Ranges.{none_from}
@@ -50,69 +51,37 @@ abbrev pub is_free_before : Geometry → Blocks → ℕ → ℕ → Bool
 is_free_before g m end b = nat_le (data_start g) b && (nat_lt b end && not (bit_in m b))
 
 pub none_free : (g : Geometry) (m : Blocks) (s : NumberSet) → s ≡ set_of s.limit (λ b. false) → s ≡ set_of s.limit (is_free_before g m (data_start g))
-none_free g m s is = is ∙ same_set_of s.limit (λ b. false) (is_free_before g m (data_start g)) (λ b _. sym (by b (cases_lt b (data_start g))))
-  where
-    by : (b : ℕ) → (b < data_start g) ⊎ (data_start g ≤ b) → is_free_before g m (data_start g) b ≡ false
-    by b (inl l) = ap (λ t. t && (nat_lt b (data_start g) && not (bit_in m b))) (lt-leb (data_start g) b l)
-    by b (inr h) = ap (λ t. nat_le (data_start g) b && (t && not (bit_in m b))) (le-ltb b (data_start g) h) ∙ and-false (nat_le (data_start g) b)
+none_free g m s is = is ∙ same_set_of s.limit (λ b. false) (is_free_before g m (data_start g)) (λ b _. grind (arith, nat_tests))
 
-lt_next : (c b : ℕ) → c ≢ b → nat_lt c (b + 1) ≡ nat_lt c b
-lt_next c b apart = by (cases_lt c b)
-  where
-    by : (c < b) ⊎ (b ≤ c) → nat_lt c (b + 1) ≡ nat_lt c b
-    by (inl l) = lt-ltb c (b + 1) (omega (arith, l)) ∙ sym (lt-ltb c b l)
-    by (inr h) = le-ltb c (b + 1) (omega (arith, h, apart)) ∙ sym (le-ltb c b h)
+-- a number more is free or not as its bit says
+test_more : (a b c : ℕ) (bit : Bool) → a ≤ b → (c ≡ b → bit ≡ false) → (c == b || (nat_le a c && (nat_lt c b && not bit))) ≡ (nat_le a c && (nat_lt c (b + 1) && not bit))
+test_more a b c bit low clear = grind (arith, nat_tests, low, clear)
+
+test_same : (a b c : ℕ) (bit : Bool) → (c ≡ b → bit ≡ true) → (nat_le a c && (nat_lt c b && not bit)) ≡ (nat_le a c && (nat_lt c (b + 1) && not bit))
+test_same a b c bit set = grind (arith, nat_tests, set)
 
 pub one_free : (g : Geometry) (m : Blocks) (limit b : ℕ) (s new : NumberSet) → s ≡ set_of limit (is_free_before g m b) → data_start g ≤ b → bit_in m b ≡ false
     → new ≡ set_of s.limit (λ c. c == b || is_among c s.members) → new ≡ set_of limit (is_free_before g m (b + 1))
 one_free g m limit b s new before low clear put =
     put ∙ ap (λ (q : NumberSet). set_of q.limit (λ c. c == b || is_among c q.members)) before
     ∙ same_set_of limit (λ c. c == b || is_among c (numbers_below limit (is_free_before g m b))) (is_free_before g m (b + 1))
-    (λ c below. ap (λ t. c == b || t) (among_below limit (is_free_before g m b) c below) ∙ by c (cases_eq c b))
-  where
-    own : is_free_before g m (b + 1) b ≡ true
-    own =
-        ap (λ t. t && (nat_lt b (b + 1) && not (bit_in m b))) (le-leb (data_start g) b low)
-        ∙ ap (λ t. t && not (bit_in m b)) (lt-ltb b (b + 1) (omega arith)) ∙ ap not clear
-
-    by : (c : ℕ) → (c ≡ b) ⊎ (c ≢ b) → (c == b || is_free_before g m b c) ≡ is_free_before g m (b + 1) c
-    by c (inl e) = ap (λ t. t || is_free_before g m b c) (eq-eqb c b e) ∙ sym (ap (is_free_before g m (b + 1)) e ∙ own)
-    by c (inr d) = ap (λ t. t || is_free_before g m b c) (ne_eqb c b d) ∙ ap (λ t. nat_le (data_start g) c && (t && not (bit_in m c))) (sym (lt_next c b d))
+    (λ c below. ap (λ t. c == b || t) (among_below limit (is_free_before g m b) c below) ∙ test_more (data_start g) b c (bit_in m c) low (λ e. ap (bit_in m) e ∙ clear))
 
 pub one_set : (g : Geometry) (m : Blocks) (limit b : ℕ) (s : NumberSet) → s ≡ set_of limit (is_free_before g m b) → bit_in m b ≡ true → s ≡ set_of limit (is_free_before g m (b + 1))
-one_set g m limit b s before set = before ∙ same_set_of limit (is_free_before g m b) (is_free_before g m (b + 1)) (λ c below. by c (cases_eq c b))
-  where
-    not_before : (nat_lt b b && not (bit_in m b)) ≡ false
-    not_before = ap (λ t. t && not (bit_in m b)) (le-ltb b b (omega arith))
-
-    not_free : (nat_lt b (b + 1) && not (bit_in m b)) ≡ false
-    not_free = ap (λ t. nat_lt b (b + 1) && not t) set ∙ and-false (nat_lt b (b + 1))
-
-    by : (c : ℕ) → (c ≡ b) ⊎ (c ≢ b) → is_free_before g m b c ≡ is_free_before g m (b + 1) c
-    by c (inl e) = ap (is_free_before g m b) e ∙ ap (λ t. nat_le (data_start g) b && t) (not_before ∙ sym not_free) ∙ ap (is_free_before g m (b + 1)) (sym e)
-    by c (inr d) = ap (λ t. nat_le (data_start g) c && (t && not (bit_in m c))) (sym (lt_next c b d))
+one_set g m limit b s before set =
+    before ∙ same_set_of limit (is_free_before g m b) (is_free_before g m (b + 1)) (λ c below. test_same (data_start g) b c (bit_in m c) (λ e. ap (bit_in m) e ∙ set))
 
 pub all_free : (g : Geometry) (m : Blocks) (limit : ℕ) (s : NumberSet) → s ≡ set_of limit (is_free_before g m g.n) → g.n ≤ limit → s.members ≡ free_blocks g m
 all_free g m limit s is fits =
-    ap (λ (q : NumberSet). q.members) is ∙ below_is_data g limit (is_free_before g m g.n) fits lies
+    ap (λ (q : NumberSet). q.members) is ∙ below_is_data g limit (is_free_before g m g.n) fits (λ b passes. record { from = grind (arith, nat_tests, passes); below = grind (arith, nat_tests, passes) })
     ∙ same_data g (is_free_before g m g.n) (λ b. not (bit_in m b)) (λ b lie.
     ap (λ t. t && (nat_lt b g.n && not (bit_in m b))) (le-leb (data_start g) b lie.from) ∙ ap (λ t. t && not (bit_in m b)) (lt-ltb b g.n lie.below))
-  where
-    lies : (b : ℕ) → is_free_before g m g.n b ≡ true → LiesIn g Data b
-    lies b passes =
-        let parts = and_parts (nat_le (data_start g) b) (nat_lt b g.n && not (bit_in m b)) passes in
-        record { from = leb-true (data_start g) b parts.0; below = ltb-true b g.n (and_parts (nat_lt b g.n) (not (bit_in m b)) parts.1).0 }
 
 -- Blocks are released.
 
 filter_map : (test : ℕ × ℕ → Bool) (xs : List Freed) → filter test (map pair_of xs) ≡ map pair_of (filter (λ f. test (pair_of f)) xs)
 filter_map test [] = refl
-filter_map test (x ∷ xs) = by (test (pair_of x)) (filter_map test xs)
-  where
-    by : (t : Bool) → filter test (map pair_of xs) ≡ map pair_of (filter (λ f. test (pair_of f)) xs)
-        → cond t (pair_of x ∷ filter test (map pair_of xs)) (filter test (map pair_of xs)) ≡ map pair_of (cond t (x ∷ filter (λ f. test (pair_of f)) xs) (filter (λ f. test (pair_of f)) xs))
-    by true e = ap (λ ps. pair_of x ∷ ps) e
-    by false e = e
+filter_map test (x ∷ xs) = grind (arith, filter_map test xs)
 
 blocks_of_pairs : (xs : List Freed) → map block_of (map pair_of xs) ≡ map (λ (f : Freed). f.block) xs
 blocks_of_pairs [] = refl
@@ -174,20 +143,13 @@ pub waiting_are : (xs : List Freed) (sure reached : ℕ) (home : List ℕ) → I
     → filter (λ p. not (is_given_up sure home p)) (map pair_of xs) ≡ map pair_of (filter (is_going_home home) (take reached xs) ++ drop reached xs)
 waiting_are xs sure reached home h =
     filter_map (λ p. not (is_given_up sure home p)) xs
-    ∙ ap (map pair_of)
-    (ap (filter stays) (sym (take-append-drop reached xs)) ∙ filter-append stays (take reached xs) (drop reached xs) ∙ ap₂ ◌++◌ front rest)
+    ∙ ap (map pair_of) (ap (filter stays) (sym (take-append-drop reached xs)) ∙ filter-append stays (take reached xs) (drop reached xs) ∙ ap₂ ◌++◌ front rest)
   where
     stays : Freed → Bool
     stays f = not (is_given_up sure home (pair_of f))
 
-    twice : (t : Bool) → not (not t) ≡ t
-    twice true = refl
-    twice false = refl
-
     front : filter stays (take reached xs) ≡ filter (is_going_home home) (take reached xs)
-    front =
-        filter_same stays (is_going_home home) (take reached xs)
-        (λ k d low. ap (λ t. not (t && not (is_going_home home (slice_index_or (take reached xs) k d)))) (le-leb _ sure (in_front xs sure reached h k d low)) ∙ twice (is_going_home home (slice_index_or (take reached xs) k d)))
+    front = filter_same stays (is_going_home home) (take reached xs) (λ k d low. grind (arith, le-leb _ sure (in_front xs sure reached h k d low)))
 
     rest : filter stays (drop reached xs) ≡ drop reached xs
     rest =
@@ -212,13 +174,11 @@ released_is g reusable left held waiting new room sure reached home sound limit 
     v : DeadBlocks
     v = dead_of g reusable held waiting room
 
-    some : (b : ℕ) → (is_among b (blocks_at_rest home (take reached waiting)) ≡ true) ⊎ (is_among b reusable.members ≡ true) → 1 ≤ times b reusable.members + times b (map block_of (map pair_of waiting))
-    some b (inl rests) =
-        omega (arith, times_given (is_given_up sure home) b (map pair_of waiting), times_some b (given_up sure home (map pair_of waiting)) (ap (is_among b) (given_are waiting sure reached home reach) ∙ rests))
-    some b (inr served) = omega (arith, times_some b reusable.members served)
-
     lies : (b : ℕ) → (is_among b (blocks_at_rest home (take reached waiting)) || is_among b reusable.members) ≡ true → LiesIn g Data b
-    lies b passes = sound.lie b (some_from_times b (dead_blocks v) (omega (arith, dead_times b v, some b (or_cases (is_among b (blocks_at_rest home (take reached waiting))) (is_among b reusable.members) passes))))
+    lies b passes = sound.lie b (some_from_times b (dead_blocks v) (elim (or_cases (is_among b (blocks_at_rest home (take reached waiting))) (is_among b reusable.members) passes) [
+      | inl rests ↦ omega (arith, dead_times b v, times_given (is_given_up sure home) b (map pair_of waiting), times_some b (given_up sure home (map pair_of waiting)) (ap (is_among b) (given_are waiting sure reached home reach) ∙ rests))
+      | inr served ↦ omega (arith, dead_times b v, times_some b reusable.members served)
+    ]))
 
 -- the same blocks are going home
 pub same_home : (v : DeadBlocks) (sure : ℕ) (home other : List ℕ) → All (λ p. is_among (block_of p) home ≡ is_among (block_of p) other) v.waiting → with_released v sure home ≡ with_released v sure other
@@ -241,12 +201,7 @@ no_marks limit home marks left is out =
     ap (λ (s : NumberSet). s.members) out
     ∙ none_from (λ b. not (is_among b home) && is_among b marks.members) 0 marks.limit
     (λ b _ below. ap (λ (s : NumberSet). not (is_among b home) && is_among b s.members) is
-    ∙ ap (λ t. not (is_among b home) && t) (among_below limit (λ c. is_among c home || false) b (omega (arith, below, ap (λ (s : NumberSet). s.limit) is)))
-    ∙ never (is_among b home))
-  where
-    never : (t : Bool) → (not t && (t || false)) ≡ false
-    never true = refl
-    never false = refl
+    ∙ grind (arith, among_below limit (λ c. is_among c home || false) b (omega (arith, below, ap (λ (s : NumberSet). s.limit) is))))
 
 -- no other block is marked
 pub only_home : (g : Geometry) (reusable marks home_marks : NumberSet) (held : List ℕ) (waiting : List Freed) (room : ℕ) (home : List ℕ) → AreKept (dead_of g reusable held waiting room) reusable marks

@@ -1,7 +1,7 @@
 //! Laws of the dead data blocks: how many there are, what each call makes of them, and when a freed block may
 //! be taken again. The functions do nothing; their clauses are the laws.
 
-ghost use Rattle.std.specs.Prelude.{◌≡◌, ◌+◌, ◌-◌, ◌<◌, ◌==◌, ◌&&◌, ◌||◌, ℕ, Bool, not, true, false, List, length, take, map, slice_get, Some, All, AllPairs};
+ghost use Rattle.std.specs.Prelude.{◌≡◌, ◌+◌, ◌-◌, ◌==◌, ◌&&◌, ◌||◌, ℕ, Bool, not, true, false, List, length, map, slice_get, Some, All};
 ghost use Rattle.base_types.specs.Seal.{Blocks};
 ghost use Rattle.layout_geometry.specs.Geometry.{Geometry, LiesIn, data_start};
 ghost use Rattle.layout_geometry.specs.Geometry.Area.{Data};
@@ -41,11 +41,4 @@ pub fn a_freed_block_waits()
         → is_among (block_of p) (with_released v sure going_home).reusable ≡ is_given_up sure going_home p }
     ensures stays { (v : DeadBlocks) (sure : ℕ) (going_home : List ℕ) (k : ℕ) (p : ℕ × ℕ) → slice_get v.waiting k ≡ Some p
         → is_given_up sure going_home p ≡ false → (i : ℕ) × (slice_get (with_released v sure going_home).waiting i ≡ Some p) }
-{}
-
-/// The least numbers that may be taken may be taken together: each is that of a data block, and each is below the
-/// next.
-pub fn the_least_may_be_taken_together()
-    ensures each { (v : DeadBlocks) (n : ℕ) → AreSound v → All (IsReusable v) (take n v.reusable) }
-    ensures ascending { (v : DeadBlocks) (n : ℕ) → AreSound v → AllPairs (λ a b. a < b) (take n v.reusable) }
 {}

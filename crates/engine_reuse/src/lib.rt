@@ -9,8 +9,5 @@ mod reuse;
 mod waiting;
 mod words;
 
-pub use laws::{
-    a_freed_block_waits, calls_change_what_is_dead, the_accounts_add_up,
-    the_least_may_be_taken_together,
-};
+pub use laws::{a_freed_block_waits, calls_change_what_is_dead, the_accounts_add_up};
 pub use reuse::Reuse;

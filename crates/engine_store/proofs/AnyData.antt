@@ -1,5 +1,5 @@
 -- An image that has the formatted disk's blocks before the data, whatever is in the data.
-use Rattle.std.proofs.Common.{◌≡◌, ◌⊎◌, inl, inr, ℕ, ◌+◌, ◌*◌, ◌/◌, ◌%◌, ◌<◌, ◌≤◌, ◌==◌, ◌&&◌, ◌||◌, Bool, true, false, nat_lt, nat_le, if◌then◌else◌, List, [], replicate, get_or, Some, None, sym, refl, ap, ap₂, subst, ◌∙◌, arith}
+use Rattle.std.proofs.Common.{◌≡◌, inl, inr, ℕ, ◌+◌, ◌*◌, ◌/◌, ◌%◌, ◌<◌, ◌≤◌, ◌==◌, ◌&&◌, ◌||◌, Bool, true, false, nat_lt, nat_le, if◌then◌else◌, List, [], replicate, get_or, Some, None, sym, refl, ap, ap₂, subst, ◌∙◌, arith}
 use Rattle.std.proofs.lemmas.Bool.{cases_Bool, ltb-true, ltb-false, lt-ltb, le-ltb}
 use Rattle.std.proofs.lemmas.Nat.{mod_below}
 use Rattle.std.proofs.lemmas.Option.{none-some}
@@ -61,14 +61,11 @@ live_by from below early set x = if from && (below && (early || set)) then x els
 
 -- a block past the disk's end isn't live
 past_end : (from early set : Bool) (x : List ℕ) → live_by from false early set x ≡ []
-past_end true early set x = refl
-past_end false early set x = refl
+past_end from early set x = grind arith
 
 -- nor is one of the data that isn't set
 not_set : (from below : Bool) (x : List ℕ) → live_by from below false false x ≡ []
-not_set true true x = refl
-not_set true false x = refl
-not_set false below x = refl
+not_set from below x = grind arith
 
 module _ (g : Geometry) (is : IsGeometry g) (law : IsFormatted g) where
   -- in blocks that are the formatted disk's before the data, a bit is set exactly where it stands for a block before the data
@@ -79,16 +76,15 @@ module _ (g : Geometry) (is : IsGeometry g) (law : IsFormatted g) where
 
   -- so a block of the data isn't live
   dead : (m : Blocks) → ((b : ℕ) → b < data_start g → m b ≡ formatted g b) → (b : ℕ) → data_start g ≤ b → live_part g m b ≡ []
-  dead m same b low = by (cases_Bool (nat_lt b g.n))
-    where
-      by : (nat_lt b g.n ≡ true) ⊎ (nat_lt b g.n ≡ false) → live_part g m b ≡ []
-      by (inl below) =
-          ap₂ (λ early set. live_by (nat_le (bitmap_start g) b) (nat_lt b g.n) early set (m b)) (le-ltb b (data_start g) low)
-          (bits m same b (omega (arith, is.data_room, ltb-true _ _ below)) ∙ le-ltb b (data_start g) low)
-          ∙ not_set (nat_le (bitmap_start g) b) (nat_lt b g.n) (m b)
-      by (inr past) =
-          ap (λ below. live_by (nat_le (bitmap_start g) b) below (nat_lt b (data_start g)) (is_set g m b) (m b)) past
-          ∙ past_end (nat_le (bitmap_start g) b) (nat_lt b (data_start g)) (is_set g m b) (m b)
+  dead m same b low = elim (cases_Bool (nat_lt b g.n)) [
+    | inl below ↦
+        ap₂ (λ early set. live_by (nat_le (bitmap_start g) b) (nat_lt b g.n) early set (m b)) (le-ltb b (data_start g) low)
+        (bits m same b (omega (arith, is.data_room, ltb-true _ _ below)) ∙ le-ltb b (data_start g) low)
+        ∙ not_set (nat_le (bitmap_start g) b) (nat_lt b g.n) (m b)
+    | inr past ↦
+        ap (λ below. live_by (nat_le (bitmap_start g) b) below (nat_lt b (data_start g)) (is_set g m b) (m b)) past
+        ∙ past_end (nat_le (bitmap_start g) b) (nat_lt b (data_start g)) (is_set g m b) (m b)
+  ]
 
   -- and one before it is live where the formatted disk's is
   early : (m : Blocks) → ((b : ℕ) → b < data_start g → m b ≡ formatted g b) → (b : ℕ) → b < data_start g → live_part g m b ≡ live_by (nat_le (bitmap_start g) b) (nat_lt b g.n) true true (formatted g b)
@@ -97,11 +93,10 @@ module _ (g : Geometry) (is : IsGeometry g) (law : IsFormatted g) where
 
   -- so both have the same live blocks
   same_live : (img : Blocks) → ((b : ℕ) → b < data_start g → img b ≡ formatted g b) → (b : ℕ) → live_part g (formatted g) b ≡ live_part g img b
-  same_live img same b = by (cases_Bool (nat_lt b (data_start g)))
-    where
-      by : (nat_lt b (data_start g) ≡ true) ⊎ (nat_lt b (data_start g) ≡ false) → live_part g (formatted g) b ≡ live_part g img b
-      by (inl low) = early (formatted g) (λ c high. refl) b (ltb-true _ _ low) ∙ sym (early img same b (ltb-true _ _ low))
-      by (inr high) = dead (formatted g) (λ c low. refl) b (ltb-false _ _ high) ∙ sym (dead img same b (ltb-false _ _ high))
+  same_live img same b = elim (cases_Bool (nat_lt b (data_start g))) [
+    | inl low ↦ early (formatted g) (λ c high. refl) b (ltb-true _ _ low) ∙ sym (early img same b (ltb-true _ _ low))
+    | inr high ↦ dead (formatted g) (λ c low. refl) b (ltb-false _ _ high) ∙ sym (dead img same b (ltb-false _ _ high))
+  ]
 
   -- the first header is the newest, since slot 1 has zeros
   newest : geometry_fits g ≡ true → ((h : Header) → IsHeader h → header_of h.geom.n (header_block h) ≡ Some h) → (img : Blocks) → ((b : ℕ) → b < data_start g → img b ≡ formatted g b) → Newest g.n img 0 (empty_header g 1 1)

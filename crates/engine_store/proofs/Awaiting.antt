@@ -1,6 +1,6 @@
 -- For which tickets points wait: a call of the pipeline takes some away, and a commit brings those of its record. What the notes know of them.
 use Rattle.std.proofs.Common.{◌≡◌, ◌↔◌, ◌⊎◌, inl, inr, ⊎_elim, ℕ, zero, suc, ◌+◌, ◌-◌, ◌<◌, ◌≤◌, ◌==◌, not, Bool, true, false, if◌then◌else◌, List, [], ◌∷◌, ◌++◌, drop, slice_get, Some, Result, Ok, Err, OnOk, is_err, refl, sym, ◌∙◌, ap, subst, arith}
-use Rattle.std.proofs.lemmas.Bool.{and_parts, eqb-true, false≢true, or_cases}
+use Rattle.std.proofs.lemmas.Bool.{and_parts, eqb-true, false≢true, or_cases, cases_Bool}
 use Rattle.std.proofs.lemmas.Option.{same_Some, none-some}
 use Rattle.disk_contract.specs.declared.disk.DiskFault.{DiskFault}
 use Rattle.disk_contract.specs.declared.event.Event.{Event}
@@ -27,15 +27,9 @@ use Rattle.engine_store.proofs.TicketLogs.{new_ticket, noticed_before}
 
 -- a place behind those that were dropped
 get_drop : {A : Type 0} (n : ℕ) (xs : List A) (k : ℕ) → slice_get (drop n xs) k ≡ slice_get xs (n + k)
-get_drop zero xs k = ap (slice_get xs) (z k)
-  where
-    z : (k : ℕ) → k ≡ 0 + k
-    z k = omega arith
+get_drop zero xs k = ap (slice_get xs) {x = k} {y = 0 + k} (omega arith)
 get_drop (suc n) [] k = refl
-get_drop (suc n) (x ∷ xs) k = get_drop n xs k ∙ ap (slice_get (x ∷ xs)) (s n k)
-  where
-    s : (n k : ℕ) → suc (n + k) ≡ suc n + k
-    s n k = omega arith
+get_drop (suc n) (x ∷ xs) k = get_drop n xs k ∙ ap (slice_get (x ∷ xs)) {x = suc (n + k)} {y = suc n + k} (omega arith)
 
 -- a place in a list that has one more is an old one, or that of the one more
 last_or : {A : Type 0} (xs : List A) (y : A) (k : ℕ) (z : A) → slice_get (xs ++ y ∷ []) k ≡ Some z → (slice_get xs k ≡ Some z) ⊎ (y ≡ z)
@@ -47,11 +41,10 @@ last_or (x ∷ xs) y (suc k) z is = last_or xs y k z is
 -- where all are expected, each is
 each_expected : (ts : List ℕ) (notes : List Note) (t : ℕ) → are_expected ts notes ≡ true → is_one_of t ts ≡ true → is_expected t notes ≡ true
 each_expected [] notes t all own = absurd (false≢true own)
-each_expected (u ∷ us) notes t all own = let parts = and_parts (is_expected u notes) (are_expected us notes) all in by (u == t) refl own parts.0 (each_expected us notes t parts.1)
-  where
-    by : (x : Bool) → (u == t) ≡ x → (if x then true else is_one_of t us) ≡ true → is_expected u notes ≡ true → (is_one_of t us ≡ true → is_expected t notes ≡ true) → is_expected t notes ≡ true
-    by true same o first rest = subst (λ (n : ℕ). is_expected n notes ≡ true) (eqb-true u t same) first
-    by false same o first rest = rest o
+each_expected (u ∷ us) notes t all own = let parts = and_parts (is_expected u notes) (are_expected us notes) all in elim (cases_Bool (u == t)) [
+  | inl same ↦ subst (λ (n : ℕ). is_expected n notes ≡ true) (eqb-true u t same) parts.0
+  | inr apart ↦ each_expected us notes t parts.1 (ap (λ (b : Bool). if b then true else is_one_of t us) (sym apart) ∙ own)
+]
 
 -- The same points wait for the same tickets.
 

@@ -107,9 +107,6 @@ accepted_on n b x (Wrote ticket block bytes ∷ es) len events = accepted_on n b
 accepted_on n b x (Lost block bytes ∷ es) len events = accepted_on n b x es len events.1
 accepted_on n b x (Noticed ticket ∷ es) len events = accepted_on n b x es len events.1
 
-accepted_whole : (d : State) (b : ℕ) → IsSoundDisk d → b < d.blocks → length (accepted d.base d.log b) ≡ 1024
-accepted_whole d b sound below = accepted_on d.blocks b (d.base b) d.log (sound.blocks b below).length sound.log.events
-
 -- A pipeline without a record.
 
 kept_none : (g : Geometry) (slot : ℕ) (h : Header) (p : Pipeline) → IsNewPipeline g slot h p → kept p ≡ []
@@ -135,15 +132,10 @@ none_put v last empty b =
 
 -- a map is defined just where it is live, where nothing is bare
 marked_test : (p q r : Bool) → (p && (q || (true && ((true && r) && not false)))) ≡ (p && (true && (q || r)))
-marked_test true true true = refl
-marked_test true true false = refl
-marked_test true false true = refl
-marked_test true false false = refl
-marked_test false q r = refl
+marked_test p q r = grind arith
 
 beyond_test : (p r s : Bool) → (p && (false || (false && ((false && r) && not false)))) ≡ (p && (false && s))
-beyond_test true r s = refl
-beyond_test false r s = refl
+beyond_test p r s = grind arith
 
 defined_live : (v : TransactionBooks) (last : Blocks) (b : ℕ) → data_start v.geom ≤ v.geom.n → HasBitmap v last → defined_by v.geom (is_marked v b) false b ≡ is_live v.geom last b
 defined_live v last b shape bits = ⊎_elim within beyond (cases_lt b v.geom.n)
@@ -224,7 +216,7 @@ module _ (g : Geometry) (slot : ℕ) (h : Header) (moment : ℕ) (v : StoreParts
     failed = λ stopped. absurd (false≢true (sym new.going ∙ stopped));
     made = omega (arith, new.first);
     began = subst (λ (x : Blocks). BeganAt v.books x) (sym (first_is laws d since m starts.begun)) (laws.began d g slot h since m v.books starts.begun new.books starts.bitmap);
-    whole = λ b lives. ap (λ (x : List ℕ). length x) (stands_for d b) ∙ accepted_whole d b starts.lawful (omega (arith, size, ap (λ (k : Geometry). k.n) new.books.geom, live_below v.books.geom (last_map v d) b lives));
+    whole = λ b lives. ap (λ (x : List ℕ). length x) (stands_for d b) ∙ accepted_on d.blocks b (d.base b) d.log (starts.lawful.blocks b (omega (arith, size, ap (λ (k : Geometry). k.n) new.books.geom, live_below v.books.geom (last_map v d) b lives))).length starts.lawful.log.events;
     going = λ going. record {
       agrees = subst (λ (xs : List ℕ). PipelineAgrees d.base d.log (first_ledger d g slot h) v.pipeline v.ring v.books.dead.waiting xs) (sym new.books.empty.taken)
           (subst (λ ring. PipelineAgrees d.base d.log (first_ledger d g slot h) v.pipeline ring v.books.dead.waiting []) (sym new.ring) right.agrees);

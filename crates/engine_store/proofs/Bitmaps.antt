@@ -1,5 +1,5 @@
 -- The bitmap that a run leaves, read block by block, and whose map it is.
-use Rattle.std.proofs.Common.{◌≡◌, ◌⊎◌, ⊎_elim, ℕ, ◌+◌, ◌*◌, ◌/◌, ◌%◌, ◌&&◌, ◌||◌, not, nat_le, nat_lt, ◌==◌, slice_index, Result, Ok, Err, IfErr, ◌<◌, ◌≤◌, Bool, true, false, IsTrue, Some, List, [], ◌∷◌, ◌++◌, length, if◌then◌else◌, refl, sym, ◌∙◌, ap, ap₂, subst, arith}
+use Rattle.std.proofs.Common.{◌≡◌, ◌⊎◌, ⊎_elim, ℕ, ◌+◌, ◌*◌, ◌/◌, ◌%◌, ◌&&◌, ◌||◌, not, nat_le, nat_lt, ◌==◌, slice_index, Result, Ok, Err, IfErr, ◌<◌, ◌≤◌, Bool, true, false, IsTrue, Some, List, [], length, if◌then◌else◌, sym, ◌∙◌, ap, ap₂, subst, arith}
 use Rattle.std.proofs.lemmas.Bool.{cases_lt, le-ltb}
 use Rattle.std.specs.Int.{bit_at}
 use Rattle.base_types.specs.Seal.{Blocks, blocks_of}
@@ -83,8 +83,7 @@ books_have_it one runs bounds limits d g m r books held found read geom =
 
 -- a test on the bits of one block or the other, where the bit isn't looked at
 unlooked : (low high : Bool) (p q : Bool) → ((false && not p) || (high && (false && p))) ≡ ((false && not q) || (high && (false && q)))
-unlooked low true p q = refl
-unlooked low false p q = refl
+unlooked low high p q = grind arith
 
 -- which bits are wrong is said by the bitmap's blocks alone
 same_bad : (g : Geometry) (m q : Blocks) (b : ℕ) → data_start g ≤ g.n → ((k : ℕ) → k < bitmap_blocks g → m k ≡ q k) → is_bad_bit g m b ≡ is_bad_bit g q b

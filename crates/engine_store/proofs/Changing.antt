@@ -1,9 +1,10 @@
 -- A call that changes the running transaction alone keeps the store: its parts stay sound, and where its disk tells they stay told.
 use Rattle.std.proofs.Props.{props}
-use Rattle.std.proofs.Common.{◌≡◌, ◌⊎◌, inl, inr, ⊎_elim, ℕ, suc, ◌<◌, Bool, true, false, IsTrue, if◌then◌else◌, List, [], ◌∷◌, length, ◌==◌, ◌||◌, nat_lt, refl, sym, ◌∙◌, ap, subst, arith}
+use Rattle.std.proofs.Common.{◌≡◌, ◌⊎◌, inl, inr, ⊎_elim, ℕ, suc, ◌<◌, Bool, true, false, IsTrue, if◌then◌else◌, List, [], ◌∷◌, length, ◌||◌, nat_lt, refl, sym, ◌∙◌, ap, subst, arith}
 use Rattle.std.specs.List.{All}
 use Rattle.std.proofs.Math.Logic.{∥∥₁_elim, ∥∥₁_map}
-use Rattle.std.proofs.lemmas.Bool.{cases_Bool, or_cases, and_parts, false≢true, eqb-true, eq-eqb}
+use Rattle.std.proofs.lemmas.Bool.{or_cases, and_parts, false≢true}
+use Rattle.std.proofs.lemmas.Bool.Decides.{nat_tests}
 use Rattle.base_types.specs.Seal.{Blocks}
 use Rattle.disk_contract.specs.declared.event.Event.{Event}
 use Rattle.disk_contract.specs.Disk as disk
@@ -132,17 +133,12 @@ free_on sound right v w b geom kept dead taken = by (bit_now v.books b) dead
 -- one word for another
 has_is_one : (b : ℕ) (xs : List ℕ) → has xs b ≡ true → is_one_of b xs ≡ true
 has_is_one b [] is = is
-has_is_one b (x ∷ xs) is = ⊎_elim (λ e. ap (λ u. if u then true else is_one_of b xs) (eq-eqb x b (sym (eqb-true b x e)))) (λ r. rest (x == b) (has_is_one b xs r)) (or_cases (b == x) (has xs b) is)
-  where
-    rest : (u : Bool) → is_one_of b xs ≡ true → (if u then true else is_one_of b xs) ≡ true
-    rest true e = refl
-    rest false e = e
+has_is_one b (x ∷ xs) is = grind (arith, nat_tests, is, has_is_one b xs)
 
 -- each number of a list that may be taken is reusable
 each_free : (g : Geometry) (reusable : ℕ → Bool) (xs : List ℕ) → All (IsReusable g reusable) xs → (b : ℕ) → is_one_of b xs ≡ true → reusable b ≡ true
 each_free g reusable [] all b is = absurd (false≢true is)
-each_free g reusable (x ∷ xs) all b is = ⊎_elim (λ e. subst (λ n. reusable n ≡ true) (eqb-true x b e) (all 0 0 (omega arith)).free)
-    (λ f. each_free g reusable xs (λ i d low. all (suc i) d (omega (arith, low))) b (sym (ap (λ u. if u then true else is_one_of b xs) f) ∙ is)) (cases_Bool (x == b))
+each_free g reusable (x ∷ xs) all b is = grind (arith, nat_tests, is, (all 0 0 (omega arith)).free, each_free g reusable xs (λ i d low. all (suc i) d (omega (arith, low))) b)
 
 -- these blocks were taken
 pub take_on : TakesSound → TakesRight → (v : StoreParts) (w : TransactionBooks) (list : List ℕ) → StoreIsSound v → w.geom ≡ v.books.geom → AreKept w → w.dead ≡ with_taken v.books.dead list → ((b : ℕ) → is_one_of b w.changes.taken ≡ (has list b || is_one_of b v.books.changes.taken)) → MayBeTaken v.books.geom (is_free_now v.books) list → BooksGoOn v w

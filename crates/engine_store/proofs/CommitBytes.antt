@@ -1,7 +1,8 @@
 -- What stands for each live block behind a commit of the running transaction, whether it succeeded or the disk failed, and what the cache keeps of it.
-use Rattle.std.proofs.Common.{◌≡◌, ◌⊎◌, inl, inr, ℕ, ◌≤◌, ◌&&◌, ◌||◌, nat_le, nat_lt, not, Bool, true, false, IsTrue, List, [], ◌∷◌, ◌++◌, length, map, Option, Some, None, IfSome, is_some, if◌then◌else◌, refl, sym, ◌∙◌, ap, ap₂, subst}
-use Rattle.std.proofs.lemmas.Bool.{and_parts, cases_Bool, cond-true, false≢true, le-ltb, leb-true}
+use Rattle.std.proofs.Common.{◌≡◌, inl, ℕ, ◌≤◌, ◌&&◌, ◌||◌, nat_le, nat_lt, not, Bool, true, false, IsTrue, List, [], ◌∷◌, ◌++◌, length, map, Option, Some, None, IfSome, is_some, if◌then◌else◌, refl, sym, ◌∙◌, ap, ap₂, subst, arith}
+use Rattle.std.proofs.lemmas.Bool.{and_parts, cond-true, false≢true, le-ltb, leb-true, and_right, false_from_ne_true}
 use Rattle.std.specs.FinMap.{get}
+use Rattle.std.proofs.Math.Bool.{and-false}
 use Rattle.base_types.specs.Seal.{Blocks}
 use Rattle.disk_contract.specs.Cell.{accepted, is_lost}
 use Rattle.disk_contract.specs.Disk.{State, Reads}
@@ -44,10 +45,7 @@ pub record MapLaws : Type 0 where
 
 -- a live block is one on which the map is defined, by the tests of both
 defined_live : (from below early set marked bare : Bool) → (from && (below && (early || set))) ≡ true → marked ≡ set → bare ≡ false → (from && (early || (below && (marked && not bare)))) ≡ true
-defined_live true true true set marked bare live is filled = refl
-defined_live true true false set marked bare live is filled = ap₂ (λ x y. x && not y) (is ∙ live) filled
-defined_live true false early set marked bare live is filled = absurd (false≢true live)
-defined_live false below early set marked bare live is filled = absurd (false≢true live)
+defined_live from below early set marked bare live is filled = grind (arith, live, is, filled)
 
 -- a live block doesn't lie before the bitmap
 pub live_from : (g : Geometry) (m : Blocks) (b : ℕ) → IsTrue (is_live g m b) → bitmap_start g ≤ b
@@ -62,12 +60,7 @@ module _ (laws : MapLaws) (v : TransactionBooks) (last : Blocks) (k : AreKept v)
       dead is =
           let own = (and_parts _ _ is).0 in
           ap₂ (λ x y. nat_le (bitmap_start v.geom) b && (nat_lt b v.geom.n && (x || y))) (le-ltb b (data_start v.geom) (k.lie.taken b own).from) (began.was_dead b own)
-          ∙ out (nat_le (bitmap_start v.geom) b) (nat_lt b v.geom.n)
-        where
-          out : (x y : Bool) → (x && (y && (false || false))) ≡ false
-          out true true = refl
-          out true false = refl
-          out false y = refl
+          ∙ and_right (nat_le (bitmap_start v.geom) b) _ (and-false (nat_lt b v.geom.n))
 
       by : (o : Option (List ℕ)) → put_of b v.changes.laid ≡ o → put_of b v.changes.laid ≡ None
       by None is = is
@@ -84,11 +77,7 @@ module _ (laws : MapLaws) (v : TransactionBooks) (last : Blocks) (k : AreKept v)
 
     -- none of them was freed
     pub not_freed : (b : ℕ) → IsTrue (is_live v.geom (map_of v last) b) → is_one_of b v.changes.freed ≡ false
-    not_freed b live = by (cases_Bool (is_one_of b v.changes.freed))
-      where
-        by : (is_one_of b v.changes.freed ≡ true) ⊎ (is_one_of b v.changes.freed ≡ false) → is_one_of b v.changes.freed ≡ false
-        by (inl own) = let out = laws.freed v b k own in absurd (false≢true (sym (dead_in laws.bits v last b began out.0 out.1) ∙ live))
-        by (inr not) = not
+    not_freed b live = false_from_ne_true (is_one_of b v.changes.freed) (λ own. let out = laws.freed v b k own in false≢true (sym (dead_in laws.bits v last b began out.0 out.1) ∙ live))
 
     -- one into which nothing was put was live before
     pub was_live : (b : ℕ) → IsTrue (is_live v.geom (map_of v last) b) → bytes_put v.changes b ≡ None → IsTrue (is_live v.geom last b)
@@ -101,11 +90,8 @@ module _ (laws : MapLaws) (v : TransactionBooks) (last : Blocks) (k : AreKept v)
     -- Where the commit succeeded: w are the books that were sealed, and `next` is what stands for each block then.
     module _ (w : TransactionBooks) (number : ℕ) (next : Blocks) (kept_then : AreKept w) (sealed : w ≡ record (sealed_books v number) { changes = w.changes }) (empty : IsEmpty w.changes)
         (bytes : (b : ℕ) → bitmap_start v.geom ≤ b → is_one_of b v.changes.freed ≡ false → next b ≡ bytes_over v.changes last b) where
-      geom_then : w.geom ≡ v.geom
-      geom_then = ap (λ (x : TransactionBooks). x.geom) sealed
-
       to_now : (m : Blocks) (b : ℕ) → IsTrue (is_live w.geom m b) → IsTrue (is_live v.geom m b)
-      to_now m b live = subst (λ (g : Geometry). IsTrue (is_live g m b)) geom_then live
+      to_now m b live = subst (λ (x : TransactionBooks). IsTrue (is_live x.geom m b)) sealed live
 
       -- the map now stands on its live blocks
       pub stands : HasSameLive w (map_of v last) next
@@ -134,8 +120,7 @@ module _ (laws : MapLaws) (v : TransactionBooks) (last : Blocks) (k : AreKept v)
 -- The cache.
 
 none_is : (o : Option (List ℕ)) → is_some o ≡ false → o ≡ None
-none_is None e = refl
-none_is (Some x) e = absurd (false≢true (sym e))
+none_is o e = grind (arith, e)
 
 -- a block that is kept still has no put
 pub not_laid : (q : Changes) (old new : Cache) (b : ℕ) → StillKept q.paid (map block_of q.laid) old new b → put_of b q.laid ≡ None
@@ -144,18 +129,16 @@ not_laid q old new b still = none_is (put_of b q.laid) (sym (among b q.laid) ∙
 pub not_put : (q : Changes) (old new : Cache) (b : ℕ) → StillKept q.paid (map block_of q.laid) old new b → bytes_put q b ≡ None
 not_put q old new b still = ap₂ or_else (not_laid q old new b still) still.paid
 
+nothing_over : (f l : Bool) → let nothing : Option (List ℕ) = None in (if f then nothing else or_else nothing (if l then nothing else nothing)) ≡ nothing
+nothing_over f l = grind arith
+
 -- the record has no newest payload for it
 pub none_newest : (q : Changes) (number : ℕ) (ks js : List Kept) (old new : Cache) (b : ℕ) → js ≡ ks ++ kept_of number q ∷ [] → StillKept q.paid (map block_of q.laid) old new b → newest_in None ks b ≡ None → newest_in None js b ≡ None
 none_newest q number ks js old new b joins still none =
     ap (λ (xs : List Kept). newest_in None xs b) joins
     ∙ newest_then None ks (kept_of number q) b
     ∙ ap₂ (λ (x before : Option (List ℕ)). if is_one_of b q.freed then None else or_else x (if is_one_of b (map block_of q.laid) then None else before)) still.paid none
-    ∙ by (is_one_of b q.freed) (is_one_of b (map block_of q.laid))
-  where
-    by : (f l : Bool) → let nothing : Option (List ℕ) = None in (if f then nothing else or_else nothing (if l then nothing else nothing)) ≡ nothing
-    by true l = refl
-    by false true = refl
-    by false false = refl
+    ∙ nothing_over (is_one_of b q.freed) (is_one_of b (map block_of q.laid))
 
 -- and a read may give of it what it might have given
 pub still_disks : (q : Changes) (old new : Cache) (b : ℕ) (d e : State) → Forgets q.paid (map block_of q.laid) old new → (StillKept q.paid (map block_of q.laid) old new b → (is_lost b d.log ≡ false) × (accepted e.base e.log b ≡ accepted d.base d.log b) × IsTheDisks b old d) → IsTheDisks b new e

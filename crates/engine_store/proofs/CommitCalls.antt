@@ -1,5 +1,5 @@
 -- A commit of the running transaction keeps the store and makes a point of it, whether it succeeded or the disk failed.
-use Rattle.std.proofs.Common.{◌≡◌, ◌⊎◌, ⊎_elim, ℕ, ◌+◌, ◌-◌, ◌≤◌, is_some, Bool, true, false, IsTrue, List, length, map, Option, None, Result, Ok, Err, refl, sym, ◌∙◌, ap, subst, arith, length-append}
+use Rattle.std.proofs.Common.{◌≡◌, ◌⊎◌, ⊎_elim, ℕ, ◌+◌, ◌-◌, ◌≤◌, is_some, Bool, true, false, IsTrue, List, length, map, Option, None, Ok, Err, refl, sym, ◌∙◌, ap, subst, arith, length-append}
 use Rattle.std.proofs.lemmas.Bool.{false≢true}
 use Rattle.base_types.specs.Seal.{Blocks}
 use Rattle.disk_contract.specs.declared.disk.DiskFault.{DiskFault}
@@ -9,7 +9,7 @@ use Rattle.disk_contract.specs.Disk.{State, Grows, HasFailed, OnlyWrites}
 use Rattle.layout_journal.specs.declared.header.Header.{Header}
 use Rattle.layout_journal.specs.Ring.{RingPlaces, with_places}
 use Rattle.layout_journal.specs.Run.{is_live, otherwise}
-use Rattle.engine_cache.specs.Cache.{Cache, IsKept}
+use Rattle.engine_cache.specs.Cache.{Cache}
 use Rattle.crash_argument.specs.Ledger.{Ledger, WrittenRecord, next_number}
 use Rattle.crash_argument.specs.Points.{MountedSession, IsSafe}
 use Rattle.crash_argument.specs.Writes.{AddsWrites}
@@ -63,19 +63,13 @@ ledger_then v l = ledger_with l v.ring v.pipeline.header.epoch (v.first + v.poin
 abbrev pub RightBefore : StoreParts → State → MountedSession → Ledger → ℕ → ℕ → Type 0
 RightBefore v d s l t floor = IsRightOn s d l t floor v.pipeline v.ring v.books.dead v.books.changes.taken
 
-abbrev pub committed : Unit {0} → Result (Unit {0}) DiskFault
-committed a = Ok a
-
-abbrev pub faulted : DiskFault → Result (Unit {0}) DiskFault
-faulted x = Err x
-
 -- What a commit gave that succeeded.
 pub record Succeeded (tells : Bool) (v : StoreParts) (d e : State) (ring : RingPlaces) (q : Pipeline) (w : TransactionBooks) (c : Cache) : Type 0 where
   pub kept : AreKept w
   pub right : IsTrue tells → (s : MountedSession) (l : Ledger) (t floor : ℕ) → BeganAt v.books (l.map_before (next_number l)) → HasNoBare (running_of v.books) → RightBefore v d s l t floor → IsRightOn s e (ledger_then v l) t floor q ring w.dead w.changes.taken
   pub becomes : BecomesRecord (v.first + v.point) v.books w v.pipeline q ring
   pub ring_is : ring ≡ with_places v.ring (places_for v.books.changes)
-  pub writes : IsTrue tells → WritesRecord {A = Unit {0}} {E = DiskFault} (committed tt) (writes_of v.ring v.pipeline.header.epoch (v.first + v.point) v.books.changes) v.books v.pipeline q d e
+  pub writes : IsTrue tells → WritesRecord {A = Unit {0}} {E = DiskFault} (Ok tt) (writes_of v.ring v.pipeline.header.epoch (v.first + v.point) v.books.changes) v.books v.pipeline q d e
   pub spends : OnlyWrites false d e
   pub forgets : Forgets v.books.changes.paid (map block_of v.books.changes.laid) v.cache c
   pub due : IsTrue tells → StaysDue d.log v.pipeline q
@@ -85,7 +79,7 @@ pub record Succeeded (tells : Bool) (v : StoreParts) (d e : State) (ring : RingP
 pub record Failed (tells : Bool) (v : StoreParts) (d e : State) (ring : RingPlaces) (fault : DiskFault) : Type 0 where
   pub right : IsTrue tells → (s : MountedSession) (l : Ledger) (t floor : ℕ) → BeganAt v.books (l.map_before (next_number l)) → HasNoBare (running_of v.books) → RightBefore v d s l t floor → IsSafe s e.base e.log l t floor ⊎ IsSafe s e.base e.log (ledger_then v l) t floor
   pub ring_is : ring ≡ with_places v.ring (places_for v.books.changes)
-  pub writes : IsTrue tells → WritesRecord {A = Unit {0}} {E = DiskFault} (faulted fault) (writes_of v.ring v.pipeline.header.epoch (v.first + v.point) v.books.changes) v.books v.pipeline v.pipeline d e
+  pub writes : IsTrue tells → WritesRecord {A = Unit {0}} {E = DiskFault} (Err fault) (writes_of v.ring v.pipeline.header.epoch (v.first + v.point) v.books.changes) v.books v.pipeline v.pipeline d e
   pub spends : OnlyWrites true d e
   pub cause : IsTrue tells → HasFailed e
 
@@ -112,11 +106,9 @@ module _ (laws : Laws) (v : StoreParts) (d : State) (l : Ledger) (k : AreKept v.
   right_before = record { safe = told.safe; agrees = (told.going going).agrees; serves = (told.going going).serves }
 
   -- the map of the ledger with the record is the map now
-  map_newest : map_of v.books (l.map_before (next_number l)) ≡ map_now v d
-  map_newest = laws.map.map v.books (last_map v d) (l.map_before (next_number l)) k told.began same_newest
-
   newest_then : (ledger_then v l).map_before (next_number (ledger_then v l)) ≡ map_now v d
-  newest_then = newest_of l (written_of v.pipeline.header.epoch (v.first + v.point) v.ring.next v.books.changes.paid v.books.changes.laid) (map_of v.books (l.map_before (next_number l))) ∙ map_newest
+  newest_then = newest_of l (written_of v.pipeline.header.epoch (v.first + v.point) v.ring.next v.books.changes.paid v.books.changes.laid) (map_of v.books (l.map_before (next_number l)))
+      ∙ laws.map.map v.books (last_map v d) (l.map_before (next_number l)) k told.began same_newest
 
   next_then : next_number (ledger_then v l) ≡ next_number l + 1
   next_then = next_more l (written_of v.pipeline.header.epoch (v.first + v.point) v.ring.next v.books.changes.paid v.books.changes.laid) (map_of v.books (l.map_before (next_number l)))
@@ -132,24 +124,18 @@ module _ (laws : Laws) (v : StoreParts) (d : State) (l : Ledger) (k : AreKept v.
     abbrev record_then : WrittenRecord
     record_then = written_of v.pipeline.header.epoch (v.first + v.point) v.ring.next v.books.changes.paid v.books.changes.laid
 
-    writes : WritesRecord {A = Unit {0}} {E = DiskFault} (committed tt) (writes_of v.ring v.pipeline.header.epoch (v.first + v.point) v.books.changes) v.books v.pipeline q d e
-    writes = s.writes t
-
     right : IsRightOn (session_of v) e (ledger_then v l) (length d.log) v.floor q ring w.dead w.changes.taken
     right = s.right t (session_of v) l (length d.log) v.floor began_newest filled right_before
 
     grew : length d.log ≤ length e.log
-    grew = omega (arith, ap (λ (es : List Event). length es) writes.grows.log, length-append d.log writes.grows.more)
+    grew = omega (arith, ap (λ (es : List Event). length es) (s.writes t).grows.log, length-append d.log (s.writes t).grows.more)
 
     same_session : session_of parts ≡ session_of v
     same_session = session_then v parts (ap (λ (x : TransactionBooks). x.geom) s.becomes.books) (ap (λ (h : Header). h.epoch) s.becomes.header) refl refl
 
     -- what is live then, and wasn't put, was live before
     was_live_then : (b : ℕ) → IsTrue (is_live w.geom (last_map parts e) b) → bytes_put v.books.changes b ≡ None → IsTrue (is_live v.books.geom (last_map v d) b)
-    was_live_then b live none = was_live laws.map v.books (last_map v d) k told.began filled b (live_now laws.map v.books (last_map v d) k told.began filled w (v.first + v.point) (last_map parts e) s.kept s.becomes.books s.becomes.empty writes.bytes b live) none
-
-    still : (b : ℕ) → IsKept b c → StillKept v.books.changes.paid (map block_of v.books.changes.laid) v.cache c b
-    still b there = still_kept v.books.changes.paid (map block_of v.books.changes.laid) v.cache c b s.forgets there
+    was_live_then b live none = was_live laws.map v.books (last_map v d) k told.began filled b (live_now laws.map v.books (last_map v d) k told.began filled w (v.first + v.point) (last_map parts e) s.kept s.becomes.books s.becomes.empty (s.writes t).bytes b live) none
 
     live_still : (b : ℕ) → IsTrue (is_live w.geom (last_map parts e) b) → StillKept v.books.changes.paid (map block_of v.books.changes.laid) v.cache c b → IsTrue (is_live v.books.geom (last_map v d) b)
     live_still b live st = was_live_then b live (not_put v.books.changes v.cache c b st)
@@ -157,12 +143,12 @@ module _ (laws : Laws) (v : StoreParts) (d : State) (l : Ledger) (k : AreKept v.
     cache_then : CacheAgrees parts e
     cache_then = record {
       newest = λ b live there.
-          let st = still b there in
+          let st = still_kept v.books.changes.paid (map block_of v.books.changes.laid) v.cache c b s.forgets there in
           none_newest v.books.changes (v.first + v.point) (kept v.pipeline) (kept q) v.cache c b s.becomes.kept st
           ((told.going going).cache.newest b (live_still b live st) (subst (λ (o : Option (List ℕ)). IsTrue (is_some o)) st.same there));
       same = λ b live. still_disks v.books.changes v.cache c b d e s.forgets (λ st.
           let before = live_still b live st in
-          (none_lost laws.last v d l k told going b before, (writes.elsewhere b (live_from v.books.geom (last_map v d) b before) (not_laid v.books.changes v.cache c b st)).bytes, (told.going going).cache.same b before));
+          (none_lost laws.last v d l k told going b before, ((s.writes t).elsewhere b (live_from v.books.geom (last_map v d) b before) (not_laid v.books.changes v.cache c b st)).bytes, (told.going going).cache.same b before));
     }
 
     pub after_success : After v parts d e
@@ -171,9 +157,9 @@ module _ (laws : Laws) (v : StoreParts) (d : State) (l : Ledger) (k : AreKept v.
       told = record {
         safe = subst (λ (x : MountedSession). IsSafe x e.base e.log (ledger_then v l) (length e.log) v.floor) (sym same_session) (from_later (session_of v) e.base e.log (ledger_then v l) (length d.log) (length e.log) v.floor grew right.safe);
         made = omega (arith, next_then, told.made);
-        began = began_next laws.map v.books (last_map v d) k told.began filled w (v.first + v.point) (last_map parts e) s.kept s.becomes.books s.becomes.empty writes.bytes l record_then;
-        whole = whole_next laws.map v.books (last_map v d) k told.began filled w (v.first + v.point) (last_map parts e) s.kept s.becomes.books s.becomes.empty writes.bytes told.whole;
-        going = λ still_going. record { agrees = right.agrees; serves = right.serves; next = omega (arith, next_then, next); due = s.due t (told.going going).agrees.notes (told.going going).due; heard = λ alone. joined_heard (v.first + v.point) (writes_of v.ring v.pipeline.header.epoch (v.first + v.point) v.books.changes) (s.joins t).0 v.pipeline q d.log e.log writes.grows (s.joins t).1 (s.joins t).2 ((told.going going).heard (ap (λ (m : Manner). m.waits_alone) (sym s.spends.same.manner) ∙ alone)); cache = record { newest = cache_then.newest; same = cache_then.same } };
+        began = began_next laws.map v.books (last_map v d) k told.began filled w (v.first + v.point) (last_map parts e) s.kept s.becomes.books s.becomes.empty (s.writes t).bytes l record_then;
+        whole = whole_next laws.map v.books (last_map v d) k told.began filled w (v.first + v.point) (last_map parts e) s.kept s.becomes.books s.becomes.empty (s.writes t).bytes told.whole;
+        going = λ still_going. record { agrees = right.agrees; serves = right.serves; next = omega (arith, next_then, next); due = s.due t (told.going going).agrees.notes (told.going going).due; heard = λ alone. joined_heard (v.first + v.point) (writes_of v.ring v.pipeline.header.epoch (v.first + v.point) v.books.changes) (s.joins t).0 v.pipeline q d.log e.log (s.writes t).grows (s.joins t).1 (s.joins t).2 ((told.going going).heard (ap (λ (m : Manner). m.waits_alone) (sym s.spends.same.manner) ∙ alone)); cache = record { newest = cache_then.newest; same = cache_then.same } };
         failed = λ stopped. absurd (false≢true (sym going ∙ stopped));
       };
       safe = right.safe;
@@ -182,22 +168,19 @@ module _ (laws : Laws) (v : StoreParts) (d : State) (l : Ledger) (k : AreKept v.
     }
       where
         map_then : map_now parts e ≡ map_now v d
-        map_then = map_next laws.map v.books (last_map v d) k told.began filled w (v.first + v.point) (last_map parts e) s.kept s.becomes.books s.becomes.empty writes.bytes l record_then
+        map_then = map_next laws.map v.books (last_map v d) k told.began filled w (v.first + v.point) (last_map parts e) s.kept s.becomes.books s.becomes.empty (s.writes t).bytes l record_then
 
   -- Where the disk failed.
   module _ (tells : Bool) (t : IsTrue tells) (e : State) (ring : RingPlaces) (fault : DiskFault) (f : Failed tells v d e ring fault) where
     abbrev stopped_parts : StoreParts
     stopped_parts = record v { ring = ring; point = v.point + 1; stopped = true }
 
-    front : WritesRecord {A = Unit {0}} {E = DiskFault} (faulted fault) (writes_of v.ring v.pipeline.header.epoch (v.first + v.point) v.books.changes) v.books v.pipeline v.pipeline d e
-    front = f.writes t
-
     front_grew : length d.log ≤ length e.log
-    front_grew = omega (arith, ap (λ (es : List Event). length es) front.grows.log, length-append d.log front.grows.more)
+    front_grew = omega (arith, ap (λ (es : List Event). length es) (f.writes t).grows.log, length-append d.log (f.writes t).grows.more)
 
     -- the live blocks of the last map stay
     stays : HasSameLive v.books (last_map v d) (last_map stopped_parts e)
-    stays b live = ap (λ (x : List ℕ). otherwise (newest_in None (kept v.pipeline) b) x) (front.elsewhere b (live_from v.books.geom (last_map v d) b live) (not_fresh laws.map v.books (last_map v d) k told.began b live)).bytes
+    stays b live = ap (λ (x : List ℕ). otherwise (newest_in None (kept v.pipeline) b) x) ((f.writes t).elsewhere b (live_from v.books.geom (last_map v d) b live) (not_fresh laws.map v.books (last_map v d) k told.began b live)).bytes
 
     live_before : (b : ℕ) → IsTrue (is_live v.books.geom (last_map stopped_parts e) b) → IsTrue (is_live v.books.geom (last_map v d) b)
     live_before b live = sym (laws.map.live v.books (last_map v d) (last_map stopped_parts e) b k stays) ∙ live

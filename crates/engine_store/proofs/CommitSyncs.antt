@@ -18,7 +18,7 @@ use Rattle.engine_running.specs.declared.commit.CommitRoom.{CommitRoom}
 use Rattle.engine_reuse.specs.Numbers.{is_among}
 use Rattle.engine_checkpoint.specs.declared.pipeline.Pipeline.{Pipeline}
 use Rattle.engine_blocks.specs.declared.refusals.SyncRefusal.TheVariants as sync
-use Rattle.engine_blocks.specs.Running.{Running, HasNoBare, fresh_blocks, nothing_running, payloads, record_places, record_writes}
+use Rattle.engine_blocks.specs.Running.{Running, fresh_blocks, nothing_running, payloads, record_places, record_writes}
 use Rattle.engine_blocks.specs.Calls.{EndsTransaction, IsAfterSync, commit_places, commit_writes, if_changed}
 use Rattle.engine_blocks.specs.Crashes.{Advances, AwaitsSince, MakesPoint}
 use Rattle.engine_blocks.specs.Effects.{Syncs}
@@ -83,31 +83,16 @@ writes_needed v paid laid weight = heavy (running_of v.books) _ 0 weight ∙ ap�
 nothing_runs : (number : ℕ) (v w : TransactionBooks) (p q : Pipeline) (ring : RingPlaces) → BecomesRecord number v w p q ring → running_of w ≡ nothing_running
 nothing_runs number v w p q ring b = λ i. record {
   roles = λ c. role_by (has_put c (b.empty.laid i)) (has_put c (b.empty.paid i)) (is_one_of c (b.empty.taken i) && bit_now w c);
-  weight = weight i;
-  held = held i;
-  took = took i;
+  weight = (b.books i).weight;
+  held = length (b.books i).dead.held;
+  took = (b.books i).took;
 }
-  where
-    weight : w.weight ≡ 0
-    weight = ap (λ (x : TransactionBooks). x.weight) b.books
-
-    held : length w.dead.held ≡ 0
-    held = ap (λ (x : TransactionBooks). length x.dead.held) b.books
-
-    took : w.took ≡ 0
-    took = ap (λ (x : TransactionBooks). x.took) b.books
 
 -- Where it succeeded.
 
 module _ (laws : Laws) (tells : Bool) (v : StoreParts) (d e : State) (r : CommitRoom) (k : IsKeptOn tells v d) (going : v.stopped ≡ false) (may : MayCommit v r) (ring : RingPlaces) (q : Pipeline) (w : TransactionBooks) (c : Cache) (s : Succeeded tells v d e ring q w c) where
   abbrev parts : StoreParts
   parts = record v { ring = ring; pipeline = q; books = w; cache = c; point = v.point + 1 }
-
-  filled : HasNoBare (running_of v.books)
-  filled = may.sync.none_bare
-
-  number : v.first + v.point ≡ v.pipeline.last + 1
-  number = (k.sound.going going).number
 
   books_geom : w.geom ≡ v.books.geom
   books_geom = ap (λ (x : TransactionBooks). x.geom) s.becomes.books
@@ -116,7 +101,7 @@ module _ (laws : Laws) (tells : Bool) (v : StoreParts) (d e : State) (r : Commit
   same_session = session_then v parts books_geom (ap (λ (h : Header). h.epoch) s.becomes.header) refl refl
 
   after : IsTrue tells → (l : Ledger) → IsToldBy v d l → After v parts d e
-  after t l told = after_success laws v d l k.sound.kept told going filled tells t e ring q w c s
+  after t l told = after_success laws v d l k.sound.kept told going may.sync.none_bare tells t e ring q w c s
 
   grows : IsTrue tells → Grows d.log e.log
   grows t = grows_by d.log e.log (s.writes t).grows
@@ -154,7 +139,7 @@ module _ (laws : Laws) (tells : Bool) (v : StoreParts) (d e : State) (r : Commit
     running = inr (nothing_runs (v.first + v.point) v.books w v.pipeline q ring s.becomes);
     marked = ap is_marked s.becomes.books;
     reusable = λ b free. ap (λ (x : TransactionBooks). is_among b x.dead.reusable) s.becomes.books ∙ free.free;
-    turns = omega (arith, ap (λ (h : Header). h.turn) s.becomes.written, s.becomes.last, number);
+    turns = omega (arith, ap (λ (h : Header). h.turn) s.becomes.written, s.becomes.last, (k.sound.going going).number);
     point = ap (λ n. v.point + n) (sym (heavy (running_of v.books) 1 0 may.weight));
     floor = omega arith;
   }

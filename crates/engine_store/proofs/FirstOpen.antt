@@ -1,6 +1,6 @@
 -- The oldest committed record has an open ticket: behind a commit, since the tickets of its record are new, and behind a wait for all records, since no record is committed then. Where the floor isn't the last point, it is the record of the point behind the floor.
-use Rattle.std.proofs.Common.{◌≡◌, ℕ, zero, suc, ◌+◌, ◌<◌, ◌≤◌, ◌==◌, ◌&&◌, not, if◌then◌else◌, Bool, true, false, List, [], ◌∷◌, ◌++◌, length, map, option_map, slice_get, Some, Result, Ok, Err, OnOk, refl, sym, ◌∙◌, ap, subst, arith, length-append, append_assoc}
-use Rattle.std.proofs.lemmas.Bool.{and_from, and_parts, eq-eqb, eqb-true, false_from_ne_true, false≢true, or_left, or_right}
+use Rattle.std.proofs.Common.{◌≡◌, ℕ, zero, suc, ◌+◌, ◌<◌, ◌≤◌, ◌==◌, ◌&&◌, not, if◌then◌else◌, Bool, true, false, List, [], ◌∷◌, ◌++◌, length, map, option_map, slice_get, Some, Result, Ok, Err, OnOk, refl, sym, ◌∙◌, ap, subst, arith, length-append, append_assoc, inl, inr}
+use Rattle.std.proofs.lemmas.Bool.{and_from, and_parts, eq-eqb, eqb-true, false_from_ne_true, false≢true, or_left, or_right, and_right, cases_Bool}
 use Rattle.std.proofs.lemmas.List.{length-map, map-append}
 use Rattle.std.proofs.lemmas.Option.{none-some, same_Some, slice_get-map}
 use Rattle.std.specs.List.{range_with_len}
@@ -22,31 +22,25 @@ use Rattle.engine_store.proofs.NextRecord.{numbers_len}
 
 -- Open tickets.
 
+later : (x y : Bool) → y ≡ true → (if x then true else y) ≡ true
+later true y s = refl
+later false y s = s
+
 -- of tickets that aren't all shut, one is open
 one_open : (ts : List ℕ) (notes : List Note) → none_open ts notes ≡ false → (t : ℕ) × (is_one_of t ts ≡ true) × (is_open t notes ≡ true)
 one_open [] notes e = absurd (false≢true (sym e))
-one_open (t ∷ ts) notes e = by (is_open t notes) refl (one_open ts notes)
-  where
-    later : (x y : Bool) → y ≡ true → (if x then true else y) ≡ true
-    later true y s = refl
-    later false y s = s
-
-    by : (x : Bool) → is_open t notes ≡ x → (none_open ts notes ≡ false → (u : ℕ) × (is_one_of u ts ≡ true) × (is_open u notes ≡ true)) → (u : ℕ) × (is_one_of u (t ∷ ts) ≡ true) × (is_open u notes ≡ true)
-    by true is more = (t, ap (λ (b : Bool). if b then true else is_one_of t ts) (eq-eqb t t refl), is)
-    by false is more = let rest = more (ap (λ (b : Bool). not b && none_open ts notes) (sym is) ∙ e) in (rest.0, later (t == rest.0) (is_one_of rest.0 ts) rest.1, rest.2)
+one_open (t ∷ ts) notes e = elim (cases_Bool (is_open t notes)) [
+  | inl is ↦ (t, ap (λ (b : Bool). if b then true else is_one_of t ts) (eq-eqb t t refl), is)
+  | inr is ↦ (let rest = one_open ts notes (ap (λ (b : Bool). not b && none_open ts notes) (sym is) ∙ e) in (rest.0, later (t == rest.0) (is_one_of rest.0 ts) rest.1, rest.2))
+]
 
 -- tickets of which one is open aren't all shut
 some_open : (t : ℕ) (ts : List ℕ) (notes : List Note) → is_one_of t ts ≡ true → is_open t notes ≡ true → none_open ts notes ≡ false
 some_open t [] notes own is = absurd (false≢true own)
-some_open t (u ∷ us) notes own is = by (u == t) refl own (λ o. some_open t us notes o is)
-  where
-    both : (x y : Bool) → y ≡ false → (x && y) ≡ false
-    both true y s = s
-    both false y s = refl
-
-    by : (x : Bool) → (u == t) ≡ x → (if x then true else is_one_of t us) ≡ true → (is_one_of t us ≡ true → none_open us notes ≡ false) → none_open (u ∷ us) notes ≡ false
-    by true same o more = ap (λ (b : Bool). not b && none_open us notes) (subst (λ (n : ℕ). is_open n notes ≡ true) (sym (eqb-true u t same)) is)
-    by false same o more = both (not (is_open u notes)) (none_open us notes) (more o)
+some_open t (u ∷ us) notes own is = elim (cases_Bool (u == t)) [
+  | inl same ↦ ap (λ (b : Bool). not b && none_open us notes) (subst (λ (n : ℕ). is_open n notes ≡ true) (sym (eqb-true u t same)) is)
+  | inr apart ↦ and_right (not (is_open u notes)) (none_open us notes) (some_open t us notes (ap (λ (b : Bool). if b then true else is_one_of t us) (sym apart) ∙ own) is)
+]
 
 -- Behind a commit.
 
@@ -105,14 +99,8 @@ in_row a (suc n) (suc k) y e = let rest = in_row (a + 1) n k y e in (omega (arit
 
 -- a place behind others
 get_behind : {A : Type 0} (xs ys : List A) (k : ℕ) → slice_get (xs ++ ys) (length xs + k) ≡ slice_get ys k
-get_behind [] ys k = ap (slice_get ys) (z k)
-  where
-    z : (k : ℕ) → 0 + k ≡ k
-    z k = omega arith
-get_behind (x ∷ xs) ys k = ap (slice_get (x ∷ (xs ++ ys))) (s (length xs) k) ∙ get_behind xs ys k
-  where
-    s : (n k : ℕ) → suc n + k ≡ suc (n + k)
-    s n k = omega arith
+get_behind [] ys k = ap (slice_get ys) {x = 0 + k} {y = k} (omega arith)
+get_behind (x ∷ xs) ys k = ap (slice_get (x ∷ (xs ++ ys))) {x = suc (length xs) + k} {y = suc (length xs + k)} (omega arith) ∙ get_behind xs ys k
 
 -- the numbers before those of the committed records
 abbrev before : Pipeline → List ℕ

@@ -18,43 +18,19 @@ gone b n c d is =
 
 -- behind those that were forgotten before
 both : {A : Type 0} (has same : Bool) (x : Option A) → (if same then None else (if has then None else x)) ≡ (if has || same then None else x)
-both true true x = refl
-both true false x = refl
-both false same x = refl
+both has same x = grind arith
 
 -- one number more
 number_push : (ns : List ℕ) (k d b : ℕ) → k < length ns → is_one_of b (take (k + 1) ns) ≡ (is_one_of b (take k ns) || (slice_index_or ns k d == b))
 number_push [] k d b lt = absurd (omega (arith, lt))
-number_push (n ∷ ns) zero d b lt = by (n == b)
-  where
-    by : (v : Bool) → (if v then true else false) ≡ v
-    by true = refl
-    by false = refl
-number_push (n ∷ ns) (suc k) d b lt = ap (λ i. is_one_of b (take i (n ∷ ns))) (s k) ∙ by (n == b) (number_push ns k d b (omega (arith, lt)))
-  where
-    s : (k : ℕ) → suc k + 1 ≡ suc (k + 1)
-    s k = omega arith
-
-    by : (v : Bool) → is_one_of b (take (k + 1) ns) ≡ (is_one_of b (take k ns) || (slice_index_or ns k d == b)) → (if v then true else is_one_of b (take (k + 1) ns)) ≡ ((if v then true else is_one_of b (take k ns)) || (slice_index_or ns k d == b))
-    by true rest = refl
-    by false rest = rest
+number_push (n ∷ ns) zero d b lt = grind arith
+number_push (n ∷ ns) (suc k) d b lt = ap (λ i. is_one_of b (take i (n ∷ ns))) {x = suc k + 1} {y = suc (k + 1)} (omega arith) ∙ grind (arith, number_push ns k d b (omega (arith, lt)))
 
 -- one put more
 put_push : (ps : List Put) (k b : ℕ) (d : Put) → k < length ps → is_some (put_of b (take (k + 1) ps)) ≡ (is_some (put_of b (take k ps)) || ((slice_index_or ps k d).block == b))
 put_push [] k b d lt = absurd (omega (arith, lt))
-put_push (q ∷ ps) zero b d lt = by (q.block == b)
-  where
-    by : (v : Bool) → is_some (if v then Some q.bytes else None) ≡ v
-    by true = refl
-    by false = refl
-put_push (q ∷ ps) (suc k) b d lt = ap (λ i. is_some (put_of b (take i (q ∷ ps)))) (s k) ∙ by (q.block == b) (put_push ps k b d (omega (arith, lt)))
-  where
-    s : (k : ℕ) → suc k + 1 ≡ suc (k + 1)
-    s k = omega arith
-
-    by : (v : Bool) → is_some (put_of b (take (k + 1) ps)) ≡ (is_some (put_of b (take k ps)) || ((slice_index_or ps k d).block == b)) → is_some (if v then Some q.bytes else put_of b (take (k + 1) ps)) ≡ (is_some (if v then Some q.bytes else put_of b (take k ps)) || ((slice_index_or ps k d).block == b))
-    by true rest = refl
-    by false rest = rest
+put_push (q ∷ ps) zero b d lt = grind arith
+put_push (q ∷ ps) (suc k) b d lt = ap (λ i. is_some (put_of b (take i (q ∷ ps)))) {x = suc k + 1} {y = suc (k + 1)} (omega arith) ∙ grind (arith, put_push ps k b d (omega (arith, lt)))
 
 -- so the loops go on
 pub number_gone : (ns : List ℕ) (k d b : ℕ) (x : Option (List ℕ)) (c e : Cache) → k < length ns → e ≡ without (slice_index_or ns k d) c → get c.kept b ≡ (if is_one_of b (take k ns) then None else x) → get e.kept b ≡ (if is_one_of b (take (k + 1) ns) then None else x)

@@ -1,6 +1,6 @@
 -- What the three groups leave together, and what stays of the data.
-use Rattle.std.proofs.Common.{◌≡◌, ◌≢◌, ◌⊎◌, inl, inr, ℕ, ◌-◌, ◌<◌, ◌≤◌, nat_lt, true, false, List, [], replicate, sym, ◌∙◌, ap, arith}
-use Rattle.std.proofs.lemmas.Bool.{cases_eq, cases_Bool, ltb-true, ltb-false}
+use Rattle.std.proofs.Common.{◌≡◌, inl, inr, ℕ, ◌-◌, ◌<◌, ◌≤◌, List, [], replicate, sym, ◌∙◌, ap, arith}
+use Rattle.std.proofs.lemmas.Bool.{cases_eq, cases_lt}
 use Rattle.base_types.specs.Seal.{Blocks}
 use Rattle.disk_contract.specs.declared.event.Event.{Event}
 use Rattle.disk_contract.specs.Cell.{Cell, cell_of}
@@ -50,12 +50,10 @@ module _ (g : Geometry) (base : Blocks) (old new : List Event) (blank : (b : ℕ
 
   -- each block before the data is the formatted disk's
   pub before_data : (b : ℕ) → b < data_start g → cell_of base new b ≡ settled_cell (formatted g b)
-  before_data b high = by (cases_eq b 0) (cases_Bool (nat_lt b (bitmap_start g)))
-    where
-      by : (b ≡ 0) ⊎ (b ≢ 0) → (nat_lt b (bitmap_start g) ≡ true) ⊎ (nat_lt b (bitmap_start g) ≡ false) → cell_of base new b ≡ settled_cell (formatted g b)
-      by (inl e) test = ap (cell_of base new) e ∙ header_there ∙ ap (λ c. settled_cell (formatted g c)) (sym e)
-      by (inr d) (inl low) = before_bitmap b (omega (arith, d)) (ltb-true _ _ low)
-      by (inr d) (inr from) = from_bitmap b (ltb-false _ _ from) high
+  before_data b high = elim (cases_eq b 0) [
+    | inl e ↦ ap (cell_of base new) e ∙ header_there ∙ ap (λ c. settled_cell (formatted g c)) (sym e)
+    | inr d ↦ elim (cases_lt b (bitmap_start g)) [ inl low ↦ before_bitmap b (omega (arith, d)) low | inr from ↦ from_bitmap b from high ]
+  ]
 
 -- the data stay, whatever comes of the calls
 pub data_stays : (end : ℕ) (base : Blocks) (old new : List Event) → ((b : ℕ) → (cell_of base old b).pending ≡ []) → WritesBelow end old new → (b : ℕ) → end ≤ b → cell_of base new b ≡ cell_of base old b

@@ -1,6 +1,6 @@
 -- What a sync leaves of the blocks that its transaction freed: they wait for the new point.
 use Rattle.std.proofs.Common.{◌≡◌, inl, ℕ, ◌+◌, ◌-◌, ◌&&◌, ◌||◌, nat_le, nat_lt, not, Bool, true, false, if◌then◌else◌, ◌++◌, map, is_some, Option, Some, None, option_map, Result, Ok, Err, OnOk, refl, sym, ◌∙◌, ap, ap₂, subst, arith}
-use Rattle.std.proofs.lemmas.Bool.{and_parts, false≢true, le-leb, leb-true, lt-ltb, ltb-true}
+use Rattle.std.proofs.lemmas.Bool.{and_parts, false≢true, le-leb, leb-true, lt-ltb, ltb-true, and_right, false_from_ne_true, not-false, or_left, or_right}
 use Rattle.layout_geometry.specs.Geometry.{Geometry, data_start}
 use Rattle.layout_journal.specs.Ring.{RingPlaces}
 use Rattle.engine_reuse.specs.Calls.{with_sealed}
@@ -28,22 +28,15 @@ pub record Held (k : Bookkeeping) (b : ℕ) : Type 0 where
   pub not_reusable : k.reusable b ≡ false
   pub not_waiting : k.since b ≡ None
 
+none_of : (x y : Bool) (o : Option ℕ) → not (x || (y || is_some o)) ≡ true → (x ≡ false) × (y ≡ false) × (o ≡ None)
+none_of x y o e = grind (arith, e)
+
 held_parts : (k : Bookkeeping) (b : ℕ) → is_held k b ≡ true → Held k b
 held_parts k b is =
     let one = and_parts (nat_le (data_start k.geom) b) (nat_lt b k.geom.n && not (k.marked b || (k.reusable b || is_some (k.since b)))) is in
     let two = and_parts (nat_lt b k.geom.n) (not (k.marked b || (k.reusable b || is_some (k.since b)))) one.1 in
-    let three = none_of (k.marked b) (k.reusable b) (is_some (k.since b)) two.1 in
-    record { lies = record { from = leb-true (data_start k.geom) b one.0; below = ltb-true b k.geom.n two.0 }; unmarked = three.0; not_reusable = three.1; not_waiting = no_some (k.since b) three.2 }
-  where
-    none_of : (x y z : Bool) → not (x || (y || z)) ≡ true → (x ≡ false) × (y ≡ false) × (z ≡ false)
-    none_of true y z e = absurd (false≢true e)
-    none_of false true z e = absurd (false≢true e)
-    none_of false false true e = absurd (false≢true e)
-    none_of false false false e = (refl, refl, refl)
-
-    no_some : (o : Option ℕ) → is_some o ≡ false → o ≡ None
-    no_some None e = refl
-    no_some (Some r) e = absurd (false≢true (sym e))
+    let three = none_of (k.marked b) (k.reusable b) (k.since b) two.1 in
+    record { lies = record { from = leb-true (data_start k.geom) b one.0; below = ltb-true b k.geom.n two.0 }; unmarked = three.0; not_reusable = three.1; not_waiting = three.2 }
 
 -- a data block is held where none of the three is so
 pub held_if : (k : Bookkeeping) (b : ℕ) → IsData k.geom b → k.marked b ≡ false → k.reusable b ≡ false → k.since b ≡ None → is_held k b ≡ true
@@ -71,6 +64,9 @@ lets_from k j new same geom marked l = record {
 
 -- A commit.
 
+only : (x y z : Bool) → x ≡ false → z ≡ false → (x || (y || z)) ≡ true → y ≡ true
+only x y z e f g = grind (arith, e, f, g)
+
 module _ (v : StoreParts) (w : TransactionBooks) (q : Pipeline) (ring : RingPlaces) (number : ℕ) (kept : AreKept v.books) (held_law : HeldLaw) (next : number ≡ v.first + v.point) (becomes : BecomesRecord number v.books w v.pipeline q ring) (parts : StoreParts) (books : parts.books ≡ w) (first : parts.first ≡ v.first) (point : parts.point ≡ v.point + 1) where
   dead : DeadBlocks
   dead = v.books.dead
@@ -83,43 +79,17 @@ module _ (v : StoreParts) (w : TransactionBooks) (q : Pipeline) (ring : RingPlac
 
   -- what the transaction freed are the held blocks
   is_dead : (b : ℕ) → Held (bookkeeping_of v) b → is_among b (dead_blocks v.books.dead) ≡ true
-  is_dead b h = un_not (is_among b (dead_blocks v.books.dead)) (sym (kept.bits.same b (record { from = h.lies.from; below = h.lies.below })) ∙ unset (nat_lt b v.books.geom.n) (bit_now v.books b) (lt-ltb b v.books.geom.n h.lies.below) h.unmarked)
-    where
-      unset : (x y : Bool) → x ≡ true → (x && y) ≡ false → y ≡ false
-      unset true y e f = f
-      unset false y e f = absurd (false≢true e)
-
-      un_not : (x : Bool) → not x ≡ false → x ≡ true
-      un_not true e = refl
-      un_not false e = absurd (false≢true (sym e))
+  is_dead b h = not-false (is_among b (dead_blocks v.books.dead)) (sym (kept.bits.same b (record { from = h.lies.from; below = h.lies.below })) ∙ ap (λ x. x && bit_now v.books b) (sym (lt-ltb b v.books.geom.n h.lies.below)) ∙ h.unmarked)
 
   among_held : (b : ℕ) → Held (bookkeeping_of v) b → is_among b v.books.dead.held ≡ true
   among_held b h = only (is_among b v.books.dead.reusable) (is_among b v.books.dead.held) (is_among b (map block_of v.books.dead.waiting)) h.not_reusable (none_among v.books.dead.waiting b (waits_none v.first (waits_for v.books.dead.waiting b) h.not_waiting)) (sym (dead_is v.books.dead b) ∙ is_dead b h)
-    where
-      only : (x y z : Bool) → x ≡ false → z ≡ false → (x || (y || z)) ≡ true → y ≡ true
-      only true y z e f g = absurd (false≢true (sym e))
-      only false true z e f g = refl
-      only false false z e f g = absurd (false≢true (sym f ∙ g))
 
   -- and the others aren't
   held_only : (b : ℕ) → IsData (bookkeeping_of v).geom b → (bookkeeping_of v).since b ≡ None → is_held (bookkeeping_of v) b ≡ false → is_among b v.books.dead.held ≡ false
-  held_only b at none not_held = by (is_among b v.books.dead.held) refl
+  held_only b at none not_held = false_from_ne_true (is_among b v.books.dead.held) (λ e. false≢true (sym not_held ∙ held_if (bookkeeping_of v) b at (and_right (nat_lt b v.books.geom.n) (bit_now v.books b) (bit e)) (held_law v.books.dead b kept.sound e) none))
     where
-      by : (x : Bool) → is_among b v.books.dead.held ≡ x → x ≡ false
-      by false e = refl
-      by true e = absurd (false≢true (sym not_held ∙ held_if (bookkeeping_of v) b at (unmarked (nat_lt b v.books.geom.n)) (held_law v.books.dead b kept.sound e) none))
-        where
-          among : (x y z : Bool) → y ≡ true → (x || (y || z)) ≡ true
-          among true y z f = refl
-          among false true z f = refl
-          among false false z f = absurd (false≢true f)
-
-          bit : bit_now v.books b ≡ false
-          bit = kept.bits.same b (record { from = at.from; below = at.below }) ∙ ap not (dead_is v.books.dead b ∙ among (is_among b v.books.dead.reusable) (is_among b v.books.dead.held) (is_among b (map block_of v.books.dead.waiting)) e)
-
-          unmarked : (x : Bool) → (x && bit_now v.books b) ≡ false
-          unmarked true = bit
-          unmarked false = refl
+      bit : is_among b v.books.dead.held ≡ true → bit_now v.books b ≡ false
+      bit e = kept.bits.same b (record { from = at.from; below = at.below }) ∙ ap not (dead_is v.books.dead b ∙ or_right (is_among b v.books.dead.reusable) _ (or_left (is_among b v.books.dead.held) (is_among b (map block_of v.books.dead.waiting)) e))
 
   pub lets_wait : LetsWait (bookkeeping_of v) (bookkeeping_of parts)
   lets_wait = record {

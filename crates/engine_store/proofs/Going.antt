@@ -1,5 +1,5 @@
 -- The store's numbers over any disk: its bookkeeping is sound, and its parts stay so as the pipeline moves.
-use Rattle.std.proofs.Common.{◌≡◌, ℕ, ◌+◌, ◌^◌, ◌≤◌, max, true, false, length, ◌++◌, map, length-append, sym, ◌∙◌, ap, subst, arith}
+use Rattle.std.proofs.Common.{◌≡◌, ℕ, ◌+◌, ◌≤◌, true, false, length, ◌++◌, map, length-append, sym, ◌∙◌, ap, subst, arith}
 use Rattle.std.proofs.lemmas.Bool.{false≢true}
 use Rattle.std.proofs.lemmas.List.{length-map}
 use Rattle.layout_geometry.specs.Geometry.{Geometry}
@@ -36,10 +36,6 @@ DeadLaw = (v : TransactionBooks) (dead : DeadBlocks) → AreKept v → AreSound 
 pub kept_moved : DeadLaw → (v w : StoreParts) (headers : ℕ) → PartsMove headers v w → AreKept v.books → AreKept w.books
 kept_moved law v w headers m k = subst AreKept (sym m.books) (law v.books w.books.dead k m.dead (record { geom = m.moves.dead_geom; dead = m.moves.all_dead; held = m.moves.held; room = m.moves.room }))
 
--- the greater of two numbers, where one is greater by so much at most and the other stays
-max_most : (a b c d n : ℕ) → a ≤ b + n → c ≤ d → max a c ≤ max b d + n
-max_most a b c d n le at = omega (arith, le, at)
-
 pub books_move : (v w : StoreParts) (headers : ℕ) → headers ≤ 4 → PartsMove headers v w → v.floor ≤ w.floor → MovesPipeline (bookkeeping_of v) (bookkeeping_of w)
 books_move v w headers few m rises = record {
   geom = ap (λ (x : TransactionBooks). x.geom) m.books;
@@ -51,7 +47,7 @@ books_move v w headers few m rises = record {
   area = ap (λ (x : TransactionBooks). (with_books (beside_books v) x).area) m.books;
   room = ap (λ (x : TransactionBooks). (with_books (beside_books v) x).room) m.books;
   free_places = omega (arith, ap (λ (g : Geometry). g.j) m.moves.ring_geom, m.moves.taken);
-  turns = max_most w.pipeline.written.turn v.pipeline.written.turn (w.pipeline.last + 1) (v.pipeline.last + 1) (2 ^ 18) (omega (arith, m.moves.turn, few)) (omega (arith, m.moves.last));
+  turns = omega (arith, m.moves.turn, few, m.moves.last);
   point = m.point;
   floor = rises;
 }

@@ -1,7 +1,8 @@
 -- What stands for each block once the transaction's record is in the pipeline, and how many writes came: the clauses of a commit on a disk that tells.
-use Rattle.std.proofs.Common.{◌≡◌, ℕ, suc, ◌+◌, ◌*◌, ◌<◌, ◌≤◌, ◌==◌, Bool, true, false, if◌then◌else◌, List, [], ◌∷◌, ◌++◌, length, map, slice_get, Option, Some, None, is_some, Ok, Err, refl, sym, ◌∙◌, ap, ap₂, subst, arith, append_assoc}
-use Rattle.std.proofs.lemmas.Bool.{eqb-true}
+use Rattle.std.proofs.Common.{◌≡◌, ℕ, suc, ◌+◌, ◌*◌, ◌<◌, ◌≤◌, ◌==◌, Bool, false, if◌then◌else◌, List, [], ◌∷◌, ◌++◌, length, map, slice_get, Option, Some, None, is_some, Ok, Err, refl, sym, ◌∙◌, ap, ap₂, subst, arith, append_assoc, inl, inr}
+use Rattle.std.proofs.lemmas.Bool.{eqb-true, cases_Bool, cond-false}
 use Rattle.std.proofs.lemmas.Option.{none-some}
+use Rattle.std.proofs.lemmas.List.{map_push}
 use Rattle.base_types.specs.Seal.{Blocks}
 use Rattle.disk_contract.specs.declared.event.Event.{Event}
 use Rattle.disk_contract.specs.Cell.{accepted}
@@ -14,7 +15,7 @@ use Rattle.crash_argument.specs.HomeTest.{is_one_of}
 use Rattle.crash_argument.specs.Writes.{AddsWrites, AddsFront}
 use Rattle.engine_running.specs.declared.commit.Committed.{Committed}
 use Rattle.engine_running.specs.declared.put.Put.{Put}
-use Rattle.engine_running.specs.Commits.{IsCommitOf, places_for, writes_of}
+use Rattle.engine_running.specs.Commits.{IsCommitOf, writes_of}
 use Rattle.engine_running.specs.Record.{block_of}
 use Rattle.engine_running.specs.Rows.{put_of}
 use Rattle.engine_running.specs.Running.{Changes, IsOrdered, bytes_put}
@@ -40,20 +41,15 @@ newest_then x (j ∷ ks) k b = newest_then (newest_after x j b) ks k b
 -- a block is among a row's where the row has a put of it
 pub among : (b : ℕ) (row : List Put) → is_one_of b (map block_of row) ≡ is_some (put_of b row)
 among b [] = refl
-among b (q ∷ qs) = by (q.block == b) (among b qs)
-  where
-    by : (v : Bool) → is_one_of b (map block_of qs) ≡ is_some (put_of b qs) → (if v then true else is_one_of b (map block_of qs)) ≡ is_some (if v then Some q.bytes else put_of b qs)
-    by true e = refl
-    by false e = e
+among b (q ∷ qs) = grind (arith, among b qs)
 
 -- the put of a block in a row that has one
 put_at : (row : List Put) (b : ℕ) (x : List ℕ) → put_of b row ≡ Some x → (k : ℕ) × (p : Put) × (slice_get row k ≡ Some p) × (p.block ≡ b)
 put_at [] b x e = absurd (none-some x e)
-put_at (q ∷ qs) b x e = by (q.block == b) refl e (put_at qs b x)
-  where
-    by : (v : Bool) → (q.block == b) ≡ v → (if v then Some q.bytes else put_of b qs) ≡ Some x → (put_of b qs ≡ Some x → (k : ℕ) × (p : Put) × (slice_get qs k ≡ Some p) × (p.block ≡ b)) → (k : ℕ) × (p : Put) × (slice_get (q ∷ qs) k ≡ Some p) × (p.block ≡ b)
-    by true same f rest = (0, q, refl, eqb-true q.block b same)
-    by false same f rest = let r = rest f in (suc r.0, r.1, r.2, r.3)
+put_at (q ∷ qs) b x e = elim (cases_Bool (q.block == b)) [
+  | inl same ↦ (0, q, refl, eqb-true q.block b same)
+  | inr apart ↦ (let r = put_at qs b x (sym (cond-false (q.block == b) (Some q.bytes) (put_of b qs) apart) ∙ e) in (suc r.0, r.1, r.2, r.3))
+]
 
 -- no block is in both rows
 not_paid : (paid laid : List Put) (b : ℕ) (x : List ℕ) → IsOrdered paid laid → put_of b laid ≡ Some x → put_of b paid ≡ None
@@ -70,33 +66,22 @@ bytes_then q number before x y b o stays e =
     ap₂ (λ (f l : Bool). otherwise (if f then None else or_else (put_of b q.paid) (if l then None else before)) y) stays (among b q.laid)
     ∙ stands_then (put_of b q.laid) (put_of b q.paid) before x y (λ z is. not_paid q.paid q.laid b z o is) e
 
+no_first : (l p : Option (List ℕ)) → or_else l p ≡ None → l ≡ None
+no_first l p e = grind (arith, e)
+
 -- a block that the transaction didn't put isn't fresh
 pub not_laid : (q : Changes) (b : ℕ) → bytes_put q b ≡ None → put_of b q.laid ≡ None
-not_laid q b none = by (put_of b q.laid) (put_of b q.paid) none
-  where
-    by : (l p : Option (List ℕ)) → or_else l p ≡ None → l ≡ None
-    by None p e = refl
-    by (Some x) p e = e
+not_laid q b none = no_first (put_of b q.laid) (put_of b q.paid) none
 
 -- The pipeline with the record.
-
-pub map_then : {A B : Type 0} (f : A → B) (xs : List A) (x : A) → map f (xs ++ x ∷ []) ≡ map f xs ++ f x ∷ []
-map_then f [] x = refl
-map_then f (y ∷ xs) x = ap (λ ys. f y ∷ ys) (map_then f xs x)
-
-abbrev keeps : ℕ → ℕ → List Put → List ℕ → List ℕ → Kept
-keeps number count payloads fresh freed = record { number = number; count = count; payloads = payloads; fresh = fresh; freed = freed }
-
-same_kept : (n m i j : ℕ) (ps qs : List Put) (fs gs ds es : List ℕ) → n ≡ m → i ≡ j → ps ≡ qs → fs ≡ gs → ds ≡ es → keeps n i ps fs ds ≡ keeps m j qs gs es
-same_kept n m i j ps qs fs gs ds es a b c d e = cc
 
 pub joined : (r : Changes) (n p : ℕ) (c : Committed) (v w : Pipeline) → IsCommitOf r n p c → Accepts c v w → kept w ≡ kept v ++ kept_of n r ∷ []
 joined r n p c v w is a =
     ap kept a.rest
-    ∙ ap (λ (ks : List Kept). map of_sure v.sure.items ++ (map of_durable v.durable.items ++ ks)) (ap (map of_committed) a.committed ∙ map_then of_committed v.committed.items c)
+    ∙ ap (λ (ks : List Kept). map of_sure v.sure.items ++ (map of_durable v.durable.items ++ ks)) (ap (map of_committed) a.committed ∙ map_push of_committed v.committed.items c)
     ∙ ap (λ (ks : List Kept). map of_sure v.sure.items ++ ks) (sym (append_assoc (map of_durable v.durable.items) (map of_committed v.committed.items) (of_committed c ∷ [])))
     ∙ sym (append_assoc (map of_sure v.sure.items) (map of_durable v.durable.items ++ map of_committed v.committed.items) (of_committed c ∷ []))
-    ∙ ap (λ (k : Kept). kept v ++ k ∷ []) (same_kept c.number n c.count (places_for r) c.payloads.items r.paid c.fresh.items (map block_of r.laid) c.freed.items r.freed is.number is.count is.payloads is.fresh is.freed)
+    ∙ ap (λ (k : Kept). kept v ++ k ∷ []) (λ i. record { number = is.number i; count = is.count i; payloads = is.payloads i; fresh = is.fresh i; freed = is.freed i })
 
 pub still_durable : (c : Committed) (v w : Pipeline) → Accepts c v w → durable_count w ≡ durable_count v
 still_durable c v w a = ap durable_count a.rest

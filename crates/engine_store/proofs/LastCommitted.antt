@@ -1,5 +1,6 @@
 -- The record that a commit gave the pipeline is the last of its committed ones, so the cache forgets that record's blocks.
 use Rattle.std.proofs.Common.{◌≡◌, ℕ, ◌+◌, ◌<◌, List, [], ◌∷◌, ◌++◌, length, map, refl, sym, ◌∙◌, ap, arith, append_assoc}
+use Rattle.std.proofs.lemmas.List.{map_push}
 use mathlib.Core.Path.{subst₂}
 use Rattle.engine_cache.specs.Cache.{Cache}
 use Rattle.layout_journal.specs.declared.header.Header.{Header}
@@ -13,7 +14,6 @@ use Rattle.engine_checkpoint.specs.Order.{IsInOrder}
 use Rattle.engine_books.specs.Books.{TransactionBooks}
 use Rattle.engine_store.specs.Committing.{BecomesRecord, kept_of}
 use Rattle.engine_store.specs.Syncing.{Forgets}
-use Rattle.engine_store.proofs.Joining.{map_then}
 use Rattle.engine_store.proofs.NextRecord.{numbers_len}
 
 -- a list with its last element apart
@@ -57,7 +57,7 @@ module _ (number : ℕ) (v w : TransactionBooks) (p q : Pipeline) (ring : RingPl
     where
       in_a_row : kept q ≡ (map of_sure q.sure.items ++ (map of_durable q.durable.items ++ map of_committed last_record.before)) ++ of_committed last_record.last ∷ []
       in_a_row =
-          ap (λ (ks : List Kept). map of_sure q.sure.items ++ (map of_durable q.durable.items ++ ks)) (ap (map of_committed) last_record.is ∙ map_then of_committed last_record.before last_record.last)
+          ap (λ (ks : List Kept). map of_sure q.sure.items ++ (map of_durable q.durable.items ++ ks)) (ap (map of_committed) last_record.is ∙ map_push of_committed last_record.before last_record.last)
           ∙ ap (λ (ks : List Kept). map of_sure q.sure.items ++ ks) (sym (append_assoc (map of_durable q.durable.items) (map of_committed last_record.before) (of_committed last_record.last ∷ [])))
           ∙ sym (append_assoc (map of_sure q.sure.items) (map of_durable q.durable.items ++ map of_committed last_record.before) (of_committed last_record.last ∷ []))
 

@@ -1,5 +1,5 @@
 -- What a mount leaves of a disk that was read before: windows, sessions and counts, and what its refusals say.
-use Rattle.std.proofs.Common.{◌≡◌, inl, inr, ℕ, ◌+◌, ◌≤◌, max, Bool, false, IsTrue, List, [], length, take, take_all, Result, Ok, Err, IsErr, refl, sym, ◌∙◌, ap, ap₂, subst, arith}
+use Rattle.std.proofs.Common.{◌≡◌, inl, inr, ℕ, ◌+◌, Bool, false, IsTrue, List, [], length, take, take_all, Result, Ok, Err, IsErr, refl, sym, ◌∙◌, ap, ap₂, subst, arith}
 use Rattle.std.proofs.lemmas.Bool.{false≢true}
 use mathlib.Core.Path.{fun_ext, subst₂}
 use Rattle.base_types.specs.Counts.{after_call, after_calls}
@@ -13,7 +13,7 @@ use Rattle.disk_contract.specs.Lawful.{IsSoundDisk}
 use Rattle.layout_geometry.specs.Geometry.{Geometry}
 use Rattle.layout_journal.specs.declared.header.Header.{Header}
 use Rattle.engine_recover.specs.Reading.{Searches}
-use Rattle.engine_recover.specs.Search.{FoundRun, IsFound, last_number}
+use Rattle.engine_recover.specs.Search.{FoundRun, IsFound}
 use Rattle.crash_argument.specs.Ledger.{HoldsUnder, cells_of, issued, last_of}
 use Rattle.crash_argument.specs.Mounting.{HasBegun}
 use Rattle.crash_argument.specs.Points.{IsMounted}
@@ -175,8 +175,7 @@ numbers_from : (g : Geometry) (slot : ℕ) (h : Header) (moment : ℕ) (v : Stor
 numbers_from g slot h moment v old parts goes ticks new now = record {
   found = record { run = goes.found; epoch = goes.greatest };
   is_found = record { is_found = goes.is_found; is_greatest = goes.is_greatest };
-  most = at_most v.pipeline.written.turn v.pipeline.last goes.found.header.turn (last_number goes.found.header (length goes.found.records))
-      (omega (arith, goes.most, ap (λ (k : Header). k.turn) parts.pipeline.none.written)) (parts.pipeline.none.last ∙ goes.sure);
+  most = omega (arith, goes.most, ap (λ (k : Header). k.turn) parts.pipeline.none.written, parts.pipeline.none.last, goes.sure);
   session = session_of v;
   geom = refl;
   first = parts.first ∙ goes.start;
@@ -185,9 +184,6 @@ numbers_from g slot h moment v old parts goes ticks new now = record {
   sure = λ front p. (λ is. is, λ is. is);
   records = record { told = refl; starts = λ front number. (λ is. is, λ is. is) };
 }
-  where
-    at_most : (t l u m : ℕ) → t ≤ u + 2 → l ≡ m → max t (l + 1) ≤ max (u + 2) (m + 1)
-    at_most t l u m le same = omega (arith, le, same)
 
 -- also where a search came before the mount
 pub numbers_since : (tells : Bool) (old mid : State) → IsTrue tells → Searches tells false old mid → (f : FoundDisk) → IsIdle old → IsFoundOn old f → (g : Geometry) (slot : ℕ) (h : Header) (moment : ℕ) (v : StoreParts) → AreNewParts g slot h moment v

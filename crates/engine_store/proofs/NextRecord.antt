@@ -1,12 +1,13 @@
 -- A running transaction as the next record of a ledger that goes with the pipeline, and what is right behind its commit.
 use Rattle.std.proofs.Common.{◌≡◌, ℕ, ◌+◌, ◌*◌, ◌/◌, ◌%◌, ◌<◌, ◌≤◌, ◌==◌, ◌&&◌, ◌||◌, not, nat_le, nat_lt, Bool, true, false, List, [], ◌∷◌, ◌++◌, length, map, slice_get, if◌then◌else◌, Option, Some, None, is_some, refl, sym, ap, ap₂, subst, ◌∙◌, arith, inl, length-append}
-use Rattle.std.proofs.lemmas.Bool.{cond-false, false≢true, le-ltb, lt-leb}
+use Rattle.std.proofs.lemmas.Bool.{cond-false, false≢true, le-ltb, lt-leb, and_right}
 use Rattle.std.proofs.lemmas.List.{length-map}
 use Rattle.std.proofs.lemmas.List.Elements.{All-append, All-map, All-weaker}
 use Rattle.std.proofs.lemmas.Option.{none-some}
 use Rattle.std.specs.Int.{bit_at}
 use Rattle.std.specs.List.{All}
 use Rattle.std.specs.Prelude.{slice_index}
+use Rattle.std.proofs.Math.Bool.{and-false}
 use mathlib.Core.Path.{fun_ext}
 use Rattle.base_types.specs.Seal.{Blocks}
 use Rattle.disk_contract.specs.declared.event.Event.{Event}
@@ -84,18 +85,14 @@ next_is s base log l t floor p ring dead taken r sound = omega (arith, r.agrees.
 pub may_be_committed : NextLaw → (s : MountedSession) (base : Blocks) (log : List Event) (l : Ledger) (t floor : ℕ) (p : Pipeline) (ring : RingPlaces) (v : TransactionBooks) → AreKept v → BeganAt v (l.map_before (next_number l)) → HasNoBare (running_of v) → IsRight s base log l t floor p ring v.dead v.changes.taken → IsSound p ring v.dead → p.geom ≡ v.geom
     → ring.taken + places (record_of 0 0 v.changes.paid v.changes.laid) ≤ ring.geom.j → IsTransaction l p.header.epoch (p.last + 1) ring.next v.changes.paid v.changes.laid (map_of v (l.map_before (next_number l)))
 may_be_committed law s base log l t floor p ring v kept began filled r sound geom room =
-    subst (λ (e : ℕ). IsTransaction l e (p.last + 1) ring.next v.changes.paid v.changes.laid (map_of v (l.map_before (next_number l)))) epoch
-    (subst (λ (n : ℕ). IsTransaction l l.epoch n ring.next v.changes.paid v.changes.laid (map_of v (l.map_before (next_number l)))) (next_is s base log l t floor p ring v.dead v.changes.taken r sound)
-    (law v l ring.next kept began (sym a.geom ∙ geom) filled a.not_closed a.agree.next_place within (λ b own. (a.free b own).0)))
+    rw (sym epoch) (rw (sym (next_is s base log l t floor p ring v.dead v.changes.taken r sound))
+    (law v l ring.next kept began (sym r.agrees.geom ∙ geom) filled r.agrees.not_closed r.agrees.agree.next_place within (λ b own. (r.agrees.free b own).0)))
   where
-    a : PipelineAgrees base log l p ring v.dead.waiting v.changes.taken
-    a = r.agrees
-
     epoch : l.epoch ≡ p.header.epoch
-    epoch = sym (r.safe.keeps.headers.fits l.header (inl refl)).epoch ∙ ap (λ (h : Header). h.epoch) (sym a.header)
+    epoch = sym (r.safe.keeps.headers.fits l.header (inl refl)).epoch ∙ ap (λ (h : Header). h.epoch) (sym r.agrees.header)
 
     within : all_places (all_say l.records) + places (record_of (next_number l) ring.next v.changes.paid v.changes.laid) ≤ l.geom.j
-    within = omega (arith, room, a.agree.taken, ap (λ (g : Geometry). g.j) a.ring_geom)
+    within = omega (arith, room, r.agrees.agree.taken, ap (λ (g : Geometry). g.j) r.agrees.ring_geom)
 
 -- The ledger with the record.
 
@@ -135,8 +132,7 @@ began_then law l w v c last number began e = record {
 
 -- a map that was cut to where it is defined stays as it is, cut so again
 cut_twice : (d : Bool) (x : List ℕ) → (if d then (if d then x else []) else []) ≡ (if d then x else [])
-cut_twice true x = refl
-cut_twice false x = refl
+cut_twice d x = grind arith
 
 -- and the map is the same then
 pub map_then : (v : TransactionBooks) (c : Changes) (last : Blocks) (number : ℕ) → HasNoBare (running_of v) → IsEmpty c → map_of (sealed_books (record v { changes = c }) number) (map_of v last) ≡ map_of v last
@@ -159,12 +155,7 @@ pairs_are number (b ∷ bs) = ap (λ (ps : List (ℕ × ℕ)). (b, number) ∷ p
 pub dead_in : BitsLaw → (v : TransactionBooks) (last : Blocks) (b : ℕ) → BeganAt v last → LiesIn v.geom Data b → bit_now v b ≡ false → is_live v.geom (map_of v last) b ≡ false
 dead_in law v last b began lies clear =
     ap₂ (λ x y. nat_le (bitmap_start v.geom) b && (nat_lt b v.geom.n && (x || y))) (le-ltb b (data_start v.geom) lies.from) (sym (law v last b began lies.below) ∙ ap (λ x. nat_lt b v.geom.n && x) clear)
-    ∙ by (nat_le (bitmap_start v.geom) b) (nat_lt b v.geom.n)
-  where
-    by : (x y : Bool) → (x && (y && (false || (y && false)))) ≡ false
-    by true true = refl
-    by true false = refl
-    by false y = refl
+    ∙ and_right (nat_le (bitmap_start v.geom) b) _ (and_right (nat_lt b v.geom.n) _ (and-false (nat_lt b v.geom.n)))
 
 -- so no dead block is live there
 dead_then : BitsLaw → (v : TransactionBooks) (last : Blocks) (b : ℕ) → AreKept v → BeganAt v last → is_among b (dead_blocks v.dead) ≡ true → is_live v.geom (map_of v last) b ≡ false
@@ -174,9 +165,7 @@ dead_then law v last b k began is =
 
 -- a ticket that was expected, and is open once a record was accepted, was open before
 still_open : (e n old : Bool) → old ≡ true → (e && not n) ≡ true → (old && not n) ≡ true
-still_open true n true f g = g
-still_open false n true f g = absurd (false≢true g)
-still_open e n false f g = absurd (false≢true f)
+still_open e n old f g = grind (arith, f, g)
 
 module _ (bits : BitsLaw) (seals : SealedLaw) (s : MountedSession) (base then_base : Blocks) (log then_log : List Event) (l : Ledger) (w : WrittenRecord) (t floor number : ℕ) (p then_p : Pipeline) (ring then_ring : RingPlaces) (v : TransactionBooks) (c : Committed)
     (k : AreKept v) (began : BeganAt v (l.map_before (next_number l))) (geom : p.geom ≡ v.geom) (r : IsRight s base log l t floor p ring v.dead v.changes.taken) (accepts : Accepts c p then_p) where

@@ -47,10 +47,7 @@ one_point one_map s base log p m q first second = one_map s.geom.n (issued base 
 
 -- the block that has the bit of a block lies before the data
 in_bitmap : (g : Geometry) (b : ℕ) → b < g.n → bitmap_start g + b / 8192 < data_start g
-in_bitmap g b below = omega (arith, part g.n b below)
-  where
-    part : (n b : ℕ) → b < n → b / 8192 < (n + 8191) / 8192
-    part n b lt = omega arith
+in_bitmap g b below = omega (arith, below)
 
 -- what lies between the journal and the data is live
 pub low_live : (g : Geometry) (map : Blocks) (b : ℕ) → data_start g ≤ g.n → bitmap_start g ≤ b → b < data_start g → IsTrue (is_live g map b)

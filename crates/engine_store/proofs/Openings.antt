@@ -1,13 +1,13 @@
 -- A session that counts from its disk's first event, and a store that begins with it.
-use Rattle.std.proofs.Common.{◌≡◌, ℕ, zero, suc, ◌+◌, ◌-◌, ◌/◌, ◌%◌, ◌<◌, ◌≤◌, ◌&&◌, ◌||◌, not, nat_le, nat_lt, ◌==◌, if◌then◌else◌, Bool, true, false, List, [], ◌++◌, map, slice_get, slice_index, Some, None, refl, sym, ap, ap₂, ◌∙◌, subst, arith}
-use Rattle.std.proofs.lemmas.Bool.{le-ltb}
+use Rattle.std.proofs.Common.{◌≡◌, ℕ, ◌+◌, ◌-◌, ◌/◌, ◌%◌, ◌<◌, ◌≤◌, ◌||◌, not, nat_le, nat_lt, ◌==◌, if◌then◌else◌, Bool, true, false, List, [], ◌++◌, map, slice_get, slice_index, sym, ap, ap₂, ◌∙◌, subst, arith}
+use Rattle.std.proofs.lemmas.Bool.{le-ltb, and_right}
 use Rattle.std.proofs.lemmas.Option.{none-some}
 use Rattle.std.specs.Int.{bit_at}
 use Rattle.std.specs.List.{All}
 use mathlib.Core.Path.{fun_ext}
 use Rattle.base_types.specs.Seal.{Blocks, blocks_of}
 use Rattle.disk_contract.specs.declared.event.Event.{Event}
-use Rattle.disk_contract.specs.Cell.{Write, cell_of, accepted, is_lost}
+use Rattle.disk_contract.specs.Cell.{cell_of, accepted, is_lost}
 use Rattle.disk_contract.specs.Disk.{State}
 use Rattle.layout_geometry.specs.Geometry.{Geometry, LiesIn, bitmap_blocks, bitmap_start, data_start}
 use Rattle.layout_geometry.specs.Geometry.Area.{Data}
@@ -39,11 +39,8 @@ map_is last_is one_map d g slot h since m begun = fun_ext (λ b. one_point one_m
     newest : Blocks
     newest = live_part g (first_map d g slot h)
 
-    none : (n : ℕ) → 0 ≡ n + 0 - n
-    none n = omega arith
-
     at : IsPoint s d.base d.log 0 newest
-    at = subst (λ (p : ℕ). IsPoint s d.base d.log p newest) (points_are s d.base d.log (first_ledger d g slot h) since 0 0 begun.safe (none h.start)) (last_is s d.base d.log (first_ledger d g slot h) since 0 begun.safe)
+    at = subst (λ (p : ℕ). IsPoint s d.base d.log p newest) (points_are s d.base d.log (first_ledger d g slot h) since 0 0 begun.safe (omega arith)) (last_is s d.base d.log (first_ledger d g slot h) since 0 begun.safe)
 
 -- What a read gives of an idle disk, as crash_argument says it.
 abbrev pub ReadsIdle : Type 0
@@ -52,12 +49,8 @@ ReadsIdle = (base : Blocks) (log : List Event) (b : ℕ) → (cell_of base log b
 pub none_lost : ReadsIdle → (d : State) (g : Geometry) (slot : ℕ) (h : Header) (since : ℕ) (m : Blocks) → HasBegun d g slot h since m → (b : ℕ) → is_lost b d.log ≡ false
 none_lost reads d g slot h since m begun b = (reads d.base d.log b (begun.mounted.idle b)).0
 
--- where nothing is pending, what was written last is settled
-idle_latest : (x : List ℕ) (ws : List Write) → ws ≡ [] → x ≡ last_of x ws
-idle_latest x ws e = ap (last_of x) (sym e)
-
 pub accepted_is : ReadsIdle → (d : State) (g : Geometry) (slot : ℕ) (h : Header) (since : ℕ) (m : Blocks) → HasBegun d g slot h since m → (b : ℕ) → accepted d.base d.log b ≡ first_map d g slot h b
-accepted_is reads d g slot h since m begun b = (reads d.base d.log b (begun.mounted.idle b)).1 ∙ idle_latest (cells_of d b).settled (cells_of d b).pending (begun.mounted.idle b)
+accepted_is reads d g slot h since m begun b = (reads d.base d.log b (begun.mounted.idle b)).1 ∙ ap (last_of (cells_of d b).settled) (sym (begun.mounted.idle b))
 
 -- The bitmap.
 
@@ -77,22 +70,14 @@ begins_at last_is one_map d g slot h since m books begun new bits = new.begins (
 
 -- What may be taken is dead.
 
-and_false : (p q r : Bool) → r ≡ false → (p && (q && r)) ≡ false
-and_false true true r e = e
-and_false true false r e = refl
-and_false false q r e = refl
-
 -- a data block whose bit is clear isn't live
 clear_is_dead : (g : Geometry) (m : Blocks) (b : ℕ) → data_start g ≤ b → is_set g m b ≡ false → is_live g m b ≡ false
-clear_is_dead g m b from clear = and_false (nat_le (bitmap_start g) b) (nat_lt b g.n) (nat_lt b (data_start g) || is_set g m b) (ap₂ ◌||◌ (le-ltb b (data_start g) from) clear)
+clear_is_dead g m b from clear = and_right (nat_le (bitmap_start g) b) _ (and_right (nat_lt b g.n) (nat_lt b (data_start g) || is_set g m b) (ap₂ ◌||◌ (le-ltb b (data_start g) from) clear))
 
 -- the bit of a block by a map and by the books that have its bitmap
 pub same_bit : (g : Geometry) (m : Blocks) (v : TransactionBooks) (b : ℕ) → v.geom ≡ g → b < g.n → HasBitmap v m → is_set g m b ≡ bit_now v b
 same_bit g m v b geom below bits = ap (λ (x : List ℕ). bit_at (slice_index x (b % 8192 / 8)) (b % 8) == 1)
-    (subst (λ (q : Geometry). (j : ℕ) → j < bitmap_blocks q → m (bitmap_start q + j) ≡ blocks_of v.bitmap j) geom bits (b / 8192) (part g.n b below))
-  where
-    part : (n b : ℕ) → b < n → b / 8192 < (n + 8191) / 8192
-    part n b lt = omega arith
+    (subst (λ (q : Geometry). (j : ℕ) → j < bitmap_blocks q → m (bitmap_start q + j) ≡ blocks_of v.bitmap j) geom bits (b / 8192) (omega (arith, below)))
 
 -- new books have no dead block but those that may be taken
 among_dead : (g : Geometry) (v : TransactionBooks) (b : ℕ) → AreNewBooks g v → is_among b (v.dead.reusable ++ map block_of v.dead.waiting) ≡ true → is_among b (dead_blocks v.dead) ≡ true
@@ -114,16 +99,9 @@ right_at_once last_is one_map s d g slot h since t floor m v books begun place s
       (pipe.agrees d.base d.log (empty_ring g) begun.mounted (ap (λ (k : ℕ). record { geom = g; next = k; taken = 0 }) (sym place)));
   serves = record {
     dead_now = λ b among. dead_now g (first_map d g slot h) books b new (has_bitmap last_is one_map d g slot h since m books begun new bits) among;
-    not_going = λ k w at going. absurd (none_there k w (sym (ap (λ (ws : List HomeWrite). slice_get ws k) pipe.none.home) ∙ at));
+    not_going = λ k w at going. absurd (none-some w (sym (ap (λ (ws : List HomeWrite). slice_get ws k) pipe.none.home) ∙ at));
   };
 }
-  where
-    none : (k : ℕ) → slice_get {X = HomeWrite} [] k ≡ None
-    none zero = refl
-    none (suc k) = refl
-
-    none_there : (k : ℕ) (w : HomeWrite) → slice_get {X = HomeWrite} [] k ≡ Some w → ⊥
-    none_there k w is = none-some w (sym (none k) ∙ is)
 
 -- All is sound.
 pub sound_at_once : (g : Geometry) (slot : ℕ) (h : Header) (v : Pipeline) (books : TransactionBooks) → IsNewPipeline g slot h v → AreNewBooks g books → IsSound v (empty_ring g) books.dead

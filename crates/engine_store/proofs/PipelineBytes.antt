@@ -1,5 +1,5 @@
 -- What stands for the live blocks of the last map by the pipeline and the disk: a call that only waits leaves it, and so does the cache go on agreeing with the disk.
-use Rattle.std.proofs.Common.{◌≡◌, ◌⊎◌, inl, inr, ⊎_elim, ℕ, zero, suc, ◌+◌, ◌<◌, ◌==◌, Bool, true, false, if◌then◌else◌, List, [], ◌∷◌, ◌++◌, drop, Option, Some, None, IfSome, Contains, refl, sym, ◌∙◌, ap, arith}
+use Rattle.std.proofs.Common.{◌≡◌, ◌⊎◌, inl, ⊎_elim, ℕ, zero, suc, ◌+◌, ◌<◌, ◌==◌, Bool, true, false, if◌then◌else◌, List, [], ◌∷◌, ◌++◌, drop, Option, Some, None, IfSome, Contains, refl, sym, ◌∙◌, ap, arith}
 use Rattle.std.specs.Prelude.{IsSome}
 use Rattle.std.specs.FinMap.{get}
 use Rattle.std.proofs.lemmas.List.Elements.{Contains-push_cases, Contains-append_cases}
@@ -49,11 +49,8 @@ writes_noticed (Noticed t ∷ log) ts = writes_noticed log ts
 
 no_write : (ts : List ℕ) (t b : ℕ) (x : List ℕ) → ¬ Contains (notices ts) (Wrote t b x)
 no_write [] t b x there = let lt : there.0 < 0 = there.1 in omega (arith, lt)
-no_write (u ∷ ts) t b x there = ⊎_elim (λ first. ⊎_elim (λ none. let lt = none.1 in omega (arith, lt)) (λ same. is_other u t b x same) (Contains-push_cases [] (Noticed u) (Wrote t b x) first))
+no_write (u ∷ ts) t b x there = ⊎_elim (λ first. ⊎_elim (λ none. let lt = none.1 in omega (arith, lt)) (λ same. cc same) (Contains-push_cases [] (Noticed u) (Wrote t b x) first))
     (λ behind. no_write ts t b x behind) (Contains-append_cases (Noticed u ∷ []) (notices ts) (Wrote t b x) there)
-  where
-    is_other : (u t b : ℕ) (x : List ℕ) → Noticed u ≡ Wrote t b x → ⊥
-    is_other u t b x same = cc
 
 -- a call that adds notices alone, and keeps the records
 pub bytes_noticed : NoneIsLost → (s : MountedSession) (l : Ledger) (t floor : ℕ) (v w : Pipeline) (ring : RingPlaces) (dead : DeadBlocks) (taken : List ℕ) (d e : State) → IsRightOn s d l t floor v ring dead taken → SameDisk d e → OnlyNotices d.log e.log → kept w ≡ kept v → LeavesBytes l v w d e
@@ -70,14 +67,11 @@ bytes_noticed calm s l t floor v w ring dead taken d e right disk adds same = re
 
 -- A block without a newest payload gets none as records leave.
 
+one_step : (before : Option (List ℕ)) (u : Bool) (y : Option (List ℕ)) (v : Bool) → ((if u then None else or_else y (if v then None else None)) ≡ (if u then None else or_else y (if v then None else before))) ⊎ ((if u then None else or_else y (if v then None else None)) ≡ None)
+one_step before u y v = grind arith
+
 newest_step : (before : Option (List ℕ)) (k : Kept) (b : ℕ) → (newest_after None k b ≡ newest_after before k b) ⊎ (newest_after None k b ≡ None)
-newest_step before k b = by (is_one_of b k.freed) (put_of b k.payloads) (is_one_of b k.fresh)
-  where
-    by : (u : Bool) (y : Option (List ℕ)) (v : Bool) → ((if u then None else or_else y (if v then None else None)) ≡ (if u then None else or_else y (if v then None else before))) ⊎ ((if u then None else or_else y (if v then None else None)) ≡ None)
-    by true y v = inl refl
-    by false (Some z) v = inl refl
-    by false None true = inl refl
-    by false None false = inr refl
+newest_step before k b = one_step before (is_one_of b k.freed) (put_of b k.payloads) (is_one_of b k.fresh)
 
 none_from : (before : Option (List ℕ)) (ks : List Kept) (b : ℕ) → newest_in before ks b ≡ None → newest_in None ks b ≡ None
 none_from before [] b none = refl

@@ -30,14 +30,14 @@ use Rattle.engine_checkpoint.specs.Steps.{is_first_settled}
 use Rattle.engine_checkpoint.specs.Waits.{HearsAll, LosesCommitted, OnlyNotices, StaysHeard}
 use Rattle.engine_blocks.specs.State.{Bookkeeping, Counts}
 use Rattle.engine_blocks.specs.Calls.{MovesPipeline}
-use Rattle.engine_blocks.specs.Crashes.{Advances, AwaitsSince, HoldsPointBetween}
+use Rattle.engine_blocks.specs.Crashes.{Advances, AwaitsSince}
 use Rattle.engine_blocks.specs.Effects.{RunsPipeline, TellsNone}
 use Rattle.engine_books.specs.Books.{TransactionBooks, map_of}
 use Rattle.engine_books.specs.Kept.{AreKept}
 use Rattle.engine_books.specs.Point.{BeganAt, HasSameLive}
 use Rattle.engine_store.specs.declared.parts.StoreParts.{StoreParts}
 use Rattle.engine_store.specs.PipelineCall.{CallsPipeline, settled_up}
-use Rattle.engine_store.specs.SessionView.{LeftImage, state_of}
+use Rattle.engine_store.specs.SessionView.{state_of}
 use Rattle.engine_store.specs.Store.{PartsMove, StoreIsSound, bookkeeping_of, durable_point}
 use Rattle.engine_store.specs.Told.{CacheAgrees, GoesBy, IsKeptOn, IsToldBy, awaited_in, counts_of, last_map, map_now, session_of, store_state}
 use Rattle.engine_store.proofs.Awaiting.{called_awaits}
@@ -93,8 +93,8 @@ some_advances : (s : MountedSession) (base : Blocks) (log more : List Event) (j 
 some_advances s base log more j k c d a b v w awaits some = record {
   base = refl;
   grows = record { more = more; log = refl };
-  window = window;
-  earlier = λ u img from left. ⊎_elim (λ old. inl old) (λ new. inr (window img new)) (by_moment s base log more u img left);
+  window = λ img left. ∥∥₁_elim some ∥∥₁_prop (λ go. go.window img left);
+  earlier = λ u img from left. ⊎_elim (λ old. inl old) (λ new. inr (∥∥₁_elim some ∥∥₁_prop (λ go. go.window img new))) (by_moment s base log more u img left);
   holds = λ img m. (λ is. is, λ is. is);
   sure = λ log p. (λ is. is, λ is. is);
   records = record { told = refl; starts = λ log n. (λ is. is, λ is. is) };
@@ -103,15 +103,11 @@ some_advances s base log more j k c d a b v w awaits some = record {
   floor = ∥∥₁_elim some (search props) (λ go. go.floor);
   awaits = awaits;
 }
-  where
-    window : (img : Blocks) → LeftImage s base (log ++ more) (length log) img → ∥ HoldsPointBetween (state_of s k d b base (log ++ more) (awaited_in w)) j.floor k.point img ∥₁
-    window img left = ∥∥₁_elim some ∥∥₁_prop (λ go. go.window img left)
 
 pub advances_by_some : (s : MountedSession) (base : Blocks) (old new : List Event) (j k : Bookkeeping) (c d : Counts) (a b : Blocks) (v w : StoreParts) → Grows old new → ((p u : ℕ) → awaited_in w p u → awaited_in v p u ⊎ AwaitsSince (state_of s j c a base old (awaited_in v)) p u) → ∥ Advances (state_of s j c a base old (awaited_in v)) (state_of s k d b base new (awaited_in w)) ∥₁
     → Advances (state_of s j c a base old (awaited_in v)) (state_of s k d b base new (awaited_in w))
 advances_by_some s base old new j k c d a b v w grows awaits some =
-    subst (λ (log : List Event). Advances (state_of s j c a base old (awaited_in v)) (state_of s k d b base log (awaited_in w))) (sym grows.log)
-    (some_advances s base old grows.more j k c d a b v w awaits (subst (λ (log : List Event). ∥ Advances (state_of s j c a base old (awaited_in v)) (state_of s k d b base log (awaited_in w)) ∥₁) grows.log some))
+    rw grows.log (some_advances s base old grows.more j k c d a b v w awaits (rw grows.log at some))
 
 -- The ledger after a call.
 
@@ -139,11 +135,8 @@ module _ (laws : Laws) (headers : ℕ) (v w : StoreParts) (d e : State) (l : Led
   stays : HasSameLive v.books (last_map v d) (last_map w e)
   stays b live = bytes.bytes b (live_now b live)
 
-  books_geom : w.books.geom ≡ v.books.geom
-  books_geom = ap (λ (x : TransactionBooks). x.geom) moved.books
-
   live_before : (b : ℕ) → IsTrue (is_live w.books.geom (last_map w e) b) → IsTrue (is_live v.books.geom (last_map v d) b)
-  live_before b live = sym (laws.last_map_is.live v.books (last_map v d) (last_map w e) b books_kept stays) ∙ subst (λ (g : Geometry). IsTrue (is_live g (last_map w e) b)) books_geom live
+  live_before b live = sym (laws.last_map_is.live v.books (last_map v d) (last_map w e) b books_kept stays) ∙ subst (λ (x : TransactionBooks). IsTrue (is_live x.geom (last_map w e) b)) moved.books live
 
   began_then : BeganAt w.books (last_map w e)
   began_then = subst (λ (x : TransactionBooks). BeganAt x (last_map w e)) (sym moved.books) (laws.released v.books w.books.dead (last_map w e) (laws.began v.books (last_map v d) (last_map w e) books_kept told.began stays))
@@ -169,10 +162,7 @@ right_before v d l told goes = record { safe = told.safe; agrees = goes.agrees; 
 
 -- the session is the same
 same_session : (headers : ℕ) (v w : StoreParts) → PartsMove headers v w → session_of w ≡ session_of v
-same_session headers v w m = by (session_of w) (session_of v) (ap (λ (x : TransactionBooks). x.geom) m.books) m.moves.epoch m.mounted m.first
-  where
-    by : (a b : MountedSession) → a.geom ≡ b.geom → a.epoch ≡ b.epoch → a.mounted ≡ b.mounted → a.first ≡ b.first → a ≡ b
-    by a b geom epoch mounted first = λ i. record { geom = geom i; epoch = epoch i; mounted = mounted i; first = first i }
+same_session headers v w m = λ i. record { geom = (m.books i).geom; epoch = m.moves.epoch i; mounted = m.mounted i; first = m.first i }
 
 -- The parts behind the call: their floor and whether they have stopped is all that is new.
 
@@ -282,13 +272,11 @@ module _ (laws : Laws) (tells : Bool) (headers : ℕ) (result : Result (Unit {0}
   -- no record came, so none is told
   tells_none : IsTrue tells → TellsNone (store_state v before d) (store_state u then e)
   tells_none t = ap (λ (cs : List Commit). Some cs) (same_by_some (records_told (session_of u) e.log) (records_told (session_of v) d.log) (k.told t) (λ (p : (l : Ledger) × IsToldBy v d l).
-      let l = p.0 in
-      let told = p.1 in
-      let stay = safe_after result (session_of v) e l (length d.log) v.floor w.pipeline w.ring w.books.dead v.books.changes.taken (c.right t (session_of v) l (length d.log) v.floor v.books.changes.taken (right_before v d l told (told.going going))) in
+      let stay = safe_after result (session_of v) e p.0 (length d.log) v.floor w.pipeline w.ring w.books.dead v.books.changes.taken (c.right t (session_of v) p.0 (length d.log) v.floor v.books.changes.taken (right_before v d p.0 p.1 (p.1.going going))) in
       let grown = c.grows t in
       let after = subst₂ (λ (x : Blocks) (log : List Event). IsSafe (session_of v) x log stay.now (length d.log) v.floor) c.spends.same.base grown.log stay.safe in
       ap (λ (s : MountedSession). records_told s e.log) (same_session headers v u moved) ∙ ap (records_told (session_of v)) grown.log
-      ∙ laws.tells_none (session_of v) d.base d.log grown.more l stay.now (length d.log) v.floor told.safe (length d.log) v.floor after stay.turned.next))
+      ∙ laws.tells_none (session_of v) d.base d.log grown.more p.0 stay.now (length d.log) v.floor p.1.safe (length d.log) v.floor after stay.turned.next))
 
   runs_by : RunsPipeline tells (is_err result) (store_state v before d) (store_state u then e)
   runs_by = record {
@@ -323,19 +311,10 @@ durable_fits (Err x) v q ring dead sound last turns = tt
 
 -- where the last record is durable, the floor is the last point
 pub last_is_durable : (tells : Bool) (answer result : Result (Unit {0}) DiskFault) (w u : StoreParts) (e : State) (last : ℕ) → IsKeptOn tells u e → w.stopped ≡ false → w.pipeline.last ≡ last → answer ≡ result → u ≡ settled_up result w → OnOk result (last ≤ last → last < w.pipeline.header.start + durable_count w.pipeline) → OnOk answer (u.floor ≡ u.point)
-last_is_durable tells answer (Ok a) w u e last k going is same at durable = subst (λ (r : Result (Unit {0}) DiskFault). OnOk r (u.floor ≡ u.point)) (sym same) equal
+last_is_durable tells answer (Ok a) w u e last k going is same at durable = rw same (subst (λ (x : StoreParts). IsKeptOn tells x e → x.floor ≡ x.point) (sym at) floor_is_point k)
   where
-    going_then : u.stopped ≡ false
-    going_then = ap (λ (x : StoreParts). x.stopped) at ∙ going
-
-    pipeline : u.pipeline ≡ w.pipeline
-    pipeline = ap (λ (x : StoreParts). x.pipeline) at
-
-    known : u.pipeline.last < u.pipeline.header.start + durable_count u.pipeline
-    known = subst (λ (p : Pipeline). p.last < p.header.start + durable_count p) (sym pipeline) (subst (λ n. n < w.pipeline.header.start + durable_count w.pipeline) (sym is) (durable (omega arith)))
-
-    equal : u.floor ≡ u.point
-    equal = omega (arith, known, (k.sound.going going_then).number, (k.sound.going going_then).floor, k.sound.floor)
+    floor_is_point : IsKeptOn tells (settled_up (done a) w) e → durable_point w ≡ w.point
+    floor_is_point kept = omega (arith, is, durable (omega arith), (kept.sound.going going).number, (kept.sound.going going).floor, kept.sound.floor)
 last_is_durable tells answer (Err x) w u e last k going is same at durable = subst (λ (r : Result (Unit {0}) DiskFault). OnOk r (u.floor ≡ u.point)) (sym same) tt
 
 -- From what the pipeline's calls say to a call as the law takes it.

@@ -1,8 +1,8 @@
 -- What the writes of a record leave of each block of a log: which bytes were accepted last, and whether a write was lost behind them.
-use Rattle.std.proofs.Common.{◌≡◌, ◌≢◌, ⊎_elim, ℕ, suc, ◌+◌, ◌%◌, ◌<◌, ◌≤◌, ◌==◌, Bool, true, false, if◌then◌else◌, List, [], ◌∷◌, ◌++◌, map, Some, None, refl, sym, ◌∙◌, ap, subst, arith, append_assoc, append-nil}
-use Rattle.std.proofs.lemmas.Bool.{eq-eqb, eqb-true, false≢true, ne_eqb}
+use Rattle.std.proofs.Common.{◌≡◌, ◌≢◌, ⊎_elim, ℕ, suc, ◌+◌, ◌%◌, ◌<◌, ◌≤◌, ◌==◌, Bool, true, false, if◌then◌else◌, List, [], ◌∷◌, ◌++◌, map, Some, None, refl, sym, ◌∙◌, ap, subst, arith, append_assoc, append-nil, inl, inr}
+use Rattle.std.proofs.lemmas.Bool.{eqb-true, ne_eqb, cases_Bool}
 use Rattle.std.proofs.lemmas.Nat.{mod_below}
-use Rattle.std.proofs.lemmas.Option.{none-some}
+use Rattle.std.proofs.lemmas.Bool.Decides.{nat_tests}
 use Rattle.disk_contract.specs.declared.event.Event.{Event}
 use Rattle.disk_contract.specs.declared.event.Event.TheVariants.{Wrote, Lost, Noticed}
 use Rattle.disk_contract.specs.Cell.{accepted_from, is_lost_from}
@@ -18,29 +18,17 @@ use Rattle.engine_running.specs.Writes.{fresh_write, ring_writes, record_writes}
 
 -- One event more.
 
-wrote_accepted : (b : ℕ) (x : List ℕ) (log : List Event) (t c : ℕ) (y : List ℕ) → accepted_from b x (log ++ Wrote t c y ∷ []) ≡ (if c == b then y else accepted_from b x log)
-wrote_accepted b x [] t c y = refl
-wrote_accepted b x (Wrote u d z ∷ log) t c y = wrote_accepted b (if d == b then z else x) log t c y
-wrote_accepted b x (Lost d z ∷ log) t c y = wrote_accepted b x log t c y
-wrote_accepted b x (Noticed u ∷ log) t c y = wrote_accepted b x log t c y
+accepted_more : (b : ℕ) (x : List ℕ) (log : List Event) (e : Event) → accepted_from b x (log ++ e ∷ []) ≡ accepted_from b (accepted_from b x log) (e ∷ [])
+accepted_more b x [] e = refl
+accepted_more b x (Wrote u d z ∷ log) e = accepted_more b (if d == b then z else x) log e
+accepted_more b x (Lost d z ∷ log) e = accepted_more b x log e
+accepted_more b x (Noticed u ∷ log) e = accepted_more b x log e
 
-lost_accepted : (b : ℕ) (x : List ℕ) (log : List Event) (c : ℕ) (y : List ℕ) → accepted_from b x (log ++ Lost c y ∷ []) ≡ accepted_from b x log
-lost_accepted b x [] c y = refl
-lost_accepted b x (Wrote u d z ∷ log) c y = lost_accepted b (if d == b then z else x) log c y
-lost_accepted b x (Lost d z ∷ log) c y = lost_accepted b x log c y
-lost_accepted b x (Noticed u ∷ log) c y = lost_accepted b x log c y
-
-wrote_lost : (b : ℕ) (l : Bool) (log : List Event) (t c : ℕ) (y : List ℕ) → is_lost_from b l (log ++ Wrote t c y ∷ []) ≡ (if c == b then false else is_lost_from b l log)
-wrote_lost b l [] t c y = refl
-wrote_lost b l (Wrote u d z ∷ log) t c y = wrote_lost b (if d == b then false else l) log t c y
-wrote_lost b l (Lost d z ∷ log) t c y = wrote_lost b (if d == b then true else l) log t c y
-wrote_lost b l (Noticed u ∷ log) t c y = wrote_lost b l log t c y
-
-lost_lost : (b : ℕ) (l : Bool) (log : List Event) (c : ℕ) (y : List ℕ) → is_lost_from b l (log ++ Lost c y ∷ []) ≡ (if c == b then true else is_lost_from b l log)
-lost_lost b l [] c y = refl
-lost_lost b l (Wrote u d z ∷ log) c y = lost_lost b (if d == b then false else l) log c y
-lost_lost b l (Lost d z ∷ log) c y = lost_lost b (if d == b then true else l) log c y
-lost_lost b l (Noticed u ∷ log) c y = lost_lost b l log c y
+lost_more : (b : ℕ) (l : Bool) (log : List Event) (e : Event) → is_lost_from b l (log ++ e ∷ []) ≡ is_lost_from b (is_lost_from b l log) (e ∷ [])
+lost_more b l [] e = refl
+lost_more b l (Wrote u d z ∷ log) e = lost_more b (if d == b then false else l) log e
+lost_more b l (Lost d z ∷ log) e = lost_more b (if d == b then true else l) log e
+lost_more b l (Noticed u ∷ log) e = lost_more b l log e
 
 passed : {A : Type 0} (v : Bool) (x y : A) → v ≡ false → (if v then x else y) ≡ y
 passed v x y e = ap (λ (u : Bool). if u then x else y) e
@@ -56,18 +44,17 @@ pub all_accepted : (b : ℕ) (x : List ℕ) (ws : List (ℕ × List ℕ)) (ts : 
 all_accepted b x [] [] old new a = ap (accepted_from b x) a
 all_accepted b x [] (t ∷ ts) old new a = absurd a
 all_accepted b x (w ∷ ws) [] old new a = absurd a
-all_accepted b x (w ∷ ws) (t ∷ ts) old new a = all_accepted b x ws ts (old ++ Wrote t w.0 w.1 ∷ []) new a.2 ∙ ap (λ (y : List ℕ). after_writes b y ws) (wrote_accepted b x old t w.0 w.1)
+all_accepted b x (w ∷ ws) (t ∷ ts) old new a = all_accepted b x ws ts (old ++ Wrote t w.0 w.1 ∷ []) new a.2 ∙ ap (λ (y : List ℕ). after_writes b y ws) (accepted_more b x old (Wrote t w.0 w.1))
+
+still_none : (v l : Bool) → l ≡ false → (if v then false else l) ≡ false
+still_none v l e = grind (arith, e)
 
 -- where no write to the block was lost, none is
 pub none_are_lost : (b : ℕ) (ws : List (ℕ × List ℕ)) (ts : List ℕ) (old new : List Event) → AddsWrites ws ts old new → is_lost_from b false old ≡ false → is_lost_from b false new ≡ false
 none_are_lost b [] [] old new a e = ap (is_lost_from b false) a ∙ e
 none_are_lost b [] (t ∷ ts) old new a e = absurd a
 none_are_lost b (w ∷ ws) [] old new a e = absurd a
-none_are_lost b (w ∷ ws) (t ∷ ts) old new a e = none_are_lost b ws ts (old ++ Wrote t w.0 w.1 ∷ []) new a.2 (wrote_lost b false old t w.0 w.1 ∙ by (w.0 == b) (is_lost_from b false old) e)
-  where
-    by : (v l : Bool) → l ≡ false → (if v then false else l) ≡ false
-    by true l e = refl
-    by false l e = e
+none_are_lost b (w ∷ ws) (t ∷ ts) old new a e = none_are_lost b ws ts (old ++ Wrote t w.0 w.1 ∷ []) new a.2 (lost_more b false old (Wrote t w.0 w.1) ∙ still_none (w.0 == b) (is_lost_from b false old) e)
 
 pub all_grow : (ws : List (ℕ × List ℕ)) (ts : List ℕ) (old new : List Event) → AddsWrites ws ts old new → GrowsByWrites old new
 all_grow [] [] old new a = record { more = []; log = a ∙ sym (append-nil old); writes = tt }
@@ -109,7 +96,7 @@ all_avoid b [] [] old new a apart = still_there b old new a
 all_avoid b [] (t ∷ ts) old new a apart = absurd a
 all_avoid b (w ∷ ws) [] old new a apart = absurd a
 all_avoid b (w ∷ ws) (t ∷ ts) old new a apart = stays_then b old (old ++ Wrote t w.0 w.1 ∷ []) new
-    (record { bytes = λ x. wrote_accepted b x old t w.0 w.1 ∙ passed (w.0 == b) _ _ (ne_eqb w.0 b apart.0); lost = wrote_lost b false old t w.0 w.1 ∙ passed (w.0 == b) _ _ (ne_eqb w.0 b apart.0) })
+    (record { bytes = λ x. accepted_more b x old (Wrote t w.0 w.1) ∙ passed (w.0 == b) _ _ (ne_eqb w.0 b apart.0); lost = lost_more b false old (Wrote t w.0 w.1) ∙ passed (w.0 == b) _ _ (ne_eqb w.0 b apart.0) })
     (all_avoid b ws ts (old ++ Wrote t w.0 w.1 ∷ []) new a.2 apart.1)
 
 avoid_front : (b : ℕ) (vs ws : List (ℕ × List ℕ)) → Avoid b (vs ++ ws) → Avoid b vs
@@ -132,8 +119,8 @@ front_avoids b ws old new f apart = stays_then b old f.middle new (all_avoid b f
 
     lost : (c : ℕ) × (x : List ℕ) × (later : List (ℕ × List ℕ)) × (f.rest ≡ (c, x) ∷ later) × (new ≡ f.middle ++ Lost c x ∷ []) → StaysAt b f.middle new
     lost (c, x, later, rest, is) = record {
-      bytes = λ y. ap (accepted_from b y) is ∙ lost_accepted b y f.middle c x;
-      lost = ap (is_lost_from b false) is ∙ lost_lost b false f.middle c x ∙ passed (c == b) _ _ (ne_eqb c b (subst (Avoid b) rest (avoid_rest b f.front f.rest all)).0);
+      bytes = λ y. ap (accepted_from b y) is ∙ accepted_more b y f.middle (Lost c x);
+      lost = ap (is_lost_from b false) is ∙ lost_more b false f.middle (Lost c x) ∙ passed (c == b) _ _ (ne_eqb c b (subst (Avoid b) rest (avoid_rest b f.front f.rest all)).0);
     }
 
 avoided : (b : ℕ) (x : List ℕ) (ws : List (ℕ × List ℕ)) → Avoid b ws → after_writes b x ws ≡ x
@@ -166,11 +153,7 @@ behind_avoids g epoch number place paid laid b some from =
 
 -- a put that isn't of the block, before others
 not_head : (b : ℕ) (q : Put) (qs : List Put) → put_of b (q ∷ qs) ≡ None → (q.block ≢ b) × (put_of b qs ≡ None)
-not_head b q qs none = by (q.block == b) refl none
-  where
-    by : (v : Bool) → (q.block == b) ≡ v → (if v then Some q.bytes else put_of b qs) ≡ None → (q.block ≢ b) × (put_of b qs ≡ None)
-    by true e f = absurd (none-some q.bytes (sym f))
-    by false e f = (λ same. false≢true (sym e ∙ eq-eqb q.block b same), f)
+not_head b q qs none = (λ same. grind (arith, nat_tests, none, same), grind (arith, none))
 
 fresh_avoids : (b : ℕ) (laid : List Put) → put_of b laid ≡ None → Avoid b (map fresh_write laid)
 fresh_avoids b [] none = tt
@@ -187,22 +170,20 @@ none_put b (q ∷ row) lacks = passed (q.block == b) (Some q.bytes) (put_of b ro
 
 -- and in one that ascends, the first block has no put but the first
 rest_lacks : (q : Put) (qs : List Put) → IsRising (q ∷ qs) → LacksBlock q.block qs
-rest_lacks q qs rising k p is = differ q.block p.block (rising 0 (suc k) q p (omega arith) refl is)
-  where
-    differ : (a c : ℕ) → a < c → c ≢ a
-    differ a c low e = omega (arith, low, e)
+rest_lacks q qs rising k p is e = omega (arith, e, rising 0 (suc k) q p (omega arith) refl is)
 
 -- the fresh blocks have the bytes that were put
 fresh_after : (b : ℕ) (x : List ℕ) (laid : List Put) → IsRising laid → after_writes b x (map fresh_write laid) ≡ otherwise (put_of b laid) x
 fresh_after b x [] rising = refl
-fresh_after b x (q ∷ qs) rising = by (q.block == b) refl (fresh_after b x qs (λ i k p r low. rising (suc i) (suc k) p r (omega (arith, low))))
-  where
-    by : (v : Bool) → (q.block == b) ≡ v → after_writes b x (map fresh_write qs) ≡ otherwise (put_of b qs) x → after_writes b (if q.block == b then q.bytes else x) (map fresh_write qs) ≡ otherwise (if q.block == b then Some q.bytes else put_of b qs) x
-    by true e rest =
-        ap (λ (u : Bool). after_writes b (if u then q.bytes else x) (map fresh_write qs)) e
-        ∙ avoided b q.bytes (map fresh_write qs) (fresh_avoids b qs (ap (λ (n : ℕ). put_of n qs) (sym (eqb-true q.block b e)) ∙ none_put q.block qs (rest_lacks q qs rising)))
-        ∙ ap (λ (u : Bool). otherwise (if u then Some q.bytes else put_of b qs) x) (sym e)
-    by false e rest = ap (λ (u : Bool). after_writes b (if u then q.bytes else x) (map fresh_write qs)) e ∙ rest ∙ ap (λ (u : Bool). otherwise (if u then Some q.bytes else put_of b qs) x) (sym e)
+fresh_after b x (q ∷ qs) rising = elim (cases_Bool (q.block == b)) [
+  | inl e ↦
+      ap (λ (u : Bool). after_writes b (if u then q.bytes else x) (map fresh_write qs)) e
+      ∙ avoided b q.bytes (map fresh_write qs) (fresh_avoids b qs (ap (λ (n : ℕ). put_of n qs) (sym (eqb-true q.block b e)) ∙ none_put q.block qs (rest_lacks q qs rising)))
+      ∙ ap (λ (u : Bool). otherwise (if u then Some q.bytes else put_of b qs) x) (sym e)
+  | inr e ↦
+      ap (λ (u : Bool). after_writes b (if u then q.bytes else x) (map fresh_write qs)) e
+      ∙ fresh_after b x qs (λ i k p r low. rising (suc i) (suc k) p r (omega (arith, low))) ∙ ap (λ (u : Bool). otherwise (if u then Some q.bytes else put_of b qs) x) (sym e)
+]
 
 -- so from the bitmap on each block has what the record put there, or what was accepted before
 pub record_accepted : (g : Geometry) (epoch number place : ℕ) (paid laid : List Put) (b : ℕ) (x : List ℕ) (ts : List ℕ) (old new : List Event) → 0 < g.j → bitmap_start g ≤ b → IsRising laid → AddsWrites (record_writes g epoch number place paid laid) ts old new

@@ -1,7 +1,8 @@
 -- The record that a sync writes, as the log tells it: behind a commit, behind a drain with a commit, and behind a wait.
-use Rattle.std.proofs.Common.{◌≡◌, ⊎_elim, ℕ, ◌+◌, ◌<◌, ◌≤◌, ◌*◌, Bool, false, IsTrue, List, [], ◌∷◌, ◌++◌, length, map, take, Some, refl, sym, ◌∙◌, ap, ap₂, subst, arith, length-append}
+use Rattle.std.proofs.Common.{◌≡◌, ⊎_elim, ℕ, ◌+◌, ◌<◌, ◌≤◌, Bool, false, IsTrue, List, [], ◌∷◌, ◌++◌, length, map, take, Some, refl, sym, ◌∙◌, ap, ap₂, subst, arith, length-append}
 use Rattle.std.proofs.Math.Seq.{take-append_seam}
 use Rattle.std.proofs.lemmas.List.{length-map, take-append-le}
+use Rattle.std.proofs.lemmas.Option.{same_Some}
 use mathlib.Core.Path.{subst₂}
 use Rattle.base_types.specs.Seal.{Blocks}
 use Rattle.disk_contract.specs.declared.event.Event.{Event}
@@ -10,7 +11,7 @@ use Rattle.disk_contract.specs.Disk.{State, Grows, writes_in}
 use Rattle.layout_journal.specs.declared.record.Commit.{Commit}
 use Rattle.layout_journal.specs.Layout.{descriptor_count}
 use Rattle.layout_journal.specs.Ring.{RingPlaces}
-use Rattle.layout_journal.specs.Run.{Record, commit_says, entries}
+use Rattle.layout_journal.specs.Run.{Record, commit_says}
 use Rattle.engine_cache.specs.Cache.{Cache}
 use Rattle.crash_argument.specs.Ledger.{Ledger, WrittenRecord, next_number}
 use Rattle.crash_argument.specs.Points.{MountedSession, IsSafe, records_told}
@@ -63,11 +64,8 @@ module _ (laws : Laws) (more_told : MoreLaw) (tells : Bool) (v : StoreParts) (d 
   laid_is : commit.fresh ≡ length v.books.changes.laid
   laid_is = length-map v.books.changes.laid fresh_entry
 
-  entries_are : length (entries says) ≡ length v.books.changes.paid + length v.books.changes.laid
-  entries_are = length-append (map payload_entry v.books.changes.paid) (map fresh_entry v.books.changes.laid) ∙ ap₂ (λ m n. m + n) paid_is laid_is
-
   heads_are : commit.descriptors ≡ descriptor_count (length v.books.changes.paid + length v.books.changes.laid)
-  heads_are = ap descriptor_count entries_are
+  heads_are = ap descriptor_count (length-append (map payload_entry v.books.changes.paid) (map fresh_entry v.books.changes.laid) ∙ ap₂ (λ m n. m + n) paid_is laid_is)
 
   same_session : session_of parts ≡ session_of v
   same_session = session_then v parts (ap (λ (x : TransactionBooks). x.geom) s.becomes.books) (ap (λ h. h.epoch) s.becomes.header) refl refl
@@ -99,16 +97,13 @@ module _ (laws : Laws) (more_told : MoreLaw) (tells : Bool) (v : StoreParts) (d 
       payloads = paid_is ∙ sym (laws.payloads v.books k.sound.kept);
       fresh = laid_is ∙ sym (laws.fresh v.books k.sound.kept);
       descriptors = heads_are ∙ ap₂ (λ m n. descriptor_count (m + n)) (sym paid_is) (sym laid_is);
-      told = λ before is. ap (λ (cs : List Commit). Some cs) (told_more t ∙ ap (λ cs. cs ++ commit ∷ []) (some_is (records_told (session_of v) d.log) before is));
+      told = λ before is. ap (λ (cs : List Commit). Some cs) (told_more t ∙ ap (λ cs. cs ++ commit ∷ []) (same_Some (records_told (session_of v) d.log) before is));
       writes = omega (arith, (s.writes t).writes, s.becomes.owed, heads_are, paid_is, laid_is, ap writes_in (front_is d.log e.log (grows t)));
       awaits = λ u waits. ap (is_accepted u) (front_is d.log e.log (grows t)) ∙ awaits_new t u waits;
       fits = λ fits. refl;
     };
     none = λ none. absurd (omega (arith, none, may.weight));
   }
-    where
-      some_is : (cs ds : List Commit) → Some cs ≡ Some ds → cs ≡ ds
-      some_is cs ds e = search
 
 -- A drain and then the commit, where the record didn't fit.
 

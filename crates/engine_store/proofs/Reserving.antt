@@ -8,7 +8,6 @@ use Rattle.disk_contract.specs.declared.event.Event.{Event}
 use Rattle.disk_contract.specs.Cell.{accepted, IsNoticed}
 use Rattle.disk_contract.specs.Disk.{State}
 use Rattle.layout_journal.specs.Layout.{descriptor_count}
-use Rattle.layout_journal.specs.declared.header.Header.{Header}
 use Rattle.layout_journal.specs.Ring.{RingPlaces}
 use Rattle.layout_journal.specs.Run.{is_live, otherwise}
 use Rattle.crash_argument.specs.Ledger.{Ledger}
@@ -62,26 +61,11 @@ module _ (p q : Pipeline) (same : SamePipeline p q) where
   pub kept_same : kept q ≡ kept p
   kept_same = λ i. map of_sure (same.sure i) ++ (map of_durable (same.durable i) ++ map of_committed (same.committed i))
 
-  header_same : q.header ≡ p.header
-  header_same = ap (λ (x : Pipeline). x.header) same.rest
-
-  written_same : q.written ≡ p.written
-  written_same = ap (λ (x : Pipeline). x.written) same.rest
-
-  last_number : q.last ≡ p.last
-  last_number = ap (λ (x : Pipeline). x.last) same.rest
-
-  batch_same : q.batch ≡ p.batch
-  batch_same = ap (λ (x : Pipeline). x.batch) same.rest
-
-  geom_same : q.geom ≡ p.geom
-  geom_same = ap (λ (x : Pipeline). x.geom) same.rest
-
   durable_same : durable_count q ≡ durable_count p
   durable_same = λ i. length (same.placed i) + length (same.sure i) + length (same.durable i)
 
   owed_same : writes_owed q ≡ writes_owed p
-  owed_same = λ i. payloads_in (drop (batch_same i) (kept_same i)) + (last_number i - (written_same i).sure) + (last_number i + 1 - (written_same i).start)
+  owed_same = λ i. payloads_in (drop (same.rest i).batch (kept_same i)) + ((same.rest i).last - (same.rest i).written.sure) + ((same.rest i).last + 1 - (same.rest i).written.start)
 
   taken_same : places_taken q ≡ places_taken p
   taken_same = λ i. total (map placed_count (same.placed i)) + total (map count_of (kept_same i))
@@ -93,10 +77,10 @@ module _ (v : StoreParts) (q : Pipeline) (same : SamePipeline v.pipeline q) wher
   w = record v { pipeline = q }
 
   books_same : bookkeeping_of w ≡ bookkeeping_of v
-  books_same = λ i. record (bookkeeping_of v) { turns = max (written_same v.pipeline q same i).turn (last_number v.pipeline q same i + 1); owed = owed_same v.pipeline q same i }
+  books_same = λ i. record (bookkeeping_of v) { turns = max (same.rest i).written.turn ((same.rest i).last + 1); owed = owed_same v.pipeline q same i }
 
   session_same : session_of w ≡ session_of v
-  session_same = λ i. record { geom = v.books.geom; epoch = (header_same v.pipeline q same i).epoch; mounted = v.mounted; first = v.first }
+  session_same = λ i. record { geom = v.books.geom; epoch = (same.rest i).header.epoch; mounted = v.mounted; first = v.first }
 
   last_same : (d : State) → last_map w d ≡ last_map v d
   last_same d = λ i b. otherwise (newest_in None (kept_same v.pipeline q same i) b) (accepted d.base d.log b)
@@ -128,19 +112,19 @@ module _ (v : StoreParts) (q : Pipeline) (same : SamePipeline v.pipeline q) wher
         room = has_room;
         index = index g.sound.index;
         goes_with = record {
-          ring_geom = g.sound.goes_with.ring_geom ∙ sym (geom_same v.pipeline q same);
+          ring_geom = g.sound.goes_with.ring_geom ∙ sym (ap (λ (x : Pipeline). x.geom) same.rest);
           taken = g.sound.goes_with.taken ∙ sym (taken_same v.pipeline q same);
-          dead_geom = g.sound.goes_with.dead_geom ∙ sym (geom_same v.pipeline q same);
-          waiting = subst (λ (n : ℕ). All (λ x. freed_by x ≤ n) v.books.dead.waiting) (sym (last_number v.pipeline q same)) g.sound.goes_with.waiting;
+          dead_geom = g.sound.goes_with.dead_geom ∙ sym (ap (λ (x : Pipeline). x.geom) same.rest);
+          waiting = subst (λ (n : ℕ). All (λ x. freed_by x ≤ n) v.books.dead.waiting) (sym (ap (λ (x : Pipeline). x.last) same.rest)) g.sound.goes_with.waiting;
         };
       };
-      number = g.number ∙ ap (λ n. n + 1) (sym (last_number v.pipeline q same));
-      first = omega (arith, g.first, ap (λ (h : Header). h.sure) (header_same v.pipeline q same));
-      floor = g.floor ∙ ap₂ (λ (h : Header) (n : ℕ). h.start + n) (sym (header_same v.pipeline q same)) (sym (durable_same v.pipeline q same));
+      number = g.number ∙ ap (λ n. n + 1) (sym (ap (λ (x : Pipeline). x.last) same.rest));
+      first = omega (arith, g.first, ap (λ (x : Pipeline). x.header.sure) same.rest);
+      floor = g.floor ∙ ap₂ (λ (x : Pipeline) (n : ℕ). x.header.start + n) (sym same.rest) (sym (durable_same v.pipeline q same));
     }
 
     still_sound : StoreIsSound v → StoreIsSound w
-    still_sound s = record { kept = s.kept; ring_geom = s.ring_geom; pipeline_geom = geom_same v.pipeline q same ∙ s.pipeline_geom; floor = s.floor; going = λ e. still_going (s.going e) }
+    still_sound s = record { kept = s.kept; ring_geom = s.ring_geom; pipeline_geom = ap (λ (x : Pipeline). x.geom) same.rest ∙ s.pipeline_geom; floor = s.floor; going = λ e. still_going (s.going e) }
 
     still_serves : (l : Ledger) → MayServe l v.pipeline v.books.dead → MayServe l q v.books.dead
     still_serves l s = record {

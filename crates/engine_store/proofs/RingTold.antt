@@ -1,7 +1,8 @@
 -- The ring places that are taken behind an advance are those of the records that the log tells.
-use Rattle.std.proofs.Common.{◌≡◌, ℕ, ◌+◌, ◌-◌, ◌<◌, ◌≤◌, Bool, true, false, IsTrue, List, drop, length, Some, Result, Ok, Err, OnOk, refl, sym, ◌∙◌, ap, subst, arith}
+use Rattle.std.proofs.Common.{◌≡◌, ℕ, ◌+◌, ◌-◌, ◌≤◌, Bool, false, IsTrue, List, drop, length, Result, Ok, Err, OnOk, refl, sym, ◌∙◌, ap, subst, arith}
 use Rattle.std.proofs.Props.{props}
 use Rattle.std.proofs.Math.Logic.{∥∥₁_elim, ∥∥₁_map}
+use Rattle.std.proofs.lemmas.Option.{same_Some}
 use Rattle.base_types.specs.Seal.{Blocks}
 use Rattle.disk_contract.specs.declared.disk.DiskFault.{DiskFault}
 use Rattle.disk_contract.specs.declared.event.Event.{Event}
@@ -20,7 +21,7 @@ use Rattle.engine_blocks.specs.Effects.{RingIsTold}
 use Rattle.engine_store.specs.declared.parts.StoreParts.{StoreParts}
 use Rattle.engine_store.specs.SessionView.{Starts}
 use Rattle.engine_store.specs.PipelineCall.{settled_up}
-use Rattle.engine_store.specs.Told.{GoesBy, IsKeptOn, IsToldBy, session_of, store_state}
+use Rattle.engine_store.specs.Told.{IsKeptOn, IsToldBy, session_of, store_state}
 use Rattle.engine_store.proofs.PipelineCalls.{with_moved}
 use Rattle.engine_store.proofs.ServingBlocks.{one_newest}
 use Rattle.layout_journal.specs.Ring.{RingPlaces}
@@ -45,10 +46,7 @@ module _ (counts : CountsLaw) (places : PlacesLaw) (tells : Bool) (u : StorePart
       let start : l.header.start ≡ u.pipeline.header.start = ap (λ (h : Header). h.start) (sym goes.agrees.header) in
       goes.agrees.agree.taken ∙ sym (ap (λ n. places_from n (records_told (session_of u) e.log)) (sym start)
       ∙ places (session_of u) e.base e.log l (length e.log) u.floor l.header.start told.safe (omega arith)
-      ∙ ap (λ n. all_places (all_say (drop n l.records))) (none l.header.start))
-    where
-      none : (n : ℕ) → n - n ≡ 0
-      none n = omega arith
+      ∙ ap (λ n. all_places (all_say (drop n l.records))) {x = l.header.start - l.header.start} {y = 0} (omega arith))
 
   within : u.ring.taken ≤ u.ring.geom.j
   within =
@@ -68,14 +66,11 @@ module _ (counts : CountsLaw) (places : PlacesLaw) (tells : Bool) (u : StorePart
       omega (arith, taken_by x.0 x.1, same, within, ap (λ (g : Geometry). g.j) k.sound.ring_geom)))
 
   pub ring_told : ∥ IsNewest u e ∥₁ → RingIsTold (store_state u ticks e)
-  ring_told newest told is = let same = some_is (records_told (session_of u) e.log) told is in record {
+  ring_told newest told is = let same = same_Some (records_told (session_of u) e.log) told is in record {
     one = one told same;
     starts = ∥∥₁_map newest (λ (n : IsNewest u e). (u.pipeline.header.start, ∣ record { header = u.pipeline.header; newest = n; is = refl } ∣₁));
     places = λ number starts. ∥∥₁_elim newest (search props) (λ (n : IsNewest u e). places_told n told same number starts);
   }
-    where
-      some_is : (cs ds : List Commit) → Some cs ≡ Some ds → cs ≡ ds
-      some_is cs ds e = search
 
 -- the same by the result of an advance
 pub ring_ended : (counts : CountsLaw) (places : PlacesLaw) (done answer : Result (Unit {0}) DiskFault) (tells : Bool) (v u : StoreParts) (q : Pipeline) (ring : RingPlaces) (next : DeadBlocks) (d e : State) (ticks : ℕ) → IsTrue tells → answer ≡ done → u ≡ settled_up done (with_moved v q ring next) → v.stopped ≡ false → v.pipeline.geom ≡ v.books.geom → IsKeptOn tells u e

@@ -1,9 +1,11 @@
 -- Which blocks serve again: behind an advance those whose point is sure and on which nothing is pending, and behind a drain all.
-use Rattle.std.proofs.Common.{◌≡◌, ⊎_elim, ℕ, ◌+◌, ◌-◌, ◌<◌, ◌≤◌, ◌==◌, ◌&&◌, ◌||◌, nat_le, not, Bool, true, false, IsTrue, List, [], ◌∷◌, map, length, is_some, slice_get, Option, Some, None, option_map, Result, Ok, Err, OnOk, refl, sym, ◌∙◌, ap, ap₂, subst, arith}
+use Rattle.std.proofs.Common.{◌≡◌, ⊎_elim, ℕ, ◌+◌, ◌-◌, ◌≤◌, ◌==◌, ◌&&◌, ◌||◌, nat_le, not, Bool, true, false, IsTrue, List, [], map, length, is_some, slice_get, Option, Some, None, option_map, Result, Ok, Err, OnOk, refl, sym, ◌∙◌, ap, ap₂, subst, arith}
 use Rattle.std.proofs.Props.{props}
 use Rattle.std.proofs.Math.Logic.{∥∥₁_elim, ∥∥₁_map}
-use Rattle.std.proofs.lemmas.Bool.{and_parts, cases_lt, eqb-true, false≢true, le-leb, leb-true}
+use Rattle.std.proofs.lemmas.Bool.{and_parts, cases_lt, eqb-true, false≢true, le-leb, leb-true, false_from_ne_true, not-false, not-true, or_right}
 use Rattle.std.proofs.lemmas.Option.{none-some, same_Some}
+use Rattle.std.proofs.lemmas.List.{nil_from_length}
+use Rattle.std.proofs.Math.Bool.{or-false}
 use Rattle.disk_contract.specs.declared.disk.DiskFault.{DiskFault}
 use Rattle.disk_contract.specs.Cell.{Cell, Write, cell_of}
 use Rattle.disk_contract.specs.Disk.{State}
@@ -41,18 +43,9 @@ ExactLaw = (v : DeadBlocks) (sure : ℕ) (going_home : List ℕ) (k : ℕ) (p : 
 
 -- A newest header at rest is the only one.
 pub one_newest : (n : ℕ) (cells : ℕ → Cell) (h k : Header) → IsNewestAtRest n cells h → IsNewestAtRest n cells k → h ≡ k
-one_newest n cells h k a b = ⊎_elim (λ less. absurd (apart (one a.slot b.slot less b.is_slot)))
-    (λ more. ⊎_elim (λ less. absurd (apart (two a.slot b.slot less a.is_slot))) (λ same. same_slot (alike a.slot b.slot more same)) (cases_lt b.slot a.slot)) (cases_lt a.slot b.slot)
+one_newest n cells h k a b = ⊎_elim (λ less. absurd (apart (omega (arith, less, b.is_slot), omega (arith, less, b.is_slot))))
+    (λ more. ⊎_elim (λ less. absurd (apart (omega (arith, less, a.is_slot), omega (arith, less, a.is_slot)))) (λ same. same_slot (omega (arith, more, same))) (cases_lt b.slot a.slot)) (cases_lt a.slot b.slot)
   where
-    one : (x y : ℕ) → x < y → y < 2 → (y ≡ 1 - x) × (x ≡ 1 - y)
-    one x y less low = (omega (arith, less, low), omega (arith, less, low))
-
-    two : (x y : ℕ) → y < x → x < 2 → (y ≡ 1 - x) × (x ≡ 1 - y)
-    two x y less low = (omega (arith, less, low), omega (arith, less, low))
-
-    alike : (x y : ℕ) → y ≤ x → x ≤ y → y ≡ x
-    alike x y le ge = omega (arith, le, ge)
-
     same_slot : b.slot ≡ a.slot → h ≡ k
     same_slot same = same_Some h k (sym a.stands ∙ subst (λ (s : ℕ). header_of n (cells s).settled ≡ Some k) same b.stands)
 
@@ -71,56 +64,32 @@ pub waits_none : (first : ℕ) (o : Option ℕ) → option_map (point_of first) 
 waits_none first None none = refl
 waits_none first (Some r) none = absurd (none-some (point_of first r) (sym none))
 
+-- what is dead may be taken, is held or waits, before and after
+others_by : (r h w s i u d e : Bool) → w ≡ false → d ≡ (r || (h || w)) → e ≡ (s || (i || u)) → e ≡ d → (r ≡ true → s ≡ true) → (i ≡ true → s ≡ false) → i ≡ h → s ≡ r
+others_by r h w s i u d e none before after same still law held = grind (arith, none, before, after, same, still, law, held)
+
+serves_by : (r h w s i u d e : Bool) → w ≡ true → d ≡ (r || (h || w)) → e ≡ (s || (i || u)) → e ≡ d → h ≡ false → i ≡ h → u ≡ false → s ≡ true
+serves_by r h w s i u d e waits before after same out held none = grind (arith, waits, before, after, same, out, held, none)
+
 -- The dead blocks before and after a call of the pipeline.
 module _ (dead next : DeadBlocks) (sound : AreSound dead) (then_sound : AreSound next) (all : (b : ℕ) → is_among b (dead_blocks next) ≡ is_among b (dead_blocks dead)) (held : next.held ≡ dead.held) (still : (b : ℕ) → is_among b dead.reusable ≡ true → is_among b next.reusable ≡ true) (held_law : HeldLaw) where
   -- a block that didn't wait may be taken where it might before
   pub others_same : (b : ℕ) → is_among b (map block_of dead.waiting) ≡ false → is_among b next.reusable ≡ is_among b dead.reusable
-  others_same b none = by (is_among b dead.reusable) refl (is_among b next.reusable) refl
-    where
-      was_held : is_among b dead.reusable ≡ false → is_among b next.reusable ≡ true → is_among b dead.held ≡ true
-      was_held not_before may = or_false (is_among b dead.held) (sym (ap₂ (λ x y. x || (is_among b dead.held || y)) not_before none) ∙ sym (dead_is dead b) ∙ sym (all b) ∙ dead_is next b ∙ ap (λ x. x || (is_among b next.held || is_among b (map block_of next.waiting))) may)
-        where
-          or_false : (x : Bool) → (x || false) ≡ true → x ≡ true
-          or_false true e = refl
-          or_false false e = e
-
-      by : (x : Bool) → is_among b dead.reusable ≡ x → (y : Bool) → is_among b next.reusable ≡ y → is_among b next.reusable ≡ is_among b dead.reusable
-      by true before y now = still b before ∙ sym before
-      by false before false now = now ∙ sym before
-      by false before true now = absurd (false≢true (sym (held_law next b then_sound (ap (λ (xs : List ℕ). is_among b xs) held ∙ was_held before now)) ∙ now))
+  others_same b none = others_by _ _ _ _ _ _ _ _ none (dead_is dead b) (dead_is next b) (all b) (still b) (held_law next b then_sound) (ap (is_among b) held)
 
   -- where none waits any more, each that waited may be taken
   pub all_serve : next.waiting ≡ [] → (b : ℕ) → is_among b (map block_of dead.waiting) ≡ true → is_among b next.reusable ≡ true
-  all_serve none b waits = left (is_among b next.reusable) (is_among b next.held) (is_among b (map block_of next.waiting)) (ap (λ (xs : List ℕ). is_among b xs) held ∙ waits_not_held dead b sound waits) (ap (λ (ps : List (ℕ × ℕ)). is_among b (map block_of ps)) none)
-      (sym (dead_is next b) ∙ all b ∙ dead_is dead b ∙ right (is_among b dead.reusable) (is_among b dead.held) (is_among b (map block_of dead.waiting)) waits)
-    where
-      right : (x y z : Bool) → z ≡ true → (x || (y || z)) ≡ true
-      right true y z e = refl
-      right false true z e = refl
-      right false false z e = e
-
-      left : (x y z : Bool) → y ≡ false → z ≡ false → (x || (y || z)) ≡ true → x ≡ true
-      left true y z e f g = refl
-      left false true z e f g = absurd (false≢true (sym e))
-      left false false z e f g = absurd (false≢true (sym f ∙ g))
+  all_serve none b waits = serves_by _ _ _ _ _ _ _ _ waits (dead_is dead b) (dead_is next b) (all b) (waits_not_held dead b sound waits) (ap (is_among b) held) (ap (λ (ps : List (ℕ × ℕ)). is_among b (map block_of ps)) none)
 
 given_parts : (r sure : ℕ) (going : Bool) → (nat_le r sure && not going) ≡ true → (r ≤ sure) × (going ≡ false)
-given_parts r sure going e = let p = and_parts (nat_le r sure) (not going) e in (leb-true r sure p.0, un_not going p.1)
-  where
-    un_not : (x : Bool) → not x ≡ true → x ≡ false
-    un_not true e = absurd (false≢true e)
-    un_not false e = refl
+given_parts r sure going e = let p = and_parts (nat_le r sure) (not going) e in (leb-true r sure p.0, not-true going p.1)
 
 given_both : (r sure : ℕ) (going : Bool) → r ≤ sure → going ≡ false → (nat_le r sure && not going) ≡ true
 given_both r sure going le none = ap₂ (λ x y. x && not y) (le-leb r sure le) none
 
 -- nothing is pending on a cell at rest
 none_pends : (c : Cell) → is_at_rest c ≡ true → c.pending ≡ []
-none_pends c e = by c.pending (eqb-true (length c.pending) 0 e)
-  where
-    by : (xs : List Write) → length xs ≡ 0 → xs ≡ []
-    by [] e = refl
-    by (x ∷ xs) e = absurd (omega (arith, e))
+none_pends c e = nil_from_length c.pending (eqb-true (length c.pending) 0 e)
 
 -- Behind an advance.
 module _ (v u : StoreParts) (d e : State) (before then : ℕ) (headers : ℕ) (m : PartsMove headers v u) (sound : AreSound v.books.dead) (first : u.first ≤ u.pipeline.header.sure + 1) (same_n : u.books.geom.n ≡ v.pipeline.geom.n)
@@ -144,11 +113,7 @@ module _ (v u : StoreParts) (d e : State) (before then : ℕ) (headers : ℕ) (m
       let w = waits_point v.first (waits_for v.books.dead.waiting b) p waits in
       let at = found v.books.dead.waiting b w.0 w.1 in
       let given = given_parts w.0 u.pipeline.header.sure (is_among b g.going) (sym (exactly g at.0 b w.0 at.1) ∙ may) in
-      rest (is_at_rest (cell_of e.base e.log b)) (sym (g.pending at.0 b w.0 at.1 given.0) ∙ given.1))
-    where
-      rest : (x : Bool) → not x ≡ false → x ≡ true
-      rest true e = refl
-      rest false e = absurd (false≢true (sym e))
+      not-false (is_at_rest (cell_of e.base e.log b)) (sym (g.pending at.0 b w.0 at.1 given.0) ∙ given.1))
 
   sure_serves : (b p : ℕ) → (bookkeeping_of v).since b ≡ Some p → ∥ IsSure (session_of u) e.base e.log p ∥₁ → is_at_rest (cell_of e.base e.log b) ≡ true → is_among b u.books.dead.reusable ≡ true
   sure_serves b p waits sure rests = ∥∥₁_elim some (search props) (λ (g : Served). ∥∥₁_elim sure (search props) (λ (s : IsSure (session_of u) e.base e.log p).
@@ -162,14 +127,10 @@ module _ (v u : StoreParts) (d e : State) (before then : ℕ) (headers : ℕ) (m
   serves_sure = record {
     serves = λ b p at waits. (λ may. (serves_then b p waits may, none_pends (cell_of e.base e.log b) (rests_then b p waits may)), λ both. sure_serves b p waits both.0 (ap (λ (xs : List Write). length xs == 0) both.1));
     others = λ b at none. others_same v.books.dead u.books.dead sound m.dead m.moves.all_dead m.moves.held m.moves.reusable held_law b (none_among v.books.dead.waiting b (waits_none v.first (waits_for v.books.dead.waiting b) none));
-    serving = λ b at may. ap (option_map (point_of u.first)) (among_none u.books.dead.waiting b (never b may (is_among b (map block_of u.books.dead.waiting)) refl));
+    serving = λ b at may. ap (option_map (point_of u.first)) (among_none u.books.dead.waiting b (false_from_ne_true (is_among b (map block_of u.books.dead.waiting)) (λ waits. false≢true (sym (wait_law u.books.dead b m.dead waits) ∙ may))));
     waiting = λ b at not_yet. ap₂ (λ (f : ℕ) (o : Option ℕ). option_map (point_of f) o) m.first (∥∥₁_elim some (search props) (λ (g : Served). stays g b not_yet));
   }
     where
-      never : (b : ℕ) → is_among b u.books.dead.reusable ≡ true → (x : Bool) → is_among b (map block_of u.books.dead.waiting) ≡ x → x ≡ false
-      never b may false e = refl
-      never b may true e = absurd (false≢true (sym (wait_law u.books.dead b m.dead e) ∙ may))
-
       stays : (g : Served) (b : ℕ) → is_among b u.books.dead.reusable ≡ false → waits_for u.books.dead.waiting b ≡ waits_for v.books.dead.waiting b
       stays g b not_yet = ap (λ (x : DeadBlocks). waits_for x.waiting b) g.served ∙ by (waits_for v.books.dead.waiting b) refl
         where
@@ -184,20 +145,12 @@ drained_serves headers v u m sound held_law none = record {
   since = λ b at. ap (λ (ps : List (ℕ × ℕ)). option_map (point_of u.first) (waits_for ps b)) none;
 }
   where
-    or_none : (x : Bool) → x ≡ (x || false)
-    or_none true = refl
-    or_none false = refl
-
-    or_true : (x : Bool) → true ≡ (x || true)
-    or_true true = refl
-    or_true false = refl
-
     by : (b : ℕ) (o : Option ℕ) → waits_for v.books.dead.waiting b ≡ o → is_among b u.books.dead.reusable ≡ (is_among b v.books.dead.reusable || is_some (option_map (point_of v.first) (waits_for v.books.dead.waiting b)))
     by b None is = others_same v.books.dead u.books.dead sound m.dead m.moves.all_dead m.moves.held m.moves.reusable held_law b (none_among v.books.dead.waiting b is)
-        ∙ or_none (is_among b v.books.dead.reusable) ∙ sym (ap (λ (o : Option ℕ). is_among b v.books.dead.reusable || is_some (option_map (point_of v.first) o)) is)
+        ∙ sym (or-false (is_among b v.books.dead.reusable)) ∙ sym (ap (λ (o : Option ℕ). is_among b v.books.dead.reusable || is_some (option_map (point_of v.first) o)) is)
     by b (Some r) is = let at = found v.books.dead.waiting b r is in
         all_serve v.books.dead u.books.dead sound m.dead m.moves.all_dead m.moves.held m.moves.reusable held_law none b (at_among v.books.dead.waiting at.0 b r at.1)
-        ∙ or_true (is_among b v.books.dead.reusable) ∙ sym (ap (λ (o : Option ℕ). is_among b v.books.dead.reusable || is_some (option_map (point_of v.first) o)) is)
+        ∙ sym (or_right (is_among b v.books.dead.reusable) true refl) ∙ sym (ap (λ (o : Option ℕ). is_among b v.books.dead.reusable || is_some (option_map (point_of v.first) o)) is)
 
 -- By the result of the call.
 
@@ -222,8 +175,4 @@ serves_ended (Ok a) answer v u q ring next d e before then same is m sound going
 
 pub drain_ended : (done answer : Result (Unit {0}) DiskFault) (v u : StoreParts) → answer ≡ done → PartsMove 4 v u → AreSound v.books.dead → HeldLaw → OnOk answer ((bookkeeping_of u).waiting ≡ 0) → OnOk answer (SameFreed (with_all_served (bookkeeping_of v)) (bookkeeping_of u))
 drain_ended done (Err x) v u same m sound held_law none = tt
-drain_ended done (Ok a) v u same m sound held_law none = drained_serves 4 v u m sound held_law (empty u.books.dead.waiting none)
-  where
-    empty : {A : Type 0} (xs : List A) → length xs ≡ 0 → xs ≡ []
-    empty [] e = refl
-    empty (x ∷ xs) e = absurd (omega (arith, e))
+drain_ended done (Ok a) v u same m sound held_law none = drained_serves 4 v u m sound held_law (nil_from_length u.books.dead.waiting none)

@@ -7,14 +7,8 @@ use Rattle.engine_store.specs.Told.{AsksNothing}
 
 -- so many calls, and then more
 more_calls : (a b n : ℕ) → after_calls b (after_calls a n) ≡ after_calls (a + b) n
-more_calls a zero n = ap (λ k. after_calls k n) (none a)
-  where
-    none : (k : ℕ) → k ≡ k + 0
-    none k = omega arith
-more_calls a (suc b) n = ap next_count (more_calls a b n) ∙ ap (λ k. after_calls k n) (one a b)
-  where
-    one : (x y : ℕ) → suc (x + y) ≡ x + suc y
-    one x y = omega arith
+more_calls a zero n = ap (λ k. after_calls k n) {x = a} {y = a + 0} (omega arith)
+more_calls a (suc b) n = ap next_count (more_calls a b n) ∙ ap (λ k. after_calls k n) {x = suc (a + b)} {y = a + suc b} (omega arith)
 
 -- calls that don't poll ask the disk nothing
 pub asks_none : (failed : Bool) (made : ℕ) (d e : State) → Spends failed made 0 d e → AsksNothing d e
@@ -40,12 +34,9 @@ waits_on made next old mid new e one two = record {
   same = record { blocks = two.same.blocks ∙ one.same.blocks; base = two.same.base ∙ one.same.base; manner = two.same.manner ∙ one.same.manner };
   faults = two.faults ∙ one.faults;
   read_faults = two.read_faults ∙ one.read_faults;
-  waits = two.waits ∙ ap next_count one.waits ∙ ap (λ k. after_calls k old.waits) (plus_one made) ∙ ap (λ k. after_calls k old.waits) (sym e);
+  waits = two.waits ∙ ap next_count one.waits ∙ ap (λ k. after_calls k old.waits) {x = suc made} {y = next} (omega (arith, e));
   polls = two.polls ∙ one.polls;
 }
-  where
-    plus_one : (n : ℕ) → suc n ≡ n + 1
-    plus_one n = omega arith
 
 -- and one that failed behind them
 pub wait_failed : (failed : Bool) (made most : ℕ) (old mid new : State) → failed ≡ true → made + 1 ≤ most → Spends false made 0 old mid → OnlyWaits true mid new → SpendsUpTo failed most old new
@@ -53,12 +44,9 @@ wait_failed failed made most old mid new is le one two = subst (λ f. SpendsUpTo
   same = record { blocks = two.same.blocks ∙ one.same.blocks; base = two.same.base ∙ one.same.base; manner = two.same.manner ∙ one.same.manner };
   faults = two.faults ∙ ap (after_call true) one.faults;
   read_faults = two.read_faults ∙ one.read_faults;
-  waits = (made + 1, le, two.waits ∙ ap next_count one.waits ∙ ap (λ k. after_calls k old.waits) (plus_one made));
+  waits = (made + 1, le, two.waits ∙ ap next_count one.waits ∙ ap (λ k. after_calls k old.waits) {x = suc made} {y = made + 1} (omega arith));
   polls = two.polls ∙ one.polls;
 })
-  where
-    plus_one : (n : ℕ) → suc n ≡ n + 1
-    plus_one n = omega arith
 
 made_then : (failed : Bool) (a b most before mid now : ℕ) → a + b ≡ most → mid ≡ after_calls a before → MadeUpTo failed b mid now → MadeUpTo failed most before now
 made_then false a b most before mid now e one two = two ∙ ap (after_calls b) one ∙ more_calls a b before ∙ ap (λ k. after_calls k before) e

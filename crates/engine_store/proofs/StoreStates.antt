@@ -7,7 +7,6 @@ use Rattle.std.proofs.lemmas.List.{append-nil}
 use Rattle.base_types.specs.Seal.{Blocks}
 use Rattle.disk_contract.specs.declared.event.Event.{Event}
 use Rattle.disk_contract.specs.Disk as disk
-use Rattle.layout_geometry.specs.Geometry.{Geometry}
 use Rattle.layout_bytes.specs.Bitmap.{is_set}
 use Rattle.layout_journal.specs.Run.{is_live, otherwise}
 use Rattle.crash_argument.specs.Ledger.{Ledger, next_number}
@@ -85,10 +84,7 @@ nothing_by_session nothing v w before then d e same waits base log =
     (nothing (session_of v) d.base d.log e.log (bookkeeping_of v) (bookkeeping_of w) (counts_of before d) (counts_of then e) (map_now v d) (map_now w e) v w log (awaited_same v w waits)))
   where
     session : session_of w ≡ session_of v
-    session = ap (λ (g : Geometry). record { geom = g; epoch = w.pipeline.header.epoch; mounted = w.mounted; first = w.first }) same.geom
-        ∙ ap (λ (n : ℕ). record { geom = v.books.geom; epoch = n; mounted = w.mounted; first = w.first }) same.epoch
-        ∙ ap (λ (n : ℕ). record { geom = v.books.geom; epoch = v.pipeline.header.epoch; mounted = n; first = w.first }) same.mounted
-        ∙ ap (λ (n : ℕ). record { geom = v.books.geom; epoch = v.pipeline.header.epoch; mounted = v.mounted; first = n }) same.first
+    session = λ i. record { geom = same.geom i; epoch = same.epoch i; mounted = same.mounted i; first = same.first i }
 
 -- the session is the same where of the parts the books alone are new, and so is their geometry
 pub books_session : (v w : StoreParts) → w ≡ record v { books = w.books } → w.books.geom ≡ v.books.geom → IsSameSession v w

@@ -40,6 +40,7 @@ use Rattle.engine_store.proofs.Logs.{longer}
 use Rattle.engine_store.proofs.Reserving.{places_fit}
 use Rattle.engine_store.proofs.StoreStates.{goes_on_itself}
 use Rattle.engine_store.proofs.TicketLogs.{not_before, noticed_before}
+use Rattle.engine_store.proofs.Windows.{nothing_of}
 
 -- Nothing is committed.
 
@@ -63,32 +64,22 @@ syncs_nothing tells s going none told = record {
 }
 
 -- it stays where there was no memory
-pub syncs_without_memory : (tells : Bool) (s : State) → s.books.stopped ≡ false → (IsTrue tells → IsTold s) → Syncs tells (Err sync.NoMemory) s s
-syncs_without_memory tells s going told = record {
+syncs_without_memory : (tells : Bool) (v : StoreParts) (ticks : ℕ) (d : disk.State) → v.stopped ≡ false → (IsTrue tells → IsTold (store_state v ticks d)) → Syncs tells (Err sync.NoMemory) (store_state v ticks d) (store_state v ticks d)
+syncs_without_memory tells v ticks d going told = record {
   point = tt;
   after = tt;
   ends = tt;
   disk = record { faults = refl; stopped = going; read_faults = refl; waits = omega arith };
   ticks = refl;
   map = λ t. refl;
-  crash = λ t. goes_on_itself s (told t);
+  crash = λ t. goes_on_itself (store_state v ticks d) (told t);
   made = λ t more. absurd (omega (arith, more));
   writes = λ t. omega arith;
   none = record {
     books = refl;
     disk = record {
       counts = refl;
-      crash = λ t. record {
-        base = refl;
-        log = refl;
-        point = λ p m. (λ is. is, λ is. is);
-        left = λ u img. (λ is. is, λ is. is);
-        holds = λ img m. (λ is. is, λ is. is);
-        sure = λ log p. (λ is. is, λ is. is);
-        records = record { told = refl; starts = λ log n. (λ is. is, λ is. is) };
-        issued = λ m. (λ is. is, λ is. is);
-        awaits = λ p u. (λ is. is, λ is. is);
-      };
+      crash = λ t. nothing_of (session_of v) d.base d.log d.log (bookkeeping_of v) (bookkeeping_of v) (counts_of ticks d) (counts_of ticks d) (map_now v d) (map_now v d) v v refl (λ p u. (λ is. is, λ is. is));
     };
   };
 }
@@ -104,7 +95,7 @@ pub record_from_same : (v w : StoreParts) (ticks : ℕ) (d : disk.State) (new : 
 record_from_same v w ticks d new result same s = subst (λ (x : State). OnOk result (WritesItsRecord x new)) (same_state v w ticks d same) s
 
 pub no_memory : (tells : Bool) (v w : StoreParts) (ticks : ℕ) (d : disk.State) → v.stopped ≡ false → (IsTrue tells → IsTold (store_state v ticks d)) → IsSameStore v w → Syncs tells (Err sync.NoMemory) (store_state v ticks d) (store_state w ticks d)
-no_memory tells v w ticks d going told same = subst (λ (x : State). Syncs tells (Err sync.NoMemory) (store_state v ticks d) x) (sym (same_state v w ticks d same)) (syncs_without_memory tells (store_state v ticks d) going told)
+no_memory tells v w ticks d going told same = subst (λ (x : State). Syncs tells (Err sync.NoMemory) (store_state v ticks d) x) (sym (same_state v w ticks d same)) (syncs_without_memory tells v ticks d going told)
 
 -- Two calls, one behind the other.
 
@@ -148,9 +139,6 @@ reusable_on old mid b geom stays free = subst (λ (g : Geometry). IsReusable g m
 -- A drain, and then the commit.
 
 module _ (tells : Bool) (old mid new : State) (run : RunsPipeline tells false old mid) (turns : new.books.turns ≤ old.books.turns + 2 ^ 18) where
-  changed_on : {T : Type 0} (x y : T) → if_changed mid.books.running x y ≡ if_changed old.books.running x y
-  changed_on x y = ap (λ (r : Running). if_changed r x y) run.pipeline.running
-
   places_on : commit_places mid.books ≡ commit_places old.books
   places_on = ap₂ (λ (g : Geometry) (r : Running). commit_places (record mid.books { geom = g; running = r })) run.pipeline.geom run.pipeline.running
 
@@ -164,7 +152,7 @@ module _ (tells : Bool) (old mid new : State) (run : RunsPipeline tells false ol
     marked = a.marked ∙ run.pipeline.marked;
     reusable = λ b free. a.reusable b (reusable_on old.books mid.books b run.pipeline.geom run.pipeline.reusable free);
     turns = turns;
-    point = omega (arith, a.point, run.pipeline.point, changed_on {T = ℕ} 1 0);
+    point = omega (arith, a.point, run.pipeline.point, ap (λ (r : Running). if_changed {T = ℕ} r 1 0) run.pipeline.running);
     floor = omega (arith, a.floor, run.pipeline.floor);
   }
 

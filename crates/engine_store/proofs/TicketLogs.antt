@@ -1,6 +1,6 @@
 -- Tickets of a log that goes on: those that were accepted or noticed before, and those of new writes.
-use Rattle.std.proofs.Common.{append-nil, ◌≡◌, ⊎_elim, ℕ, zero, suc, ◌<◌, ◌==◌, ◌||◌, Bool, true, false, if◌then◌else◌, List, [], ◌∷◌, ◌++◌, length, get_or, Result, Ok, Err, OnErr, refl, sym, ◌∙◌, subst, arith}
-use Rattle.std.proofs.lemmas.Bool.{eq-eqb, eqb-true, false_from_ne_true, false≢true, ne_eqb, or_cases, or_left, or_right}
+use Rattle.std.proofs.Common.{append-nil, ◌≡◌, ⊎_elim, ℕ, zero, suc, ◌<◌, ◌==◌, Bool, true, false, if◌then◌else◌, List, [], ◌∷◌, ◌++◌, length, get_or, Result, Ok, Err, OnErr, refl, sym, ◌∙◌, subst, arith, inl, inr, ap}
+use Rattle.std.proofs.lemmas.Bool.{eq-eqb, eqb-true, false_from_ne_true, false≢true, ne_eqb, or_cases, or_left, or_right, or_from, cases_Bool}
 use Rattle.disk_contract.specs.declared.event.Event.{Event}
 use Rattle.disk_contract.specs.declared.event.Event.TheVariants.{Wrote, Lost, Noticed}
 use Rattle.disk_contract.specs.Cell.{greatest_ticket, is_accepted, IsAccepted, IsNoticed, notices}
@@ -24,11 +24,7 @@ not_before t old new grows none = false_from_ne_true (is_accepted t old) (λ was
 -- no ticket above the greatest was accepted
 above_none : (t : ℕ) (log : List Event) → greatest_ticket log < t → is_accepted t log ≡ false
 above_none t [] above = refl
-above_none t (Wrote u b x ∷ log) above = neither (u == t) (is_accepted t log) (ne_eqb u t (λ e. omega (arith, e, above))) (above_none t log (omega (arith, above)))
-  where
-    neither : (x y : Bool) → x ≡ false → y ≡ false → (x || y) ≡ false
-    neither true y e f = e
-    neither false y e f = f
+above_none t (Wrote u b x ∷ log) above = or_from (u == t) (is_accepted t log) (ne_eqb u t (λ e. omega (arith, e, above))) (above_none t log (omega (arith, above)))
 above_none t (Lost b x ∷ log) above = above_none t log above
 above_none t (Noticed u ∷ log) above = above_none t log above
 
@@ -46,11 +42,10 @@ pub new_ticket : (ws : List (ℕ × List ℕ)) (ts : List ℕ) (old new : List E
 new_ticket [] [] old new t adds own = absurd (false≢true own)
 new_ticket [] (u ∷ us) old new t adds own = absurd adds
 new_ticket (w ∷ ws) [] old new t adds own = absurd adds
-new_ticket (w ∷ ws) (u ∷ us) old new t adds own = by (u == t) refl own (new_ticket ws us (old ++ Wrote u w.0 w.1 ∷ []) new t adds.2)
-  where
-    by : (x : Bool) → (u == t) ≡ x → (if x then true else is_one_of t us) ≡ true → (is_one_of t us ≡ true → IsNew t (old ++ Wrote u w.0 w.1 ∷ [])) → IsNew t old
-    by true same o later = subst (λ (n : ℕ). IsNew n old) (eqb-true u t same) (record { write = above_none u old adds.0; notice = adds.1 })
-    by false same o later = new_before t old (Wrote u w.0 w.1 ∷ []) (later o)
+new_ticket (w ∷ ws) (u ∷ us) old new t adds own = elim (cases_Bool (u == t)) [
+  | inl same ↦ subst (λ (n : ℕ). IsNew n old) (eqb-true u t same) (record { write = above_none u old adds.0; notice = adds.1 })
+  | inr apart ↦ new_before t old (Wrote u w.0 w.1 ∷ []) (new_ticket ws us (old ++ Wrote u w.0 w.1 ∷ []) new t adds.2 (ap (λ (b : Bool). if b then true else is_one_of t us) (sym apart) ∙ own))
+]
 
 -- writes bring no notice
 none_noticed : (t : ℕ) (es : List Event) → AreWrites es → IsNoticed t es → ⊥

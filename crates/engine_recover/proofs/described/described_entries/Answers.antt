@@ -1,4 +1,4 @@
-use Rattle.std.proofs.Common.{◌≡◌, ℕ, length, min, List, ◌++◌, ◌+◌, ◌*◌, ◌-◌, sym, ◌∙◌, ap, subst, arith, length-append}
+use Rattle.std.proofs.Common.{length, min, List, ◌++◌, ◌+◌, ◌-◌, sym, ◌∙◌, ap, subst, arith, length-append}
 use Rattle.layout_journal.specs.declared.entry.Entry.{Entry}
 use Rattle.crash_record.specs.Found.{HasParts}
 use Rattle.engine_recover.proofs.Readings.{read_on, still_gives}
@@ -21,13 +21,10 @@ loop-index-preserved g c =
     let len = ap (λ (l : List Entry). length l) (sym c.as_slice-entries.ensures.value) ∙ c.if-entries-part_length.false ∙ c.part_length.ensures ∙ ap (λ n. min 24 (c.args.commit.now.payloads + c.args.commit.now.fresh - n)) (c.len.ensures ∙ c.loop-index.list.ok.0) in
     record {
       only = read_on _ _ _ _ _ c.loop-index.invariant.only c.in_ok-descriptor.ensures.reads;
-      count = ap (λ (l : List Entry). length l) grown ∙ length-append c.loop-index.list.items c.in-Some.descriptor.entries ∙ more c.loop-index.index (length c.loop-index.list.items) (length c.in-Some.descriptor.entries) (c.args.commit.now.payloads + c.args.commit.now.fresh) c.loop-index.invariant.count len;
+      count = ap (λ (l : List Entry). length l) grown ∙ length-append c.loop-index.list.items c.in-Some.descriptor.entries ∙ omega (arith, c.loop-index.invariant.count, len);
       parts = λ img gives has.
           let part = rw c.in-Some.is at c.in_ok-descriptor.ensures.found img (still_gives _ _ _ _ img c.loop-index.invariant.only gives) in
           subst (HasParts img c.args.header.now c.args.commit.now.number c.args.place (c.args.commit.now.payloads + c.args.commit.now.fresh) (c.loop-index.index + 1)) (sym grown)
           ((c.records_are_described_by_their_blocks.ensures img c.args.header.now c.args.commit.now.number c.args.place).part_more c.args.commit.now c.loop-index.index
           c.loop-index.list.items c.in-Some.descriptor.entries has (omega (arith, c.loop-index-test.true)) (c.loop-index.invariant.parts img gives has) part len);
     }
-  where
-    more : (k l n t : ℕ) → l ≡ min (24 * k) t → n ≡ min 24 (t - l) → l + n ≡ min (24 * (k + 1)) t
-    more k l n t p q = omega arith

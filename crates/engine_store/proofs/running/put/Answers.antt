@@ -1,13 +1,14 @@
 use Rattle.std.proofs.Common.{◌≡◌, ◌∙◌, ap}
+use Rattle.engine_reuse.specs.Dead.{DeadBlocks}
 use Rattle.engine_blocks.specs.State.{Bookkeeping}
 use Rattle.engine_store.specs.Store.{beside_books}
 use Rattle.engine_store.specs.Told.{last_map}
-use Rattle.engine_store.proofs.WaitingBlocks.{books_beside, waits_same}
+use Rattle.engine_store.proofs.WaitingBlocks.{books_beside}
 use Rattle.engine_store.proofs.Changing.{parts_kept, same_on, bit_is, bit_kept}
 use Rattle.engine_store.proofs.running.put.Goals as goal
 
 pub returns-clause-books : goal.returns-clause-books
-returns-clause-books c = books_beside c.args.parts.now c.put.new.self (waits_same c.args.parts.now.books.dead c.put.new.self.dead c.put.ensures.dead) ∙ c.put.ensures.books (beside_books c.args.parts.now)
+returns-clause-books c = books_beside c.args.parts.now c.put.new.self (ap (λ (x : DeadBlocks). x.waiting) c.put.ensures.dead) ∙ c.put.ensures.books (beside_books c.args.parts.now)
 
 pub returns-clause-keeps : goal.returns-clause-keeps
 returns-clause-keeps c = λ tells d k marked.

@@ -1,14 +1,15 @@
 use Rattle.std.proofs.Props.{props}
 use Rattle.std.proofs.Common.{◌≡◌, ◌∙◌, ap}
+use Rattle.engine_reuse.specs.Dead.{DeadBlocks}
 use Rattle.engine_blocks.specs.State.{Bookkeeping}
 use Rattle.engine_store.specs.Store.{beside_books}
 use Rattle.engine_store.specs.Told.{last_map}
-use Rattle.engine_store.proofs.WaitingBlocks.{books_beside, waits_taken}
+use Rattle.engine_store.proofs.WaitingBlocks.{books_beside}
 use Rattle.engine_store.proofs.Changing.{parts_kept, take_on, began_gives}
 use Rattle.engine_store.proofs.running.take.Goals as goal
 
 pub returns-clause-books : goal.returns-clause-books
-returns-clause-books c = books_beside c.args.parts.now c.take.new.self (waits_taken c.args.parts.now.books.dead c.take.new.self.dead c.args.list.now c.take.ensures.dead) ∙ c.take.ensures.books (beside_books c.args.parts.now)
+returns-clause-books c = books_beside c.args.parts.now c.take.new.self (ap (λ (x : DeadBlocks). x.waiting) c.take.ensures.dead) ∙ c.take.ensures.books (beside_books c.args.parts.now)
 
 pub returns-clause-keeps : goal.returns-clause-keeps
 returns-clause-keeps c = λ tells d k.

@@ -1,5 +1,4 @@
-use Rattle.std.proofs.Common.{◌≡◌, true, false, Result, Ok, Err, is_ok, sym, ◌∙◌, ap, arith}
-use Rattle.std.proofs.lemmas.Bool.{false≢true}
+use Rattle.std.proofs.Common.{◌≡◌, true, false, ◌∙◌, ap, arith}
 use Rattle.engine_blocks.specs.State.{Bookkeeping, Ticking}
 use Rattle.engine_store.specs.Store.{bookkeeping_of}
 use Rattle.engine_store.specs.Told.{store_state}
@@ -79,9 +78,5 @@ returns-in-Ok-clause-frees g c =
     let same = waited_still c.sync.new.parts c.wait_for_last.new.parts c.wait_for_last.ensures.books c.in-Ok.ensures.moves.first c.in-Ok.ensures.moves.point in
     frees_still (bookkeeping_of c.args.parts.now) (bookkeeping_of c.sync.new.parts) (bookkeeping_of c.wait_for_last.new.parts) same.0 same.1 same.2 c.in_ok-point.ensures.frees
 
--- without a weight the sync isn't refused
-done_then : {A E : Type 0} (r : Result A E) (e : E) (a : A) → r ≡ Err e → r ≡ Ok a → ⊥
-done_then r e a is done = false≢true (sym (ap is_ok is) ∙ ap is_ok done)
-
 pub returns-in_err-point-clause-idle : goal.returns-in_err-point-clause-idle
-returns-in_err-point-clause-idle g c = λ none. absurd (done_then c.sync.result _ c.args.parts.now.point c.in_err-point.was (c.sync.ensures.idle none))
+returns-in_err-point-clause-idle g c = λ none. absurd (cc (c.in_err-point.was, c.sync.ensures.idle none))

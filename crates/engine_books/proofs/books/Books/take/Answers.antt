@@ -1,14 +1,8 @@
-use Rattle.std.proofs.Common.{◌≡◌, length, get_or, subst, sym, ap, ◌∙◌, arith}
+use Rattle.std.proofs.Common.{length, get_or, subst, ap, ◌∙◌, arith}
 use Rattle.std.proofs.lemmas.List.{take_all}
-use Rattle.engine_reuse.specs.Dead.{AreSound, DeadBlocks}
-use Rattle.engine_reuse.specs.Calls.{with_taken}
-use Rattle.engine_blocks.specs.State.{after_take}
-use Rattle.engine_blocks.specs.Calls.{IsWithTaken}
-use Rattle.engine_books.specs.Books.{TransactionBooks, with_books, map_of}
-use Rattle.engine_books.specs.Kept.{AreKept}
-use Rattle.engine_books.specs.Point.{BeganAt}
+use Rattle.engine_books.specs.Books.{TransactionBooks}
 use Rattle.engine_books.specs.Taking.{HasTaken, TakesOne}
-use Rattle.engine_books.proofs.Taken.{books_taken, kept_taken, began_taken, map_taken, has_box, next_taken, told, few_held}
+use Rattle.engine_books.proofs.Taken.{take_leaves, has_box, next_taken, few_held}
 use Rattle.engine_books.proofs.Takes.{none_taken}
 use Rattle.engine_books.proofs.books.Books.take.Goals as goal
 
@@ -29,35 +23,13 @@ overflow_add-self-2 c =
     omega (arith, few_held c.the_accounts_add_up.ensures c.args.self.now k, k.took_few, k.bits.counted, k.limits.most_blocks, c.len-count.ensures, ap (λ (v : TransactionBooks). v.took) (c.self.view_is ∙ c.loop-b.invariant.rest.same), h.free)
 
 pub returns-clause-kept : goal.returns-clause-kept
-returns-clause-kept c =
-    let h = subst (λ ys. HasTaken ys c.args.self.now c.loop-b.self) (take_all c.loop-b.b-index c.args.list.now (omega (arith, c.loop-b-test.false, ap length c.as_slice-b-items.ensures))) c.loop-b.invariant in
-    let h1 = subst (λ x. HasTaken c.args.list.now c.args.self.now x) (sym c.self.view_is) h in
-    let h2 = subst (λ x. HasTaken c.args.list.now c.args.self.now x) h1.rest.same h1 in
-    let same : c.self.inside.reuse ≡ c.args.self.now.dead = ap (λ (v : TransactionBooks). v.dead) h1.rest.same in
-    subst AreKept (sym (told c.args.self.now _ c.args.list.now c.taken.new.self c.len-count.result h1.rest.same c.taken.ensures c.len-count.ensures))
-    (kept_taken c.args.self.now c.self.inside.bitmap.items c.self.inside.running c.args.list.now c.requires.kept c.requires.takeable h2 c.calls_change_what_is_dead.ensures.taken c.requires.room
-    (subst AreSound (c.taken.ensures ∙ ap (λ (d : DeadBlocks). with_taken d c.args.list.now) same) c.lawful-2.ensures) c.lawful.ensures.rows c.lawful.ensures.taken)
+returns-clause-kept c = (take_leaves c.args.self.now c.loop-b.self _ c.args.list.now c.loop-b.b-index c.taken.new.self c.len-count.result c.self.view_is (omega (arith, c.loop-b-test.false, ap length c.as_slice-b-items.ensures)) c.loop-b.invariant c.requires.kept c.requires.takeable c.calls_change_what_is_dead.ensures.taken c.a_freed_block_waits.ensures.held c.requires.room c.taken.ensures c.lawful-2.ensures c.len-count.ensures c.lawful.ensures.rows c.lawful.ensures.taken).kept
 
 pub returns-clause-books : goal.returns-clause-books
-returns-clause-books c = λ q.
-    let h = subst (λ ys. HasTaken ys c.args.self.now c.loop-b.self) (take_all c.loop-b.b-index c.args.list.now (omega (arith, c.loop-b-test.false, ap length c.as_slice-b-items.ensures))) c.loop-b.invariant in
-    let h1 = subst (λ x. HasTaken c.args.list.now c.args.self.now x) (sym c.self.view_is) h in
-    let h2 = subst (λ x. HasTaken c.args.list.now c.args.self.now x) h1.rest.same h1 in
-    subst (λ x. with_books q x ≡ after_take (with_books q c.args.self.now) c.args.list.now) (sym (told c.args.self.now _ c.args.list.now c.taken.new.self c.len-count.result h1.rest.same c.taken.ensures c.len-count.ensures))
-    (books_taken c.args.self.now c.self.inside.bitmap.items c.self.inside.running c.args.list.now c.requires.kept c.requires.takeable h2 q)
+returns-clause-books c = (take_leaves c.args.self.now c.loop-b.self _ c.args.list.now c.loop-b.b-index c.taken.new.self c.len-count.result c.self.view_is (omega (arith, c.loop-b-test.false, ap length c.as_slice-b-items.ensures)) c.loop-b.invariant c.requires.kept c.requires.takeable c.calls_change_what_is_dead.ensures.taken c.a_freed_block_waits.ensures.held c.requires.room c.taken.ensures c.lawful-2.ensures c.len-count.ensures c.lawful.ensures.rows c.lawful.ensures.taken).books
 
 pub returns-clause-began : goal.returns-clause-began
-returns-clause-began c = λ last began.
-    let h = subst (λ ys. HasTaken ys c.args.self.now c.loop-b.self) (take_all c.loop-b.b-index c.args.list.now (omega (arith, c.loop-b-test.false, ap length c.as_slice-b-items.ensures))) c.loop-b.invariant in
-    let h1 = subst (λ x. HasTaken c.args.list.now c.args.self.now x) (sym c.self.view_is) h in
-    let h2 = subst (λ x. HasTaken c.args.list.now c.args.self.now x) h1.rest.same h1 in
-    subst (λ x. BeganAt x last) (sym (told c.args.self.now _ c.args.list.now c.taken.new.self c.len-count.result h1.rest.same c.taken.ensures c.len-count.ensures))
-    (began_taken c.args.self.now c.self.inside.bitmap.items c.self.inside.running c.args.list.now c.requires.kept c.requires.takeable h2 c.a_freed_block_waits.ensures.held last began)
+returns-clause-began c = (take_leaves c.args.self.now c.loop-b.self _ c.args.list.now c.loop-b.b-index c.taken.new.self c.len-count.result c.self.view_is (omega (arith, c.loop-b-test.false, ap length c.as_slice-b-items.ensures)) c.loop-b.invariant c.requires.kept c.requires.takeable c.calls_change_what_is_dead.ensures.taken c.a_freed_block_waits.ensures.held c.requires.room c.taken.ensures c.lawful-2.ensures c.len-count.ensures c.lawful.ensures.rows c.lawful.ensures.taken).began
 
 pub returns-clause-map : goal.returns-clause-map
-returns-clause-map c = λ last began.
-    let h = subst (λ ys. HasTaken ys c.args.self.now c.loop-b.self) (take_all c.loop-b.b-index c.args.list.now (omega (arith, c.loop-b-test.false, ap length c.as_slice-b-items.ensures))) c.loop-b.invariant in
-    let h1 = subst (λ x. HasTaken c.args.list.now c.args.self.now x) (sym c.self.view_is) h in
-    let h2 = subst (λ x. HasTaken c.args.list.now c.args.self.now x) h1.rest.same h1 in
-    subst (λ x. IsWithTaken c.args.self.now.geom (map_of c.args.self.now last) (map_of x last) c.args.list.now) (sym (told c.args.self.now _ c.args.list.now c.taken.new.self c.len-count.result h1.rest.same c.taken.ensures c.len-count.ensures))
-    (map_taken c.args.self.now c.self.inside.bitmap.items c.self.inside.running c.args.list.now c.requires.kept c.requires.takeable h2 c.a_freed_block_waits.ensures.held last began)
+returns-clause-map c = (take_leaves c.args.self.now c.loop-b.self _ c.args.list.now c.loop-b.b-index c.taken.new.self c.len-count.result c.self.view_is (omega (arith, c.loop-b-test.false, ap length c.as_slice-b-items.ensures)) c.loop-b.invariant c.requires.kept c.requires.takeable c.calls_change_what_is_dead.ensures.taken c.a_freed_block_waits.ensures.held c.requires.room c.taken.ensures c.lawful-2.ensures c.len-count.ensures c.lawful.ensures.rows c.lawful.ensures.taken).map
