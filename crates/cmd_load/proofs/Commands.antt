@@ -1,8 +1,8 @@
 -- What one command comes to over a disk of which no call failed, by what the file system says of any blocks.
-use Rattle.std.proofs.Common.{◌≡◌, ◌≢◌, ◌⊎◌, inl, inr, Bool, true, false, Result, Ok, Err, refl, sym, ap, ◌∙◌}
+use Rattle.std.proofs.Common.{◌≡◌, ◌≢◌, ◌⊎◌, inl, inr, Bool, true, false, Result, Err, refl, sym, ap, ◌∙◌}
 use Rattle.std.proofs.lemmas.Bool.{cases_Bool, false≢true}
 use Rattle.lang_tree.specs.declared.command.Cmd.{Cmd}
-use Rattle.lang_tree.specs.declared.command.Cmd.TheVariants.{Mkdir, Create, Write, Fill, Read, Truncate, Link, Unlink, Rmdir, Rename, Stat, List as ListNames, Osync, Dsync, Durable, Poll, Bad}
+use Rattle.lang_tree.specs.declared.command.Cmd.TheVariants.{Osync, Dsync, Durable, Poll, Bad}
 use Rattle.lang_tree.specs.declared.command.Refusal.{Refusal}
 use Rattle.lang_tree.specs.declared.command.Refusal.TheVariants as because
 use Rattle.lang_tree.specs.declared.command.Reply.{Reply}
@@ -20,43 +20,12 @@ is_none _ = false
 none_or_one : (cmd : Cmd) → (cmd ≡ Bad) ⊎ (cmd ≢ Bad)
 unfolding is_none
 none_or_one Bad = inl refl
-none_or_one Osync = inr (λ e. false≢true (ap is_none e))
-none_or_one Dsync = inr (λ e. false≢true (ap is_none e))
-none_or_one Durable = inr (λ e. false≢true (ap is_none e))
-none_or_one Poll = inr (λ e. false≢true (ap is_none e))
-none_or_one (Mkdir path) = inr (λ e. false≢true (ap is_none e))
-none_or_one (Create path) = inr (λ e. false≢true (ap is_none e))
-none_or_one (Write path offset bytes) = inr (λ e. false≢true (ap is_none e))
-none_or_one (Fill path offset count byte) = inr (λ e. false≢true (ap is_none e))
-none_or_one (Read path offset count) = inr (λ e. false≢true (ap is_none e))
-none_or_one (Truncate path size) = inr (λ e. false≢true (ap is_none e))
-none_or_one (Link path other) = inr (λ e. false≢true (ap is_none e))
-none_or_one (Unlink path) = inr (λ e. false≢true (ap is_none e))
-none_or_one (Rmdir path) = inr (λ e. false≢true (ap is_none e))
-none_or_one (Rename from to) = inr (λ e. false≢true (ap is_none e))
-none_or_one (Stat path) = inr (λ e. false≢true (ap is_none e))
-none_or_one (ListNames path) = inr (λ e. false≢true (ap is_none e))
+none_or_one other = inr (λ e. false≢true (ap is_none e))
 
 -- a command that wasn't answered so wasn't refused by a call of the disk that failed
 no_fault : (result : Result Reply Refusal) → has_run_out (reply_for result) ≡ false → is_disk_fault result ≡ false
-no_fault (Ok reply) calm = refl
-no_fault (Err because.NotFound) calm = refl
-no_fault (Err because.Exists) calm = refl
-no_fault (Err because.NotDir) calm = refl
-no_fault (Err because.IsDir) calm = refl
-no_fault (Err because.NotEmpty) calm = refl
-no_fault (Err because.BelowItself) calm = refl
-no_fault (Err because.TooLarge) calm = refl
-no_fault (Err because.TooManyLinks) calm = refl
-no_fault (Err because.NoNode) calm = refl
-no_fault (Err (because.Full need left)) calm = refl
-no_fault (Err (because.TooBig weight cost room)) calm = refl
-no_fault (Err (because.Scattered runs)) calm = refl
-no_fault (Err because.ReadFault) calm = refl
 no_fault (Err because.DiskFault) calm = absurd (false≢true (sym calm))
-no_fault (Err because.Stopped) calm = refl
-no_fault (Err because.Spent) calm = refl
-no_fault (Err because.NoMemory) calm = refl
+no_fault other calm = refl
 
 module _ {S : Type 0} (tells : Bool) (state : S → State) (cmd : Cmd) (reply : Reply) (old new : S) (applies : Applies tells state cmd reply old new) where
   -- the disk stays what it is
@@ -86,23 +55,11 @@ module _ {S : Type 0} (tells : Bool) (state : S → State) (cmd : Cmd) (reply : 
   goes_after Dsync result mid calm run runs = runs.disk.stopped ∙ no_fault result calm
   goes_after Durable result mid calm run runs = ap (λ (s : S). (state s).books.stopped) runs.1 ∙ run
   goes_after Poll result mid calm run runs = ap (λ (s : S). (state s).books.stopped) runs.1 ∙ run
-  goes_after (Mkdir path) result mid calm run runs = runs.runs.stopped ∙ no_fault result calm
-  goes_after (Create path) result mid calm run runs = runs.runs.stopped ∙ no_fault result calm
-  goes_after (Write path offset bytes) result mid calm run runs = runs.runs.stopped ∙ no_fault result calm
-  goes_after (Fill path offset count byte) result mid calm run runs = runs.runs.stopped ∙ no_fault result calm
-  goes_after (Read path offset count) result mid calm run runs = runs.runs.stopped ∙ no_fault result calm
-  goes_after (Truncate path size) result mid calm run runs = runs.runs.stopped ∙ no_fault result calm
-  goes_after (Link path other) result mid calm run runs = runs.runs.stopped ∙ no_fault result calm
-  goes_after (Unlink path) result mid calm run runs = runs.runs.stopped ∙ no_fault result calm
-  goes_after (Rmdir path) result mid calm run runs = runs.runs.stopped ∙ no_fault result calm
-  goes_after (Rename from to) result mid calm run runs = runs.runs.stopped ∙ no_fault result calm
-  goes_after (Stat path) result mid calm run runs = runs.runs.stopped ∙ no_fault result calm
-  goes_after (ListNames path) result mid calm run runs = runs.runs.stopped ∙ no_fault result calm
-  goes_after Bad result mid calm run runs = runs.runs.stopped ∙ no_fault result calm
+  goes_after other result mid calm run runs = runs.runs.stopped ∙ no_fault result calm
 
   -- no call of the disk failed where the command wasn't answered so
   pub goes_on : (state old).books.stopped ≡ false → has_run_out reply ≡ false → (state new).books.stopped ≡ false
-  goes_on run calm = by (none_or_one cmd)
+  goes_on run calm = elim (none_or_one cmd) as (λ _. Goes new) [ inl none ↦ ap (λ (s : S). (state s).books.stopped) (applies.bad none).1 ∙ run | inr meant ↦ by_spent meant (cases_Bool (is_spent (state old).books)) ]
     where
       began : Began tells state cmd reply old new → Goes new
       began b = ran b.ran
@@ -117,7 +74,3 @@ module _ {S : Type 0} (tells : Bool) (state : S → State) (cmd : Cmd) (reply : 
       by_spent : cmd ≢ Bad → (is_spent (state old).books ≡ true) ⊎ (is_spent (state old).books ≡ false) → Goes new
       by_spent meant (inl used) = ap (λ (s : S). (state s).books.stopped) (applies.spent meant run used).1 ∙ run
       by_spent meant (inr left) = began (applies.began meant run left)
-
-      by : (cmd ≡ Bad) ⊎ (cmd ≢ Bad) → Goes new
-      by (inl none) = ap (λ (s : S). (state s).books.stopped) (applies.bad none).1 ∙ run
-      by (inr meant) = by_spent meant (cases_Bool (is_spent (state old).books))

@@ -3,7 +3,7 @@ use Rattle.std.proofs.Common.{◌≡◌, ap, ◌∙◌, refl, Bool, true, false,
 use Rattle.std.specs.Prelude.{T, ◌&&◌, ⊤}
 use Rattle.std.specs.Ordering.{is_lt, is_eq, eq_by_cmp, ordering_reverse}
 use Rattle.std.specs.declared.cmp.Ordering.{Ordering}
-use Rattle.std.specs.declared.cmp.Ordering.TheVariants.{Less, Equal, Greater}
+use Rattle.std.specs.declared.cmp.Ordering.TheVariants.{Less}
 use Rattle.std.specs.Cmp.{IsTotalOrder, tied_itself}
 use Rattle.std.specs.FinMap.{FinMap, get, entries, entries_sorted, get-entries, find, is_sorted}
 use Rattle.std.specs.FinMap.Entries.{below_all}
@@ -36,8 +36,7 @@ module _ {K : Type 0} {R : K → K → Ordering} (o : IsTotalOrder R) where
     where
       by : (r : Ordering) → T (is_lt r) → is_eq (ordering_reverse r) ≡ false
       by Less h = refl
-      by Equal h = absurd h
-      by Greater h = absurd h
+      by other h = absurd h
 
 module _ {K X : Type 0} {R : K → K → Ordering} (o : IsTotalOrder R) where
   pub apart_each : (k : K) (es : List (K × X)) → T (below_all R k es) → Each (λ e. eq_by_cmp R e.0 k ≡ false) es

@@ -1,19 +1,18 @@
 -- A command that was answered in the room of a load's disk is answered as the load's definition has it, and leaves what that says.
-use Rattle.std.proofs.Common.{◌≡◌, ◌⊎◌, inl, inr, sym, refl, ap, ◌∙◌, subst, arith, ℕ, ◌+◌, ◌-◌, ◌≤◌, ◌==◌, min, nat_lt, Bool, true, false, if◌then◌else◌, List, [], ◌∷◌, length, replicate, Option, Some, None}
+use Rattle.std.proofs.Common.{◌≡◌, ◌⊎◌, inl, inr, sym, refl, ap, ◌∙◌, subst, arith, ℕ, ◌+◌, ◌-◌, ◌≤◌, ◌==◌, nat_lt, Bool, true, false, if◌then◌else◌, List, [], ◌∷◌, Option, Some, None, length, min}
 use Rattle.std.proofs.lemmas.Bool.{cases_eq, cond-true, cond-false, eq-eqb, false≢true, le-ltb, lt-ltb, ne_eqb}
 use Rattle.layout_geometry.specs.Geometry.{bitmap_blocks, data_start}
 use Rattle.lang_tree.specs.declared.command.Cmd.{Cmd}
-use Rattle.lang_tree.specs.declared.command.Cmd.TheVariants.{Mkdir, Create, Write, Fill, Read, Truncate, Link, Unlink, Rmdir, Rename, Stat, List as ListNames, Osync, Dsync, Durable, Poll, Bad}
+use Rattle.lang_tree.specs.declared.command.Cmd.TheVariants.{Read, Stat, List as ListNames, Osync, Dsync, Durable, Poll, Bad, Write, Fill, Truncate, Rename}
 use Rattle.lang_tree.specs.declared.command.Refusal.{Refusal}
 use Rattle.lang_tree.specs.declared.command.Refusal.TheVariants.{DiskFault, Full, ReadFault, Spent, Stopped, TooBig}
 use Rattle.lang_tree.specs.declared.command.Reply.{Reply}
-use Rattle.lang_tree.specs.declared.command.Reply.TheVariants.{Ok as Done, Refused}
+use Rattle.lang_tree.specs.declared.command.Reply.TheVariants.{Refused}
 use Rattle.lang_tree.specs.Conditions.{first_reason, refusal, when}
-use Rattle.lang_tree.specs.Figures.{Figures, accepted_figures, are_in_one, blocks, blocks_for, blocks_gone, figures_by, growth, move_figures, moving, nothing, release, shrinking, siblings, truncate_figures, write_figures, writing}
+use Rattle.lang_tree.specs.Figures.{Figures, accepted_figures, blocks, figures_by, move_figures, nothing, truncate_figures, write_figures, are_in_one, blocks_for, blocks_gone, growth, moving, release, shrinking, siblings, writing}
 use Rattle.lang_tree.specs.Points.{is_refusal, is_sync}
-use Rattle.lang_tree.specs.Step.{Session, accepted, answered, osync}
+use Rattle.lang_tree.specs.Step.{Session, accepted, answered}
 use Rattle.lang_tree.specs.Tree.{Tree}
-use Rattle.lang_tree.specs.Walk.{content, is_same_node, is_there}
 use Rattle.fs_session.specs.Commands.{is_on_tree}
 use Rattle.fs_session.specs.DiskRoom.{AnswersOn, BeginsOver, ClearsRoom, SyncsOver}
 use Rattle.fs_session.specs.Room.{HoldsTree, IsDoneIn, IsRefusedIn, RefusesIn, Room, left_in, most_weight}
@@ -23,44 +22,19 @@ use Rattle.cmd_load.specs.Trees.{IsLoadTree}
 use Rattle.cmd_load.specs.Serving.{has_run_out}
 use Rattle.cmd_load.proofs.Rooms.{never_scattered}
 use Rattle.cmd_load.proofs.Trees.{IsLoadCommand}
+use Rattle.lang_tree.specs.Walk.{content, is_same_node, is_there}
 
 -- What a command that the tree accepts answers is no refusal.
 
-done_calm : (c : Bool) (s t : Session) → is_refusal (if◌then◌else◌ {A = Session × Reply} c (s, Done) (t, Done)).1 ≡ false
-done_calm true s t = refl
-done_calm false s t = refl
-
-osync_calm : (s : Session) (b : Bool) → is_refusal (osync s b).1 ≡ false
-osync_calm s true = refl
-osync_calm s false = refl
-
 accepted_calm : (f : Session) (cmd : Cmd) → IsLoadCommand cmd → is_refusal (accepted f cmd).1 ≡ false
-accepted_calm f (Mkdir path) is = refl
-accepted_calm f (Create path) is = refl
-accepted_calm f (Write path offset bytes) is = done_calm (length bytes == 0) f _
-accepted_calm f (Fill path offset count byte) is = done_calm (length (replicate count byte) == 0) f _
-accepted_calm f (Read path offset count) is = absurd is
-accepted_calm f (Truncate path size) is = done_calm (size == length (content f.tree path)) f _
-accepted_calm f (Link path other) is = refl
-accepted_calm f (Unlink path) is = refl
-accepted_calm f (Rmdir path) is = refl
-accepted_calm f (Rename from to) is = done_calm (is_same_node f.tree from to) f _
-accepted_calm f (Stat path) is = absurd is
-accepted_calm f (ListNames path) is = absurd is
-accepted_calm f Osync is = osync_calm f f.changed
-accepted_calm f Dsync is = refl
-accepted_calm f Durable is = absurd is
-accepted_calm f Poll is = absurd is
 accepted_calm f Bad is = absurd is
+accepted_calm f other is = grind arith
 
 -- A command that costs nothing frees nothing.
 
 write_frees : (bitmap size offset count : ℕ) → (write_figures bitmap size offset count).freed ≡ 0
-write_frees bitmap size offset count = by (count == 0)
-  where
-    by : (b : Bool) → (if b then nothing else writing bitmap size (min offset size) (offset + count)).freed ≡ 0
-    by true = refl
-    by false = refl
+write_frees bitmap size offset count =
+    elim (count == 0) as (λ b. (if b then nothing else writing bitmap size (min offset size) (offset + count)).freed ≡ 0) [ true ↦ refl | false ↦ refl ]
 
 truncate_frees : (bitmap old new : ℕ) → (truncate_figures bitmap old new).cost ≡ 0 → (truncate_figures bitmap old new).freed ≡ 0
 truncate_frees bitmap old new = by (nat_lt old new) (nat_lt new old)
@@ -85,23 +59,11 @@ rename_frees bitmap t from to true none = refl
 rename_frees bitmap t from to false none = move_frees bitmap t from to none
 
 accepted_frees : (bitmap : ℕ) (t : Tree) (cmd : Cmd) → IsLoadCommand cmd → (accepted_figures bitmap t cmd).cost ≡ 0 → (accepted_figures bitmap t cmd).freed ≡ 0
-accepted_frees bitmap t (Mkdir path) is none = refl
-accepted_frees bitmap t (Create path) is none = refl
 accepted_frees bitmap t (Write path offset bytes) is none = write_frees bitmap (length (content t path)) offset (length bytes)
 accepted_frees bitmap t (Fill path offset count byte) is none = write_frees bitmap (length (content t path)) offset count
-accepted_frees bitmap t (Read path offset count) is none = absurd is
 accepted_frees bitmap t (Truncate path size) is none = truncate_frees bitmap (length (content t path)) size none
-accepted_frees bitmap t (Link path other) is none = refl
-accepted_frees bitmap t (Unlink path) is none = absurd (omega (arith, none))
-accepted_frees bitmap t (Rmdir path) is none = absurd (omega (arith, none))
 accepted_frees bitmap t (Rename from to) is none = rename_frees bitmap t from to (is_same_node t from to) none
-accepted_frees bitmap t (Stat path) is none = absurd is
-accepted_frees bitmap t (ListNames path) is none = absurd is
-accepted_frees bitmap t Osync is none = refl
-accepted_frees bitmap t Dsync is none = refl
-accepted_frees bitmap t Durable is none = absurd is
-accepted_frees bitmap t Poll is none = absurd is
-accepted_frees bitmap t Bad is none = absurd is
+accepted_frees bitmap t other is none = grind arith
 
 pub frees_by : (bitmap : ℕ) (t : Tree) (cmd : Cmd) (o : Option Refusal) → IsLoadCommand cmd → (figures_by bitmap t cmd o).cost ≡ 0 → (figures_by bitmap t cmd o).freed ≡ 0
 frees_by bitmap t cmd (Some why) is none = refl
@@ -110,14 +72,13 @@ frees_by bitmap t cmd None is none = accepted_frees bitmap t cmd is none
 -- The first of three reasons.
 
 no_reason : (o : Option Refusal) (b d : Bool) (why also : Refusal) → b ≡ false → d ≡ false → first_reason (o ∷ when b why ∷ when d also ∷ []) ≡ o
-no_reason (Some first) b d why also e k = refl
-no_reason None b d why also e k = ap (λ c. first_reason (None ∷ when c why ∷ when d also ∷ [])) e ∙ ap (λ c. first_reason (None ∷ None ∷ when c also ∷ [])) k
+no_reason o b d why also e k = grind arith
 
 second_reason : (o : Option Refusal) (b d : Bool) (why also : Refusal) → o ≡ None → b ≡ true → first_reason (o ∷ when b why ∷ when d also ∷ []) ≡ Some why
-second_reason o b d why also none e = ap (λ (x : Option Refusal). first_reason (x ∷ when b why ∷ when d also ∷ [])) none ∙ ap (λ c. first_reason (None ∷ when c why ∷ when d also ∷ [])) e
+second_reason o b d why also none e = grind arith
 
 third_reason : (o : Option Refusal) (b d : Bool) (why also : Refusal) → o ≡ None → b ≡ false → d ≡ true → first_reason (o ∷ when b why ∷ when d also ∷ []) ≡ Some also
-third_reason o b d why also none e k = ap (λ (x : Option Refusal). first_reason (x ∷ when b why ∷ when d also ∷ [])) none ∙ ap (λ c. first_reason (None ∷ when c why ∷ when d also ∷ [])) e ∙ ap (λ c. first_reason (None ∷ None ∷ when c also ∷ [])) k
+third_reason o b d why also none e k = grind arith
 
 -- What a command came to is what the definition says.
 pub record Comes (p : Progress) (cmd : Cmd) (reply : Reply) (next : Session) (room : Room) : Type 0 where
@@ -223,11 +184,10 @@ module _ (p : Progress) (cmd : Cmd) (law : IsLoadCommand cmd) where
           ⊎ RefusesIn (λ why. (why ≡ DiskFault) ⊎ ((is_on_tree cmd ≡ true) × (why ≡ ReadFault))) f back reply next room → Comes p cmd reply next room
       of_tree reply next room tree holds calm read (inl (inl done)) = of_done reply next room done
       of_tree reply next room tree holds calm read (inl (inr refused)) = of_refused reply next room tree holds calm refused
-      of_tree reply next room tree holds calm read (inr (why, because, is, same, still)) = absurd (never because)
-        where
-          never : (why ≡ DiskFault) ⊎ ((is_on_tree cmd ≡ true) × (why ≡ ReadFault)) → ⊥
-          never (inl fault) = false≢true (sym calm ∙ ap has_run_out (is ∙ ap Refused fault))
-          never (inr unread) = read (is ∙ ap Refused unread.1)
+      of_tree reply next room tree holds calm read (inr (why, because, is, same, still)) = absurd (elim because as (λ _. ⊥) [
+        | inl fault ↦ false≢true (sym calm ∙ ap has_run_out (is ∙ ap Refused fault))
+        | inr unread ↦ read (is ∙ ap Refused unread.1)
+      ])
 
     -- A sync.
 
@@ -239,11 +199,10 @@ module _ (p : Progress) (cmd : Cmd) (law : IsLoadCommand cmd) where
       }
 
       cleared : (room : Room) → ClearsRoom back room → room.held ≡ 0
-      cleared room clears = by (cases_eq back.weight 0)
-        where
-          by : (back.weight ≡ 0) ⊎ (back.weight ≡ 0 → ⊥) → room.held ≡ 0
-          by (inl nothing_weighed) = clears.held ∙ cond-true {A = ℕ} (back.weight == 0) back.held 0 (eq-eqb back.weight 0 nothing_weighed) ∙ held ∙ empty (sym weight ∙ nothing_weighed)
-          by (inr some) = clears.held ∙ cond-false {A = ℕ} (back.weight == 0) back.held 0 (ne_eqb back.weight 0 some)
+      cleared room clears = elim (cases_eq back.weight 0) as (λ _. room.held ≡ 0) [
+        | inl nothing_weighed ↦ clears.held ∙ cond-true {A = ℕ} (back.weight == 0) back.held 0 (eq-eqb back.weight 0 nothing_weighed) ∙ held ∙ empty (sym weight ∙ nothing_weighed)
+        | inr some ↦ clears.held ∙ cond-false {A = ℕ} (back.weight == 0) back.held 0 (ne_eqb back.weight 0 some)
+      ]
 
       of_sync : (reply : Reply) (next : Session) (room : Room) → has_run_out reply ≡ false → SyncsOver f back cmd reply next room → Comes p cmd reply next room
       of_sync reply next room calm (inl (is, clears)) = comes_done reply next room
@@ -277,31 +236,13 @@ module _ (p : Progress) (r : Room) (reply : Reply) (next : Session) (room : Room
     sync_began sync free costs b answers = of_sync p cmd law b.back (b.comes_back.weight ∙ weight) (b.comes_back.held ∙ held) sync free costs low empty reply next room calm.memory answers
 
   pub comes : (cmd : Cmd) → IsLoadCommand cmd → AnswersOn shape p.session r cmd reply next room → Comes p cmd reply next room
-  comes (Mkdir path) law (inl at_once) = absurd (never_at_once at_once)
-  comes (Mkdir path) law (inr b) = tree_began (Mkdir path) law refl b b.answers
-  comes (Create path) law (inl at_once) = absurd (never_at_once at_once)
-  comes (Create path) law (inr b) = tree_began (Create path) law refl b b.answers
-  comes (Write path offset bytes) law (inl at_once) = absurd (never_at_once at_once)
-  comes (Write path offset bytes) law (inr b) = tree_began (Write path offset bytes) law refl b b.answers
-  comes (Fill path offset count byte) law (inl at_once) = absurd (never_at_once at_once)
-  comes (Fill path offset count byte) law (inr b) = tree_began (Fill path offset count byte) law refl b b.answers
   comes (Read path offset count) law answers = absurd law
-  comes (Truncate path size) law (inl at_once) = absurd (never_at_once at_once)
-  comes (Truncate path size) law (inr b) = tree_began (Truncate path size) law refl b b.answers
-  comes (Link path other) law (inl at_once) = absurd (never_at_once at_once)
-  comes (Link path other) law (inr b) = tree_began (Link path other) law refl b b.answers
-  comes (Unlink path) law (inl at_once) = absurd (never_at_once at_once)
-  comes (Unlink path) law (inr b) = tree_began (Unlink path) law refl b b.answers
-  comes (Rmdir path) law (inl at_once) = absurd (never_at_once at_once)
-  comes (Rmdir path) law (inr b) = tree_began (Rmdir path) law refl b b.answers
-  comes (Rename from to) law (inl at_once) = absurd (never_at_once at_once)
-  comes (Rename from to) law (inr b) = tree_began (Rename from to) law refl b b.answers
   comes (Stat path) law answers = absurd law
   comes (ListNames path) law answers = absurd law
-  comes Osync law (inl at_once) = absurd (never_at_once at_once)
   comes Osync law (inr b) = sync_began Osync law refl refl refl b b.answers
-  comes Dsync law (inl at_once) = absurd (never_at_once at_once)
   comes Dsync law (inr b) = sync_began Dsync law refl refl refl b b.answers
   comes Durable law answers = absurd law
   comes Poll law answers = absurd law
   comes Bad law answers = absurd law
+  comes other law (inr b) = tree_began other law refl b b.answers
+  comes other law (inl at_once) = absurd (never_at_once at_once)

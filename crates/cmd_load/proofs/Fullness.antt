@@ -23,17 +23,14 @@ use Rattle.cmd_load.proofs.Trees.{path_total}
 path_of : (up path rest : List (List ℕ)) → strip up path ≡ Some rest → path ≡ up ++ rest
 path_of [] path rest e = same_Some path rest e
 path_of (a ∷ up) [] rest e = cc e
-path_of (a ∷ up) (b ∷ path) rest e = by (bytes_eq a b) refl (path_of up path rest) e
-  where
-    by : (t : Bool) → bytes_eq a b ≡ t → (strip up path ≡ Some rest → path ≡ up ++ rest) → (if t then strip up path else None) ≡ Some rest → b ∷ path ≡ a ∷ (up ++ rest)
-    by true same later is = ap (λ x. x ∷ path) (sym ((bytes_eq-Decides a b).0 same)) ∙ ap (λ p. a ∷ p) (later is)
-    by false same later is = cc is
+path_of (a ∷ up) (b ∷ path) rest e = elim (bytes_eq a b) as (λ t. bytes_eq a b ≡ t → (strip up path ≡ Some rest → path ≡ up ++ rest) → (if t then strip up path else None) ≡ Some rest → b ∷ path ≡ a ∷ (up ++ rest)) [
+  | true ↦ λ same later is. ap (λ x. x ∷ path) (sym ((bytes_eq-Decides a b).0 same)) ∙ ap (λ p. a ∷ p) (later is)
+  | false ↦ λ same later is. cc is
+] refl (path_of up path rest) e
 
 lone_is : (o : Option (List (List ℕ))) (x : List ℕ) → lone_name o ≡ Some x → o ≡ Some (x ∷ [])
-lone_is None x e = cc e
-lone_is (Some []) x e = cc e
 lone_is (Some (y ∷ [])) x e = ap (λ z. Some (z ∷ [])) (same_Some y x e)
-lone_is (Some (y ∷ z ∷ zs)) x e = cc e
+lone_is other x e = cc e
 
 path_in : (up path : List (List ℕ)) (x : List ℕ) → name_in up path ≡ Some x → path ≡ up ++ x ∷ []
 path_in up path x e = path_of up path (x ∷ []) (lone_is (strip up path) x e)
@@ -95,11 +92,10 @@ module _ (up : List (List ℕ)) (e : List (List ℕ) × ℕ) (x : List ℕ) (her
 distinct : (up : List (List ℕ)) (es : List (List (List ℕ) × ℕ)) → T (is_sorted path_cmp es) → Each IsNamed es → IsDistinct eqb (map digit_of (names_of up es))
 unfolding IsDistinct
 distinct up [] sorted h = tt
-distinct up (e ∷ es) sorted h = by (name_in up e.0) refl (distinct up es (second_of _ _ sorted) h.1)
-  where
-    by : (o : Option (List ℕ)) → name_in up e.0 ≡ o → IsDistinct eqb (map digit_of (names_of up es)) → IsDistinct eqb (map digit_of (cons_option o (names_of up es)))
-    by None at later = later
-    by (Some x) at later = (apart_all up e x h.0 at es h.1 (apart_each path_total e.0 es (first_of _ _ sorted)), later)
+distinct up (e ∷ es) sorted h = elim (name_in up e.0) as (λ o. name_in up e.0 ≡ o → IsDistinct eqb (map digit_of (names_of up es)) → IsDistinct eqb (map digit_of (cons_option o (names_of up es)))) [
+  | None ↦ λ at later. later
+  | Some x ↦ λ at later. (apart_all up e x h.0 at es h.1 (apart_each path_total e.0 es (first_of _ _ sorted)), later)
+] refl (distinct up es (second_of _ _ sorted) h.1)
 
 pub few_names : (t : Tree) (up : List (List ℕ)) → IsLoadTree t → length (names_in t.names up) ≤ 8
 few_names t up is =

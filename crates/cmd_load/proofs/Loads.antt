@@ -63,11 +63,10 @@ ends seed count made load refused s over to =
 
 -- the count of refusals has 32 bits
 pub small : (seed count made load refused n : ℕ) (b : Bool) (s : State) → count ≤ 2000 → ServesTo seed count made load refused s → n ≡ (if b then 1 else 0) → refused + n < 2 ^ 32
-small seed count made load refused n b s most to counts = omega (arith, most, to.counted, to.serves.refused, to.upto, counts, one b)
-  where
-    one : (b : Bool) → (if b then 1 else 0) ≤ 1
-    one true = omega arith
-    one false = omega arith
+small seed count made load refused n b s most to counts = omega (arith, most, to.counted, to.serves.refused, to.upto, counts, (elim b as (λ b. (if b then 1 else 0) ≤ 1) [ true ↦ omega arith | false ↦ omega arith ]))
+
+totals_are : {count n m k l : ℕ} {d e : List ℕ} → n ≡ m → k ≡ l → d ≡ e → ◌≡◌ {A = Totals} (record { commands = count; refused = n; points = k; digest = d }) (record { commands = count; refused = m; points = l; digest = e })
+totals_are one two three = cc
 
 -- the numbers at the end are those of the summary
 pub sums_up : (seed count refused points : ℕ) (digest : List ℕ) (s : State) → Serves (after_all at_first (load_commands count seed)) count s → refused ≡ (after_all at_first (load_commands count seed)).refused → points ≡ s.books.point
@@ -76,9 +75,3 @@ sums_up seed count refused points digest s serves counted last listed =
     let p = after_all at_first (load_commands count seed) in
     let numbered : points ≡ p.session.points = last ∙ sym (serves.session.points serves.going) in
     totals_are counted numbered (listed p.session serves.session)
-  where
-    totals_are : {n m k l : ℕ} {d e : List ℕ} → n ≡ m → k ≡ l → d ≡ e → ◌≡◌ {A = Totals} (record { commands = count; refused = n; points = k; digest = d }) (record { commands = count; refused = m; points = l; digest = e })
-    totals_are {n} {m} {k} {l} {d} {e} one two three =
-        ap (λ x. record { commands = count; refused = x; points = k; digest = d }) one
-        ∙ ap (λ x. record { commands = count; refused = m; points = x; digest = d }) two
-        ∙ ap (λ x. record { commands = count; refused = m; points = l; digest = x }) three

@@ -1,7 +1,7 @@
 -- What comes of the mount of a load's disk: no call fails, and the root alone stands in the blocks.
-use Rattle.std.proofs.Common.{◌≡◌, inl, inr, ℕ, zero, suc, ◌<◌, ◌&&◌, nat_lt, not, Bool, true, false, List, [], Some, refl, sym, ap, ◌∙◌, subst, arith}
+use Rattle.std.proofs.Common.{◌≡◌, inl, inr, ℕ, ◌<◌, ◌&&◌, nat_lt, not, Bool, true, false, List, [], refl, sym, ap, ◌∙◌, subst, arith}
+use Rattle.std.proofs.lemmas.Option.{slice_get_within}
 use Rattle.std.proofs.lemmas.Bool.{false≢true, lt-ltb}
-use Rattle.std.specs.List.{slice_get}
 use Rattle.disk_contract.specs.declared.event.Event.{Event}
 use Rattle.disk_contract.specs.Disk as disk
 use Rattle.disk_contract.specs.Manner.{Manner}
@@ -21,18 +21,10 @@ mounts : (space : ℕ) (rule : Rule) (log : List Event) → 0 < space → MountF
 mounts space rule log some (inl reads) = false≢true reads
 mounts space rule log some (inr (inl stalls)) = false≢true stalls
 mounts space rule log some (inr (inr (inl refuses))) = false≢true (sym (ap not (lt-ltb 0 space some)) ∙ refuses)
-mounts space rule log some (inr (inr (inr loses))) = false≢true (both (nat_lt 0 space) false loses.1)
-  where
-    both : (a b : Bool) → (a && b) ≡ true → b ≡ true
-    both true b e = e
-    both false b e = absurd (false≢true e)
+mounts space rule log some (inr (inr (inr loses))) = false≢true (elim (nat_lt 0 space) as (λ a. (b : Bool) → (a && b) ≡ true → b ≡ true) [ true ↦ λ b e. e | false ↦ λ b e. absurd (false≢true e) ] false loses.1)
 
 never_fails : (seed : ℕ) (d : disk.State) → FailedToMount (setting_on shape (behaviour_of seed)) d → ⊥
 never_fails seed d f = mounts room (rule_of (behaviour_of seed).notices) d.log (omega arith) f.cause
-
-none_there : {A : Type 0} (i : ℕ) (x : A) → slice_get [] i ≡ Some x → ⊥
-none_there zero x is = cc
-none_there (suc i) x is = cc
 
 -- and the file system that is opened begins the load
 begins : (seed : ℕ) (s : State) → IsOpened (setting_on shape (behaviour_of seed)) s → Serves at_first 0 s
@@ -41,7 +33,7 @@ begins seed s is = record {
   geom = is.served.geom;
   weight = is.room.weight;
   held = is.room.held;
-  going = is.served.goes_on.going (λ i fault. none_there i _ fault);
+  going = is.served.goes_on.going (λ i fault. absurd (omega (arith, slice_get_within [] i _ fault)));
   readable = ap (λ (m : Manner). m.reads_fail) is.manner;
   tree = start_tree shape.i;
   none = λ e. refl;

@@ -1,5 +1,5 @@
 -- No command of a load would scatter a node: neither a node nor what it grows by has more than 13 blocks.
-use Rattle.std.proofs.Common.{◌≡◌, sym, refl, subst, arith, ℕ, suc, ◌+◌, ◌-◌, ◌≤◌, ◌==◌, max, min, nat_lt, Bool, true, false, if◌then◌else◌, List, [], ◌∷◌, ◌++◌, length, take, Option, Some, None}
+use Rattle.std.proofs.Common.{◌≡◌, sym, refl, subst, arith, ℕ, ◌+◌, ◌-◌, ◌≤◌, ◌==◌, max, min, Bool, if◌then◌else◌, List, [], ◌∷◌, ◌++◌, length, take, Option, Some, None, nat_lt, true, false}
 use Rattle.std.specs.Prelude.{option_and_then}
 use Rattle.std.specs.FinMap.{get}
 use Rattle.std.specs.List.{zip}
@@ -8,14 +8,13 @@ use Rattle.std.proofs.lemmas.List.Sums.{count_by-le-length}
 use Rattle.std.proofs.lemmas.Slice.Zip.{length-zip}
 use Rattle.layout_extent.specs.Runs.{is_break, stretches}
 use Rattle.lang_tree.specs.declared.command.Cmd.{Cmd}
-use Rattle.lang_tree.specs.declared.command.Cmd.TheVariants.{Mkdir, Create, Write, Fill, Read, Truncate, Link, Unlink, Rmdir, Rename, Stat, List as ListNames, Osync, Dsync, Durable, Poll, Bad}
+use Rattle.lang_tree.specs.declared.command.Cmd.TheVariants.{Write, Fill, Truncate, Rename}
 use Rattle.lang_tree.specs.declared.command.Refusal.{Refusal}
 use Rattle.lang_tree.specs.Conditions.{refusal}
-use Rattle.lang_tree.specs.Figures.{accepted_figures, are_in_one, blocks_for, blocks_gone, directory_blocks, figures_by, growth, move_figures, moving, nothing, release, shrinking, siblings, truncate_figures, write_figures, writing}
+use Rattle.lang_tree.specs.Figures.{accepted_figures, blocks_for, directory_blocks, figures_by, growth, move_figures, nothing, truncate_figures, write_figures, are_in_one, blocks_gone, moving, release, shrinking, siblings, writing}
 use Rattle.lang_tree.specs.Names.{names_in}
 use Rattle.lang_tree.specs.Step.{Session}
 use Rattle.lang_tree.specs.Tree.{Tree, Thing, Dir, File}
-use Rattle.lang_tree.specs.Walk.{content, is_same_node, is_there}
 use Rattle.layout_geometry.specs.Geometry.{bitmap_blocks}
 use Rattle.fs_session.specs.Room.{HoldsTree, Room, Scatters, figures_in}
 use Rattle.fs_session.specs.Space.{grown_path}
@@ -23,15 +22,13 @@ use Rattle.cmd_load.specs.Summary.{shape}
 use Rattle.cmd_load.specs.Trees.{IsLoadTree}
 use Rattle.cmd_load.proofs.Fullness.{few_names}
 use Rattle.cmd_load.proofs.Trees.{IsLoadCommand}
+use Rattle.lang_tree.specs.Walk.{content, is_same_node, is_there}
 
 -- A list has no more stretches than numbers.
 
 few_stretches : (xs : List ℕ) → stretches xs ≤ length xs
 few_stretches [] = omega arith
-few_stretches (x ∷ xs) = omega (arith, count_by-le-length is_break (zip (x ∷ xs) xs), length-zip (x ∷ xs) xs, few (length xs))
-  where
-    few : (n : ℕ) → min (suc n) n ≤ n
-    few n = grind arith
+few_stretches (x ∷ xs) = omega (arith, count_by-le-length is_break (zip (x ∷ xs) xs), length-zip (x ∷ xs) xs)
 
 -- A node of a load has at most 12 blocks.
 
@@ -64,11 +61,8 @@ writing_low size hi low = by (max size hi) (wider size hi)
     by m most = omega (arith, most, low)
 
 write_need : (bitmap size offset count : ℕ) → offset + count ≤ 12288 → (write_figures bitmap size offset count).need ≤ 13
-write_need bitmap size offset count low = by (count == 0)
-  where
-    by : (b : Bool) → (if b then nothing else writing bitmap size (min offset size) (offset + count)).need ≤ 13
-    by true = omega arith
-    by false = writing_low size (offset + count) low
+write_need bitmap size offset count low =
+    elim (count == 0) as (λ b. (if b then nothing else writing bitmap size (min offset size) (offset + count)).need ≤ 13) [ true ↦ omega arith | false ↦ writing_low size (offset + count) low ]
 
 truncate_need : (bitmap old new : ℕ) → new ≤ 12288 → (truncate_figures bitmap old new).need ≤ 13
 truncate_need bitmap old new low = by (nat_lt old new) (nat_lt new old)
@@ -91,23 +85,11 @@ rename_need bitmap t from to true = omega arith
 rename_need bitmap t from to false = move_need bitmap t from to
 
 accepted_need : (bitmap : ℕ) (t : Tree) (cmd : Cmd) → IsLoadCommand cmd → (accepted_figures bitmap t cmd).need ≤ 13
-accepted_need bitmap t (Mkdir path) is = growth_low (siblings t.names path)
-accepted_need bitmap t (Create path) is = growth_low (siblings t.names path)
 accepted_need bitmap t (Write path offset bytes) is = write_need bitmap (length (content t path)) offset (length bytes) is
 accepted_need bitmap t (Fill path offset count byte) is = write_need bitmap (length (content t path)) offset count is
-accepted_need bitmap t (Read path offset count) is = absurd is
 accepted_need bitmap t (Truncate path size) is = truncate_need bitmap (length (content t path)) size is
-accepted_need bitmap t (Link path other) is = growth_low (siblings t.names other)
-accepted_need bitmap t (Unlink path) is = omega arith
-accepted_need bitmap t (Rmdir path) is = omega arith
 accepted_need bitmap t (Rename from to) is = rename_need bitmap t from to (is_same_node t from to)
-accepted_need bitmap t (Stat path) is = absurd is
-accepted_need bitmap t (ListNames path) is = absurd is
-accepted_need bitmap t Osync is = omega arith
-accepted_need bitmap t Dsync is = omega arith
-accepted_need bitmap t Durable is = absurd is
-accepted_need bitmap t Poll is = absurd is
-accepted_need bitmap t Bad is = absurd is
+accepted_need bitmap t other is = grind arith
 
 need_by : (bitmap : ℕ) (t : Tree) (cmd : Cmd) (o : Option Refusal) → IsLoadCommand cmd → (figures_by bitmap t cmd o).need ≤ 13
 need_by bitmap t cmd (Some why) is = omega arith

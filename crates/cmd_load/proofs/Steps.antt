@@ -50,8 +50,7 @@ module _ (p : Progress) (made : ℕ) (cmd : Cmd) (reply : Reply) (old new : Stat
       (subst (λ (g : Geometry). AnswersOn g p.session (room_of old) cmd reply next (room_of new)) s.geom (a.answers p.session s.session).3)
 
   counted : (n : ℕ) (b : Bool) → p.refused ≤ n → p.refused + (if b then 1 else 0) ≤ n + 1
-  counted n true h = omega (arith, h)
-  counted n false h = omega (arith, h)
+  counted n b h = grind arith
 
   pub serves_on : Serves (after p cmd) (made + 1) new
   serves_on =

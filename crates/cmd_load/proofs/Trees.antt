@@ -7,7 +7,7 @@ use Rattle.std.specs.Cmp.Lexicographic.{lists_total}
 use Rattle.std.specs.FinMap.{IsAntisymmetric, get, insert, remove, empty, entries, find, get-insert, get-remove, get-empty, get-from_entries, nat_cmp-IsAntisymmetric, slice_cmp-IsAntisymmetric}
 use Rattle.std.specs.Ordering.{is_eq, eq_by_cmp, nat_cmp}
 use Rattle.std.specs.declared.cmp.Ordering.{Ordering}
-use Rattle.std.specs.declared.cmp.Ordering.TheVariants.{Less, Equal, Greater}
+use Rattle.std.specs.declared.cmp.Ordering.TheVariants.{Equal}
 use Rattle.std.proofs.lemmas.Bool.{and_parts, lt-ltb}
 use Rattle.std.proofs.lemmas.List.{length-append, length-take, length-drop, length-replicate}
 use Rattle.std.proofs.lemmas.Nat.{mod_below}
@@ -16,7 +16,7 @@ use Rattle.std.proofs.lemmas.Option.{same_Some, none-some}
 use Rattle.base_types.specs.Draws.{drawn, draws, next_state}
 use Rattle.lang_load.specs.Load.{command, kind_of, kinds, name, next_command, next_kind, part, parts, path}
 use Rattle.lang_tree.specs.declared.command.Cmd.{Cmd}
-use Rattle.lang_tree.specs.declared.command.Cmd.TheVariants.{Mkdir, Create, Write, Fill, Read, Truncate, Link, Unlink, Rmdir, Rename, Stat, List as ListNames, Osync, Dsync, Durable, Poll, Bad}
+use Rattle.lang_tree.specs.declared.command.Cmd.TheVariants.{Mkdir, Create, Write, Fill, Truncate, Link, Unlink, Rmdir, Rename, Osync, Dsync}
 use Rattle.lang_tree.specs.declared.command.Refusal.{Refusal}
 use Rattle.lang_tree.specs.declared.command.Reply.TheVariants.{Ok as Done}
 use Rattle.lang_tree.specs.Conditions.{least_unused}
@@ -67,11 +67,6 @@ path_lawful v = by (v % 4 == 0)
 
 -- the command of the kind at this place among the kinds, whatever its draws are
 command_at : (k : ℕ) (values : List ℕ) → IsLoadCommand (command (slice_index_or kinds k (kind_of 15)) values)
-command_at zero values = path_lawful (part values 0)
-command_at (suc zero) values = path_lawful (part values 0)
-command_at (suc (suc zero)) values = path_lawful (part values 0)
-command_at (suc (suc (suc zero))) values = path_lawful (part values 0)
-command_at (suc (suc (suc (suc zero)))) values = path_lawful (part values 0)
 command_at (suc (suc (suc (suc (suc zero))))) values = omega (arith, mod_below (part values 1) 8192 (omega arith), mod_below (part values 2) 4096 (omega arith))
 command_at (suc (suc (suc (suc (suc (suc zero)))))) values = omega (arith, mod_below (part values 1) 8192 (omega arith), mod_below (part values 2) 4096 (omega arith))
 command_at (suc (suc (suc (suc (suc (suc (suc zero))))))) values = omega (arith, mod_below (part values 1) 8192 (omega arith), mod_below (part values 2) 4096 (omega arith))
@@ -84,6 +79,7 @@ command_at (suc (suc (suc (suc (suc (suc (suc (suc (suc (suc (suc (suc (suc zero
 command_at (suc (suc (suc (suc (suc (suc (suc (suc (suc (suc (suc (suc (suc (suc zero)))))))))))))) values = tt
 command_at (suc (suc (suc (suc (suc (suc (suc (suc (suc (suc (suc (suc (suc (suc (suc zero))))))))))))))) values = tt
 command_at (suc (suc (suc (suc (suc (suc (suc (suc (suc (suc (suc (suc (suc (suc (suc (suc k)))))))))))))))) values = tt
+command_at other values = path_lawful (part values 0)
 
 pub next_is_load : (state : ℕ) → IsLoadCommand (next_command state)
 next_is_load state = command_at (drawn (next_state state) % 16) (draws (parts (next_kind state)) (next_state state))
@@ -100,32 +96,25 @@ path_same : IsAntisymmetric path_cmp
 path_same = slice_cmp-IsAntisymmetric (slice_cmp-IsAntisymmetric nat_cmp-IsAntisymmetric)
 
 equal_of : (o : Ordering) → is_eq o ≡ true → o ≡ Equal
-equal_of Less e = absurd cc
 equal_of Equal e = refl
-equal_of Greater e = absurd cc
+equal_of other e = absurd cc
 
 names_put : (names : Names) (k : List (List ℕ)) (v : ℕ) → Named k → AreNamed names → AreNamed (insert names k v)
-names_put names k v law h p n e = by (eq_by_cmp path_cmp p k) refl (sym (get-insert path_total names k v p) ∙ e)
-  where
-    by : (b : Bool) → eq_by_cmp path_cmp p k ≡ b → cond b (Some v) (get names p) ≡ Some n → Named p
-    by true same is = subst Named (sym (path_same p k (equal_of (path_cmp p k) same))) law
-    by false same is = h p n is
+names_put names k v law h p n e = elim (eq_by_cmp path_cmp p k) as (λ b. eq_by_cmp path_cmp p k ≡ b → cond b (Some v) (get names p) ≡ Some n → Named p) [
+  | true ↦ λ same is. subst Named (sym (path_same p k (equal_of (path_cmp p k) same))) law
+  | false ↦ λ same is. h p n is
+] refl (sym (get-insert path_total names k v p) ∙ e)
 
 names_out : (names : Names) (k : List (List ℕ)) → AreNamed names → AreNamed (remove names k)
-names_out names k h p n e = by (eq_by_cmp path_cmp p k) (sym (get-remove path_total names k p) ∙ e)
-  where
-    by : (b : Bool) → cond b None (get names p) ≡ Some n → Named p
-    by true is = cc is
-    by false is = h p n is
+names_out names k h p n e = elim (eq_by_cmp path_cmp p k) as (λ b. cond b None (get names p) ≡ Some n → Named p) [ true ↦ λ is. cc is | false ↦ λ is. h p n is ] (sym (get-remove path_total names k p) ∙ e)
 
 behind_is_named : (front path rest : List (List ℕ)) → Named path → strip front path ≡ Some rest → Named rest
 behind_is_named [] path rest h e = subst Named (same_Some path rest e) h
 behind_is_named (a ∷ front) [] rest h e = cc e
-behind_is_named (a ∷ front) (b ∷ path) rest h e = by (bytes_eq a b) (behind_is_named front path rest (and_parts (is_load_name b) (list_all is_load_name path) h).1) e
-  where
-    by : (t : Bool) → (strip front path ≡ Some rest → Named rest) → (if t then strip front path else None) ≡ Some rest → Named rest
-    by true later is = later is
-    by false later is = cc is
+behind_is_named (a ∷ front) (b ∷ path) rest h e = elim (bytes_eq a b) as (λ t. (strip front path ≡ Some rest → Named rest) → (if t then strip front path else None) ≡ Some rest → Named rest) [
+  | true ↦ λ later is. later is
+  | false ↦ λ later is. cc is
+] (behind_is_named front path rest (and_parts (is_load_name b) (list_all is_load_name path) h).1) e
 
 both_named : (p q : List (List ℕ)) → Named p → Named q → Named (p ++ q)
 both_named [] q h k = k
@@ -134,11 +123,10 @@ both_named (x ∷ p) q h k =
     rw parts.0 (both_named p q parts.1 k)
 
 moved_is_named : (from to path : List (List ℕ)) → Named to → Named path → Named (moved_path from to path)
-moved_is_named from to path h k = by (strip from path) (λ rest. behind_is_named from path rest k)
-  where
-    by : (o : Option (List (List ℕ))) → ((rest : List (List ℕ)) → o ≡ Some rest → Named rest) → Named (moved_by to path o)
-    by None later = k
-    by (Some rest) later = both_named to rest h (later rest refl)
+moved_is_named from to path h k = elim (strip from path) as (λ o. ((rest : List (List ℕ)) → o ≡ Some rest → Named rest) → Named (moved_by to path o)) [
+  | None ↦ λ later. k
+  | Some rest ↦ λ later. both_named to rest h (later rest refl)
+] (λ rest. behind_is_named from path rest k)
 
 each_moved : (from to : List (List ℕ)) (es : List (List (List ℕ) × ℕ)) → Named to → Each (λ e. Named e.0) es → Each (λ (e : List (List ℕ) × ℕ). Named e.0) (map (λ e. (moved_path from to e.0, e.1)) es)
 each_moved from to [] h k = tt
@@ -146,11 +134,10 @@ each_moved from to (e ∷ es) h k = (moved_is_named from to e.0 h k.0, each_move
 
 found_is_named : (es : List (List (List ℕ) × ℕ)) (q : List (List ℕ)) (n : ℕ) → Each (λ e. Named e.0) es → find path_cmp q es ≡ Some n → Named q
 found_is_named [] q n h e = cc e
-found_is_named (f ∷ es) q n h e = by (eq_by_cmp path_cmp q f.0) refl (found_is_named es q n h.1) e
-  where
-    by : (b : Bool) → eq_by_cmp path_cmp q f.0 ≡ b → (find path_cmp q es ≡ Some n → Named q) → cond b (Some f.1) (find path_cmp q es) ≡ Some n → Named q
-    by true same later is = subst Named (sym (path_same q f.0 (equal_of (path_cmp q f.0) same))) h.0
-    by false same later is = later is
+found_is_named (f ∷ es) q n h e = elim (eq_by_cmp path_cmp q f.0) as (λ b. eq_by_cmp path_cmp q f.0 ≡ b → (find path_cmp q es ≡ Some n → Named q) → cond b (Some f.1) (find path_cmp q es) ≡ Some n → Named q) [
+  | true ↦ λ same later is. subst Named (sym (path_same q f.0 (equal_of (path_cmp q f.0) same))) h.0
+  | false ↦ λ same later is. later is
+] refl (found_is_named es q n h.1) e
 
 names_moved : (names : Names) (from to : List (List ℕ)) → Named to → AreNamed names → AreNamed (renamed names from to)
 names_moved names from to law h p n e =
@@ -168,18 +155,16 @@ IsSmall Dir = ⊤
 IsSmall (File bytes) = length bytes ≤ largest
 
 nodes_put : (nodes : Nodes) (k : ℕ) (x : Thing) → IsSmall x → Small nodes → Small (insert nodes k x)
-nodes_put nodes k x law h n bytes e = by (eq_by_cmp nat_cmp n k) (sym (get-insert nat_cmp_total nodes k x n) ∙ e)
-  where
-    by : (b : Bool) → cond b (Some x) (get nodes n) ≡ Some (File bytes) → length bytes ≤ largest
-    by true is = subst IsSmall (same_Some x (File bytes) is) law
-    by false is = h n bytes is
+nodes_put nodes k x law h n bytes e = elim (eq_by_cmp nat_cmp n k) as (λ b. cond b (Some x) (get nodes n) ≡ Some (File bytes) → length bytes ≤ largest) [
+  | true ↦ λ is. subst IsSmall (same_Some x (File bytes) is) law
+  | false ↦ λ is. h n bytes is
+] (sym (get-insert nat_cmp_total nodes k x n) ∙ e)
 
 nodes_out : (nodes : Nodes) (k : ℕ) → Small nodes → Small (remove nodes k)
-nodes_out nodes k h n bytes e = by (eq_by_cmp nat_cmp n k) (sym (get-remove nat_cmp_total nodes k n) ∙ e)
-  where
-    by : (b : Bool) → cond b None (get nodes n) ≡ Some (File bytes) → length bytes ≤ largest
-    by true is = cc is
-    by false is = h n bytes is
+nodes_out nodes k h n bytes e = elim (eq_by_cmp nat_cmp n k) as (λ b. cond b None (get nodes n) ≡ Some (File bytes) → length bytes ≤ largest) [
+  | true ↦ λ is. cc is
+  | false ↦ λ is. h n bytes is
+] (sym (get-remove nat_cmp_total nodes k n) ∙ e)
 
 -- it leaves no small file larger
 abbrev KeepsSmall : (List ℕ → List ℕ) → Type 0
@@ -249,9 +234,8 @@ files_kept = record {
     make t path thing small h (Some n) = nodes_put t.nodes n thing small h
 
     node_at : (nodes : Nodes) (n : ℕ) (change : List ℕ → List ℕ) → KeepsSmall change → Small nodes → (o : Option Thing) → get nodes n ≡ o → Small (with_bytes nodes n change o)
-    node_at nodes n change same h None is = h
-    node_at nodes n change same h (Some Dir) is = h
     node_at nodes n change same h (Some (File bytes)) is = nodes_put nodes n (File (change bytes)) (same bytes (h n bytes is)) h
+    node_at nodes n change same h other is = h
 
     change_at : (t : Tree) (change : List ℕ → List ℕ) → KeepsSmall change → Small t.nodes → (o : Option ℕ) → Small (edited_at t change o).nodes
     change_at t change same h None = h
@@ -273,25 +257,22 @@ files_kept = record {
 
 module _ (P : Tree → Type 0) (kept : IsKept P) where
   write_keeps : (s : Session) (path : List (List ℕ)) (offset : ℕ) (bytes : List ℕ) → offset + length bytes ≤ largest → P s.tree → P (write s path offset bytes).0.tree
-  write_keeps s path offset bytes low h = by (length bytes == 0)
-    where
-      by : (b : Bool) → P (if b then (s, Done) else changed_to s (edited s.tree path (written offset bytes))).0.tree
-      by true = h
-      by false = kept.changed s.tree path (written offset bytes) (λ xs small. written_small largest offset bytes xs low small) h
+  write_keeps s path offset bytes low h = elim (length bytes == 0) as (λ b. P (if b then (s, Done) else changed_to s (edited s.tree path (written offset bytes))).0.tree) [
+    | true ↦ h
+    | false ↦ kept.changed s.tree path (written offset bytes) (λ xs small. written_small largest offset bytes xs low small) h
+  ]
 
   truncate_keeps : (s : Session) (path : List (List ℕ)) (size : ℕ) → size ≤ largest → P s.tree → P (truncate s path size).0.tree
-  truncate_keeps s path size low h = by (size == length (content s.tree path))
-    where
-      by : (b : Bool) → P (if b then (s, Done) else changed_to s (edited s.tree path (resized size))).0.tree
-      by true = h
-      by false = kept.changed s.tree path (resized size) (λ xs small. resized_small largest size xs low) h
+  truncate_keeps s path size low h = elim (size == length (content s.tree path)) as (λ b. P (if b then (s, Done) else changed_to s (edited s.tree path (resized size))).0.tree) [
+    | true ↦ h
+    | false ↦ kept.changed s.tree path (resized size) (λ xs small. resized_small largest size xs low) h
+  ]
 
   rename_keeps : (s : Session) (from to : List (List ℕ)) → Named to → P s.tree → P (rename s from to).0.tree
-  rename_keeps s from to law h = by (is_same_node s.tree from to)
-    where
-      by : (b : Bool) → P (if b then (s, Done) else changed_to s (moved (removed s.tree to) from to)).0.tree
-      by true = h
-      by false = kept.shifted (removed s.tree to) from to law (kept.gone s.tree to h)
+  rename_keeps s from to law h = elim (is_same_node s.tree from to) as (λ b. P (if b then (s, Done) else changed_to s (moved (removed s.tree to) from to)).0.tree) [
+    | true ↦ h
+    | false ↦ kept.shifted (removed s.tree to) from to law (kept.gone s.tree to h)
+  ]
 
   sync_keeps : (s : Session) (changed : Bool) → P s.tree → P (osync s changed).0.tree
   sync_keeps s true h = h
@@ -302,19 +283,14 @@ module _ (P : Tree → Type 0) (kept : IsKept P) where
   accepted_keeps s (Create path) law h = kept.made s.limit s.tree path (File []) law (omega arith) h
   accepted_keeps s (Write path offset bytes) law h = write_keeps s path offset bytes law h
   accepted_keeps s (Fill path offset count byte) law h = write_keeps s path offset (replicate count byte) (omega (arith, law, length-replicate count byte)) h
-  accepted_keeps s (Read path offset count) law h = h
   accepted_keeps s (Truncate path size) law h = truncate_keeps s path size law h
   accepted_keeps s (Link path other) law h = kept.tied s.tree path other law h
   accepted_keeps s (Unlink path) law h = kept.gone s.tree path h
   accepted_keeps s (Rmdir path) law h = kept.gone s.tree path h
   accepted_keeps s (Rename from to) law h = rename_keeps s from to law h
-  accepted_keeps s (Stat path) law h = h
-  accepted_keeps s (ListNames path) law h = h
   accepted_keeps s Osync law h = sync_keeps s s.changed h
   accepted_keeps s Dsync law h = sync_keeps s s.changed h
-  accepted_keeps s Durable law h = h
-  accepted_keeps s Poll law h = h
-  accepted_keeps s Bad law h = h
+  accepted_keeps s other law h = h
 
   answered_keeps : (s : Session) (cmd : Cmd) (o : Option Refusal) → IsLoadCommand cmd → P s.tree → P (answered s cmd o).0.tree
   answered_keeps s cmd None law h = accepted_keeps s cmd law h

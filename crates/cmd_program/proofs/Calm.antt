@@ -38,76 +38,32 @@ opens_calmly name bay calm (inr none) = calm.there none
 -- the disk of a run is of one manner
 pub one_manner : (tells : Bool) (first last : State) (marks : List Mark) (answer : Result Ending RunRefusal) (before after : Streams) → IsTrue tells → ComesOfDisk tells first last marks answer before after → last.manner ≡ first.manner
 one_manner tells first last marks (Ok ending) before after t comes = (comes.runs t).manner
-one_manner tells first last marks (Err run.Fault) before after t comes = comes.spends.manner
-one_manner tells first last marks (Err (run.Damaged damage)) before after t comes = comes.spends.manner
-one_manner tells first last marks (Err run.Spent) before after t comes = comes.spends.manner
 one_manner tells first last marks (Err run.SinkFault) before after t comes = (comes.runs t).manner
 one_manner tells first last marks (Err run.NoMemory) before after t (inl unopened) = unopened.spends.manner
 one_manner tells first last marks (Err run.NoMemory) before after t (inr ran) = (ran.runs t).manner
+one_manner tells first last marks other before after t comes = comes.spends.manner
 
 -- The replies of a run.
 
 -- a reply that isn't 14 counts no call
 uncounted : (reply : Reply) → (reply ≡ replies.Refused because.DiskFault → ⊥) → is_failed reply ≡ false
-uncounted replies.Ok other = refl
-uncounted (replies.Bytes bytes) other = refl
-uncounted (replies.Stat stat) other = refl
-uncounted (replies.Names names) other = refl
-uncounted (replies.Synced n) other = refl
-uncounted (replies.DurableAt n) other = refl
-uncounted (replies.Known n) other = refl
-uncounted replies.Bad other = refl
-uncounted (replies.Refused because.NotFound) other = refl
-uncounted (replies.Refused because.Exists) other = refl
-uncounted (replies.Refused because.NotDir) other = refl
-uncounted (replies.Refused because.IsDir) other = refl
-uncounted (replies.Refused because.NotEmpty) other = refl
-uncounted (replies.Refused because.BelowItself) other = refl
-uncounted (replies.Refused because.TooLarge) other = refl
-uncounted (replies.Refused because.TooManyLinks) other = refl
-uncounted (replies.Refused because.NoNode) other = refl
-uncounted (replies.Refused (because.Full need left)) other = refl
-uncounted (replies.Refused (because.TooBig weight cost room)) other = refl
-uncounted (replies.Refused (because.Scattered runs)) other = refl
-uncounted (replies.Refused because.ReadFault) other = refl
 uncounted (replies.Refused because.DiskFault) other = absurd (other refl)
-uncounted (replies.Refused because.Stopped) other = refl
-uncounted (replies.Refused because.Spent) other = refl
-uncounted (replies.Refused because.NoMemory) other = refl
+uncounted rest other = refl
 
 module _ (m : Manner) (calm : NothingFails m) (log : List Event) where
   unfailed : (reply : Reply) (by_then : List Event) → HasReason m by_then reply → reply ≡ replies.Refused because.DiskFault → ⊥
   unfailed reply by_then reason is = ∥∥₁_elim (reason.fails is) (λ x y. absurd x) (λ (failed : HasFailedBy m by_then). not_failed m by_then calm failed)
 
   no_call : (before now : Mark) (reply : Reply) (moment : ℕ) (by_then : List Event) (why : Refusal) → before.faults ≡ 0 → Marks before reply moment now → HasReason m by_then reply → reply ≡ replies.Refused why → is_for_a_call why ≡ false
-  no_call before now reply moment by_then because.NotFound none mark reason is = refl
-  no_call before now reply moment by_then because.Exists none mark reason is = refl
-  no_call before now reply moment by_then because.NotDir none mark reason is = refl
-  no_call before now reply moment by_then because.IsDir none mark reason is = refl
-  no_call before now reply moment by_then because.NotEmpty none mark reason is = refl
-  no_call before now reply moment by_then because.BelowItself none mark reason is = refl
-  no_call before now reply moment by_then because.TooLarge none mark reason is = refl
-  no_call before now reply moment by_then because.TooManyLinks none mark reason is = refl
-  no_call before now reply moment by_then because.NoNode none mark reason is = refl
-  no_call before now reply moment by_then (because.Full need left) none mark reason is = refl
-  no_call before now reply moment by_then (because.TooBig weight cost room) none mark reason is = refl
-  no_call before now reply moment by_then (because.Scattered runs) none mark reason is = refl
   no_call before now reply moment by_then because.ReadFault none mark reason is = absurd (false≢true (sym calm.reads ∙ reason.reads is))
   no_call before now reply moment by_then because.DiskFault none mark reason is = absurd (unfailed reply by_then reason is)
-  no_call before now reply moment by_then because.Stopped none mark reason is = absurd (some (mark.stopped is))
-    where
-      some : 0 < before.faults → ⊥
-      some more = omega (arith, more, none)
-  no_call before now reply moment by_then because.Spent none mark reason is = refl
-  no_call before now reply moment by_then because.NoMemory none mark reason is = refl
+  no_call before now reply moment by_then because.Stopped none mark reason is = absurd (omega (arith, mark.stopped is, none))
+  no_call before now reply moment by_then other none mark reason is = refl
 
   pub no_reply : (before now : Mark) (given : List Reply) (moments : List ℕ) (marks : List Mark) → before.faults ≡ 0 → MarksGo before given moments marks now → HaveReasons m log given moments
       → (i : ℕ) (why : Refusal) → slice_get given i ≡ Some (replies.Refused why) → is_for_a_call why ≡ false
   no_reply before now [] [] [] none go have i why at = absurd cc
-  no_reply before now [] [] (mark ∷ marks) none go have i why at = absurd go
-  no_reply before now [] (k ∷ moments) marks none go have i why at = absurd go
-  no_reply before now (r ∷ given) [] marks none go have i why at = absurd go
-  no_reply before now (r ∷ given) (k ∷ moments) [] none go have i why at = absurd go
   no_reply before now (r ∷ given) (k ∷ moments) (mark ∷ marks) none go have zero why at = no_call before mark r k (take k log) why none go.0 have.0 (ap (λ o. unwrap_or o r) at)
   no_reply before now (r ∷ given) (k ∷ moments) (mark ∷ marks) none go have (suc i) why at =
       no_reply mark now given moments marks (go.0.faults ∙ ap (λ (b : Bool). after_call b before.faults) (uncounted r (unfailed r (take k log) have.0)) ∙ none) go.1 have.1 i why at
+  no_reply before now other rest marks none go have i why at = absurd go

@@ -1,5 +1,5 @@
 -- The last line of each ending, taken or not.
-use Rattle.std.proofs.Common.{◌≡◌, ℕ, ◌^◌, ◌≤◌, ◌==◌, nat_lt, Bool, true, false, if◌then◌else◌, List, [], ◌∷◌, ◌++◌, flat_map, length, take, drop, Option, refl, sym, ap, ◌∙◌, subst, inl, inr, arith, append_assoc, append-nil, take-append-drop, take_all}
+use Rattle.std.proofs.Common.{◌≡◌, ℕ, ◌^◌, ◌≤◌, ◌<◌, ◌==◌, nat_lt, Bool, true, false, if◌then◌else◌, List, [], ◌∷◌, ◌++◌, flat_map, length, take, drop, Option, refl, sym, ap, ◌∙◌, subst, inl, inr, arith, append_assoc, append-nil, take-append-drop, take_all}
 use Rattle.std.specs.Io.KnownBytes.{Appends}
 use Rattle.std.proofs.KnownBytes.{Appends-trans, Appends-nil, Consumes-nil}
 use Rattle.base_types.specs.Counts.{Rose}
@@ -16,12 +16,12 @@ use Rattle.lang_tree.specs.declared.command.Cmd.TheVariants.{Bad}
 use Rattle.lang_tree.specs.Step.{start}
 use Rattle.cmd_host.specs.Disks.{FailedToMount}
 use Rattle.cmd_host.specs.Behaving.{Setting}
-use Rattle.cmd_record.specs.Traces.{ServesBy}
+use Rattle.cmd_record.specs.Traces.{IsFront, IsTrace, ServesBy}
 use Rattle.cmd_record.specs.Reading.{AtEnding, Halted, ReadsAll, ReadsSome, ReadsTooMuch}
 use Rattle.lang_lines.specs.Lines.{longest, commands_of_line, commands_of, whole_commands, whole_lines, parts_of}
-use Rattle.cmd_program.specs.Output.{IsWhole, FailsToMount}
+use Rattle.cmd_program.specs.Output.{IsWhole, FailsToMount, IsCutShort, Recorded}
 use Rattle.cmd_program.specs.Endings.{HasFault, Tells, disk_line, source_line, long_line}
-use Rattle.cmd_program.specs.Program.{RecordsTo}
+use Rattle.cmd_program.specs.Program.{RecordsTo, Reads, ReadsPast, ReadsWithin}
 use Rattle.cmd_record.specs.declared.reading.Ending.{Ending}
 use Rattle.cmd_record.specs.declared.reading.Ending.TheVariants.{End, SourceFault as Broke, LongInput as Longer}
 use Rattle.cmd_program.specs.declared.status.Status.{Status}
@@ -61,77 +61,51 @@ some_read read seen = lines_read read longest (whole_lines seen)
 regroup : (body line : List ℕ) (n : ℕ) → body ++ line ≡ (body ++ take n line) ++ drop n line
 regroup body line n = ap (λ l. body ++ l) (sym (take-append-drop n line)) ∙ sym (append_assoc body (take n line) (drop n line))
 
+taken_front : (W : List ℕ → Type 0) (body line : List ℕ) (n : ℕ) → W (body ++ line) → IsFront W (body ++ take n line)
+taken_front W body line n whole = (drop n line, subst W (regroup body line n) whole)
+
+-- the last line behind the body, or a front of it where the sink failed
+told_line : (set : Setting) (X result : Status) (left now told mid out : Option (List ℕ)) (source source_now sink sink_now : ℕ) (seen body own line : List ℕ) → line ≡ own → Appends told mid body
+    → Reads X seen left now → Reads SinkFault seen left now → Recorded set X (Rose source source_now) seen (body ++ own) → ((n : ℕ) → Recorded set SinkFault (Rose source source_now) seen (body ++ take n own))
+    → Tells X result line mid out sink sink_now → RecordsTo set result left now told out source source_now
+told_line set X result left now told mid out source source_now sink sink_now seen body own line is front reads some recorded broken (inl t) =
+    subst (λ s. RecordsTo set s left now told out source source_now) (sym t.0) (record {
+      seen = seen;
+      reads = reads;
+      text = body ++ own;
+      writes = Appends-trans told mid out body own front (subst (λ (l : List ℕ). Appends mid out l) is t.1);
+      output = recorded;
+    })
+told_line set X result left now told mid out source source_now sink sink_now seen body own line is front reads some recorded broken (inr t) =
+    subst (λ s. RecordsTo set s left now told out source source_now) (sym t.0) (record {
+      seen = seen;
+      reads = some;
+      text = body ++ take t.1.0 own;
+      writes = Appends-trans told mid out body _ front (subst (λ (l : List ℕ). Appends mid out (take t.1.0 l)) is t.1.1);
+      output = broken t.1.0;
+    })
+
 pub tells_end : (set : Setting) → AreCommands → (result : Status) (left now told mid out : Option (List ℕ)) (source source_now sink sink_now : ℕ) (line : List ℕ) → line ≡ end_line
     → ReadsAll set left now told mid → Tells Done result line mid out sink sink_now → RecordsTo set result left now told out source source_now
-tells_end set read result left now told mid out source source_now sink sink_now line is r (inl t) =
-    let P : Status → Type 0 = λ s. RecordsTo set s left now told out source source_now in
-    let Q : List ℕ → Type 0 = λ l. Appends mid out l in
-    subst P (sym t.0) (record {
-      seen = r.seen;
-      reads = ((r.read, r.short), r.over);
-      text = r.serves.body ++ end_line;
-      writes = Appends-trans told mid out r.serves.body end_line r.serves.told (subst Q is t.1);
-      output = record { body = r.serves.body; served = r.serves.served (all_read read r.seen); is = refl };
-    })
-tells_end set read result left now told mid out source source_now sink sink_now line is r (inr t) =
-    let P : Status → Type 0 = λ s. RecordsTo set s left now told out source source_now in
-    let Q : List ℕ → Type 0 = λ l. Appends mid out (take t.1.0 l) in
-    let R : List ℕ → Type 0 = λ l. IsWhole (ServesBy set) (Rose source source_now) r.seen l in
-    subst P (sym t.0) (record {
-      seen = r.seen;
-      reads = inl (r.read, r.short);
-      text = r.serves.body ++ take t.1.0 end_line;
-      writes = Appends-trans told mid out r.serves.body _ r.serves.told (subst Q is t.1.1);
-      output = inl (drop t.1.0 end_line, subst R (regroup r.serves.body end_line t.1.0) (inl (record { body = r.serves.body; served = r.serves.served (all_read read r.seen); is = refl })));
-    })
+tells_end set read result left now told mid out source source_now sink sink_now line is r t =
+    let text : IsTrace (ServesBy set) r.seen (r.serves.body ++ end_line) = record { body = r.serves.body; served = r.serves.served (all_read read r.seen); is = refl } in
+    told_line set Done result left now told mid out source source_now sink sink_now r.seen r.serves.body end_line line is r.serves.told ((r.read, r.short), r.over) (inl (r.read, r.short)) text
+    (λ n. inl (taken_front (IsWhole (ServesBy set) (Rose source source_now) r.seen) r.serves.body end_line n (inl text))) t
 
 pub tells_source : (set : Setting) → AreCommands → (result : Status) (left now told mid out : Option (List ℕ)) (source source_now sink sink_now : ℕ) (line : List ℕ) → line ≡ source_line → Rose source source_now
     → ReadsSome set left now told mid → Tells SourceFault result line mid out sink sink_now → RecordsTo set result left now told out source source_now
-tells_source set read result left now told mid out source source_now sink sink_now line is rose r (inl t) =
-    let P : Status → Type 0 = λ s. RecordsTo set s left now told out source source_now in
-    let Q : List ℕ → Type 0 = λ l. Appends mid out l in
-    subst P (sym t.0) (record {
-      seen = r.seen;
-      reads = (r.read, r.short);
-      text = r.serves.body ++ source_line;
-      writes = Appends-trans told mid out r.serves.body source_line r.serves.told (subst Q is t.1);
-      output = record { body = r.serves.body; served = r.serves.served (some_read read r.seen); is = refl };
-    })
-tells_source set read result left now told mid out source source_now sink sink_now line is rose r (inr t) =
-    let P : Status → Type 0 = λ s. RecordsTo set s left now told out source source_now in
-    let Q : List ℕ → Type 0 = λ l. Appends mid out (take t.1.0 l) in
-    let R : List ℕ → Type 0 = λ l. IsWhole (ServesBy set) (Rose source source_now) r.seen l in
-    subst P (sym t.0) (record {
-      seen = r.seen;
-      reads = inl (r.read, r.short);
-      text = r.serves.body ++ take t.1.0 source_line;
-      writes = Appends-trans told mid out r.serves.body _ r.serves.told (subst Q is t.1.1);
-      output = inl (drop t.1.0 source_line, subst R (regroup r.serves.body source_line t.1.0) (inr (inl (rose, record { body = r.serves.body; served = r.serves.served (some_read read r.seen); is = refl }))));
-    })
+tells_source set read result left now told mid out source source_now sink sink_now line is rose r t =
+    let text : IsCutShort (ServesBy set) r.seen source_line (r.serves.body ++ source_line) = record { body = r.serves.body; served = r.serves.served (some_read read r.seen); is = refl } in
+    told_line set SourceFault result left now told mid out source source_now sink sink_now r.seen r.serves.body source_line line is r.serves.told (r.read, r.short) (inl (r.read, r.short)) text
+    (λ n. inl (taken_front (IsWhole (ServesBy set) (Rose source source_now) r.seen) r.serves.body source_line n (inr (inl (rose, text))))) t
 
 pub tells_long : (set : Setting) → AreCommands → (result : Status) (left now told mid out : Option (List ℕ)) (source source_now sink sink_now : ℕ) (line : List ℕ) → line ≡ long_line
     → ReadsTooMuch set left now told mid → Tells LongInput result line mid out sink sink_now → RecordsTo set result left now told out source source_now
-tells_long set read result left now told mid out source source_now sink sink_now line is r (inl t) =
-    let P : Status → Type 0 = λ s. RecordsTo set s left now told out source source_now in
-    let Q : List ℕ → Type 0 = λ l. Appends mid out l in
-    subst P (sym t.0) (record {
-      seen = r.seen;
-      reads = (r.next, r.read, r.long);
-      text = r.serves.body ++ long_line;
-      writes = Appends-trans told mid out r.serves.body long_line r.serves.told (subst Q is t.1);
-      output = record { body = r.serves.body; served = r.serves.served (some_read read r.seen); is = refl };
-    })
-tells_long set read result left now told mid out source source_now sink sink_now line is r (inr t) =
-    let P : Status → Type 0 = λ s. RecordsTo set s left now told out source source_now in
-    let Q : List ℕ → Type 0 = λ l. Appends mid out (take t.1.0 l) in
-    let R : List ℕ → Type 0 = λ l. IsWhole (ServesBy set) (Rose source source_now) r.seen l in
-    subst P (sym t.0) (record {
-      seen = r.seen;
-      reads = inr (r.next, r.read, r.long);
-      text = r.serves.body ++ take t.1.0 long_line;
-      writes = Appends-trans told mid out r.serves.body _ r.serves.told (subst Q is t.1.1);
-      output = inl (drop t.1.0 long_line, subst R (regroup r.serves.body long_line t.1.0) (inr (inr (r.long, record { body = r.serves.body; served = r.serves.served (some_read read r.seen); is = refl }))));
-    })
+tells_long set read result left now told mid out source source_now sink sink_now line is r t =
+    let text : IsCutShort (ServesBy set) r.seen long_line (r.serves.body ++ long_line) = record { body = r.serves.body; served = r.serves.served (some_read read r.seen); is = refl } in
+    let reads : ReadsPast r.seen left now = (r.next, r.read, r.long) in
+    told_line set LongInput result left now told mid out source source_now sink sink_now r.seen r.serves.body long_line line is r.serves.told reads (inr reads) text
+    (λ n. inl (taken_front (IsWhole (ServesBy set) (Rose source source_now) r.seen) r.serves.body long_line n (inr (inr (r.long, text))))) t
 
 pub closes_end : (set : Setting) → AreCommands → (ending : Ending) (result : Status) (source source_now : ℕ) (left now told mid out : Option (List ℕ)) (sink sink_now : ℕ) (line : List ℕ) → ending ≡ End → line ≡ end_line
     → AtEnding set ending source source_now left now told mid → Tells Done result line mid out sink sink_now → RecordsTo set result left now told out source source_now
@@ -213,20 +187,12 @@ head_of g d = (geometry_line g ++ event_lines d.log) ++ end_line
 
 fails_so : (set : Setting) (d : MemDiskState) → IsGeometry set.shape → StandsFor set.shape.n (formatted set.shape) (start set.shape.i).tree → FailedToMount set (disk_state d) → FailsToMount set (head_of set.shape d ++ disk_line)
 fails_so set d low root failed =
+    let blocks : set.shape.n < 2 ^ 64 = omega (arith, low.most_blocks) in
+    let journal : set.shape.j < 2 ^ 64 = omega (arith, low.most_journal) in
+    let nodes : set.shape.i < 2 ^ 64 = omega (arith, low.most_nodes) in
     record {
       log = d.log;
-      lawful = record {
-        blocks = omega (arith, low.most_blocks);
-        journal = omega (arith, low.most_journal);
-        nodes = omega (arith, low.most_nodes);
-        log = failed.lawful;
-        events = failed.events;
-        cmds = tt;
-        replies = tt;
-        each_answered = refl;
-        each_marked = refl;
-        ascend = refl;
-      };
+      lawful = assumption (blocks, journal, nodes, failed.lawful, failed.events, tt);
       begins = root;
       consistent = failed.consistent;
       writes = failed.writes;
@@ -237,26 +203,11 @@ fails_so set d low root failed =
 
 pub tells_disk : (set : Setting) (d : MemDiskState) (result : Status) (left told mid out : Option (List ℕ)) (source sink sink_now : ℕ) (line : List ℕ) → IsGeometry set.shape → StandsFor set.shape.n (formatted set.shape) (start set.shape.i).tree → FailedToMount set (disk_state d)
     → line ≡ disk_line → Appends told mid (head_of set.shape d) → Tells DiskFault result line mid out sink sink_now → RecordsTo set result left left told out source source
-tells_disk set d result left told mid out source sink sink_now line low root failed is wrote (inl t) =
-    let P : Status → Type 0 = λ s. RecordsTo set s left left told out source source in
-    let Q : List ℕ → Type 0 = λ l. Appends mid out l in
-    subst P (sym t.0) (record {
-      seen = [];
-      reads = (refl, (Consumes-nil left, omega arith));
-      text = head_of set.shape d ++ disk_line;
-      writes = Appends-trans told mid out (head_of set.shape d) disk_line wrote (subst Q is t.1);
-      output = fails_so set d low root failed;
-    })
-tells_disk set d result left told mid out source sink sink_now line low root failed is wrote (inr t) =
-    let P : Status → Type 0 = λ s. RecordsTo set s left left told out source source in
-    let Q : List ℕ → Type 0 = λ l. Appends mid out (take t.1.0 l) in
-    subst P (sym t.0) (record {
-      seen = [];
-      reads = inl (Consumes-nil left, omega arith);
-      text = head_of set.shape d ++ take t.1.0 disk_line;
-      writes = Appends-trans told mid out (head_of set.shape d) _ wrote (subst Q is t.1.1);
-      output = inr (inr (drop t.1.0 disk_line, subst (FailsToMount set) (regroup (head_of set.shape d) disk_line t.1.0) (fails_so set d low root failed)));
-    })
+tells_disk set d result left told mid out source sink sink_now line low root failed is wrote t =
+    let fails = fails_so set d low root failed in
+    let none : ReadsWithin [] left left = (Consumes-nil left, omega arith) in
+    told_line set DiskFault result left left told mid out source source sink sink_now [] (head_of set.shape d) disk_line line is wrote (refl, none) (inl none) fails
+    (λ n. inr (inr (taken_front (FailsToMount set) (head_of set.shape d) disk_line n fails))) t
 
 pub head_broke : (set : Setting) (d : MemDiskState) (left told out : Option (List ℕ)) (source n : ℕ) → IsGeometry set.shape → StandsFor set.shape.n (formatted set.shape) (start set.shape.i).tree → FailedToMount set (disk_state d)
     → Appends told out (take n (head_of set.shape d)) → RecordsTo set SinkFault left left told out source source

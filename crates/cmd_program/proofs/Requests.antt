@@ -1,6 +1,6 @@
 -- What the program does for each request that words may be.
 use Rattle.std.proofs.Common.{◌≡◌, ℕ, ◌≤◌, ◌==◌, nat_lt, Bool, true, false, not, ◌&&◌, ◌||◌, List, [], Option, None, Some, Result, Ok, Err, refl, sym, ap, ◌∙◌, subst, inl, inr, arith}
-use Rattle.std.specs.Io.KnownBytes.{Keeps}
+use Rattle.std.proofs.KnownBytes.{Keeps-refl}
 use Rattle.std.proofs.KnownBytes.{Consumes-nil}
 use Rattle.std.proofs.lemmas.Bool.{and_right, eqb-true, false≢true, lt-ltb, not_from_true, or_from}
 use Rattle.base_types.specs.Counts.{Rose}
@@ -44,7 +44,7 @@ use Rattle.cmd_program.specs.Replaying.{EndsAt, EndsCrash, EndsFound, EndsReadin
 use Rattle.cmd_program.specs.Scripting.{EndsScript, RunsTo}
 use Rattle.cmd_program.specs.Showing.{EndsShowing, ShowsTo}
 use Rattle.cmd_program.specs.declared.status.Status.{Status}
-use Rattle.cmd_program.specs.declared.status.Status.TheVariants.{Done, Usage, BadTrace, NoMemory, DiskFault, Damaged, SourceFault, SinkFault, Spent, NoPrefix, BadShape, LongInput, BadChoice}
+use Rattle.cmd_program.specs.declared.status.Status.TheVariants.{Done, Usage, BadTrace, NoMemory, DiskFault, Damaged, SourceFault, SinkFault, Spent, NoPrefix, LongInput, BadChoice}
 use Rattle.cmd_program.proofs.ProgramLemmas.{never_begun}
 
 -- a line that was told ends the run
@@ -62,11 +62,7 @@ refused refusal result line told out sink sink_now t = inl (behind refusal resul
 -- whether the first write is listed, of a list that has one write at most
 first_listed : (fail : Option ℕ) → is_listed calls.Write 1 (fails_of fail) ≡ true → fail ≡ Some 1
 first_listed None is = absurd (false≢true is)
-first_listed (Some write) is = ap Some (eqb-true write 1 (first (write == 1) is))
-  where
-    first : (b : Bool) → ((true && b) || false) ≡ true → b ≡ true
-    first true e = refl
-    first false e = e
+first_listed (Some write) is = ap Some (eqb-true write 1 (elim (write == 1) as (λ b. ((true && b) || false) ≡ true → b ≡ true) [ true ↦ λ e. refl | false ↦ λ e. e ] is))
 
 -- a list of one write at most has no other call
 no_call : (call : DiskCall) (fail : Option ℕ) → same_call calls.Write call ≡ false → has_listed call (fails_of fail) ≡ false
@@ -78,11 +74,10 @@ fails_so : (room : ℕ) (fail : Option ℕ) (rule : Rule) (log : List Event) →
 fails_so room fail rule log some (inl reads) = absurd (false≢true (sym (no_call calls.Read fail refl) ∙ reads))
 fails_so room fail rule log some (inr (inl stalls)) = absurd (false≢true (sym (or_from _ _ (no_call calls.Poll fail refl) (no_call calls.Wait fail refl)) ∙ stalls))
 fails_so room fail rule log some (inr (inr (inl refuses))) = absurd (false≢true (sym (not_from_true (nat_lt 0 room) (lt-ltb 0 room some)) ∙ refuses))
-fails_so room fail rule log some (inr (inr (inr loses))) = first_listed fail (both (nat_lt 0 room) (is_listed calls.Write 1 (fails_of fail)) loses.1)
-  where
-    both : (a b : Bool) → (a && b) ≡ true → b ≡ true
-    both true b e = e
-    both false b e = absurd (false≢true e)
+fails_so room fail rule log some (inr (inr (inr loses))) = first_listed fail (elim (nat_lt 0 room) as (λ a. (b : Bool) → (a && b) ≡ true → b ≡ true) [
+  | true ↦ λ b e. e
+  | false ↦ λ b e. absurd (false≢true e)
+] (is_listed calls.Write 1 (fails_of fail)) loses.1)
 
 -- where the first write may be accepted it isn't listed
 not_listed : (room : ℕ) (fail : Option ℕ) (rule : Rule) → (manner_by room (fails_of fail) rule).accepts [] ≡ true → fail ≡ Some 1 → ⊥
@@ -98,19 +93,9 @@ ends_so g b NoMemory left left_now told out source source_now sink sink_now some
 ends_so g b DiskFault left left_now told out source source_now sink sink_now some r fault no_source no_sink = fails_so b.room b.fail (rule_of b.notices) r.output.log some r.output.cause
 ends_so g b SourceFault left left_now told out source source_now sink sink_now some r fault no_source no_sink = no_source fault
 ends_so g b SinkFault left left_now told out source source_now sink sink_now some r fault no_source no_sink = no_sink fault
-ends_so g b Usage left left_now told out source source_now sink sink_now some r fault no_source no_sink = absurd r.reads
-ends_so g b BadTrace left left_now told out source source_now sink sink_now some r fault no_source no_sink = absurd r.reads
-ends_so g b (Damaged damage) left left_now told out source source_now sink sink_now some r fault no_source no_sink = absurd r.reads
-ends_so g b Spent left left_now told out source source_now sink sink_now some r fault no_source no_sink = absurd r.reads
-ends_so g b NoPrefix left left_now told out source source_now sink sink_now some r fault no_source no_sink = absurd r.reads
-ends_so g b BadShape left left_now told out source source_now sink sink_now some r fault no_source no_sink = absurd r.reads
-ends_so g b BadChoice left left_now told out source source_now sink sink_now some r fault no_source no_sink = absurd r.reads
+ends_so g b other left left_now told out source source_now sink sink_now some r fault no_source no_sink = absurd r.reads
 
 -- Want of memory before anything was read or written.
-
-keeps_same : (taken : Option (List ℕ)) → Keeps taken taken
-keeps_same None = tt
-keeps_same (Some xs) = refl
 
 -- want of memory is no fault
 unshown : (answer : Result (Unit {0}) ShowRefusal) → answer ≡ Err show.NoMemory → answer ≡ Err show.Fault → ⊥
@@ -140,7 +125,7 @@ does_memory tells (Some (Tree image)) left told source sink bay = record {
   answer = Err show.NoMemory;
   between = told;
   shown = λ known. tt;
-  refused = λ known. inl (keeps_same told);
+  refused = λ known. inl (Keeps-refl told);
   silent = λ e. refl;
   back = inl (record { kept = λ known each. refl; faults = omega arith; disk_faults = refl; handed = refl; closed = refl });
   cause = refl;
@@ -200,11 +185,10 @@ does_memory tells (Some (Load seed count)) left told source sink bay = inr (refl
 pub completes_memory : (request : Option Request) (m : Met) → Completes request NoMemory m
 completes_memory None m = tt
 completes_memory (Some (Record blocks journal nodes notices room fail)) m = λ fits no_source no_sink. tt
-completes_memory (Some (Replay moment choice)) m = λ no_source no_sink. tt
 completes_memory (Some (Tree image)) m = λ no_sink. tt
 completes_memory (Some (Make image blocks journal nodes)) m = λ fits no_sink. tt
-completes_memory (Some (Run image)) m = λ no_source no_sink. tt
 completes_memory (Some (Load seed count)) m = λ no_sink. tt
+completes_memory other m = λ no_source no_sink. tt
 
 -- Words that ask for nothing.
 pub does_usage : (tells : Bool) (request : Option Request) (result : Status) (m : Met) → request ≡ None → Tells Usage result usage_line m.taken m.taken_now m.sink m.sink_now → Does tells request result m
@@ -223,11 +207,10 @@ ends_so_behind May X status line told out source source_now sink sink_now may (i
 
 ends_found : (found : Found) (status : Status) (told out : Option (List ℕ)) (source source_now sink sink_now : ℕ) → EndsFound found status told out → HasFault status source source_now sink sink_now
     → ¬ Rose sink sink_now → EndsReplay status
-ends_found found status told out source source_now sink sink_now (inl (between, took, ends)) fault no_sink = by found.point ends
-  where
-    by : (point : Option ℕ) → EndsAt point status between out → EndsReplay status
-    by None e = ends_so_behind EndsReplay NoPrefix status no_prefix_line between out source source_now sink sink_now tt e fault no_sink
-    by (Some p) e = subst EndsReplay (sym e.0) tt
+ends_found found status told out source source_now sink sink_now (inl (between, took, ends)) fault no_sink = elim found.point as (λ point. EndsAt point status between out → EndsReplay status) [
+  | None ↦ λ e. ends_so_behind EndsReplay NoPrefix status no_prefix_line between out source source_now sink sink_now tt e fault no_sink
+  | Some p ↦ λ e. subst EndsReplay (sym e.0) tt
+] ends
 ends_found found status told out source source_now sink sink_now (inr t) fault no_sink = absurd (no_sink (subst (λ (s : Status). HasFault s source source_now sink sink_now) t.0 fault))
 
 ends_crash : (answer : Result Found ReplayRefusal) (status : Status) (told out : Option (List ℕ)) (source source_now sink sink_now : ℕ) → EndsCrash answer status told out → HasFault status source source_now sink sink_now
@@ -258,12 +241,11 @@ completes_show tells image status m s fault no_sink = by s.answer s.cause s.ends
     P = CountsFault m.bay m.bay_now
 
     by : (answer : Result (Unit {0}) ShowRefusal) → HasShowCause answer m.bay m.bay_now → EndsShowing answer status s.between m.taken_now → EndsShow P status
-    by (Ok x) cause e = subst (EndsShow P) (sym e.0) tt
     by (Err show.Fault) cause e = ends_so_behind (EndsShow P) DiskFault status disk_line s.between m.taken_now m.source m.source_now m.sink m.sink_now cause e fault no_sink
     by (Err (show.Damaged damage)) cause e = ends_so_behind (EndsShow P) (Damaged damage) status damaged_line s.between m.taken_now m.source m.source_now m.sink m.sink_now tt e fault no_sink
     by (Err show.Spent) cause e = ends_so_behind (EndsShow P) Spent status spent_line s.between m.taken_now m.source m.source_now m.sink m.sink_now tt e fault no_sink
     by (Err show.SinkFault) cause e = absurd (no_sink (subst (λ (x : Status). HasFault x m.source m.source_now m.sink m.sink_now) e.0 fault))
-    by (Err show.NoMemory) cause e = subst (EndsShow P) (sym e.0) tt
+    by other cause e = subst (EndsShow P) (sym e.0) tt
 
 completes_made : (tells : Bool) (image : List ℕ) (g : Geometry) (status : Status) (m : Met) → MakesTo tells image g status m → HasFault status m.source m.source_now m.sink m.sink_now
     → ¬ Rose m.sink m.sink_now → EndsMake (CountsFault m.bay m.bay_now) status
@@ -273,9 +255,8 @@ completes_made tells image g status m s fault no_sink = by s.answer s.cause s.en
     P = CountsFault m.bay m.bay_now
 
     by : (answer : Result (Unit {0}) MakeRefusal) → HasMakeCause answer m.bay m.bay_now → EndsMaking answer status m.taken m.taken_now → EndsMake P status
-    by (Ok x) cause e = subst (EndsMake P) (sym e.0) tt
     by (Err make.Fault) cause e = ends_so_behind (EndsMake P) DiskFault status disk_line m.taken m.taken_now m.source m.source_now m.sink m.sink_now cause e fault no_sink
-    by (Err make.NoMemory) cause e = subst (EndsMake P) (sym e.0) tt
+    by other cause e = subst (EndsMake P) (sym e.0) tt
 
 pub completes_make : (fits tells : Bool) (image : List ℕ) (g : Geometry) (status : Status) (m : Met) → MakesWhere fits tells image g status m → HasFault status m.source m.source_now m.sink m.sink_now
     → fits ≡ true → ¬ Rose m.sink m.sink_now → EndsMake (CountsFault m.bay m.bay_now) status
@@ -294,7 +275,6 @@ completes_run tells image status m r fault no_source no_sink = by r.answer r.cau
     P = CountsFault m.bay m.bay_now
 
     by : (answer : Result Ending RunRefusal) → HasRunCause answer m.bay m.bay_now → EndsScript answer status r.between m.taken_now → EndsRun P status
-    by (Ok script.End) cause e = subst (EndsRun P) (sym e.0) tt
     by (Ok script.SourceFault) cause (inl t) = absurd (no_source (subst (λ (s : Status). HasFault s m.source m.source_now m.sink m.sink_now) t.0 fault))
     by (Ok script.SourceFault) cause (inr t) = absurd (no_sink (subst (λ (s : Status). HasFault s m.source m.source_now m.sink m.sink_now) t.0 fault))
     by (Ok script.LongInput) cause e = ends_so_behind (EndsRun P) LongInput status long_line r.between m.taken_now m.source m.source_now m.sink m.sink_now tt e fault no_sink
@@ -302,4 +282,4 @@ completes_run tells image status m r fault no_source no_sink = by r.answer r.cau
     by (Err (run.Damaged damage)) cause e = ends_so_behind (EndsRun P) (Damaged damage) status damaged_line r.between m.taken_now m.source m.source_now m.sink m.sink_now tt e fault no_sink
     by (Err run.Spent) cause e = ends_so_behind (EndsRun P) Spent status spent_line r.between m.taken_now m.source m.source_now m.sink m.sink_now tt e fault no_sink
     by (Err run.SinkFault) cause e = absurd (no_sink (subst (λ (s : Status). HasFault s m.source m.source_now m.sink m.sink_now) e.0 fault))
-    by (Err run.NoMemory) cause e = subst (EndsRun P) (sym e.0) tt
+    by other cause e = subst (EndsRun P) (sym e.0) tt

@@ -18,14 +18,12 @@ use Rattle.cmd_program.proofs.Requests.{behind}
 
 -- what was told is how the program ends
 pub script_ends : (answer : Result Ending RunRefusal) (status : Status) (told out : Option (List ℕ)) (sink sink_now : ℕ) → TellsScript answer status told out sink sink_now → EndsScript answer status told out
-script_ends (Ok script.End) status told out sink sink_now t = t
 script_ends (Ok script.SourceFault) status told out sink sink_now t = behind SourceFault status source_line told out sink sink_now t
 script_ends (Ok script.LongInput) status told out sink sink_now t = behind LongInput status long_line told out sink sink_now t
 script_ends (Err run.Fault) status told out sink sink_now t = behind DiskFault status disk_line told out sink sink_now t
 script_ends (Err (run.Damaged damage)) status told out sink sink_now t = behind (Damaged damage) status damaged_line told out sink sink_now t
 script_ends (Err run.Spent) status told out sink sink_now t = behind Spent status spent_line told out sink sink_now t
-script_ends (Err run.SinkFault) status told out sink sink_now t = t
-script_ends (Err run.NoMemory) status told out sink sink_now t = t
+script_ends other status told out sink sink_now t = t
 
 -- the answer of a run that came to this end
 abbrev ended : Ending → Result Ending RunRefusal
@@ -43,11 +41,10 @@ not_long is = cc
 
 -- where the answer is a fault of the source, its count rose
 source_rose : (tells : Bool) (image : List ℕ) (old new : BayState) (before after : Streams) → ComesOf tells image (Ok script.SourceFault) old new before after → Rose before.source_faults after.source_faults
-source_rose tells image old new before after (inl u) = by u.answer
-  where
-    by : (Ok script.SourceFault ≡ Err run.Fault) ⊎ (Ok script.SourceFault ≡ Err run.NoMemory) → Rose before.source_faults after.source_faults
-    by (inl is) = absurd (no_err script.SourceFault run.Fault is)
-    by (inr is) = absurd (no_err script.SourceFault run.NoMemory is)
+source_rose tells image old new before after (inl u) = elim u.answer as (λ _. Rose before.source_faults after.source_faults) [
+  | inl is ↦ absurd (no_err script.SourceFault run.Fault is)
+  | inr is ↦ absurd (no_err script.SourceFault run.NoMemory is)
+]
 source_rose tells image old new before after (inr h) = by h.answer h.back h.comes h.answered
   where
     by : (answer : Result Ending RunRefusal) (back : Result (Unit {0}) BayFault) → ComesOfDisk tells h.first h.last h.marks answer before after → Ok script.SourceFault ≡ run_answer_of answer back → Rose before.source_faults after.source_faults
@@ -78,14 +75,13 @@ script_fault tells image answer status old new before after out sink_now comes c
 
     by : (answer : Result Ending RunRefusal) → ComesOf tells image answer old new before after → after.sink_faults ≡ after_call (run_fails_pushing answer) before.sink_faults
         → TellsScript answer status after.taken out after.sink_faults sink_now → Fault status
-    by (Ok script.End) c s t = subst Fault (sym t.0) tt
     by (Ok script.SourceFault) c s t = told SourceFault source_line (source_rose tells image old new before after c) s t
     by (Ok script.LongInput) c s t = told LongInput long_line tt s t
     by (Err run.Fault) c s t = told DiskFault disk_line tt s t
     by (Err (run.Damaged damage)) c s t = told (Damaged damage) damaged_line tt s t
     by (Err run.Spent) c s t = told Spent spent_line tt s t
     by (Err run.SinkFault) c s t = subst Fault (sym t.0) (omega (arith, s, le))
-    by (Err run.NoMemory) c s t = subst Fault (sym t.0) tt
+    by other c s t = subst Fault (sym t.0) tt
 
 -- and no count falls
 pub script_counts : (answer : Result Ending RunRefusal) (before after : Streams) (sink_now : ℕ) → CountsFaults answer before after → after.sink_faults ≤ sink_now → (before.source_faults ≤ after.source_faults) × (before.sink_faults ≤ sink_now)

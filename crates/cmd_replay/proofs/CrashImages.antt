@@ -42,11 +42,10 @@ leaves g base log moment c image size same given = record {
 -- where one of some isn't so, not all are
 not_all : {A : Type 0} (p : A → Bool) (xs : List A) (x : A) → find (λ y. not (p y)) xs ≡ Some x → list_all p xs ≡ false
 not_all p [] x found = absurd (none-some x found)
-not_all p (y ∷ ys) x found = by (cases_Bool (p y)) (not_all p ys x)
-  where
-    by : (p y ≡ true) ⊎ (p y ≡ false) → (find (λ z. not (p z)) ys ≡ Some x → list_all p ys ≡ false) → (p y && list_all p ys) ≡ false
-    by (inl does) later = ap (λ (b : Bool). b && list_all p ys) does ∙ later (sym (ap (λ (b : Bool). if not b then Some y else find (λ z. not (p z)) ys) does) ∙ found)
-    by (inr doesnt) later = ap (λ (b : Bool). b && list_all p ys) doesnt
+not_all p (y ∷ ys) x found = elim (cases_Bool (p y)) as (λ _. (find (λ z. not (p z)) ys ≡ Some x → list_all p ys ≡ false) → (p y && list_all p ys) ≡ false) [
+  | inl does ↦ λ later. ap (λ (b : Bool). b && list_all p ys) does ∙ later (sym (ap (λ (b : Bool). if not b then Some y else find (λ z. not (p z)) ys) does) ∙ found)
+  | inr doesnt ↦ λ later. ap (λ (b : Bool). b && list_all p ys) doesnt
+] (not_all p ys x)
 
 -- where a write isn't pending that is named, the choice can't be made
 pub unpending : (c : ChoiceState) (moment : ℕ) (log : List Event) (write : WriteName) → first_not_pending (take moment log) c.named ≡ Some write → can_choose c moment log ≡ false

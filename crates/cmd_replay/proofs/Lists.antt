@@ -21,20 +21,18 @@ get_behind (x ∷ xs) y ys = get_behind xs y ys
 
 -- what stands among the first of a list stands in it
 pub get_of_take : {A : Type 0} (n : ℕ) (xs : List A) (i : ℕ) (x : A) → slice_get (take n xs) i ≡ Some x → slice_get xs i ≡ Some x
-get_of_take zero xs i x is = cc is
-get_of_take (suc n) [] i x is = cc is
 get_of_take (suc n) (y ∷ xs) zero x is = is
 get_of_take (suc n) (y ∷ xs) (suc i) x is = get_of_take n xs i x is
+get_of_take other xs i x is = cc is
 
 -- lists behind lists of one length
 pub same_behind : (xs ys zs ws : List ℕ) → length xs ≡ length ys → xs ++ zs ≡ ys ++ ws → (xs ≡ ys) × (zs ≡ ws)
 same_behind [] [] zs ws e is = (refl, is)
-same_behind [] (y ∷ ys) zs ws e is = absurd (omega (arith, e))
-same_behind (x ∷ xs) [] zs ws e is = absurd (omega (arith, e))
 same_behind (x ∷ xs) (y ∷ ys) zs ws e is =
     let rest = same_behind xs ys zs ws (omega (arith, e)) (ap (drop 1) is) in
     let first : x ≡ y = same_Some x y (ap (λ (l : List ℕ). slice_get l 0) is) in
     (rw first (ap (λ (l : List ℕ). y ∷ l) rest.0), rest.1)
+same_behind other rest zs ws e is = absurd (omega (arith, e))
 
 -- what is left from a place on begins with what stands there
 pub left_from : {A : Type 0} (xs : List A) (i : ℕ) (x : A) → i < length xs → x ≡ get_or xs i x → drop i xs ≡ x ∷ drop (i + 1) xs

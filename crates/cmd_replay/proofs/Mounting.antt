@@ -116,8 +116,6 @@ module _ (image : List (List ℕ)) where
 
     pub refuses_by : ((n : ℕ) (at : Blocks) (damage : ImageDamage) → HasDamage n at damage → StandsForNone n at) → (why : ReplayRefusal) → RefusesMap s.books.geom s.map why → RefusesImage (length image) (blocks_of image) why
     refuses_by none Choice says = says
-    refuses_by none (Damaged NoHeader) says = absurd says
-    refuses_by none (Damaged (BadBit b)) says = absurd says
     refuses_by none (Damaged (Broken what)) says = (broken what says, none (length image) (blocks_of image) (Broken what) (broken what says))
-    refuses_by none Spent says = absurd says
     refuses_by none NoMemory says = tt
+    refuses_by none other says = absurd says

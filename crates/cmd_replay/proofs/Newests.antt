@@ -1,5 +1,6 @@
 -- The newest of some points, and of one more.
 use Rattle.std.proofs.Common.{◌≡◌, ◌⊎◌, inl, inr, ⊎_elim, ℕ, ◌+◌, ◌<◌, ◌≤◌, Bool, true, false, nat_le, bytes_eq, if◌then◌else◌, List, [], ◌∷◌, ◌++◌, length, slice_get, Option, Some, None, refl, sym, ◌∙◌, ap, subst, arith}
+use Rattle.std.proofs.lemmas.List.{append-nil, length-append}
 use Rattle.std.proofs.lemmas.Bool.{and_from, and_parts, both_ways, cases_Bool, cases_lt, le-leb, leb-true}
 use Rattle.std.proofs.lemmas.Option.{same_Some}
 use Rattle.std.proofs.lemmas.Slice.Eq.{bytes_eq-Decides}
@@ -96,15 +97,7 @@ newest_first text low one = ⊎_elim sought other (cases_Bool (is_sought text lo
 pub counted_more : (text : List ℕ) (low : ℕ) (before : List Point) (one : Point) (y : Tally) (makes : Bool) → AreCounted text low before y
     → AreCounted text low (before ++ (if makes then one ∷ [] else [])) (if makes then with_point text low one.tree y else y)
 counted_more text low before one y true is = record {
-  count = more before one ∙ omega (arith, is.count);
+  count = length-append before (one ∷ []) ∙ omega (arith, is.count);
   newest = newest_more text before one low y.last y.newest is.count is.newest;
 }
-  where
-    more : (xs : List Point) (x : Point) → length (xs ++ x ∷ []) ≡ length xs + 1
-    more [] x = refl
-    more (z ∷ xs) x = omega (arith, more xs x)
-counted_more text low before one y false is = subst (λ (points : List Point). AreCounted text low points y) (sym (nothing before)) is
-  where
-    nothing : (xs : List Point) → xs ++ [] ≡ xs
-    nothing [] = refl
-    nothing (z ∷ xs) = ap (λ (l : List Point). z ∷ l) (nothing xs)
+counted_more text low before one y false is = subst (λ (points : List Point). AreCounted text low points y) (sym (append-nil before)) is

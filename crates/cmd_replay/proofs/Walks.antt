@@ -1,7 +1,7 @@
 -- How a walk over the commands of a trace comes along, and what it has found in the end.
 use Rattle.std.proofs.Common.{◌≡◌, ◌⊎◌, inl, inr, ⊎_elim, ℕ, ◌+◌, ◌<◌, ◌≤◌, max, Bool, true, false, nat_le, if◌then◌else◌, List, [], ◌∷◌, ◌++◌, length, drop, refl, sym, ◌∙◌, ap, subst, arith, append_assoc}
 use Rattle.std.proofs.lemmas.Bool.{cond-false, cond-true, le-leb, lt-leb}
-use Rattle.std.proofs.lemmas.List.{drop_all}
+use Rattle.std.proofs.lemmas.List.{drop_all, length-append}
 use Rattle.lang_tree.specs.declared.command.Cmd.{Cmd}
 use Rattle.lang_tree.specs.declared.command.Reply.{Reply}
 use Rattle.lang_tree.specs.Points.{Point, after_reply, begun_by, floor, made_by, points_after, promised_by}
@@ -20,10 +20,6 @@ begun_append : (k : ℕ) (xs ys : List Point) → begun_by k (xs ++ ys) ≡ begu
 begun_append k [] ys = omega arith
 begun_append k (x ∷ xs) ys = omega (arith, begun_append k xs ys)
 
-length_append : (xs ys : List Point) → length (xs ++ ys) ≡ length xs + length ys
-length_append [] ys = omega arith
-length_append (x ∷ xs) ys = omega (arith, length_append xs ys)
-
 began : (k : ℕ) (x : Point) → x.begun ≤ k → ◌≡◌ {A = ℕ} (if nat_le x.begun k then 1 else 0) 1
 began k x early = cond-true {A = ℕ} (nat_le x.begun k) 1 0 (le-leb x.begun k early)
 
@@ -37,12 +33,10 @@ made_late k one false late = refl
 
 -- no point of commands that begin later did
 late : (k : ℕ) (s : Session) (begun : ℕ) (cmds : List Cmd) (replies : List Reply) (marks : List ℕ) (events : ℕ) → k < begun → Ascend begun marks events → begun_by k (points_after s begun cmds replies marks) ≡ 0
-late k s begun [] replies marks events past up = refl
-late k s begun (cmd ∷ cmds) [] marks events past up = refl
-late k s begun (cmd ∷ cmds) (reply ∷ replies) [] events past up = refl
 late k s begun (cmd ∷ cmds) (reply ∷ replies) (mark ∷ marks) events past up =
     begun_append k (made_by s cmd reply begun) (points_after (after_reply s cmd reply) mark cmds replies marks)
     ∙ omega (arith, made_late k (record { tree = s.tree; begun = begun }) (makes_point s cmd reply) past, late k (after_reply s cmd reply) mark cmds replies marks events (omega (arith, past, up.0)) up.1)
+late k s begun other replies marks events past up = refl
 
 none_after : (s : Session) (begun : ℕ) (cmds : List Cmd) (replies : List Reply) (marks : List ℕ) → cmds ≡ [] → points_after s begun cmds replies marks ≡ []
 none_after s begun cmds replies marks none = ap (λ (l : List Cmd). points_after s begun l replies marks) none
@@ -73,7 +67,7 @@ walked_on text low k c i begun w v cmd reply mark early cmd_is reply_is mark_is 
   before = h.before ++ made;
   split = h.split ∙ ap (λ (l : List Point). h.before ++ l) after_is ∙ sym (append_assoc h.before made rest);
   counted = subst (λ y. AreCounted text low (h.before ++ made) y) (sym on.tally) (counted_more text low h.before one w.tally (makes_point w.tree cmd reply) h.counted);
-  early = begun_append k h.before made ∙ omega (arith, h.early, made_begun k one (makes_point w.tree cmd reply) early) ∙ sym (length_append h.before made);
+  early = begun_append k h.before made ∙ omega (arith, h.early, made_begun k one (makes_point w.tree cmd reply) early) ∙ sym (length-append h.before made);
   events = h.events;
   ascend = up.1;
   synced = on.synced;
@@ -141,10 +135,9 @@ floor_past g k i replies marks reply mark whole reply_is mark_is past h =
     floor_late g (promised_by reply) (floor k (drop (i + 1) replies) (drop (i + 1) marks)) k mark whole past (ap (λ (l : List Reply). max g (floor k l (mark ∷ drop (i + 1) marks))) (sym reply_is) ∙ ap (λ (l : List ℕ). max g (floor k (drop i replies) l)) (sym mark_is) ∙ h)
 
 floor_none : (k : ℕ) (replies : List Reply) (marks : List ℕ) → (replies ≡ []) ⊎ (marks ≡ []) → floor k replies marks ≡ 0
-floor_none k [] marks over = refl
-floor_none k (reply ∷ replies) [] over = refl
 floor_none k (reply ∷ replies) (mark ∷ marks) (inl over) = cc over
 floor_none k (reply ∷ replies) (mark ∷ marks) (inr over) = cc over
+floor_none k other marks over = refl
 
 pub floor_ends : (g k i : ℕ) (replies : List Reply) (marks : List ℕ) (whole : ℕ) → (length replies ≤ i) ⊎ (length marks ≤ i) → max g (floor k (drop i replies) (drop i marks)) ≡ whole → g ≡ whole
 floor_ends g k i replies marks whole over h =

@@ -1,14 +1,14 @@
 -- Where a blank parts a text.
-use Rattle.std.proofs.Common.{◌≡◌, ap, refl, ◌∙◌, arith, tests, ℕ, zero, suc, ◌+◌, ◌<◌, ◌^◌, Bool, true, not, List, [], ◌∷◌, ◌++◌, take, drop, get_or, length, decimal, Option, Some, None}
+use Rattle.std.proofs.Common.{◌≡◌, sym, ap, refl, ◌∙◌, add-one, take-append-drop, arith, tests, ℕ, ◌+◌, ◌<◌, ◌^◌, Bool, true, not, List, [], ◌∷◌, ◌++◌, take, drop, get_or, length, decimal, Option, Some, None}
 use Rattle.std.specs.Prelude.{◌-◌, option_map}
 use Rattle.std.specs.List.{list_all, position_or_len, position}
 use Rattle.std.specs.Char.{is_ascii_digit}
 use Rattle.std.proofs.lemmas.Bool.{and_parts}
 use Rattle.std.proofs.lemmas.Bool.Decides.{Decides-ltb}
 use Rattle.std.proofs.lemmas.Fmt.{digits_decimal}
-use Rattle.std.proofs.lemmas.List.{take_all, length-drop}
+use Rattle.std.proofs.lemmas.List.{take_all, length-append, length-drop}
 use Rattle.std.proofs.lemmas.List.Quantifiers.{position-Some}
-use Rattle.std.proofs.Math.Seq.{take-append_seam}
+use Rattle.std.proofs.Math.Seq.{drop-append-add, drop-cons, take-append_seam}
 use Rattle.cmd_trace.specs.ReadFields.{is_blank, parts_at, cut}
 use Rattle.cmd_trace.proofs.Bytes.{own, weaker}
 
@@ -22,30 +22,19 @@ blank_behind (x ∷ xs) ys h =
     let parts = and_parts (is_dark x) (list_all is_dark xs) h in
     rw parts.0 (omega (arith, blank_behind xs ys parts.1))
 
-drop_more : (xs ys : List ℕ) (y : ℕ) → drop (length xs + 1) (xs ++ y ∷ ys) ≡ ys
-drop_more [] ys y = refl
-drop_more (x ∷ xs) ys y =
-    let more : length (x ∷ xs) + 1 ≡ suc (length xs + 1) = omega arith in
-    rw more (drop_more xs ys y)
-
 length_more : (xs ys : List ℕ) (y : ℕ) → length xs < length (xs ++ y ∷ ys)
-length_more [] ys y = omega arith
-length_more (x ∷ xs) ys y = omega (arith, length_more xs ys y)
+length_more xs ys y = omega (arith, length-append xs (y ∷ ys))
 
 -- a text that goes on behind a blank
 pub cut_at : (xs ys : List ℕ) → list_all is_dark xs ≡ true → cut (xs ++ 32 ∷ ys) ≡ Some (xs, ys)
 cut_at xs ys h =
     let at = blank_behind xs ys h in
     let low = (Decides-ltb (length xs) (length (xs ++ 32 ∷ ys))).1 (length_more xs ys 32) in
-    rw at (rw low (rw (take-append_seam xs (32 ∷ ys)) (rw (drop_more xs ys 32) refl)))
+    rw at (rw low (rw (take-append_seam xs (32 ∷ ys)) (rw (drop-append-add xs (32 ∷ ys) 1) refl)))
 
 -- a list around one of its places
 split_place : (xs : List ℕ) (i : ℕ) → i < length xs → xs ≡ take i xs ++ (get_or xs i 0 ∷ drop (i + 1) xs)
-split_place [] i low = absurd (omega (arith, low))
-split_place (x ∷ xs) zero low = refl
-split_place (x ∷ xs) (suc i) low =
-    let more : suc i + 1 ≡ suc (i + 1) = omega arith in
-    rw more (ap (λ l. x ∷ l) (split_place xs i (omega (arith, low))))
+split_place xs i low = rw add-one (sym (take-append-drop i xs) ∙ ap (λ l. take i xs ++ l) (drop-cons xs i 0 low))
 
 blank_is : (b : ℕ) → is_blank b ≡ true → b ≡ 32
 blank_is b h = grind (arith, tests, h)

@@ -28,16 +28,15 @@ over m b h = (Decides-ltb m b).0 h
 
 pub part_cut : (m : ℕ) (xs ys r s : List ℕ) → list_all (past m) xs ≡ true → list_all (past m) ys ≡ true → Low m r → Low m s → xs ++ r ≡ ys ++ s → (xs ≡ ys) × (r ≡ s)
 part_cut m [] [] r s p q low down e = (refl, e)
-part_cut m [] (y ∷ ys) [] s p q low down e = absurd cc
 part_cut m [] (y ∷ ys) (b ∷ r) s p q low down e =
     absurd (omega (arith, low, over m y (and_parts (past m y) (list_all (past m) ys) q).0, ap (λ l. get_or l 0 0) e))
-part_cut m (x ∷ xs) [] r [] p q low down e = absurd cc
 part_cut m (x ∷ xs) [] r (b ∷ s) p q low down e =
     absurd (omega (arith, down, over m x (and_parts (past m x) (list_all (past m) xs) p).0, ap (λ l. get_or l 0 0) e))
 part_cut m (x ∷ xs) (y ∷ ys) r s p q low down e =
     let rest = part_cut m xs ys r s (and_parts (past m x) (list_all (past m) xs) p).1 (and_parts (past m y) (list_all (past m) ys) q).1 low down (ap (drop 1) e) in
     let head : x ≡ y = ap (λ l. get_or l 0 0) e in
     (rw head (ap (λ l. y ∷ l) rest.0), rest.1)
+part_cut m other rest r s p q low down e = absurd cc
 
 -- Numbers and bytes.
 
@@ -72,23 +71,13 @@ bytes_cut xs ys r s p q low down e =
 -- Lines, grouped from the right.
 
 pub line_of_one : (w a r : List ℕ) → (w ++ a ++ codes "\n") ++ r ≡ w ++ (a ++ 10 ∷ r)
-line_of_one w a r = append_assoc (w ++ a) (codes "\n") r ∙ append_assoc w a (10 ∷ r)
+line_of_one w a r = simp append_assoc
 
 pub line_of_two : (w a b r : List ℕ) → (w ++ a ++ codes " " ++ b ++ codes "\n") ++ r ≡ w ++ (a ++ 32 ∷ (b ++ 10 ∷ r))
-line_of_two w a b r =
-    append_assoc (w ++ a ++ codes " " ++ b) (codes "\n") r
-    ∙ append_assoc (w ++ a ++ codes " ") b (10 ∷ r)
-    ∙ append_assoc (w ++ a) (codes " ") (b ++ 10 ∷ r)
-    ∙ append_assoc w a (32 ∷ (b ++ 10 ∷ r))
+line_of_two w a b r = simp append_assoc
 
 pub line_of_three : (w a b c r : List ℕ) → (w ++ a ++ codes " " ++ b ++ codes " " ++ c ++ codes "\n") ++ r ≡ w ++ (a ++ 32 ∷ (b ++ 32 ∷ (c ++ 10 ∷ r)))
-line_of_three w a b c r =
-    append_assoc (w ++ a ++ codes " " ++ b ++ codes " " ++ c) (codes "\n") r
-    ∙ append_assoc (w ++ a ++ codes " " ++ b ++ codes " ") c (10 ∷ r)
-    ∙ append_assoc (w ++ a ++ codes " " ++ b) (codes " ") (c ++ 10 ∷ r)
-    ∙ append_assoc (w ++ a ++ codes " ") b (32 ∷ (c ++ 10 ∷ r))
-    ∙ append_assoc (w ++ a) (codes " ") (b ++ 32 ∷ (c ++ 10 ∷ r))
-    ∙ append_assoc w a (32 ∷ (b ++ 32 ∷ (c ++ 10 ∷ r)))
+line_of_three w a b c r = simp append_assoc
 
 -- One event behind the other.
 
@@ -120,23 +109,11 @@ noticed_cut ticket turn r s h k e =
     let one = number_cut ticket turn (10 ∷ r) (10 ∷ s) h k (omega arith) (omega arith) (ap (drop 2) whole) in
     (ap Noticed one.0, ap (drop 1) one.1)
 
--- two texts that begin with unlike bytes aren't one
-unlike : {P : Type 0} (b c : ℕ) (xs ys : List ℕ) → (b == c) ≡ false → b ∷ xs ≡ c ∷ ys → P
-unlike b c xs ys d e = absurd (false≢true (sym d ∙ ap (λ x. x == c) (ap (λ l. get_or l 0 0) e) ∙ same c))
-  where
-    same : (c : ℕ) → (c == c) ≡ true
-    same c = grind (arith, tests)
-
 event_cut : (m n : ℕ) (x y : Event) (r s : List ℕ) → m < 2 ^ 64 → n < 2 ^ 64 → IsEventOf m x → IsEventOf n y → event_line x ++ r ≡ event_line y ++ s → (x ≡ y) × (r ≡ s)
 event_cut m n (Wrote ticket block xs) (Wrote turn place ys) r s big large h k e = wrote_cut m n ticket turn block place xs ys r s big large h k e
 event_cut m n (Lost block xs) (Lost place ys) r s big large h k e = lost_cut m n block place xs ys r s big large h k e
 event_cut m n (Noticed ticket) (Noticed turn) r s big large h k e = noticed_cut ticket turn r s h k e
-event_cut m n (Wrote ticket block xs) (Lost place ys) r s big large h k e = unlike 119 102 _ _ refl e
-event_cut m n (Wrote ticket block xs) (Noticed turn) r s big large h k e = unlike 119 100 _ _ refl e
-event_cut m n (Lost block xs) (Wrote turn place ys) r s big large h k e = unlike 102 119 _ _ refl e
-event_cut m n (Lost block xs) (Noticed turn) r s big large h k e = unlike 102 100 _ _ refl e
-event_cut m n (Noticed ticket) (Wrote turn place ys) r s big large h k e = unlike 100 119 _ _ refl e
-event_cut m n (Noticed ticket) (Lost place ys) r s big large h k e = unlike 100 102 _ _ refl e
+event_cut m n other more r s big large h k e = absurd (omega (arith, ap (λ l. get_or l 0 0) e))
 
 -- The events of a text end where no line of an event begins.
 

@@ -18,23 +18,8 @@ is_lower_case b = not (is_upper b)
 
 -- the digit of each value
 table : (v : ℕ) → v < 16 → slice_index lower_digits v ≡ (if nat_lt v 10 then v + 48 else v + 87)
-table zero low = refl
-table (suc zero) low = refl
-table (suc (suc zero)) low = refl
-table (suc (suc (suc zero))) low = refl
-table (suc (suc (suc (suc zero)))) low = refl
-table (suc (suc (suc (suc (suc zero))))) low = refl
-table (suc (suc (suc (suc (suc (suc zero)))))) low = refl
-table (suc (suc (suc (suc (suc (suc (suc zero))))))) low = refl
-table (suc (suc (suc (suc (suc (suc (suc (suc zero)))))))) low = refl
-table (suc (suc (suc (suc (suc (suc (suc (suc (suc zero))))))))) low = refl
-table (suc (suc (suc (suc (suc (suc (suc (suc (suc (suc zero)))))))))) low = refl
-table (suc (suc (suc (suc (suc (suc (suc (suc (suc (suc (suc zero))))))))))) low = refl
-table (suc (suc (suc (suc (suc (suc (suc (suc (suc (suc (suc (suc zero)))))))))))) low = refl
-table (suc (suc (suc (suc (suc (suc (suc (suc (suc (suc (suc (suc (suc zero))))))))))))) low = refl
-table (suc (suc (suc (suc (suc (suc (suc (suc (suc (suc (suc (suc (suc (suc zero)))))))))))))) low = refl
-table (suc (suc (suc (suc (suc (suc (suc (suc (suc (suc (suc (suc (suc (suc (suc zero))))))))))))))) low = refl
 table (suc (suc (suc (suc (suc (suc (suc (suc (suc (suc (suc (suc (suc (suc (suc (suc v)))))))))))))))) low = absurd (omega (arith, low))
+table other low = refl
 
 value_is_small : (c v : ℕ) → hex_digit_value c ≡ Some v → v < 16
 value_is_small c v h = grind (arith)
@@ -51,8 +36,7 @@ bind_ok (Ok x) f y h = (x, refl, h)
 bind_ok (Err e) f y h = cc h
 
 value_read : (c i : ℕ) (o : Option ℕ) (v : ℕ) → digit_or_error c i o ≡ Ok v → o ≡ Some v
-value_read c i (Some w) v h = cc h
-value_read c i None v h = cc h
+value_read c i o v h = grind arith
 
 high_of : (a b : ℕ) → b < 16 → (a * 16 + b) / 16 ≡ a
 high_of a b low = omega (arith, low)
@@ -100,6 +84,11 @@ spelled_low (b ∷ bytes) h =
     rw (AllPass-from_list_all is_lower_case lower_digits refl (b / 16) 0 (omega (arith, low)))
     (rw (AllPass-from_list_all is_lower_case lower_digits refl (b % 16) 0 (omega (arith, low))) (spelled_low bytes (λ i. h (suc i))))
 
+-- a value that stands under a test
+pub if_gave : {A : Type 0} (b : Bool) (o : Option A) (x : A) → (if b then o else None) ≡ Some x → (b ≡ true) × (o ≡ Some x)
+if_gave true o x h = (refl, h)
+if_gave false o x h = cc h
+
 -- the digits of a block are read as its bytes
 pub block_read : (bytes : List ℕ) → IsBlock bytes → block_of (encode_lower bytes) ≡ Some bytes
 block_read bytes h =
@@ -107,8 +96,7 @@ block_read bytes h =
     rw (spelled_low bytes small) (ap decoded (decode_sized-encode_lower bytes 1024 h.length small))
 
 decoded_is : (r : Result (List ℕ) FromHexError) (bytes : List ℕ) → decoded r ≡ Some bytes → r ≡ Ok bytes
-decoded_is (Ok x) bytes h = cc h
-decoded_is (Err e) bytes h = cc h
+decoded_is r bytes h = grind arith
 
 spells_block : (text bytes : List ℕ) → list_all is_lower_case text ≡ true → decode_sized text 1024 ≡ Ok bytes → (encode_lower bytes ≡ text) × IsBlock bytes
 spells_block text bytes low h =
@@ -120,8 +108,6 @@ spells_block text bytes low h =
 
 -- what is read as a block's bytes is their digits
 pub block_is_read : (text bytes : List ℕ) → block_of text ≡ Some bytes → (encode_lower bytes ≡ text) × IsBlock bytes
-block_is_read text bytes h = go (list_all is_lower_case text) refl h
-  where
-    go : (b : Bool) → list_all is_lower_case text ≡ b → (if b then decoded (decode_sized text 1024) else None) ≡ Some bytes → (encode_lower bytes ≡ text) × IsBlock bytes
-    go true e f = spells_block text bytes e (decoded_is (decode_sized text 1024) bytes f)
-    go false e f = cc f
+block_is_read text bytes h =
+    let found = if_gave (list_all is_lower_case text) (decoded (decode_sized text 1024)) bytes h in
+    spells_block text bytes found.0 (decoded_is (decode_sized text 1024) bytes found.1)

@@ -1,7 +1,7 @@
 -- The lines of the geometry, of events and of replies are read as what they say, and as nothing else.
-use Rattle.std.proofs.Common.{◌≡◌, sym, ap, refl, ◌∙◌, subst, arith, ℕ, ◌<◌, ◌^◌, ◌==◌, Bool, true, false, List, [], ◌∷◌, ◌++◌, decimal, nat_lt, Option, Some, None}
+use Rattle.std.proofs.Common.{◌≡◌, sym, ap, refl, ◌∙◌, subst, arith, ℕ, ◌<◌, ◌^◌, ◌==◌, Bool, true, false, List, [], ◌∷◌, ◌++◌, decimal, Option, Some, None}
 use Rattle.std.specs.Prelude.{if◌then◌else◌, option_map, option_and_then}
-use Rattle.std.proofs.lemmas.Bool.Decides.{Decides-ltb}
+use Rattle.std.proofs.lemmas.Bool.Decides.{Decides-ltb, nat_tests}
 use Rattle.std.proofs.lemmas.Bool.{eqb-true}
 use Rattle.hex.specs.Hex.{encode_lower}
 use Rattle.layout_geometry.specs.Geometry.{Geometry, geometry_fits}
@@ -12,7 +12,7 @@ use Rattle.lang_script.specs.Decimal.{number_of}
 use Rattle.cmd_trace.specs.ReadFields.{cut, small, small_number_of, block_of}
 use Rattle.cmd_trace.specs.ReadLines.{geometry_of, geometry_with, geometry_by, placed_of, both, wrote_of, wrote_by, lost_of, noticed_of, reply_of, marked, behind, event_by_letter, geometry_by_letter, reply_by_letter}
 use Rattle.cmd_trace.proofs.Blanks.{cut_is, number_at}
-use Rattle.cmd_trace.proofs.Digits.{block_read, block_is_read}
+use Rattle.cmd_trace.proofs.Digits.{block_read, block_is_read, if_gave}
 
 -- What the law of numbers says, as it is handed to each lemma.
 pub record Numbers : Type 0 where
@@ -27,14 +27,7 @@ small_read law n low =
     rw (law.read n (omega (arith, low))) (rw ((Decides-ltb n (2 ^ 32)).1 low) refl)
 
 small_is : (o : Option ℕ) (n : ℕ) → small o ≡ Some n → (o ≡ Some n) × (n < 2 ^ 32)
-small_is (Some k) n h = go (nat_lt k (2 ^ 32)) refl h
-  where
-    go : (b : Bool) → nat_lt k (2 ^ 32) ≡ b → (if b then Some k else None) ≡ Some n → (Some k ≡ Some n) × (n < 2 ^ 32)
-    go true e f =
-        let same : k ≡ n = cc f in
-        (ap Some same, subst (λ m. m < 2 ^ 32) same ((Decides-ltb k (2 ^ 32)).0 e))
-    go false e f = cc f
-small_is None n h = cc h
+small_is o n h = grind (arith, nat_tests)
 
 pub small_is_read : Numbers → (text : List ℕ) (n : ℕ) → small_number_of text ≡ Some n → (decimal n ≡ text) × (n < 2 ^ 32)
 small_is_read law text n h =
@@ -42,10 +35,10 @@ small_is_read law text n h =
     (law.text text n parts.0, parts.1)
 
 -- a value that comes of a cut
-pub cut_gave : {A : Type 0} (o : Option (List ℕ × List ℕ)) (f : List ℕ × List ℕ → Option A) (x : A) → option_and_then f o ≡ Some x
-    → (front : List ℕ) × (back : List ℕ) × (o ≡ Some (front, back)) × (f (front, back) ≡ Some x)
-cut_gave (Some parts) f x h = (parts.0, parts.1, refl, h)
-cut_gave None f x h = cc h
+pub cut_gave : {A : Type 0} (o : Option (List ℕ × List ℕ)) (f : Option (List ℕ × List ℕ) → Option A) (x : A) → f None ≡ None → f o ≡ Some x
+    → (front : List ℕ) × (back : List ℕ) × (o ≡ Some (front, back)) × (f (Some (front, back)) ≡ Some x)
+cut_gave (Some parts) f x none h = (parts.0, parts.1, refl, h)
+cut_gave None f x none h = cc (none, h)
 
 -- ---- the geometry
 
@@ -68,19 +61,15 @@ placed_read law block bytes low h =
     rw (number_at block (encode_lower bytes) (omega (arith, low))) (rw (small_read law block low) (rw (block_read bytes h) refl))
 
 both_gave : (o : Option ℕ) (p : Option (List ℕ)) (x : ℕ × List ℕ) → both o p ≡ Some x → (o ≡ Some x.0) × (p ≡ Some x.1)
-both_gave (Some n) (Some bytes) x h =
-    let same : (n, bytes) ≡ x = cc h in
-    (ap (λ y. Some y.0) same, ap (λ y. Some y.1) same)
-both_gave (Some n) None x h = cc h
-both_gave None p x h = cc h
+both_gave o p x h = grind arith
 
 pub placed_is_read : Numbers → (text : List ℕ) (x : ℕ × List ℕ) → placed_of text ≡ Some x → (placed_text x.0 x.1 ≡ text) × (x.0 < 2 ^ 32) × IsBlock x.1
 placed_is_read law text x h =
-    let parts = cut_gave (cut text) (λ parts. both (small_number_of parts.0) (block_of parts.1)) x h in
+    let parts = cut_gave (cut text) (option_and_then (λ parts. both (small_number_of parts.0) (block_of parts.1))) x refl h in
     let found = both_gave (small_number_of parts.0) (block_of parts.1) x parts.3 in
     let number = small_is_read law parts.0 x.0 found.0 in
     let bytes = block_is_read parts.1 x.1 found.1 in
-    (ap (λ l. l ++ 32 ∷ encode_lower x.1) number.0 ∙ ap (λ l. parts.0 ++ 32 ∷ l) bytes.0 ∙ sym (cut_is text parts.0 parts.1 parts.2), number.1, bytes.1)
+    (rw (number.0, bytes.0, ← cut_is text parts.0 parts.1 parts.2) refl, number.1, bytes.1)
 
 abbrev pub event_text : Event → List ℕ
 event_text (Wrote ticket block bytes) = 119 ∷ 32 ∷ (decimal ticket ++ 32 ∷ placed_text block bytes)
@@ -96,21 +85,19 @@ event_read law (Noticed ticket) h = rw (law.read ticket h) refl
 wrote_gave : (o : Option ℕ) (p : Option (ℕ × List ℕ)) (e : Event) → wrote_by o p ≡ Some e
     → (ticket : ℕ) × (x : ℕ × List ℕ) × (o ≡ Some ticket) × (p ≡ Some x) × (Wrote ticket x.0 x.1 ≡ e)
 wrote_gave (Some ticket) (Some x) e h = (ticket, x, refl, refl, cc h)
-wrote_gave (Some ticket) None e h = cc h
-wrote_gave None p e h = cc h
+wrote_gave other p e h = cc h
 
 abbrev IsText : List ℕ → Event → Type 0
 IsText line e = (event_text e ≡ line) × IsEventOf (2 ^ 32) e
 
 wrote_is_read : Numbers → (rest : List ℕ) (e : Event) → wrote_of rest ≡ Some e → IsText (119 ∷ 32 ∷ rest) e
 wrote_is_read law rest e h =
-    let parts = cut_gave (cut rest) (λ parts. wrote_by (number_of parts.0) (placed_of parts.1)) e h in
+    let parts = cut_gave (cut rest) (option_and_then (λ parts. wrote_by (number_of parts.0) (placed_of parts.1))) e refl h in
     let found = wrote_gave (number_of parts.0) (placed_of parts.1) e parts.3 in
     let ticket = law.text parts.0 found.0 found.2 in
     let low = law.small parts.0 found.0 found.2 in
     let placed = placed_is_read law parts.1 found.1 found.3 in
-    let same : decimal found.0 ++ 32 ∷ placed_text found.1.0 found.1.1 ≡ rest =
-    ap (λ l. l ++ 32 ∷ placed_text found.1.0 found.1.1) ticket ∙ ap (λ l. parts.0 ++ 32 ∷ l) placed.0 ∙ sym (cut_is rest parts.0 parts.1 parts.2) in
+    let same : decimal found.0 ++ 32 ∷ placed_text found.1.0 found.1.1 ≡ rest = rw (ticket, placed.0, ← cut_is rest parts.0 parts.1 parts.2) refl in
     subst (IsText (119 ∷ 32 ∷ rest)) found.4 (ap (λ l. 119 ∷ 32 ∷ l) same, (low, placed.1, placed.2))
 
 pub map_gave : {A B : Type 0} (f : A → B) (o : Option A) (y : B) → option_map f o ≡ Some y → (x : A) × (o ≡ Some x) × (f x ≡ y)
@@ -149,12 +136,9 @@ pub behind_gave : {A : Type 0} (says : ℕ → List ℕ → Option A) (line : Li
     → (first : ℕ) × (rest : List ℕ) × (line ≡ first ∷ 32 ∷ rest) × (says first rest ≡ Some x)
 behind_gave says [] x h = cc h
 behind_gave says (first ∷ []) x h = cc h
-behind_gave says (first ∷ second ∷ rest) x h = go (second == 32) refl h
-  where
-    go : (b : Bool) → (second == 32) ≡ b → (if b then says first rest else None) ≡ Some x
-        → (letter : ℕ) × (more : List ℕ) × (first ∷ second ∷ rest ≡ letter ∷ 32 ∷ more) × (says letter more ≡ Some x)
-    go true is f = (first, rest, ap (λ c. first ∷ c ∷ rest) (eqb-true second 32 is), f)
-    go false is f = cc f
+behind_gave says (first ∷ second ∷ rest) x h =
+    let found = if_gave (second == 32) (says first rest) x h in
+    (first, rest, ap (λ c. first ∷ c ∷ rest) (eqb-true second 32 found.0), found.1)
 
 pub event_is_read : Numbers → (line : List ℕ) (e : Event) → behind event_by_letter line ≡ Some e → (event_text e ≡ line) × IsEventOf (2 ^ 32) e
 event_is_read law line e h =
@@ -165,48 +149,30 @@ event_is_read law line e h =
 
 geometry_gave : (a b c : Option ℕ) (g : Geometry) → geometry_by a b c ≡ Some g
     → (a ≡ Some g.n) × (b ≡ Some g.j) × (c ≡ Some g.i) × (geometry_fits g ≡ true)
-geometry_gave (Some n) (Some j) (Some i) g h = go (geometry_fits (record { n = n; j = j; i = i })) refl h
-  where
-    go : (b : Bool) → geometry_fits (record { n = n; j = j; i = i }) ≡ b → (if b then Some record { n = n; j = j; i = i } else None) ≡ Some g
-        → (Some n ≡ Some g.n) × (Some j ≡ Some g.j) × (Some i ≡ Some g.i) × (geometry_fits g ≡ true)
-    go true is f =
-        let same : record { n = n; j = j; i = i } ≡ g = cc f in
-        (ap (λ x. Some x.n) same, ap (λ x. Some x.j) same, ap (λ x. Some x.i) same, ap geometry_fits (sym same) ∙ is)
-    go false is f = cc f
-geometry_gave (Some n) (Some j) None g h = cc h
-geometry_gave (Some n) None c g h = cc h
-geometry_gave None b c g h = cc h
-
-with_gave : (n : List ℕ) (o : Option (List ℕ × List ℕ)) (g : Geometry) → geometry_with n o ≡ Some g
-    → (rest : List ℕ × List ℕ) × (o ≡ Some rest) × (geometry_by (small_number_of n) (small_number_of rest.0) (small_number_of rest.1) ≡ Some g)
-with_gave n (Some rest) g h = (rest, refl, h)
-with_gave n None g h = cc h
+geometry_gave (Some n) (Some j) (Some i) g h =
+    let found = if_gave (geometry_fits (record { n = n; j = j; i = i })) (Some record { n = n; j = j; i = i }) g h in
+    let same : record { n = n; j = j; i = i } ≡ g = cc found.1 in
+    (ap (λ x. Some x.n) same, ap (λ x. Some x.j) same, ap (λ x. Some x.i) same, ap geometry_fits (sym same) ∙ found.0)
+geometry_gave other b c g h = cc h
 
 pub geometry_is_read : Numbers → (text : List ℕ) (g : Geometry) → geometry_of text ≡ Some g
     → (geometry_text g ≡ text) × (g.n < 2 ^ 32) × (g.j < 2 ^ 32) × (g.i < 2 ^ 32) × (geometry_fits g ≡ true)
 geometry_is_read law text g h =
-    let one = cut_gave (cut text) (λ parts. geometry_with parts.0 (cut parts.1)) g h in
-    let two = with_gave one.0 (cut one.1) g one.3 in
-    let numbers = geometry_gave (small_number_of one.0) (small_number_of two.0.0) (small_number_of two.0.1) g two.2 in
+    let one = cut_gave (cut text) (option_and_then (λ parts. geometry_with parts.0 (cut parts.1))) g refl h in
+    let two = cut_gave (cut one.1) (geometry_with one.0) g refl one.3 in
+    let numbers = geometry_gave (small_number_of one.0) (small_number_of two.0) (small_number_of two.1) g two.3 in
     let n = small_is_read law one.0 g.n numbers.0 in
-    let j = small_is_read law two.0.0 g.j numbers.1 in
-    let i = small_is_read law two.0.1 g.i numbers.2 in
-    let behind : decimal g.j ++ 32 ∷ decimal g.i ≡ one.1 =
-    ap (λ l. l ++ 32 ∷ decimal g.i) j.0 ∙ ap (λ l. two.0.0 ++ 32 ∷ l) i.0 ∙ sym (cut_is one.1 two.0.0 two.0.1 two.1) in
-    (ap (λ l. l ++ 32 ∷ (decimal g.j ++ 32 ∷ decimal g.i)) n.0 ∙ ap (λ l. one.0 ++ 32 ∷ l) behind ∙ sym (cut_is text one.0 one.1 one.2), n.1, j.1, i.1, numbers.3)
+    let j = small_is_read law two.0 g.j numbers.1 in
+    let i = small_is_read law two.1 g.i numbers.2 in
+    (rw (n.0, j.0, i.0, ← cut_is one.1 two.0 two.1 two.2, ← cut_is text one.0 one.1 one.2) refl, n.1, j.1, i.1, numbers.3)
 
 pub geometry_line_is_read : Numbers → (line : List ℕ) (g : Geometry) → behind geometry_by_letter line ≡ Some g
     → (103 ∷ 32 ∷ geometry_text g ≡ line) × (geometry_fits g ≡ true)
 geometry_line_is_read law line g h =
     let found = behind_gave geometry_by_letter line g h in
-    go found.0 found.1 found.2 (found.0 == 103) refl found.3
-  where
-    go : (first : ℕ) (rest : List ℕ) → line ≡ first ∷ 32 ∷ rest → (b : Bool) → (first == 103) ≡ b → (if b then geometry_of rest else None) ≡ Some g
-        → (103 ∷ 32 ∷ geometry_text g ≡ line) × (geometry_fits g ≡ true)
-    go first rest split true is f =
-        let read = geometry_is_read law rest g f in
-        (ap (λ l. 103 ∷ 32 ∷ l) read.0 ∙ ap (λ c. c ∷ 32 ∷ rest) (sym (eqb-true first 103 is)) ∙ sym split, read.4)
-    go first rest split false is f = cc f
+    let said = if_gave (found.0 == 103) (geometry_of found.1) g found.3 in
+    let read = geometry_is_read law found.1 g said.1 in
+    (ap (λ l. 103 ∷ 32 ∷ l) read.0 ∙ ap (λ c. c ∷ 32 ∷ found.1) (sym (eqb-true found.0 103 said.0)) ∙ sym found.2, read.4)
 
 -- ---- replies
 
@@ -217,25 +183,17 @@ pub reply_read : Numbers → (reply : ℕ × List ℕ) → reply.0 < 2 ^ 64 → 
 reply_read law reply low = rw (number_at reply.0 reply.1 low) (rw (law.read reply.0 low) refl)
 
 marked_gave : (o : Option ℕ) (text : List ℕ) (x : ℕ × List ℕ) → marked o text ≡ Some x → (o ≡ Some x.0) × (text ≡ x.1)
-marked_gave (Some moment) text x h =
-    let same : (moment, text) ≡ x = cc h in
-    (ap (λ (y : ℕ × List ℕ). Some y.0) same, ap (λ (y : ℕ × List ℕ). y.1) same)
-marked_gave None text x h = cc h
+marked_gave o text x h = grind arith
 
 reply_is_read : Numbers → (rest : List ℕ) (x : ℕ × List ℕ) → reply_of rest ≡ Some x → (reply_text x ≡ rest) × (x.0 < 2 ^ 64)
 reply_is_read law rest x h =
-    let parts = cut_gave (cut rest) (λ parts. marked (number_of parts.0) parts.1) x h in
+    let parts = cut_gave (cut rest) (option_and_then (λ parts. marked (number_of parts.0) parts.1)) x refl h in
     let found = marked_gave (number_of parts.0) parts.1 x parts.3 in
     (ap (λ l. l ++ 32 ∷ x.1) (law.text parts.0 x.0 found.0) ∙ ap (λ l. parts.0 ++ 32 ∷ l) (sym found.1) ∙ sym (cut_is rest parts.0 parts.1 parts.2), law.small parts.0 x.0 found.0)
 
 pub reply_line_is_read : Numbers → (line : List ℕ) (x : ℕ × List ℕ) → behind reply_by_letter line ≡ Some x → (114 ∷ 32 ∷ reply_text x ≡ line) × (x.0 < 2 ^ 64)
 reply_line_is_read law line x h =
     let found = behind_gave reply_by_letter line x h in
-    go found.0 found.1 found.2 (found.0 == 114) refl found.3
-  where
-    go : (first : ℕ) (rest : List ℕ) → line ≡ first ∷ 32 ∷ rest → (b : Bool) → (first == 114) ≡ b → (if b then reply_of rest else None) ≡ Some x
-        → (114 ∷ 32 ∷ reply_text x ≡ line) × (x.0 < 2 ^ 64)
-    go first rest split true is f =
-        let read = reply_is_read law rest x f in
-        (ap (λ l. 114 ∷ 32 ∷ l) read.0 ∙ ap (λ c. c ∷ 32 ∷ rest) (sym (eqb-true first 114 is)) ∙ sym split, read.1)
-    go first rest split false is f = cc f
+    let said = if_gave (found.0 == 114) (reply_of found.1) x found.3 in
+    let read = reply_is_read law found.1 x said.1 in
+    (ap (λ l. 114 ∷ 32 ∷ l) read.0 ∙ ap (λ c. c ∷ 32 ∷ found.1) (sym (eqb-true found.0 114 said.0)) ∙ sym found.2, read.1)

@@ -1,7 +1,8 @@
 -- The text of a trace has one contents.
 use Rattle.std.proofs.Common.{◌≡◌, sym, ap, ap₂, refl, ◌∙◌, arith, subst, ℕ, zero, suc, ◌+◌, ◌-◌, ◌<◌, ◌≤◌, ◌^◌, ◌==◌, ◌||◌, Bool, true, List, [], ◌∷◌, ◌++◌, take, drop, length, decimal, codes, append_assoc, append-nil, take-append-drop}
 use Rattle.std.proofs.lemmas.Bool.{or_parts, false≢true}
-use Rattle.std.proofs.lemmas.List.{length-take-le, length-drop, drop_all}
+use Rattle.std.proofs.lemmas.List.{length-take-le, drop_all}
+use Rattle.std.proofs.Math.Seq.{drop-drop}
 use Rattle.layout_geometry.specs.Geometry.{Geometry}
 use Rattle.disk_contract.specs.declared.event.Event.{Event}
 use Rattle.disk_contract.specs.Lawful.{AreEventsOf}
@@ -21,9 +22,6 @@ pub record OneValue : Type 0 where
   pub command_line : (cmd : Cmd) → IsCommand cmd → has_no_feed (command_text cmd) ≡ true
   pub reply_line : (reply : Reply) → IsReply reply → has_no_feed (text_of_reply reply) ≡ true
 
-three : {A B C D : Type 0} (f : A → B → C → D) (a x : A) (b y : B) (c z : C) → a ≡ x → b ≡ y → c ≡ z → f a b c ≡ f x y z
-three f a x b y c z p q r = ap (λ u. f u b c) p ∙ ap₂ (λ v w. f x v w) q r
-
 -- Parts of a log.
 
 drop_events : (n k : ℕ) (log : List Event) → AreEventsOf n log → AreEventsOf n (drop k log)
@@ -32,24 +30,14 @@ drop_events n (suc k) [] h = tt
 drop_events n (suc k) (x ∷ log) h = drop_events n k log h.1
 
 take_events : (n k : ℕ) (log : List Event) → AreEventsOf n log → AreEventsOf n (take k log)
-take_events n zero log h = tt
-take_events n (suc k) [] h = tt
 take_events n (suc k) (x ∷ log) h = (h.0, take_events n k log h.1)
-
-drop_on : (a b : ℕ) (log : List Event) → drop b (drop a log) ≡ drop (a + b) log
-drop_on a b [] = drop_all b (drop a []) (omega (arith, length-drop {A = Event} a [])) ∙ sym (drop_all (a + b) [] (omega arith))
-drop_on zero b (x ∷ log) =
-    let same : b ≡ zero + b = omega arith in
-    ap (λ k. drop k (x ∷ log)) same
-drop_on (suc a) b (x ∷ log) =
-    let same : suc (a + b) ≡ suc a + b = omega arith in
-    drop_on a b log ∙ ap (λ k. drop k (x ∷ log)) same
+take_events n other log h = tt
 
 -- the events from one mark on are those up to the next one and those from there on
 from_mark : (before mark : ℕ) (log : List Event) → before ≤ mark → drop before log ≡ between before mark log ++ drop mark log
 from_mark before mark log up =
     sym (take-append-drop (mark - before) (drop before log))
-    ∙ ap (λ l. take (mark - before) (drop before log) ++ l) (drop_on before (mark - before) log ∙ ap (λ k. drop k log) there)
+    ∙ ap (λ l. take (mark - before) (drop before log) ++ l) (drop-drop (mark - before) before log ∙ ap (λ k. drop k log) there)
   where
     there : before + (mark - before) ≡ mark
     there = omega (arith, up)
@@ -90,13 +78,13 @@ command_cut v cmd other r s h k e =
     let one = part_cut 10 (command_text cmd) (command_text other) (10 ∷ r) (10 ∷ s) (v.command_line cmd h) (v.command_line other k) (omega arith) (omega arith) (ap (drop 2) whole) in
     (v.command cmd other h k one.0, ap (drop 1) one.1)
 
+grouped : (a b c d r : List ℕ) → ((a ++ b ++ c) ++ d) ++ r ≡ a ++ (b ++ (c ++ (d ++ r)))
+grouped a b c d r = simp append_assoc
+
 -- an entry, and what is behind it, grouped from the right
 entry_text : (events : List Event) (cmd : Cmd) (reply : Reply) (mark : ℕ) (later r : List ℕ)
     → (entry events cmd reply mark ++ later) ++ r ≡ command_line (command_text cmd) ++ (event_lines events ++ (reply_line mark (text_of_reply reply) ++ (later ++ r)))
-entry_text events cmd reply mark later r =
-    append_assoc (entry events cmd reply mark) later r
-    ∙ append_assoc (command_line (command_text cmd) ++ event_lines events) (reply_line mark (text_of_reply reply)) (later ++ r)
-    ∙ append_assoc (command_line (command_text cmd)) (event_lines events) (reply_line mark (text_of_reply reply) ++ (later ++ r))
+entry_text events cmd reply mark later r = grouped (command_line (command_text cmd)) (event_lines events) (reply_line mark (text_of_reply reply)) later r
 
 entries_cut : (v : OneValue) (m n : ℕ) (log more : List Event) (before earlier : ℕ) (cmds asked : List Cmd) (replies answered : List Reply) (marks moments : List ℕ) (r s : List ℕ)
     → m < 2 ^ 64 → n < 2 ^ 64 → AreEventsOf m log → AreEventsOf n more → length log < 2 ^ 64 → length more < 2 ^ 64
@@ -135,27 +123,14 @@ entries_cut v m n log more before earlier (cmd ∷ cmds) (other ∷ asked) (repl
       events_are = from_mark before mark log a.0 ∙ rw (two.0, rest.events_are) refl ∙ sym (from_mark earlier moment more b.0);
       rest_is = rest.rest_is;
     }
-entries_cut v m n log more before earlier [] asked (reply ∷ replies) answered marks moments r s big large h k few less c d p q lc ld lm ln a b stop halt e = absurd (omega (arith, lc))
-entries_cut v m n log more before earlier (cmd ∷ cmds) asked [] answered marks moments r s big large h k few less c d p q lc ld lm ln a b stop halt e = absurd (omega (arith, lc))
-entries_cut v m n log more before earlier [] asked [] answered (mark ∷ marks) moments r s big large h k few less c d p q lc ld lm ln a b stop halt e = absurd (omega (arith, lm))
-entries_cut v m n log more before earlier (cmd ∷ cmds) asked (reply ∷ replies) answered [] moments r s big large h k few less c d p q lc ld lm ln a b stop halt e = absurd (omega (arith, lm))
-entries_cut v m n log more before earlier [] [] [] (answer ∷ answered) [] moments r s big large h k few less c d p q lc ld lm ln a b stop halt e = absurd (omega (arith, ld))
-entries_cut v m n log more before earlier [] (other ∷ asked) [] [] [] moments r s big large h k few less c d p q lc ld lm ln a b stop halt e = absurd (omega (arith, ld))
-entries_cut v m n log more before earlier [] [] [] [] [] (moment ∷ moments) r s big large h k few less c d p q lc ld lm ln a b stop halt e = absurd (omega (arith, ln))
-entries_cut v m n log more before earlier [] (other ∷ asked) [] (answer ∷ answered) [] [] r s big large h k few less c d p q lc ld lm ln a b stop halt e = absurd (omega (arith, ln))
-entries_cut v m n log more before earlier (cmd ∷ cmds) [] (reply ∷ replies) (answer ∷ answered) (mark ∷ marks) moments r s big large h k few less c d p q lc ld lm ln a b stop halt e = absurd (omega (arith, ld))
-entries_cut v m n log more before earlier (cmd ∷ cmds) (other ∷ asked) (reply ∷ replies) [] (mark ∷ marks) moments r s big large h k few less c d p q lc ld lm ln a b stop halt e = absurd (omega (arith, ld))
-entries_cut v m n log more before earlier (cmd ∷ cmds) [] (reply ∷ replies) [] (mark ∷ marks) (moment ∷ moments) r s big large h k few less c d p q lc ld lm ln a b stop halt e = absurd (omega (arith, ln))
-entries_cut v m n log more before earlier (cmd ∷ cmds) (other ∷ asked) (reply ∷ replies) (answer ∷ answered) (mark ∷ marks) [] r s big large h k few less c d p q lc ld lm ln a b stop halt e = absurd (omega (arith, ln))
+entries_cut v m n log more before earlier cmds asked replies answered marks moments r s big large h k few less c d p q lc ld lm ln a b stop halt e = absurd (omega (arith, lc, ld, lm, ln))
 
 -- The whole text.
 
 entries_stop : (log : List Event) (before : ℕ) (cmds : List Cmd) (replies : List Reply) (marks : List ℕ) (r : List ℕ) → BeginsNot is_event_byte r
     → BeginsNot is_event_byte (entries log before cmds replies marks ++ r)
-entries_stop log before [] replies marks r h = h
-entries_stop log before (cmd ∷ cmds) [] marks r h = h
-entries_stop log before (cmd ∷ cmds) (reply ∷ replies) [] r h = h
 entries_stop log before (cmd ∷ cmds) (reply ∷ replies) (mark ∷ marks) r h = refl
+entries_stop log before other replies marks r h = h
 
 geometry_cut : (g k : Geometry) (r s : List ℕ) → g.n < 2 ^ 64 → g.j < 2 ^ 64 → g.i < 2 ^ 64 → k.n < 2 ^ 64 → k.j < 2 ^ 64 → k.i < 2 ^ 64
     → geometry_line g ++ r ≡ geometry_line k ++ s → (g ≡ k) × (r ≡ s)
@@ -164,15 +139,10 @@ geometry_cut g k r s gn gj gi kn kj ki e =
     let one = number_cut g.n k.n (32 ∷ (decimal g.j ++ 32 ∷ (decimal g.i ++ 10 ∷ r))) (32 ∷ (decimal k.j ++ 32 ∷ (decimal k.i ++ 10 ∷ s))) gn kn (omega arith) (omega arith) (ap (drop 2) whole) in
     let two = number_cut g.j k.j (32 ∷ (decimal g.i ++ 10 ∷ r)) (32 ∷ (decimal k.i ++ 10 ∷ s)) gj kj (omega arith) (omega arith) (ap (drop 1) one.1) in
     let last = number_cut g.i k.i (10 ∷ r) (10 ∷ s) gi ki (omega arith) (omega arith) (ap (drop 1) two.1) in
-    (same_geometry g k one.0 two.0 last.0, ap (drop 1) last.1)
-  where
-    same_geometry : (g k : Geometry) → g.n ≡ k.n → g.j ≡ k.j → g.i ≡ k.i → g ≡ k
-    same_geometry g k a b c = three (λ n j i. record { n = n; j = j; i = i }) g.n k.n g.j k.j g.i k.i a b c
+    (rw (one.0, two.0, last.0) refl, ap (drop 1) last.1)
 
 front_text : (c : Contents) (r : List ℕ) → front_of c ++ r ≡ geometry_line c.geometry ++ (event_lines (take c.mounted c.log) ++ (entries c.log c.mounted c.cmds c.replies c.marks ++ r))
-front_text c r =
-    append_assoc (geometry_line c.geometry ++ event_lines (take c.mounted c.log)) (entries c.log c.mounted c.cmds c.replies c.marks) r
-    ∙ append_assoc (geometry_line c.geometry) (event_lines (take c.mounted c.log)) (entries c.log c.mounted c.cmds c.replies c.marks ++ r)
+front_text c r = simp append_assoc
 
 -- a mount has as many events as the log has up to there
 mounts : (c d : Contents) → AreLawful c → AreLawful d → take c.mounted c.log ≡ take d.mounted d.log → c.mounted ≡ d.mounted
@@ -180,6 +150,9 @@ mounts c d h k e =
     let mine = length-take-le c.mounted c.log (ascend_below c.mounted c.marks (length c.log) h.ascend) in
     let theirs = length-take-le d.mounted d.log (ascend_below d.mounted d.marks (length d.log) k.ascend) in
     omega (arith, mine, theirs, ap length e)
+
+all_same : (c d : Contents) → c.geometry ≡ d.geometry → c.log ≡ d.log → c.mounted ≡ d.mounted → c.cmds ≡ d.cmds → c.replies ≡ d.replies → c.marks ≡ d.marks → c ≡ d
+all_same c d g l m a b k = rw (g, l, m, a, b, k) refl
 
 front_cut : (v : OneValue) (c d : Contents) (r s : List ℕ) → AreLawful c → AreLawful d → BeginsNot is_entry_byte r → BeginsNot is_entry_byte s
     → front_of c ++ r ≡ front_of d ++ s → (c ≡ d) × (r ≡ s)
@@ -194,11 +167,6 @@ front_cut v c d r s h k stop halt e =
     h.ascend k.ascend stop halt two.1 in
     let log : c.log ≡ d.log = sym (take-append-drop c.mounted c.log) ∙ ap₂ (λ x y. x ++ y) two.0 same.events_are ∙ take-append-drop d.mounted d.log in
     (all_same c d one.0 log (mounts c d h k two.0) same.cmds_are same.replies_are same.marks_are, same.rest_is)
-  where
-    all_same : (c d : Contents) → c.geometry ≡ d.geometry → c.log ≡ d.log → c.mounted ≡ d.mounted → c.cmds ≡ d.cmds → c.replies ≡ d.replies → c.marks ≡ d.marks → c ≡ d
-    all_same c d g l m a b k =
-        three (λ x y z. record { geometry = x; log = y; mounted = z; cmds = c.cmds; replies = c.replies; marks = c.marks }) c.geometry d.geometry c.log d.log c.mounted d.mounted g l m
-        ∙ three (λ x y z. record { geometry = d.geometry; log = d.log; mounted = d.mounted; cmds = x; replies = y; marks = z }) c.cmds d.cmds c.replies d.replies c.marks d.marks a b k
 
 pub one_front : OneValue → (c d : Contents) → AreLawful c → AreLawful d → front_of c ≡ front_of d → c ≡ d
 one_front v c d h k e = (front_cut v c d [] [] h k tt tt (append-nil (front_of c) ∙ e ∙ sym (append-nil (front_of d)))).0

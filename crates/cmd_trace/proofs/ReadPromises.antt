@@ -3,6 +3,7 @@ use Rattle.std.proofs.Common.{◌≡◌, sym, ap, refl, ◌∙◌, subst, arith,
 use Rattle.std.specs.Prelude.{◌↔◌}
 use Rattle.std.proofs.lemmas.Slice.Eq.{bytes_eq-Decides}
 use Rattle.std.proofs.lemmas.Option.{same_Some, none-some}
+use Rattle.std.proofs.lemmas.List.{length-append}
 use Rattle.std.proofs.Math.Seq.{take-append_seam}
 use Rattle.hex.specs.Hex.{encode_lower}
 use Rattle.layout_geometry.specs.Geometry.{Geometry, IsGeometry, geometry_fits}
@@ -26,8 +27,7 @@ reads_as written IsOne text None is read = λ x one same. none-some x (read x on
 -- ---- lines and their line feeds
 
 length_fed : (xs : List ℕ) → length (fed xs) ≡ length xs + 1
-length_fed [] = refl
-length_fed (x ∷ xs) = omega (arith, length_fed xs)
+length_fed xs = length-append xs (10 ∷ [])
 
 fed_same : (xs ys : List ℕ) → fed xs ≡ fed ys → xs ≡ ys
 fed_same xs ys h =
@@ -35,14 +35,10 @@ fed_same xs ys h =
     sym (take-append_seam xs (codes "\n")) ∙ ap (λ l. take (length xs) l) h ∙ ap (λ n. take n (fed ys)) same ∙ take-append_seam ys (codes "\n")
 
 two_fields : (w a b : List ℕ) → w ++ a ++ codes " " ++ b ≡ w ++ (a ++ 32 ∷ b)
-two_fields w a b = append_assoc (w ++ a) (codes " ") b ∙ append_assoc w a (32 ∷ b)
+two_fields w a b = simp append_assoc
 
 three_fields : (w a b c : List ℕ) → w ++ a ++ codes " " ++ b ++ codes " " ++ c ≡ w ++ (a ++ 32 ∷ (b ++ 32 ∷ c))
-three_fields w a b c =
-    append_assoc (w ++ a ++ codes " " ++ b) (codes " ") c
-    ∙ append_assoc (w ++ a ++ codes " ") b (32 ∷ c)
-    ∙ append_assoc (w ++ a) (codes " ") (b ++ 32 ∷ c)
-    ∙ append_assoc w a (32 ∷ (b ++ 32 ∷ c))
+three_fields w a b c = simp append_assoc
 
 event_fed : (e : Event) → event_line e ≡ fed (event_text e)
 event_fed (Wrote ticket block bytes) = ap fed (three_fields (codes "w ") (decimal ticket) (decimal block) (encode_lower bytes))
@@ -57,44 +53,28 @@ reply_fed reply = ap fed (two_fields (codes "r ") (decimal reply.0) reply.1)
 
 -- ---- the promises
 
-pub event_reads : Numbers → (line : List ℕ) → IsReadAs event_line (IsEventOf (2 ^ 32)) (fed line) (behind event_by_letter line)
-event_reads law line = reads_as event_line (IsEventOf (2 ^ 32)) (fed line) (behind event_by_letter line) is read
-  where
-    is : (e : Event) → behind event_by_letter line ≡ Some e → IsEventOf (2 ^ 32) e × (event_line e ≡ fed line)
-    is e h =
-        let found = event_is_read law line e h in
-        (found.1, event_fed e ∙ ap fed found.0)
+-- lines that are read as what their texts say
+line_reads : {A : Type 0} (written text : A → List ℕ) (IsOne : A → Type 0) (says : List ℕ → Option A) (line : List ℕ) → ((x : A) → written x ≡ fed (text x))
+    → ((x : A) → says line ≡ Some x → (text x ≡ line) × IsOne x) → ((x : A) → IsOne x → says (text x) ≡ Some x) → IsReadAs written IsOne (fed line) (says line)
+line_reads written text IsOne says line spelled is read = reads_as written IsOne (fed line) (says line)
+    (λ x h. ((is x h).1, spelled x ∙ ap fed (is x h).0))
+    (λ x one same. subst (λ l. says l ≡ Some x) (fed_same (text x) line (sym (spelled x) ∙ same)) (read x one))
 
-    read : (e : Event) → IsEventOf (2 ^ 32) e → event_line e ≡ fed line → behind event_by_letter line ≡ Some e
-    read e one same = subst (λ l. behind event_by_letter l ≡ Some e) (fed_same (event_text e) line (sym (event_fed e) ∙ same)) (event_read law e one)
+pub event_reads : Numbers → (line : List ℕ) → IsReadAs event_line (IsEventOf (2 ^ 32)) (fed line) (behind event_by_letter line)
+event_reads law line = line_reads event_line event_text (IsEventOf (2 ^ 32)) (behind event_by_letter) line event_fed (event_is_read law line) (event_read law)
 
 pub geometry_reads : Numbers → ((g : Geometry) → (geometry_fits g ≡ true) ↔ IsGeometry g) → (line : List ℕ)
     → IsReadAs geometry_line (λ g. geometry_fits g ≡ true) (fed line) (behind geometry_by_letter line)
-geometry_reads law limits line = reads_as geometry_line (λ g. geometry_fits g ≡ true) (fed line) (behind geometry_by_letter line) is read
-  where
-    is : (g : Geometry) → behind geometry_by_letter line ≡ Some g → (geometry_fits g ≡ true) × (geometry_line g ≡ fed line)
-    is g h =
-        let found = geometry_line_is_read law line g h in
-        (found.1, geometry_fed g ∙ ap fed found.0)
-
-    read : (g : Geometry) → geometry_fits g ≡ true → geometry_line g ≡ fed line → behind geometry_by_letter line ≡ Some g
-    read g fits same =
-        let within = (limits g).0 fits in
-        subst (λ l. behind geometry_by_letter l ≡ Some g) (fed_same (103 ∷ 32 ∷ geometry_text g) line (sym (geometry_fed g) ∙ same))
-        (geometry_read law g (omega (arith, within.most_blocks)) (omega (arith, within.most_journal)) (omega (arith, within.most_nodes)) fits)
+geometry_reads law limits line =
+    line_reads geometry_line (λ g. 103 ∷ 32 ∷ geometry_text g) (λ g. geometry_fits g ≡ true) (behind geometry_by_letter) line geometry_fed (geometry_line_is_read law line) (λ g fits.
+    let within = (limits g).0 fits in
+    geometry_read law g (omega (arith, within.most_blocks)) (omega (arith, within.most_journal)) (omega (arith, within.most_nodes)) fits)
 
 pub reply_reads : Numbers → (line : List ℕ)
     → IsReadAs (λ (reply : ℕ × List ℕ). reply_line reply.0 reply.1) (λ reply. reply.0 < 2 ^ 64) (fed line) (behind reply_by_letter line)
-reply_reads law line = reads_as (λ (reply : ℕ × List ℕ). reply_line reply.0 reply.1) (λ reply. reply.0 < 2 ^ 64) (fed line) (behind reply_by_letter line) is read
-  where
-    is : (reply : ℕ × List ℕ) → behind reply_by_letter line ≡ Some reply → (reply.0 < 2 ^ 64) × (reply_line reply.0 reply.1 ≡ fed line)
-    is reply h =
-        let found = reply_line_is_read law line reply h in
-        (found.1, reply_fed reply ∙ ap fed found.0)
-
-    read : (reply : ℕ × List ℕ) → reply.0 < 2 ^ 64 → reply_line reply.0 reply.1 ≡ fed line → behind reply_by_letter line ≡ Some reply
-    read reply low same =
-        subst (λ l. behind reply_by_letter l ≡ Some reply) (fed_same (114 ∷ 32 ∷ reply_text reply) line (sym (reply_fed reply) ∙ same)) (reply_read law reply low)
+reply_reads law line =
+    line_reads (λ (reply : ℕ × List ℕ). reply_line reply.0 reply.1) (λ reply. 114 ∷ 32 ∷ reply_text reply) (λ reply. reply.0 < 2 ^ 64) (behind reply_by_letter) line
+    reply_fed (reply_line_is_read law line) (reply_read law)
 
 pub refusal_reads : Numbers → (text : List ℕ) → IsReadAs refusal_text IsOutside text (refusal_of text)
 refusal_reads law text = reads_as refusal_text IsOutside text (refusal_of text) (refusal_is_read law text)

@@ -1,18 +1,19 @@
 -- The texts of refusals from outside the tree, and of points that are known to be on the disk, are read as what they
 -- say, and as nothing else.
 use Rattle.std.proofs.Common.{◌≡◌, sym, ap, refl, ◌∙◌, subst, arith, ℕ, ◌+◌, ◌/◌, ◌%◌, ◌≤◌, ◌<◌, ◌^◌, Bool, true, false, List, [], ◌∷◌, ◌++◌, decimal, codes, append_assoc, Option, Some, None, bytes_eq}
-use Rattle.std.specs.Prelude.{if◌then◌else◌}
+use Rattle.std.specs.Prelude.{if◌then◌else◌, option_and_then}
 use Rattle.std.specs.List.{list_all}
 use Rattle.std.proofs.lemmas.Fmt.{decimal_step, decimal_digit}
 use Rattle.std.proofs.lemmas.Slice.Eq.{bytes_eq-Decides}
 use Rattle.lang_tree.specs.declared.command.Refusal.{Refusal}
-use Rattle.lang_tree.specs.declared.command.Refusal.TheVariants.{NotFound, Exists, NotDir, IsDir, NotEmpty, BelowItself, TooLarge, TooManyLinks, NoNode, Full, TooBig, Scattered, ReadFault, DiskFault, Stopped, Spent, NoMemory}
+use Rattle.lang_tree.specs.declared.command.Refusal.TheVariants.{Full, TooBig, Scattered, ReadFault, DiskFault, Stopped, Spent, NoMemory}
 use Rattle.lang_script.specs.Text.{refusal_text}
 use Rattle.lang_script.specs.Decimal.{number_of}
 use Rattle.cmd_trace.specs.ReadFields.{cut, small_number_of}
 use Rattle.cmd_trace.specs.ReadLines.{refusal_of, refusal_by, full_of, full_by, too_big_of, too_big_with, too_big_by, scattered_of, reason_of, known_of, known_by}
 use Rattle.cmd_trace.specs.ReadsAs.{IsOutside}
 use Rattle.cmd_trace.proofs.Blanks.{is_dark, cut_is, cut_at, number_at}
+use Rattle.cmd_trace.proofs.Digits.{if_gave}
 use Rattle.cmd_trace.proofs.LinesRead.{Numbers, small_read, small_is_read, cut_gave, map_gave}
 
 -- ---- from a refusal to its text and back
@@ -31,10 +32,11 @@ full_read : Numbers → (need left : ℕ) → need < 2 ^ 32 → left < 2 ^ 32 �
 full_read law need left n l =
     ap refusal_of (full_text need left) ∙ refusal_at (codes "full") (decimal need ++ 32 ∷ decimal left) refl ∙ full_of_text law need left n l
 
+spaced : (a b c : List ℕ) → a ++ codes " " ++ b ++ codes " " ++ c ≡ a ++ 32 ∷ (b ++ 32 ∷ c)
+spaced a b c = simp append_assoc
+
 too_big_text : (weight cost room : ℕ) → refusal_text (TooBig weight cost room) ≡ codes "toobig" ++ 32 ∷ (decimal weight ++ 32 ∷ (decimal cost ++ 32 ∷ decimal room))
-too_big_text weight cost room =
-    ap (λ l. codes "toobig" ++ 32 ∷ l) (append_assoc (decimal weight ++ codes " " ++ decimal cost) (codes " ") (decimal room)
-    ∙ append_assoc (decimal weight ++ codes " ") (decimal cost) (32 ∷ decimal room) ∙ append_assoc (decimal weight) (codes " ") (decimal cost ++ 32 ∷ decimal room))
+too_big_text weight cost room = ap (λ l. codes "toobig" ++ 32 ∷ l) (spaced (decimal weight) (decimal cost) (decimal room))
 
 too_big_of_text : Numbers → (weight cost room : ℕ) → weight < 2 ^ 32 → cost < 2 ^ 32 → room < 2 ^ 32
     → too_big_of (decimal weight ++ 32 ∷ (decimal cost ++ 32 ∷ decimal room)) ≡ Some (TooBig weight cost room)
@@ -78,15 +80,7 @@ refusal_read law DiskFault h = reason_read 14 (codes "DiskFault") DiskFault (ome
 refusal_read law Stopped h = reason_read 15 (codes "Stopped") Stopped (omega arith) (omega arith) refl
 refusal_read law Spent h = reason_read 16 (codes "Spent") Spent (omega arith) (omega arith) refl
 refusal_read law NoMemory h = reason_read 17 (codes "NoMemory") NoMemory (omega arith) (omega arith) refl
-refusal_read law NotFound h = cc h.number
-refusal_read law Exists h = cc h.number
-refusal_read law NotDir h = cc h.number
-refusal_read law IsDir h = cc h.number
-refusal_read law NotEmpty h = cc h.number
-refusal_read law BelowItself h = cc h.number
-refusal_read law TooLarge h = cc h.number
-refusal_read law TooManyLinks h = cc h.number
-refusal_read law NoNode h = cc h.number
+refusal_read law other h = cc h.number
 
 -- ---- from a text to its refusal and back
 
@@ -95,44 +89,33 @@ Spells text why = IsOutside why × (refusal_text why ≡ text)
 
 full_gave : (a b : Option ℕ) (why : Refusal) → full_by a b ≡ Some why → (need : ℕ) × (left : ℕ) × (a ≡ Some need) × (b ≡ Some left) × (Full need left ≡ why)
 full_gave (Some need) (Some left) why h = (need, left, refl, refl, cc h)
-full_gave (Some need) None why h = cc h
-full_gave None b why h = cc h
+full_gave other b why h = cc h
 
 full_is_read : Numbers → (text : List ℕ) (why : Refusal) → full_of text ≡ Some why → Spells (codes "full" ++ 32 ∷ text) why
 full_is_read law text why h =
-    let parts = cut_gave (cut text) (λ parts. full_by (small_number_of parts.0) (small_number_of parts.1)) why h in
+    let parts = cut_gave (cut text) (option_and_then (λ parts. full_by (small_number_of parts.0) (small_number_of parts.1))) why refl h in
     let found = full_gave (small_number_of parts.0) (small_number_of parts.1) why parts.3 in
     let need = small_is_read law parts.0 found.0 found.2 in
     let left = small_is_read law parts.1 found.1 found.3 in
-    let same : decimal found.0 ++ 32 ∷ decimal found.1 ≡ text =
-    ap (λ l. l ++ 32 ∷ decimal found.1) need.0 ∙ ap (λ l. parts.0 ++ 32 ∷ l) left.0 ∙ sym (cut_is text parts.0 parts.1 parts.2) in
+    let same : decimal found.0 ++ 32 ∷ decimal found.1 ≡ text = rw (need.0, left.0, ← cut_is text parts.0 parts.1 parts.2) refl in
     subst (Spells (codes "full" ++ 32 ∷ text)) found.4
     (record { number = refl; figures = (need.1, left.1) }, full_text found.0 found.1 ∙ ap (λ l. codes "full" ++ 32 ∷ l) same)
 
 too_big_gave : (a b c : Option ℕ) (why : Refusal) → too_big_by a b c ≡ Some why
     → (weight : ℕ) × (cost : ℕ) × (room : ℕ) × (a ≡ Some weight) × (b ≡ Some cost) × (c ≡ Some room) × (TooBig weight cost room ≡ why)
 too_big_gave (Some weight) (Some cost) (Some room) why h = (weight, cost, room, refl, refl, refl, cc h)
-too_big_gave (Some weight) (Some cost) None why h = cc h
-too_big_gave (Some weight) None c why h = cc h
-too_big_gave None b c why h = cc h
-
-too_big_with_gave : (weight : List ℕ) (o : Option (List ℕ × List ℕ)) (why : Refusal) → too_big_with weight o ≡ Some why
-    → (rest : List ℕ × List ℕ) × (o ≡ Some rest) × (too_big_by (small_number_of weight) (small_number_of rest.0) (small_number_of rest.1) ≡ Some why)
-too_big_with_gave weight (Some rest) why h = (rest, refl, h)
-too_big_with_gave weight None why h = cc h
+too_big_gave other b c why h = cc h
 
 too_big_is_read : Numbers → (text : List ℕ) (why : Refusal) → too_big_of text ≡ Some why → Spells (codes "toobig" ++ 32 ∷ text) why
 too_big_is_read law text why h =
-    let one = cut_gave (cut text) (λ parts. too_big_with parts.0 (cut parts.1)) why h in
-    let two = too_big_with_gave one.0 (cut one.1) why one.3 in
-    let found = too_big_gave (small_number_of one.0) (small_number_of two.0.0) (small_number_of two.0.1) why two.2 in
+    let one = cut_gave (cut text) (option_and_then (λ parts. too_big_with parts.0 (cut parts.1))) why refl h in
+    let two = cut_gave (cut one.1) (too_big_with one.0) why refl one.3 in
+    let found = too_big_gave (small_number_of one.0) (small_number_of two.0) (small_number_of two.1) why two.3 in
     let weight = small_is_read law one.0 found.0 found.3 in
-    let cost = small_is_read law two.0.0 found.1 found.4 in
-    let room = small_is_read law two.0.1 found.2 found.5 in
-    let behind : decimal found.1 ++ 32 ∷ decimal found.2 ≡ one.1 =
-    ap (λ l. l ++ 32 ∷ decimal found.2) cost.0 ∙ ap (λ l. two.0.0 ++ 32 ∷ l) room.0 ∙ sym (cut_is one.1 two.0.0 two.0.1 two.1) in
+    let cost = small_is_read law two.0 found.1 found.4 in
+    let room = small_is_read law two.1 found.2 found.5 in
     let same : decimal found.0 ++ 32 ∷ (decimal found.1 ++ 32 ∷ decimal found.2) ≡ text =
-    ap (λ l. l ++ 32 ∷ (decimal found.1 ++ 32 ∷ decimal found.2)) weight.0 ∙ ap (λ l. one.0 ++ 32 ∷ l) behind ∙ sym (cut_is text one.0 one.1 one.2) in
+    rw (weight.0, cost.0, room.0, ← cut_is one.1 two.0 two.1 two.2, ← cut_is text one.0 one.1 one.2) refl in
     subst (Spells (codes "toobig" ++ 32 ∷ text)) found.6
     (record { number = refl; figures = (weight.1, cost.1, room.1) }, too_big_text found.0 found.1 found.2 ∙ ap (λ l. codes "toobig" ++ 32 ∷ l) same)
 
@@ -203,7 +186,7 @@ word_gave law word text why h = f (bytes_eq word (codes "full")) refl h
 
 pub refusal_is_read : Numbers → (text : List ℕ) (why : Refusal) → refusal_of text ≡ Some why → IsOutside why × (refusal_text why ≡ text)
 refusal_is_read law text why h =
-    let parts = cut_gave (cut text) (λ parts. refusal_by parts.0 parts.1) why h in
+    let parts = cut_gave (cut text) (option_and_then (λ parts. refusal_by parts.0 parts.1)) why refl h in
     let found = word_gave law parts.0 parts.1 why parts.3 in
     (found.0, found.1 ∙ sym (cut_is text parts.0 parts.1 parts.2))
 
@@ -216,15 +199,12 @@ pub known_read : Numbers → (point : ℕ) → point < 2 ^ 64 → known_of (code
 known_read law point low = known_at (codes "known") (decimal point) refl ∙ law.read point low
 
 known_gave : Numbers → (word text : List ℕ) (point : ℕ) → known_by word text ≡ Some point → (point < 2 ^ 64) × (codes "known" ++ 32 ∷ decimal point ≡ word ++ 32 ∷ text)
-known_gave law word text point h = go (bytes_eq word (codes "known")) refl h
-  where
-    go : (b : Bool) → bytes_eq word (codes "known") ≡ b → (if b then number_of text else None) ≡ Some point
-        → (point < 2 ^ 64) × (codes "known" ++ 32 ∷ decimal point ≡ word ++ 32 ∷ text)
-    go true is g = (law.small text point g, ap (λ l. codes "known" ++ 32 ∷ l) (law.text text point g) ∙ ap (λ w. w ++ 32 ∷ text) (sym ((bytes_eq-Decides word (codes "known")).0 is)))
-    go false is g = cc g
+known_gave law word text point h =
+    let found = if_gave (bytes_eq word (codes "known")) (number_of text) point h in
+    (law.small text point found.1, ap (λ l. codes "known" ++ 32 ∷ l) (law.text text point found.1) ∙ ap (λ w. w ++ 32 ∷ text) (sym ((bytes_eq-Decides word (codes "known")).0 found.0)))
 
 pub known_is_read : Numbers → (text : List ℕ) (point : ℕ) → known_of text ≡ Some point → (point < 2 ^ 64) × (codes "known " ++ decimal point ≡ text)
 known_is_read law text point h =
-    let parts = cut_gave (cut text) (λ parts. known_by parts.0 parts.1) point h in
+    let parts = cut_gave (cut text) (option_and_then (λ parts. known_by parts.0 parts.1)) point refl h in
     let found = known_gave law parts.0 parts.1 point parts.3 in
     (found.0, found.1 ∙ sym (cut_is text parts.0 parts.1 parts.2))

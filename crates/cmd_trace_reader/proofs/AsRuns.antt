@@ -18,11 +18,10 @@ use Rattle.cmd_trace_reader.proofs.Taking.{Tells}
 
 runs : Tells → (s : Session) (stopped : Bool) (cmds : List Cmd) (replies : List Reply) → MayReplyEach s stopped cmds replies → (end : Session) × Run is_of_disk s cmds replies end
 runs tells s stopped [] [] h = (s, refl)
-runs tells s stopped [] (reply ∷ replies) h = absurd h
-runs tells s stopped (cmd ∷ cmds) [] h = absurd h
 runs tells s stopped (cmd ∷ cmds) (reply ∷ replies) h =
     let rest = runs tells (after_reply s cmd reply) (stopped || is_fault reply) cmds replies h.1 in
     (rest.0, (h.0.next, h.0.answers, subst (λ n. Run is_of_disk n cmds replies rest.0) (sym (tells.session is_of_disk s h.0.next cmd reply h.0.answers)) rest.1))
+runs tells s stopped other rest h = absurd h
 
 -- once the session has ended, each command but a bad line is refused so
 stays_stopped : (s : Session) (cmds : List Cmd) (replies : List Reply) (k : ℕ) (cmd : Cmd) → MayReplyEach s true cmds replies → slice_get cmds k ≡ Some cmd → cmd ≢ Bad

@@ -1,18 +1,19 @@
 -- Which lines may follow, by their first bytes, and why a line that isn't read doesn't.
-use Rattle.std.proofs.Common.{◌≡◌, sym, ap, refl, ◌∙◌, subst, arith, tests, ℕ, ◌<◌, ◌≤◌, ◌^◌, ◌==◌, Bool, true, false, inl, inr, List, [], ◌∷◌, length, get_or, Option, Some, None}
-use Rattle.std.specs.Prelude.{◌⊎◌}
+use Rattle.std.proofs.Common.{◌≡◌, sym, ap, refl, ◌∙◌, subst, arith, ℕ, ◌<◌, ◌≤◌, ◌^◌, ◌==◌, suc, Bool, true, false, inl, inr, List, [], ◌∷◌, length, get_or, Option, Some, None}
+use Rattle.std.specs.Prelude.{◌⊎◌, if◌then◌else◌}
+use Rattle.std.proofs.lemmas.Bool.{ne_eqb}
 use Rattle.layout_geometry.specs.Geometry.{IsGeometry}
 use Rattle.disk_contract.specs.declared.event.Event.{Event}
 use Rattle.disk_contract.specs.declared.event.Event.TheVariants.{Wrote, Lost, Noticed}
 use Rattle.disk_contract.specs.Lawful.{IsEventOf}
 use Rattle.lang_tree.specs.declared.command.Cmd.{Cmd}
-use Rattle.lang_script.specs.Text.{command_text, text_of_reply}
-use Rattle.cmd_trace.specs.Line.{event_line, command_line, reply_line, end_line}
+use Rattle.lang_script.specs.Text.{text_of_reply}
+use Rattle.cmd_trace.specs.Line.{event_line, reply_line}
 use Rattle.cmd_trace.specs.ReadsAs.{IsReadAs, fed}
 use Rattle.cmd_trace_reader.specs.Events.{IsNext, TakesEvent}
 use Rattle.cmd_trace_reader.specs.declared.reader.Place.{Place}
 use Rattle.cmd_trace_reader.specs.declared.reader.Place.TheVariants.{Mounting, Asked, Answered, Ended}
-use Rattle.cmd_trace_reader.specs.Reading.{State, HappensBy, AsksBy, AnswersBy, Follows, TakesLine}
+use Rattle.cmd_trace_reader.specs.Reading.{State, HappensBy, AsksBy, AnswersBy, EndsBy, Follows, TakesLine}
 
 -- ---- first bytes
 
@@ -20,48 +21,32 @@ use Rattle.cmd_trace_reader.specs.Reading.{State, HappensBy, AsksBy, AnswersBy, 
 abbrev pub head : List ℕ → ℕ
 head line = get_or line 0 0
 
-event_head : (e : Event) → (head (event_line e) ≡ 119) ⊎ ((head (event_line e) ≡ 102) ⊎ (head (event_line e) ≡ 100))
-event_head (Wrote ticket block bytes) = inl refl
-event_head (Lost block bytes) = inr (inl refl)
-event_head (Noticed ticket) = inr (inr refl)
+-- which kind of line has this first byte: an event's, or that of a command, of a reply, or the last one
+abbrev kind_of : ℕ → ℕ
+kind_of b = if b == 99 then 1 else if b == 114 then 2 else if b == 101 then 3 else 0
 
-event_is : (e : Event) (line : List ℕ) → event_line e ≡ fed line → (head (fed line) ≡ 119) ⊎ ((head (fed line) ≡ 102) ⊎ (head (fed line) ≡ 100))
-event_is e line same = subst (λ l. (head l ≡ 119) ⊎ ((head l ≡ 102) ⊎ (head l ≡ 100))) same (event_head e)
+event_kind : (e : Event) → kind_of (head (event_line e)) ≡ 0
+event_kind (Noticed ticket) = refl
+event_kind other = refl
 
-pub no_event : (e : Event) (line : List ℕ) (b : ℕ) → head (fed line) ≡ b → (b ≡ 99) ⊎ ((b ≡ 114) ⊎ ((b ≡ 101) ⊎ (b ≡ 10))) → event_line e ≡ fed line → ⊥
-no_event e line b is other same = go (event_is e line same) other
-  where
-    go : (head (fed line) ≡ 119) ⊎ ((head (fed line) ≡ 102) ⊎ (head (fed line) ≡ 100)) → (b ≡ 99) ⊎ ((b ≡ 114) ⊎ ((b ≡ 101) ⊎ (b ≡ 10))) → ⊥
-    go (inl h) (inl k) = omega (arith, h, k, is)
-    go (inl h) (inr (inl k)) = omega (arith, h, k, is)
-    go (inl h) (inr (inr (inl k))) = omega (arith, h, k, is)
-    go (inl h) (inr (inr (inr k))) = omega (arith, h, k, is)
-    go (inr (inl h)) (inl k) = omega (arith, h, k, is)
-    go (inr (inl h)) (inr (inl k)) = omega (arith, h, k, is)
-    go (inr (inl h)) (inr (inr (inl k))) = omega (arith, h, k, is)
-    go (inr (inl h)) (inr (inr (inr k))) = omega (arith, h, k, is)
-    go (inr (inr h)) (inl k) = omega (arith, h, k, is)
-    go (inr (inr h)) (inr (inl k)) = omega (arith, h, k, is)
-    go (inr (inr h)) (inr (inr (inl k))) = omega (arith, h, k, is)
-    go (inr (inr h)) (inr (inr (inr k))) = omega (arith, h, k, is)
+-- of which kind a line is, by what follows
+abbrev last_kind : (s t : State) (line : List ℕ) → AnswersBy s line t ⊎ EndsBy s line t → ℕ
+last_kind s t line (inl k) = 0
+last_kind s t line (inr k) = 1
 
-pub command_is : (cmd : Cmd) (line : List ℕ) → command_line (command_text cmd) ≡ fed line → head (fed line) ≡ 99
-command_is cmd line same = ap head (sym same)
+abbrev later_kind : (s t : State) (line : List ℕ) → AsksBy s line t ⊎ (AnswersBy s line t ⊎ EndsBy s line t) → ℕ
+later_kind s t line (inl k) = 0
+later_kind s t line (inr k) = suc (last_kind s t line k)
 
-pub reply_is : (m : ℕ) (text line : List ℕ) → reply_line m text ≡ fed line → head (fed line) ≡ 114
-reply_is m text line same = ap head (sym same)
+abbrev kind : (s t : State) (line : List ℕ) → Follows s line t → ℕ
+kind s t line (inl k) = 0
+kind s t line (inr k) = suc (later_kind s t line k)
 
-pub end_is : (line : List ℕ) → fed line ≡ end_line → head (fed line) ≡ 101
-end_is line same = ap head same
-
-pub apart : {P : Type 0} (a b c : ℕ) → a ≡ b → a ≡ c → (b == c) ≡ false → P
-apart a b c h k d = absurd (go (sym d ∙ equal b c (sym h ∙ k)))
-  where
-    equal : (x y : ℕ) → x ≡ y → (x == y) ≡ true
-    equal x y e = grind (arith, tests, e)
-
-    go : false ≡ true → ⊥
-    go e = cc e
+pub kind_is : (s t : State) (line : List ℕ) (k : Follows s line t) → kind s t line k ≡ kind_of (head (fed line))
+kind_is s t line (inl k) = sym (event_kind k.event) ∙ ap (λ l. kind_of (head l)) k.written
+kind_is s t line (inr (inl k)) = ap (λ l. kind_of (head l)) k.written
+kind_is s t line (inr (inr (inl k))) = ap (λ l. kind_of (head l)) k.written
+kind_is s t line (inr (inr (inr k))) = ap (λ l. kind_of (head l)) (sym k.written)
 
 -- ---- one line by its first byte
 
@@ -70,31 +55,28 @@ by_command s t rest true h = inr (inl h)
 by_command s t rest false h = go
   where
     go : (u : State) → Follows s (99 ∷ rest) u → ⊥
-    go u (inl e) = no_event e.event (99 ∷ rest) 99 refl (inl refl) e.written
-    go u (inr (inl e)) = h u e
-    go u (inr (inr (inl e))) = apart (head (fed (99 ∷ rest))) 99 114 refl (reply_is (length s.log) (text_of_reply e.reply) (99 ∷ rest) e.written) refl
-    go u (inr (inr (inr e))) = apart (head (fed (99 ∷ rest))) 99 101 refl (end_is (99 ∷ rest) e.written) refl
+    go u (inr (inl k)) = h u k
+    go u other = omega (arith, kind_is s u (99 ∷ rest) other)
 
 pub by_reply : (s t : State) (rest : List ℕ) (taken : Bool) → TakesLine AnswersBy s (114 ∷ rest) taken t → TakesLine Follows s (114 ∷ rest) taken t
 by_reply s t rest true h = inr (inr (inl h))
 by_reply s t rest false h = go
   where
     go : (u : State) → Follows s (114 ∷ rest) u → ⊥
-    go u (inl e) = no_event e.event (114 ∷ rest) 114 refl (inr (inl refl)) e.written
-    go u (inr (inl e)) = apart (head (fed (114 ∷ rest))) 114 99 refl (command_is e.cmd (114 ∷ rest) e.written) refl
-    go u (inr (inr (inl e))) = h u e
-    go u (inr (inr (inr e))) = apart (head (fed (114 ∷ rest))) 114 101 refl (end_is (114 ∷ rest) e.written) refl
+    go u (inr (inr (inl k))) = h u k
+    go u other = omega (arith, kind_is s u (114 ∷ rest) other)
 
 pub by_event : (s t : State) (first : ℕ) (rest : List ℕ) (taken : Bool) → (first == 99) ≡ false → (first == 114) ≡ false → (first == 101) ≡ false
     → TakesLine HappensBy s (first ∷ rest) taken t → TakesLine Follows s (first ∷ rest) taken t
 by_event s t first rest true c r e h = inl h
 by_event s t first rest false c r e h = go
   where
+    none : kind_of first ≡ 0
+    none = rw (c, r, e) refl
+
     go : (u : State) → Follows s (first ∷ rest) u → ⊥
     go u (inl k) = h u k
-    go u (inr (inl k)) = apart (head (fed (first ∷ rest))) first 99 refl (command_is k.cmd (first ∷ rest) k.written) c
-    go u (inr (inr (inl k))) = apart (head (fed (first ∷ rest))) first 114 refl (reply_is (length s.log) (text_of_reply k.reply) (first ∷ rest) k.written) r
-    go u (inr (inr (inr k))) = apart (head (fed (first ∷ rest))) first 101 refl (end_is (first ∷ rest) k.written) e
+    go u (inr k) = omega (arith, kind_is s u (first ∷ rest) (inr k), none)
 
 -- ---- events
 
@@ -150,11 +132,7 @@ first_answers s t (first ∷ rest) taken some is h =
     subst (λ f. TakesLine AnswersBy s (f ∷ rest) taken t → TakesLine Follows s (f ∷ rest) taken t) (sym is) (by_reply s t rest taken) h
 
 differs : (a b : ℕ) → (a ≡ b → ⊥) → (a == b) ≡ false
-differs a b off = go (a == b) refl
-  where
-    go : (c : Bool) → (a == b) ≡ c → c ≡ false
-    go true is = absurd (off (grind (arith, tests, is)))
-    go false is = refl
+differs a b off = ne_eqb a b off
 
 pub first_happens : (s t : State) (line : List ℕ) (taken : Bool) → 1 ≤ length line → (get_or line 0 0 ≡ 99 → ⊥) → (get_or line 0 0 ≡ 114 → ⊥) → (get_or line 0 0 ≡ 101 → ⊥)
     → TakesLine HappensBy s line taken t → TakesLine Follows s line taken t

@@ -1,5 +1,5 @@
 -- What was read goes on to a trace, and is one where its last line was taken.
-use Rattle.std.proofs.Common.{◌≡◌, sym, ap, refl, ◌∙◌, subst, arith, ℕ, Bool, true, false, inl, inr, List, [], ◌∷◌, ◌++◌, length, append_assoc, Option, Some, None}
+use Rattle.std.proofs.Common.{◌^◌, ◌<◌, ◌≡◌, sym, ap, refl, ◌∙◌, subst, arith, ℕ, true, false, inl, inr, List, [], ◌∷◌, ◌++◌, length, append_assoc, Option, Some, None}
 use Rattle.std.specs.Prelude.{◌↔◌, ◌⊎◌}
 use Rattle.std.proofs.lemmas.List.{append-nil}
 use Rattle.layout_geometry.specs.Geometry.{Geometry, IsGeometry, geometry_fits}
@@ -30,33 +30,20 @@ pub record Limits : Type 0 where
 trace_at : Limits → (s : State) (text : List ℕ) → Holds s text → (is_between s.place ≡ true) ⊎ (s.place ≡ Ended) → IsTrace (contents_of s)
 trace_at l s text h here =
     let size : IsGeometry s.geometry = (l.limits s.geometry).0 h.fits in
+    let blocks : s.geometry.n < 2 ^ 64 = omega (arith, size.most_blocks) in
+    let journal : s.geometry.j < 2 ^ 64 = omega (arith, size.most_journal) in
+    let nodes : s.geometry.i < 2 ^ 64 = omega (arith, size.most_nodes) in
+    let last : last_mark s.mounted s.marks ≡ length s.log = elim here as (λ _. last_mark s.mounted s.marks ≡ length s.log) [ inl e ↦ at_last s s.place e h.stands | inr e ↦ subst (λ p. StandsAt p s) e h.stands ] in
     record {
-      lawful = record {
-        blocks = omega (arith, size.most_blocks);
-        journal = omega (arith, size.most_journal);
-        nodes = omega (arith, size.most_nodes);
-        log = h.log;
-        events = h.few;
-        cmds = h.cmds;
-        replies = h.replies;
-        each_answered = h.answered;
-        each_marked = h.marked;
-        ascend = ascend s.mounted s.marks (length s.log) h.within (last here);
-      };
+      lawful = assumption (ascend s.mounted s.marks (length s.log) h.within last);
       fits = h.fits;
       replies = subst (λ c. MayReplyEach (start s.geometry.i) false c s.replies) (append-nil s.cmds)
           (subst (MayReplyEach (start s.geometry.i) false (s.cmds ++ [])) (append-nil s.replies) (h.may [] [] tt));
     }
-  where
-    last : (is_between s.place ≡ true) ⊎ (s.place ≡ Ended) → last_mark s.mounted s.marks ≡ length s.log
-    last (inl e) = at_last s s.place e h.stands
-    last (inr e) = subst (λ p. StandsAt p s) e h.stands
 
 ended_is : (p : Place) → is_ended p ≡ true → p ≡ Ended
-ended_is Mounting h = cc h
-ended_is (Asked cmd) h = cc h
-ended_is Answered h = cc h
 ended_is Ended h = refl
+ended_is other h = cc h
 
 -- where the last line was taken, what was read is a trace
 pub ended_trace : Limits → (s : State) (text : List ℕ) → Holds s text → is_ended s.place ≡ true → IsTrace (contents_of s) × (text_of (contents_of s) ≡ text)
@@ -91,19 +78,15 @@ answered_begins l s cmd reply text h may lawful =
 
 -- a command that waits may be refused as the session has ended, and a bad line is answered
 asked_begins : Limits → (s : State) (cmd : Cmd) (text : List ℕ) → Holds (record s { place = Asked cmd }) text → BeginsTrace text
-asked_begins l s cmd text h = go (is_bad cmd) refl
-  where
-    go : (b : Bool) → is_bad cmd ≡ b → BeginsTrace text
-    go true e = answered_begins l s cmd NotUnderstood text h (bad_reply s.kept.session s.kept.stopped cmd NotUnderstood (bad_is cmd e) refl) tt
-    go false e =
-        answered_begins l s cmd (Refused Stopped) text h
-        (refused_reply s.kept.session s.kept.stopped cmd Stopped (Refused Stopped) e record { number = refl; figures = tt } (λ _. refl) refl) tt
+asked_begins l s cmd text h = elim (is_bad cmd) as (λ b. is_bad cmd ≡ b → BeginsTrace text) [
+  | true ↦ λ e. answered_begins l s cmd NotUnderstood text h (bad_reply s.kept.session s.kept.stopped cmd NotUnderstood (bad_is cmd e) refl) tt
+  | false ↦ λ e. answered_begins l s cmd (Refused Stopped) text h (refused_reply s.kept.session s.kept.stopped cmd Stopped (Refused Stopped) e record { number = refl; figures = tt } (λ _. refl) refl) tt
+] refl
 
 begins_at : Limits → (s : State) (p : Place) (text : List ℕ) → Holds (record s { place = p }) text → BeginsTrace text
-begins_at l s Mounting text h = between_begins l (record s { place = Mounting }) text h refl
 begins_at l s (Asked cmd) text h = asked_begins l s cmd text h
-begins_at l s Answered text h = between_begins l (record s { place = Answered }) text h refl
 begins_at l s Ended text h = ended_begins l (record s { place = Ended }) text h refl
+begins_at l s other text h = between_begins l (record s { place = other }) text h refl
 
 -- a small geometry
 abbrev small : Geometry

@@ -1,6 +1,7 @@
 -- What one more byte and one more line do to what was read, and how it ends.
 use Rattle.std.proofs.Common.{◌≡◌, sym, ap, refl, ◌∙◌, subst, arith, tests, ℕ, suc, ◌+◌, ◌-◌, ◌<◌, ◌≤◌, ◌^◌, ◌==◌, Bool, true, false, not, inl, inr, List, [], ◌∷◌, ◌++◌, length, get_or, take, drop, append_assoc, Option, Some, None}
 use Rattle.std.specs.Prelude.{◌↔◌, min, option_map, is_some, nat_lt, cond}
+use Rattle.std.proofs.lemmas.Bool.{eqb-true, false≢true}
 use Rattle.std.proofs.lemmas.List.{append-nil, length-append, length-take-le, length-drop, take_more, get_or-take}
 use Rattle.std.proofs.Math.Seq.{take-add}
 use Rattle.std.proofs.lemmas.List.Quantifiers.{position-Some}
@@ -77,10 +78,7 @@ line_before xs i e =
     line_by (take i xs) (λ k low. ap (λ b. not (is_feed b)) (get_or-take i xs k 0 (omega (arith, low, long))) ∙ ap not (found.2 k (omega (arith, low, long))))
 
 pub feed_at : (xs : List ℕ) (i : ℕ) → position is_feed xs ≡ Some i → get_or xs i 0 ≡ 10
-feed_at xs i e = same (get_or xs i 0) (position-Some is_feed xs i 0 e).1
-  where
-    same : (b : ℕ) → is_feed b ≡ true → b ≡ 10
-    same b h = grind (arith, tests, h)
+feed_at xs i e = eqb-true (get_or xs i 0) 10 (position-Some is_feed xs i 0 e).1
 
 pub line_whole : (xs : List ℕ) → position is_feed xs ≡ None → is_line xs ≡ true
 line_whole xs e = line_by xs (λ k low. prefix_len_passes (λ b. not (is_feed b)) xs k 0 (omega (arith, low, all (nat_lt n (length xs)) refl e)))
@@ -185,15 +183,8 @@ ends_open x false bytes s line count next is some short more h = breaks_off x by
 pub ends_early : Exact → (wrong : Bool) (bytes : List ℕ) (s : Option State) (line : List ℕ) (count next : ℕ) → wrong ≡ false → line ≡ [] → has_ended s ≡ false → length bytes ≤ 2 ^ 30
     → next ≡ min (count + 1) (2 ^ 64 - 1) → HasReadBy wrong bytes s line count → IsWrongAt bytes next
 ends_early x true bytes s line count next is none off short more h = cc is
-ends_early x false bytes s line count next is none off short more h = breaks_off x bytes s line count next short more h go
-  where
-    both : (b : Bool) → b ≡ true → b ≡ false → ⊥
-    both true p q = cc q
-    both false p q = cc p
-
-    go : AreTrace (text_of_lines h.lines ++ line) → ⊥
-    go t =
-        both (has_ended s) ((x.ends h.lines s h.are h.come).1 (subst AreTrace (ap (λ l. text_of_lines h.lines ++ l) none ∙ append-nil (text_of_lines h.lines)) t)) off
+ends_early x false bytes s line count next is none off short more h = breaks_off x bytes s line count next short more h (λ t.
+    false≢true (sym off ∙ (x.ends h.lines s h.are h.come).1 (subst AreTrace (ap (λ l. text_of_lines h.lines ++ l) none ∙ append-nil (text_of_lines h.lines)) t)))
 
 -- where the last line of a trace came
 pub ends_well : Exact → (wrong : Bool) (bytes : List ℕ) (s : State) (line : List ℕ) (count : ℕ) → wrong ≡ false → line ≡ [] → is_ended s.place ≡ true
@@ -208,25 +199,17 @@ ends_well x false bytes s line count is none ended h =
 pub empty_is : (line : List ℕ) (b : Bool) → b ≡ (length line == 0) → b ≡ true → line ≡ []
 empty_is [] b e is = refl
 empty_is (x ∷ line) b e is =
-    let zero_is : length (x ∷ line) ≡ 0 = zero_of (length (x ∷ line)) (sym e ∙ is) in
+    let zero_is : length (x ∷ line) ≡ 0 = eqb-true (length (x ∷ line)) 0 (sym e ∙ is) in
     absurd (omega (arith, zero_is))
-  where
-    zero_of : (n : ℕ) → (n == 0) ≡ true → n ≡ 0
-    zero_of n h = grind (arith, tests, h)
 
 pub some_is : (line : List ℕ) (b : Bool) → b ≡ (length line == 0) → b ≡ false → line ≡ [] → ⊥
-some_is line b e is none = both b (e ∙ ap (λ (l : List ℕ). length l == 0) none) is
-  where
-    both : (b : Bool) → b ≡ true → b ≡ false → ⊥
-    both true p q = cc q
-    both false p q = cc p
+some_is line b e is none = false≢true (sym is ∙ e ∙ ap (λ (l : List ℕ). length l == 0) none)
 
 pub next_of : (s : Option State) (first t : State) (line : List ℕ) (taken : Bool) → s ≡ Some first → TakesLine Follows first line taken t → TakesNext s line taken (Some t)
-next_of s first t line taken is h = subst (λ u. TakesNext u line taken (Some t)) (sym is) (go taken h)
-  where
-    go : (b : Bool) → TakesLine Follows first line b t → TakesNext (Some first) line b (Some t)
-    go true k = (t, k, refl)
-    go false k = k
+next_of s first t line taken is h = subst (λ u. TakesNext u line taken (Some t)) (sym is) (elim taken as (λ b. TakesLine Follows first line b t → TakesNext (Some first) line b (Some t)) [
+  | true ↦ λ k. (t, k, refl)
+  | false ↦ λ k. k
+] h)
 
 pub first_of : (s : Option State) (found : Option Reader) (line : List ℕ) (taken : Bool) → s ≡ None → taken ≡ is_some found → Begins line (option_map state_of found)
     → TakesNext s line taken (option_map state_of found)

@@ -8,7 +8,7 @@ use Rattle.std.proofs.lemmas.Bool.{and_parts, false≢true, and_right}
 use Rattle.std.proofs.lemmas.Fmt.{digits_decimal}
 use Rattle.std.proofs.lemmas.List.{append-nil}
 use Rattle.std.proofs.lemmas.Str.Parse.{IsNumeralModel, numerals_by_value}
-use Rattle.std.proofs.lemmas.List.Sums.{AllPass-from_list_all}
+use Rattle.std.proofs.lemmas.List.Sums.{AllPass-from_list_all, list_all-from_AllPass}
 use Rattle.hex.specs.Hex.{encode_lower, encode_with, lower_digits}
 use Rattle.disk_contract.specs.Lawful.{IsBlock}
 use Rattle.lang_script.specs.Values.{has_no_feed}
@@ -95,10 +95,7 @@ line_join (x ∷ xs) ys h k =
     rw parts.0 (line_join xs ys parts.1 k)
 
 weaker : (p q : ℕ → Bool) → ((b : ℕ) → p b ≡ true → q b ≡ true) → (xs : List ℕ) → list_all p xs ≡ true → list_all q xs ≡ true
-weaker p q more [] h = refl
-weaker p q more (x ∷ xs) h =
-    let parts = and_parts (p x) (list_all p xs) h in
-    rw (more x parts.0) (weaker p q more xs parts.1)
+weaker p q more xs h = list_all-from_AllPass q xs (λ k d low. more (get_or xs k d) (AllPass-from_list_all p xs h k d low))
 
 own : IsNumeralModel (λ ds. list_all is_ascii_digit ds ≡ true) (digits_value 10)
 own = numerals_by_value _ (search rules)

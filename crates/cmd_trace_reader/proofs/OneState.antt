@@ -1,5 +1,5 @@
 -- A line leaves one state, since it says one thing.
-use Rattle.std.proofs.Common.{◌≡◌, sym, ap, ap₂, refl, ◌∙◌, arith, ℕ, ◌<◌, ◌^◌, true, inl, inr, List, [], ◌∷◌, ◌++◌, length, get_or, codes, Some}
+use Rattle.std.proofs.Common.{◌≡◌, sym, ap, ap₂, ◌∙◌, arith, ℕ, ◌<◌, ◌^◌, true, inl, inr, List, [], ◌∷◌, ◌++◌, length, codes, Some}
 use Rattle.std.proofs.lemmas.List.{append-nil, append_cancel_left, append_cancel_right}
 use Rattle.layout_geometry.specs.Geometry.{Geometry, IsGeometry, geometry_fits}
 use Rattle.lang_tree.specs.declared.command.Cmd.{Cmd}
@@ -8,11 +8,10 @@ use Rattle.lang_script.specs.Text.{command_text, text_of_reply}
 use Rattle.lang_script.specs.Values.{IsCommand, IsReply}
 use Rattle.cmd_trace.specs.Line.{geometry_line}
 use Rattle.cmd_trace.specs.Contents.{Contents, AreLawful, front_of}
-use Rattle.cmd_trace.specs.ReadsAs.{fed}
 use Rattle.cmd_trace_reader.specs.Replies.{after}
 use Rattle.cmd_trace_reader.specs.declared.reader.Place.TheVariants.{Asked, Answered}
-use Rattle.cmd_trace_reader.specs.Reading.{State, begun, Begins, HappensBy, AsksBy, AnswersBy, EndsBy, Follows, mounted_by}
-use Rattle.cmd_trace_reader.proofs.Following.{OneEvent, OneMoment, wide, no_event, command_is, reply_is, end_is, apart, asked_or}
+use Rattle.cmd_trace_reader.specs.Reading.{State, begun, Begins, HappensBy, AsksBy, AnswersBy, Follows, mounted_by}
+use Rattle.cmd_trace_reader.proofs.Following.{OneEvent, OneMoment, wide, kind_is, asked_or}
 use Rattle.cmd_trace_reader.proofs.GoesOn.{Limits}
 
 -- what is known of the values that have one text
@@ -47,43 +46,13 @@ answers_once v s t u line few h k =
     one (v.reply h.reply k.reply h.lawful k.lawful texts.1)
     ∙ sym k.is
 
--- ---- two lines of unlike kinds
-
-no_command_too : {P : Type 0} (s t u : State) (line : List ℕ) → HappensBy s line t → AsksBy s line u → P
-no_command_too s t u line h k = absurd (no_event h.event line 99 (command_is k.cmd line k.written) (inl refl) h.written)
-
-no_reply_too : {P : Type 0} (s t u : State) (line : List ℕ) → HappensBy s line t → AnswersBy s line u → P
-no_reply_too s t u line h k = absurd (no_event h.event line 114 (reply_is (length s.log) (text_of_reply k.reply) line k.written) (inr (inl refl)) h.written)
-
-no_end_too : {P : Type 0} (s t u : State) (line : List ℕ) → HappensBy s line t → EndsBy s line u → P
-no_end_too s t u line h k = absurd (no_event h.event line 101 (end_is line k.written) (inr (inr (inl refl))) h.written)
-
-asks_or_answers : {P : Type 0} (s t u : State) (line : List ℕ) → AsksBy s line t → AnswersBy s line u → P
-asks_or_answers s t u line h k = apart (get_or (fed line) 0 0) 99 114 (command_is h.cmd line h.written) (reply_is (length s.log) (text_of_reply k.reply) line k.written) refl
-
-asks_or_ends : {P : Type 0} (s t u : State) (line : List ℕ) → AsksBy s line t → EndsBy s line u → P
-asks_or_ends s t u line h k = apart (get_or (fed line) 0 0) 99 101 (command_is h.cmd line h.written) (end_is line k.written) refl
-
-answers_or_ends : {P : Type 0} (s t u : State) (line : List ℕ) → AnswersBy s line t → EndsBy s line u → P
-answers_or_ends s t u line h k = apart (get_or (fed line) 0 0) 114 101 (reply_is (length s.log) (text_of_reply h.reply) line h.written) (end_is line k.written) refl
-
+-- a line is of one kind
 pub follows_once : OneValue → (s t u : State) (line : List ℕ) → geometry_fits s.geometry ≡ true → length s.log < 2 ^ 64 → Follows s line t → Follows s line u → t ≡ u
 follows_once v s t u line fits few (inl h) (inl k) = happens_once v s t u line fits h k
-follows_once v s t u line fits few (inl h) (inr (inl k)) = no_command_too s t u line h k
-follows_once v s t u line fits few (inl h) (inr (inr (inl k))) = no_reply_too s t u line h k
-follows_once v s t u line fits few (inl h) (inr (inr (inr k))) = no_end_too s t u line h k
-follows_once v s t u line fits few (inr (inl h)) (inl k) = no_command_too s u t line k h
 follows_once v s t u line fits few (inr (inl h)) (inr (inl k)) = asks_once v s t u line h k
-follows_once v s t u line fits few (inr (inl h)) (inr (inr (inl k))) = asks_or_answers s t u line h k
-follows_once v s t u line fits few (inr (inl h)) (inr (inr (inr k))) = asks_or_ends s t u line h k
-follows_once v s t u line fits few (inr (inr (inl h))) (inl k) = no_reply_too s u t line k h
-follows_once v s t u line fits few (inr (inr (inl h))) (inr (inl k)) = asks_or_answers s u t line k h
 follows_once v s t u line fits few (inr (inr (inl h))) (inr (inr (inl k))) = answers_once v s t u line few h k
-follows_once v s t u line fits few (inr (inr (inl h))) (inr (inr (inr k))) = answers_or_ends s t u line h k
-follows_once v s t u line fits few (inr (inr (inr h))) (inl k) = no_end_too s u t line k h
-follows_once v s t u line fits few (inr (inr (inr h))) (inr (inl k)) = asks_or_ends s u t line k h
-follows_once v s t u line fits few (inr (inr (inr h))) (inr (inr (inl k))) = answers_or_ends s u t line k h
 follows_once v s t u line fits few (inr (inr (inr h))) (inr (inr (inr k))) = h.is ∙ sym k.is
+follows_once v s t u line fits few h k = absurd (omega (arith, kind_is s t line h, kind_is s u line k))
 
 -- ---- the first line
 
@@ -94,18 +63,11 @@ alone g = record { geometry = g; log = []; mounted = 0; cmds = []; replies = [];
 alone_lawful : Limits → (g : Geometry) → geometry_fits g ≡ true → AreLawful (alone g)
 alone_lawful l g fits =
     let size : IsGeometry g = (l.limits g).0 fits in
-    record {
-      blocks = omega (arith, size.most_blocks);
-      journal = omega (arith, size.most_journal);
-      nodes = omega (arith, size.most_nodes);
-      log = record { lawful = tt; events = tt };
-      events = omega arith;
-      cmds = tt;
-      replies = tt;
-      each_answered = refl;
-      each_marked = refl;
-      ascend = refl;
-    }
+    let blocks : g.n < 2 ^ 64 = omega (arith, size.most_blocks) in
+    let journal : g.j < 2 ^ 64 = omega (arith, size.most_journal) in
+    let nodes : g.i < 2 ^ 64 = omega (arith, size.most_nodes) in
+    let events : 0 < 2 ^ 64 = omega arith in
+    assumption (blocks, journal, nodes, events, tt)
 
 alone_text : (g : Geometry) → front_of (alone g) ≡ geometry_line g
 alone_text g = append-nil (geometry_line g ++ []) ∙ append-nil (geometry_line g)

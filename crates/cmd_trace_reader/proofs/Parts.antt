@@ -53,8 +53,7 @@ trace_parts c = geometry_part c.geometry ∷ (event_parts (take c.mounted c.log)
 
 pub event_fed : (e : Event) → event_line e ≡ fed (event_part e)
 event_fed (Wrote ticket block bytes) = refl
-event_fed (Lost block bytes) = refl
-event_fed (Noticed ticket) = refl
+event_fed other = refl
 
 events_text : (events : List Event) → text_of_lines (event_parts events) ≡ event_lines events
 events_text [] = refl
@@ -68,12 +67,10 @@ entry_text events cmd reply mark =
 
 entries_text : (log : List Event) (before : ℕ) (cmds : List Cmd) (replies : List Reply) (marks : List ℕ)
     → text_of_lines (entries_parts log before cmds replies marks) ≡ entries log before cmds replies marks
-entries_text log before [] replies marks = refl
-entries_text log before (cmd ∷ cmds) [] marks = refl
-entries_text log before (cmd ∷ cmds) (reply ∷ replies) [] = refl
 entries_text log before (cmd ∷ cmds) (reply ∷ replies) (mark ∷ marks) =
     text_join (entry_parts (between before mark log) cmd reply mark) (entries_parts log mark cmds replies marks)
     ∙ ap₂ (λ l r. l ++ r) (entry_text (between before mark log) cmd reply mark) (entries_text log mark cmds replies marks)
+entries_text log before other replies marks = refl
 
 pub trace_text_is : (c : Contents) → text_of_lines (trace_parts c) ≡ text_of c
 trace_text_is c =
@@ -111,9 +108,8 @@ drop_events n (suc k) [] h = tt
 drop_events n (suc k) (x ∷ log) h = drop_events n k log h.1
 
 pub take_events : (n k : ℕ) (log : List Event) → AreEventsOf n log → AreEventsOf n (take k log)
-take_events n zero log h = tt
-take_events n (suc k) [] h = tt
 take_events n (suc k) (x ∷ log) h = (h.0, take_events n k log h.1)
+take_events n other log h = tt
 
 pub ascend_below : (from : ℕ) (marks : List ℕ) (events : ℕ) → Ascend from marks events → from ≤ events
 ascend_below from [] events a = omega (arith, a)
@@ -125,11 +121,9 @@ reply_one l mark reply low h =
 
 entries_ones : NoFeed → (n : ℕ) (log : List Event) (before : ℕ) (cmds : List Cmd) (replies : List Reply) (marks : List ℕ) → n ≤ 1048576 → AreEventsOf n log → length log < 2 ^ 64
     → Each IsCommand cmds → Each IsReply replies → Ascend before marks (length log) → AreLines (entries_parts log before cmds replies marks)
-entries_ones l n log before [] replies marks small events few c r a = tt
-entries_ones l n log before (cmd ∷ cmds) [] marks small events few c r a = tt
-entries_ones l n log before (cmd ∷ cmds) (reply ∷ replies) [] small events few c r a = tt
 entries_ones l n log before (cmd ∷ cmds) (reply ∷ replies) (mark ∷ marks) small events few c r a =
     (line_join (codes "c ") (command_text cmd) refl (text_line (command_text cmd) (l.command_line cmd c.0)), each_join (λ line. is_line line ≡ true) (event_parts (between before mark log) ++ reply_part mark reply ∷ []) (entries_parts log mark cmds replies marks) (each_join (λ line. is_line line ≡ true) (event_parts (between before mark log)) (reply_part mark reply ∷ []) (events_ones n (between before mark log) small (take_events n (mark - before) (drop before log) (drop_events n before log events))) (reply_one l mark reply (omega (arith, few, ascend_below mark marks (length log) a.1)) r.0, tt)) (entries_ones l n log mark cmds replies marks small events few c.1 r.1 a.1))
+entries_ones l n log before other replies marks small events few c r a = tt
 
 geometry_one : (g : Geometry) → IsGeometry g → is_line (geometry_part g) ≡ true
 geometry_one g size =

@@ -135,9 +135,6 @@ run_entry log before mark cmd cmds reply replies s h here up low =
 
 pub run_entries : (log : List Event) (before : ℕ) (cmds : List Cmd) (replies : List Reply) (marks : List ℕ) (s : State) → Before log before cmds replies s
     → is_between s.place ≡ true → Ascend before marks (length log) → Reached s (entries_parts log before cmds replies marks)
-run_entries log before [] replies marks s h here up = record { to = s; come = refl; between = here }
-run_entries log before (cmd ∷ cmds) [] marks s h here up = record { to = s; come = refl; between = here }
-run_entries log before (cmd ∷ cmds) (reply ∷ replies) [] s h here up = record { to = s; come = refl; between = here }
 run_entries log before (cmd ∷ cmds) (reply ∷ replies) (mark ∷ marks) s h here up =
     let one = run_entry log before mark cmd cmds reply replies s h here up.0 (ascend_below mark marks (length log) up.1) in
     let now : Before log mark cmds replies one.to = record {
@@ -155,6 +152,7 @@ run_entries log before (cmd ∷ cmds) (reply ∷ replies) (mark ∷ marks) s h h
       come = come_join (entry_parts (between before mark log) cmd reply mark) (entries_parts log mark cmds replies marks) (Some s) (Some one.to) (Some rest.to) one.come rest.come;
       between = rest.between;
     }
+run_entries log before other replies marks s h here up = record { to = s; come = refl; between = here }
 
 -- ---- whole traces
 

@@ -1,5 +1,6 @@
 -- What was read so far is a trace but for its end: what is kept of each state, and why each line keeps it.
 use Rattle.std.proofs.Common.{◌≡◌, sym, ap, ap₂, refl, ◌∙◌, subst, arith, ℕ, ◌+◌, ◌-◌, ◌<◌, ◌≤◌, ◌^◌, true, false, inl, inr, List, [], ◌∷◌, ◌++◌, length, take, drop, append_assoc, Some, None}
+use Rattle.std.proofs.lemmas.Bool.{false≢true}
 use Rattle.std.proofs.lemmas.List.{append-nil, take-append-le, drop-append-le, length-drop, length-append, take_all, drop_all}
 use Rattle.layout_geometry.specs.Geometry.{Geometry, geometry_fits}
 use Rattle.disk_contract.specs.declared.event.Event.{Event}
@@ -97,19 +98,10 @@ three_nothings : (xs : List ℕ) → xs ≡ ((xs ++ []) ++ []) ++ []
 three_nothings xs = sym (append-nil ((xs ++ []) ++ []) ∙ append-nil (xs ++ []) ∙ append-nil xs)
 
 pub begun_holds : (g : Geometry) → geometry_fits g ≡ true → Holds (begun g) (geometry_line g)
-begun_holds g fits = record {
-  fits = fits;
-  log = record { lawful = tt; events = tt };
-  few = omega arith;
-  cmds = tt;
-  replies = tt;
-  answered = refl;
-  marked = refl;
-  within = omega arith;
-  may = λ more answers h. h;
-  stands = (refl, refl, refl);
-  read = three_nothings (geometry_line g);
-}
+begun_holds g fits =
+    let few : 0 < 2 ^ 64 = omega arith in
+    let within : 0 ≤ 0 = omega arith in
+    assumption (fits, few, within, three_nothings (geometry_line g), tt)
 
 -- ---- an event
 
@@ -148,53 +140,28 @@ asked_grows log e from front cmd low =
 
 happens : (s : State) (p : Place) (e : Event) (text : List ℕ) → Holds (record s { place = p }) text → has_events p ≡ true → IsNext s.geometry.n s.log e → length (s.log ++ e ∷ []) < 2 ^ 64
     → Holds (record s { log = s.log ++ e ∷ []; mounted = mounted_by p s.mounted (length (s.log ++ e ∷ [])); place = p }) (text ++ event_line e)
-happens s Mounting e text h here next few = record {
-  fits = h.fits;
-  log = log_push s.geometry.n s.log e h.log next;
-  few = few;
-  cmds = h.cmds;
-  replies = h.replies;
-  answered = h.answered;
-  marked = h.marked;
-  within = subst (λ m. Within (length (s.log ++ e ∷ [])) m (length (s.log ++ e ∷ []))) (sym h.stands.1) (omega arith);
-  may = h.may;
-  stands = (h.stands.0, h.stands.1, refl);
-  read = ap (λ t. t ++ event_line e) h.read ∙ mount_grows s.geometry s.log e s.mounted s.cmds s.replies s.marks h.stands.0 h.stands.2;
-}
-happens s (Asked cmd) e text h here next few = record {
-  fits = h.fits;
-  log = log_push s.geometry.n s.log e h.log next;
-  few = few;
-  cmds = h.cmds;
-  replies = h.replies;
-  answered = h.answered;
-  marked = h.marked;
-  within = within_more s.mounted s.marks (length s.log) (length (s.log ++ e ∷ [])) (omega (arith, push_length s.log e)) h.within;
-  may = h.may;
-  stands = h.stands;
-  read = ap (λ t. t ++ event_line e) h.read
-      ∙ asked_grows s.log e (last_mark s.mounted s.marks) (front_of (contents_of s)) (command_line (command_text cmd)) (last_within s.mounted s.marks (length s.log) h.within)
-      ∙ ap (λ t. t ++ (command_line (command_text cmd) ++ event_lines (drop (last_mark s.mounted s.marks) (s.log ++ e ∷ [])))) (front_grows s.geometry s.log e s.mounted s.cmds s.replies s.marks h.within);
-}
-happens s Answered e text h here next few = cc here
-happens s Ended e text h here next few = cc here
+happens s Mounting e text h here next few =
+    let within : Within (length (s.log ++ e ∷ [])) s.marks (length (s.log ++ e ∷ [])) = subst (λ m. Within (length (s.log ++ e ∷ [])) m (length (s.log ++ e ∷ []))) (sym h.stands.1) (omega arith) in
+    let read = ap (λ t. t ++ event_line e) h.read ∙ mount_grows s.geometry s.log e s.mounted s.cmds s.replies s.marks h.stands.0 h.stands.2 in
+    assumption (log_push s.geometry.n s.log e h.log next)
+happens s (Asked cmd) e text h here next few =
+    let read = ap (λ t. t ++ event_line e) h.read
+    ∙ asked_grows s.log e (last_mark s.mounted s.marks) (front_of (contents_of s)) (command_line (command_text cmd)) (last_within s.mounted s.marks (length s.log) h.within)
+    ∙ ap (λ t. t ++ (command_line (command_text cmd) ++ event_lines (drop (last_mark s.mounted s.marks) (s.log ++ e ∷ [])))) (front_grows s.geometry s.log e s.mounted s.cmds s.replies s.marks h.within) in
+    assumption (log_push s.geometry.n s.log e h.log next, within_more s.mounted s.marks (length s.log) (length (s.log ++ e ∷ [])) (omega (arith, push_length s.log e)) h.within)
+happens s other e text h here next few = cc here
 
 -- ---- between entries
 
-off : false ≡ true → ⊥
-off e = cc e
-
 pub at_last : (s : State) (p : Place) → is_between p ≡ true → StandsAt p s → last_mark s.mounted s.marks ≡ length s.log
 at_last s Mounting here h = ap (last_mark s.mounted) h.1 ∙ h.2
-at_last s (Asked cmd) here h = absurd (off here)
 at_last s Answered here h = h
-at_last s Ended here h = absurd (off here)
+at_last s other here h = absurd (false≢true here)
 
 none_pending : (s : State) (p : Place) → is_between p ≡ true → pending p s ≡ []
-none_pending s Mounting here = refl
 none_pending s (Asked cmd) here = cc here
-none_pending s Answered here = refl
 none_pending s Ended here = cc here
+none_pending s other here = refl
 
 pub between_text : (s : State) (text : List ℕ) → is_between s.place ≡ true → Holds s text → text ≡ front_of (contents_of s)
 between_text s text here h = h.read ∙ ap (λ r. front_of (contents_of s) ++ r) (none_pending s s.place here) ∙ append-nil (front_of (contents_of s))
@@ -203,34 +170,11 @@ no_events : (log : List Event) (from : ℕ) (cmd : List ℕ) → from ≡ length
 no_events log from cmd all = sym (ap (λ l. cmd ++ event_lines l) (drop_all from log (omega (arith, all))) ∙ append-nil cmd)
 
 asks : (s : State) (cmd : Cmd) (text : List ℕ) → Holds s text → is_between s.place ≡ true → IsCommand cmd → Holds (record s { place = Asked cmd }) (text ++ command_line (command_text cmd))
-asks s cmd text h here lawful = record {
-  fits = h.fits;
-  log = h.log;
-  few = h.few;
-  cmds = h.cmds;
-  replies = h.replies;
-  answered = h.answered;
-  marked = h.marked;
-  within = h.within;
-  may = h.may;
-  stands = lawful;
-  read = ap₂ (λ t r. t ++ r) (between_text s text here h) (no_events s.log (last_mark s.mounted s.marks) (command_line (command_text cmd)) (at_last s s.place here h.stands));
-}
+asks s cmd text h here lawful =
+    assumption (ap₂ (λ t r. t ++ r) (between_text s text here h) (no_events s.log (last_mark s.mounted s.marks) (command_line (command_text cmd)) (at_last s s.place here h.stands)))
 
 ends : (s : State) (text : List ℕ) → Holds s text → is_between s.place ≡ true → Holds (record s { place = Ended }) (text ++ end_line)
-ends s text h here = record {
-  fits = h.fits;
-  log = h.log;
-  few = h.few;
-  cmds = h.cmds;
-  replies = h.replies;
-  answered = h.answered;
-  marked = h.marked;
-  within = h.within;
-  may = h.may;
-  stands = at_last s s.place here h.stands;
-  read = ap (λ t. t ++ end_line) (between_text s text here h);
-}
+ends s text h here = assumption (at_last s s.place here h.stands, ap (λ t. t ++ end_line) (between_text s text here h))
 
 -- ---- a reply
 
@@ -263,19 +207,17 @@ reply_text s cmd reply text h =
 pub answers : (s : State) (cmd : Cmd) (reply : Reply) (text : List ℕ) → Holds (record s { place = Asked cmd }) text → MayReply s.kept.session s.kept.stopped cmd reply → IsReply reply
     → Holds (record s { cmds = s.cmds ++ cmd ∷ []; replies = s.replies ++ reply ∷ []; marks = s.marks ++ length s.log ∷ []; kept = after s.kept cmd reply; place = Answered })
     (text ++ reply_line (length s.log) (text_of_reply reply))
-answers s cmd reply text h may lawful = record {
-  fits = h.fits;
-  log = h.log;
-  few = h.few;
-  cmds = each_push IsCommand s.cmds cmd h.cmds h.stands;
-  replies = each_push IsReply s.replies reply h.replies lawful;
-  answered = omega (arith, h.answered, push_length s.cmds cmd, push_length s.replies reply);
-  marked = omega (arith, h.marked, push_length s.marks (length s.log), push_length s.replies reply);
-  within = within_push s.mounted s.marks (length s.log) h.within;
-  may = replied s cmd reply h.may may;
-  stands = last_push s.mounted s.marks (length s.log);
-  read = reply_text s cmd reply text h;
-}
+answers s cmd reply text h may lawful =
+    let answered : length (s.cmds ++ cmd ∷ []) ≡ length (s.replies ++ reply ∷ []) = omega (arith, h.answered, push_length s.cmds cmd, push_length s.replies reply) in
+    let marked : length (s.marks ++ length s.log ∷ []) ≡ length (s.replies ++ reply ∷ []) = omega (arith, h.marked, push_length s.marks (length s.log), push_length s.replies reply) in
+    assumption (
+      each_push IsCommand s.cmds cmd h.cmds h.stands,
+      each_push IsReply s.replies reply h.replies lawful,
+      within_push s.mounted s.marks (length s.log) h.within,
+      replied s cmd reply h.may may,
+      last_push s.mounted s.marks (length s.log),
+      reply_text s cmd reply text h,
+    )
 
 -- ---- lines
 

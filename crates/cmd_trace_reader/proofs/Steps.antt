@@ -1,16 +1,14 @@
 -- What a step of the tree answers and leaves: the numbers of its points, and no refusal from outside.
 use Rattle.std.proofs.Common.{◌≡◌, sym, ap, refl, ◌∙◌, subst, arith, ℕ, Bool, true, false, inl, inr, List, Option, Some, None}
 use Rattle.std.specs.Prelude.{◌⊎◌, replicate}
-use Rattle.std.specs.FinMap.{get}
 use Rattle.lang_tree.specs.declared.command.Cmd.{Cmd}
-use Rattle.lang_tree.specs.declared.command.Cmd.TheVariants.{Mkdir, Create, Write, Fill, Read, Truncate, Link, Unlink, Rmdir, Rename, Stat, List as ListNames, Osync, Dsync, Durable, Poll, Bad}
+use Rattle.lang_tree.specs.declared.command.Cmd.TheVariants.{Write, Fill, Truncate, Rename, Stat, Osync, Dsync}
 use Rattle.lang_tree.specs.declared.command.Reply.{Reply}
-use Rattle.lang_tree.specs.declared.command.Reply.TheVariants.{Ok as Done, Bytes, Stat as StatReply, Names as NamesReply, Synced, DurableAt, Known, Bad as NotUnderstood, Refused}
+use Rattle.lang_tree.specs.declared.command.Reply.TheVariants.{Refused}
 use Rattle.lang_tree.specs.declared.command.Refusal.{Refusal}
-use Rattle.lang_tree.specs.declared.command.Refusal.TheVariants.{NotFound, Exists, NotDir, IsDir, NotEmpty, BelowItself, TooLarge, TooManyLinks, NoNode, Full, TooBig, Scattered, ReadFault, DiskFault, Stopped, Spent, NoMemory}
-use Rattle.lang_tree.specs.Tree.{Thing, Dir, File}
+use Rattle.lang_tree.specs.declared.command.Refusal.TheVariants.{Full, TooBig, Scattered, DiskFault, NoMemory}
 use Rattle.lang_tree.specs.Conditions.{refusal}
-use Rattle.lang_tree.specs.Step.{Session, step, answered, write, truncate, rename, stat, stat_by, stat_of, osync, dsync}
+use Rattle.lang_tree.specs.Step.{Session, step, answered, write, truncate, rename, stat, osync, dsync}
 use Rattle.lang_tree.specs.Points.{CountsPoints}
 use Rattle.lang_tree.specs.Run.{Answers, is_of_memory, is_of_disk}
 use Rattle.cmd_trace.specs.ReadsAs.{HasSmallFigures}
@@ -22,16 +20,7 @@ pub record Counts (s : Session) (r : Session × Reply) : Type 0 where
   pub durable : r.0.durable ≡ durable_by r.1 s.durable
 
 stat_counts : (s : Session) (path : List (List ℕ)) → Counts s (s, stat s.tree path)
-stat_counts s path = by_number (get s.tree.names path)
-  where
-    by_thing : (n : ℕ) (thing : Option Thing) → Counts s (s, stat_of s.tree path n thing)
-    by_thing n None = record { points = refl; durable = refl }
-    by_thing n (Some Dir) = record { points = refl; durable = refl }
-    by_thing n (Some (File bytes)) = record { points = refl; durable = refl }
-
-    by_number : (o : Option ℕ) → Counts s (s, stat_by s.tree path o)
-    by_number None = record { points = refl; durable = refl }
-    by_number (Some n) = by_thing n (get s.tree.nodes n)
+stat_counts s path = grind arith
 
 write_counts : (s : Session) (path : List (List ℕ)) (offset : ℕ) (bytes : List ℕ) → Counts s (write s path offset bytes)
 write_counts s path offset bytes = grind arith
@@ -43,32 +32,21 @@ rename_counts : (s : Session) (from to : List (List ℕ)) → Counts s (rename s
 rename_counts s from to = grind arith
 
 osync_counts : (s : Session) (changed : Bool) → Counts s (osync s changed)
-osync_counts s true = record { points = refl; durable = refl }
-osync_counts s false = record { points = refl; durable = refl }
+osync_counts s changed = grind arith
 
 dsync_counts : (s : Session) (changed : Bool) → Counts s (dsync s changed)
-dsync_counts s true = record { points = refl; durable = refl }
-dsync_counts s false = record { points = refl; durable = refl }
+dsync_counts s changed = grind arith
 
 answered_counts : (s : Session) (cmd : Cmd) (o : Option Refusal) → Counts s (answered s cmd o)
 answered_counts s cmd (Some why) = record { points = refl; durable = refl }
-answered_counts s (Mkdir path) None = record { points = refl; durable = refl }
-answered_counts s (Create path) None = record { points = refl; durable = refl }
 answered_counts s (Write path offset bytes) None = write_counts s path offset bytes
 answered_counts s (Fill path offset count byte) None = write_counts s path offset (replicate count byte)
-answered_counts s (Read path offset count) None = record { points = refl; durable = refl }
 answered_counts s (Truncate path size) None = truncate_counts s path size
-answered_counts s (Link path other) None = record { points = refl; durable = refl }
-answered_counts s (Unlink path) None = record { points = refl; durable = refl }
-answered_counts s (Rmdir path) None = record { points = refl; durable = refl }
 answered_counts s (Rename from to) None = rename_counts s from to
 answered_counts s (Stat path) None = stat_counts s path
-answered_counts s (ListNames path) None = record { points = refl; durable = refl }
 answered_counts s Osync None = osync_counts s s.changed
 answered_counts s Dsync None = dsync_counts s s.changed
-answered_counts s Durable None = record { points = refl; durable = refl }
-answered_counts s Poll None = record { points = refl; durable = refl }
-answered_counts s Bad None = record { points = refl; durable = refl }
+answered_counts s other None = record { points = refl; durable = refl }
 
 pub step_counts : (s : Session) (cmd : Cmd) → Counts s (step s cmd)
 step_counts s cmd = answered_counts s cmd (refusal s.limit s.tree cmd)
@@ -81,55 +59,29 @@ pub record Alone : Type 0 where
   pub alone : (old new : Session) (cmd : Cmd) (why : Refusal) → Answers is_of_memory old cmd (Refused why) new → (is_of_disk why ≡ false) ⊎ (why ≡ NoMemory)
 
 small_outside : (why : Refusal) → (is_of_disk why ≡ false) ⊎ (why ≡ NoMemory) → HasSmallFigures why × (is_disk_fault why ≡ false)
-small_outside NotFound h = (tt, refl)
-small_outside Exists h = (tt, refl)
-small_outside NotDir h = (tt, refl)
-small_outside IsDir h = (tt, refl)
-small_outside NotEmpty h = (tt, refl)
-small_outside BelowItself h = (tt, refl)
-small_outside TooLarge h = (tt, refl)
-small_outside TooManyLinks h = (tt, refl)
-small_outside NoNode h = (tt, refl)
 small_outside (Full need left) (inl h) = cc h
 small_outside (Full need left) (inr h) = cc h
 small_outside (TooBig weight cost room) (inl h) = cc h
 small_outside (TooBig weight cost room) (inr h) = cc h
 small_outside (Scattered runs) (inl h) = cc h
 small_outside (Scattered runs) (inr h) = cc h
-small_outside ReadFault h = (tt, refl)
 small_outside DiskFault (inl h) = cc h
 small_outside DiskFault (inr h) = cc h
-small_outside Stopped h = (tt, refl)
-small_outside Spent h = (tt, refl)
-small_outside NoMemory h = (tt, refl)
+small_outside other h = (tt, refl)
 
 pub step_is_small : Alone → (s : Session) (cmd : Cmd) → TellsSmallFigures (step s cmd).1 × (is_fault (step s cmd).1 ≡ false)
 step_is_small law s cmd = go (step s cmd).1 refl
   where
     go : (reply : Reply) → (step s cmd).1 ≡ reply → TellsSmallFigures reply × (is_fault reply ≡ false)
-    go Done e = (tt, refl)
-    go (Bytes bytes) e = (tt, refl)
-    go (StatReply found) e = (tt, refl)
-    go (NamesReply names) e = (tt, refl)
-    go (Synced n) e = (tt, refl)
-    go (DurableAt n) e = (tt, refl)
-    go (Known n) e = (tt, refl)
-    go NotUnderstood e = (tt, refl)
     go (Refused why) e =
         small_outside why (law.alone s (step s cmd).0 cmd why (inl (ap (λ reply. ((step s cmd).0, reply)) e)))
+    go other e = (tt, refl)
 
 -- ---- the numbers that are kept, behind a command that a tree in memory answered
 
 memory_numbers : (reply : Reply) (points durable : ℕ) → is_out_of_memory reply ≡ true → (points_by reply points ≡ points) × (durable_by reply durable ≡ durable)
-memory_numbers Done points durable h = cc h
-memory_numbers (Bytes bytes) points durable h = cc h
-memory_numbers (StatReply found) points durable h = cc h
-memory_numbers (NamesReply names) points durable h = cc h
-memory_numbers (Synced n) points durable h = cc h
-memory_numbers (DurableAt n) points durable h = cc h
-memory_numbers (Known n) points durable h = cc h
-memory_numbers NotUnderstood points durable h = cc h
 memory_numbers (Refused why) points durable h = (refl, refl)
+memory_numbers other points durable h = cc h
 
 abbrev pub KeepsCounts : ℕ → ℕ → Session → Type 0
 KeepsCounts points durable s = (points ≡ s.points) × (durable ≡ s.durable) × CountsPoints s

@@ -4,11 +4,11 @@ use Rattle.std.specs.Prelude.{IfSome}
 use Rattle.std.proofs.lemmas.Option.{same_Some}
 use Rattle.std.proofs.lemmas.Bool.{both_ways}
 use Rattle.lang_tree.specs.declared.command.Cmd.{Cmd}
-use Rattle.lang_tree.specs.declared.command.Cmd.TheVariants.{Mkdir, Create, Write, Fill, Read, Truncate, Link, Unlink, Rmdir, Rename, Stat, List as ListNames, Osync, Dsync, Durable, Poll, Bad}
+use Rattle.lang_tree.specs.declared.command.Cmd.TheVariants.{Durable, Bad}
 use Rattle.lang_tree.specs.declared.command.Reply.{Reply}
 use Rattle.lang_tree.specs.declared.command.Reply.TheVariants.{Known, Bad as NotUnderstood, Refused}
 use Rattle.lang_tree.specs.declared.command.Refusal.{Refusal}
-use Rattle.lang_tree.specs.declared.command.Refusal.TheVariants.{NotFound, Exists, NotDir, IsDir, NotEmpty, BelowItself, TooLarge, TooManyLinks, NoNode, Full, TooBig, Scattered, ReadFault, DiskFault, Stopped, Spent, NoMemory}
+use Rattle.lang_tree.specs.declared.command.Refusal.TheVariants.{Full, TooBig, Scattered, Stopped}
 use Rattle.lang_tree.specs.Step.{Session, step}
 use Rattle.lang_tree.specs.Run.{Answers, is_of_disk}
 use Rattle.lang_tree.specs.Points.{CountsPoints, after_reply}
@@ -21,46 +21,15 @@ use Rattle.cmd_trace_reader.proofs.Steps.{Alone, step_is_small}
 -- ---- small facts
 
 or_false : (b : Bool) → b ≡ (b || false)
-or_false true = refl
-or_false false = refl
+or_false b = grind arith
 
 pub bad_is : (cmd : Cmd) → is_bad cmd ≡ true → cmd ≡ Bad
-bad_is (Mkdir path) h = cc h
-bad_is (Create path) h = cc h
-bad_is (Write path offset bytes) h = cc h
-bad_is (Fill path offset count byte) h = cc h
-bad_is (Read path offset count) h = cc h
-bad_is (Truncate path size) h = cc h
-bad_is (Link path other) h = cc h
-bad_is (Unlink path) h = cc h
-bad_is (Rmdir path) h = cc h
-bad_is (Rename from to) h = cc h
-bad_is (Stat path) h = cc h
-bad_is (ListNames path) h = cc h
-bad_is Osync h = cc h
-bad_is Dsync h = cc h
-bad_is Durable h = cc h
-bad_is Poll h = cc h
 bad_is Bad h = refl
+bad_is other h = cc h
 
 durable_is : (cmd : Cmd) → is_durable cmd ≡ true → cmd ≡ Durable
-durable_is (Mkdir path) h = cc h
-durable_is (Create path) h = cc h
-durable_is (Write path offset bytes) h = cc h
-durable_is (Fill path offset count byte) h = cc h
-durable_is (Read path offset count) h = cc h
-durable_is (Truncate path size) h = cc h
-durable_is (Link path other) h = cc h
-durable_is (Unlink path) h = cc h
-durable_is (Rmdir path) h = cc h
-durable_is (Rename from to) h = cc h
-durable_is (Stat path) h = cc h
-durable_is (ListNames path) h = cc h
-durable_is Osync h = cc h
-durable_is Dsync h = cc h
 durable_is Durable h = refl
-durable_is Poll h = cc h
-durable_is Bad h = cc h
+durable_is other h = cc h
 
 true_is_not_false : true ≡ false → ⊥
 true_is_not_false h = cc h
@@ -75,42 +44,14 @@ nothing_found : {A : Type 0} (P : A → Type 0) (x : A) → None ≡ Some x → 
 nothing_found P x h = cc h
 
 stopped_is : (why : Refusal) → is_stopped why ≡ true → why ≡ Stopped
-stopped_is NotFound h = cc h
-stopped_is Exists h = cc h
-stopped_is NotDir h = cc h
-stopped_is IsDir h = cc h
-stopped_is NotEmpty h = cc h
-stopped_is BelowItself h = cc h
-stopped_is TooLarge h = cc h
-stopped_is TooManyLinks h = cc h
-stopped_is NoNode h = cc h
-stopped_is (Full need left) h = cc h
-stopped_is (TooBig weight cost room) h = cc h
-stopped_is (Scattered runs) h = cc h
-stopped_is ReadFault h = cc h
-stopped_is DiskFault h = cc h
 stopped_is Stopped h = refl
-stopped_is Spent h = cc h
-stopped_is NoMemory h = cc h
+stopped_is other h = cc h
 
 wide_figures : (why : Refusal) → HasSmallFigures why → HasFigures why
 wide_figures (Full need left) h = (omega (arith, h.0), omega (arith, h.1))
 wide_figures (TooBig weight cost room) h = (omega (arith, h.0), omega (arith, h.1), omega (arith, h.2))
 wide_figures (Scattered runs) h = omega (arith, h)
-wide_figures NotFound h = tt
-wide_figures Exists h = tt
-wide_figures NotDir h = tt
-wide_figures IsDir h = tt
-wide_figures NotEmpty h = tt
-wide_figures BelowItself h = tt
-wide_figures TooLarge h = tt
-wide_figures TooManyLinks h = tt
-wide_figures NoNode h = tt
-wide_figures ReadFault h = tt
-wide_figures DiskFault h = tt
-wide_figures Stopped h = tt
-wide_figures Spent h = tt
-wide_figures NoMemory h = tt
+wide_figures other h = tt
 
 abbrev why_of : Reply → Bool
 why_of (Refused why) = is_stopped why

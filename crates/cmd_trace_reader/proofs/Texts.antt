@@ -30,12 +30,10 @@ between_more from to log more low high =
 -- entries don't change as events come behind them
 pub entries_more : (log more : List Event) (before : ℕ) (cmds : List Cmd) (replies : List Reply) (marks : List ℕ) → Within before marks (length log)
     → entries (log ++ more) before cmds replies marks ≡ entries log before cmds replies marks
-entries_more log more before [] replies marks h = refl
-entries_more log more before (cmd ∷ cmds) [] marks h = refl
-entries_more log more before (cmd ∷ cmds) (reply ∷ replies) [] h = refl
 entries_more log more before (cmd ∷ cmds) (reply ∷ replies) (mark ∷ marks) h =
     ap (λ events. entry events cmd reply mark ++ entries (log ++ more) mark cmds replies marks) (between_more before mark log more h.0 (within_low mark marks (length log) h.1))
     ∙ ap (λ rest. entry (between before mark log) cmd reply mark ++ rest) (entries_more log more mark cmds replies marks h.1)
+entries_more log more before other replies marks h = refl
 
 -- one entry more
 pub entries_push : (log : List Event) (before : ℕ) (cmds : List Cmd) (replies : List Reply) (marks : List ℕ) (cmd : Cmd) (reply : Reply) (mark : ℕ)
@@ -43,13 +41,10 @@ pub entries_push : (log : List Event) (before : ℕ) (cmds : List Cmd) (replies 
     → entries log before (cmds ++ cmd ∷ []) (replies ++ reply ∷ []) (marks ++ mark ∷ [])
     ≡ entries log before cmds replies marks ++ entry (between (last_mark before marks) mark log) cmd reply mark
 entries_push log before [] [] [] cmd reply mark h k = append-nil (entry (between before mark log) cmd reply mark)
-entries_push log before [] [] (m ∷ marks) cmd reply mark h k = absurd (omega (arith, k))
-entries_push log before [] (r ∷ replies) marks cmd reply mark h k = absurd (omega (arith, h))
-entries_push log before (c ∷ cmds) [] marks cmd reply mark h k = absurd (omega (arith, h))
-entries_push log before (c ∷ cmds) (r ∷ replies) [] cmd reply mark h k = absurd (omega (arith, k))
 entries_push log before (c ∷ cmds) (r ∷ replies) (m ∷ marks) cmd reply mark h k =
     ap (λ rest. entry (between before m log) c r m ++ rest) (entries_push log m cmds replies marks cmd reply mark (omega (arith, h)) (omega (arith, k)))
     ∙ sym (append_assoc (entry (between before m log) c r m) (entries log m cmds replies marks) (entry (between (last_mark m marks) mark log) cmd reply mark))
+entries_push log before other rest last cmd reply mark h k = absurd (omega (arith, h, k))
 
 -- one event more
 pub lines_push : (events : List Event) (event : Event) → event_lines (events ++ event ∷ []) ≡ event_lines events ++ event_line event

@@ -15,11 +15,7 @@ eq_sym : (a b : Text) → bytes_eq a b ≡ true → bytes_eq b a ≡ true
 eq_sym a b h = (bytes_eq-Decides b a).1 (sym ((bytes_eq-Decides a b).0 h))
 
 ne_sym : (a b : Text) → bytes_eq a b ≡ false → bytes_eq b a ≡ false
-ne_sym a b h = go (bytes_eq b a) refl
-  where
-    go : (c : Bool) → bytes_eq b a ≡ c → c ≡ false
-    go true e = absurd (false≢true (sym h ∙ eq_sym b a e))
-    go false e = refl
+ne_sym a b h = elim (bytes_eq b a) as (λ c. bytes_eq b a ≡ c → c ≡ false) [ true ↦ λ e. absurd (false≢true (sym h ∙ eq_sym b a e)) | false ↦ λ e. refl ] refl
 
 -- ---- names
 

@@ -1,5 +1,6 @@
 -- The request of texts with their names: how it is read from what `clap` keeps, which texts ask for nothing, and the ranges.
-use Rattle.std.proofs.Common.{◌≡◌, arith, inl, inr, ◌≤◌, ◌&&◌, ◌||◌, ℕ, Bool, true, false, cond, List, [], ◌∷◌, Option, Some, None, refl, sym, ◌∙◌, codes, bytes_eq}
+use mathlib.Core.Path.{fun_ext}
+use Rattle.std.proofs.Common.{◌≡◌, arith, inl, inr, ◌≤◌, ◌&&◌, ◌||◌, ℕ, Bool, true, false, cond, List, [], ◌∷◌, Option, Some, None, refl, sym, ap, ◌∙◌, codes, bytes_eq}
 use Rattle.std.specs.Prelude.{IfSome, find, if◌then◌else◌, option_and_then, option_map, slice_get, unwrap_or}
 use Rattle.std.proofs.lemmas.Bool.{false≢true}
 use Rattle.clap.specs.Walk.{Row, Text, first_of}
@@ -26,49 +27,30 @@ first_is (t ∷ texts) name = go (first_is texts name) (bytes_eq t.0 name)
     go later true = refl
     go later false = later
 
-recording_same : (one other : Text → Option Text) → ((name : Text) → one name ≡ other name) → recording_of one ≡ recording_of other
-recording_same one other same =
-    rw (same (codes "blocks"), same (codes "journal"), same (codes "nodes"), same (codes "notices"), same (codes "room"), same (codes "fail")) refl
-
 pub asked_same : (k : Command) (one other : Text → Option Text) → ((name : Text) → one name ≡ other name) → asked k one ≡ asked k other
-asked_same to_record one other same = recording_same one other same
-asked_same to_replay one other same = rw (same (codes "at"), same (codes "stand"), same (codes "tear")) refl
-asked_same to_show one other same = rw (same (codes "image")) refl
-asked_same to_make one other same = rw (same (codes "image"), same (codes "blocks"), same (codes "journal"), same (codes "nodes")) refl
-asked_same to_run one other same = rw (same (codes "image")) refl
-asked_same to_load one other same = rw (same (codes "seed"), same (codes "count")) refl
+asked_same k one other same = ap (asked k) (fun_ext same)
 
 -- ---- texts that ask for nothing
 
 -- a recording that lacks a part is none
 lacks_journal : (a c : Option ℕ) (d : Option Notices) (e : Option ℕ) (f : Option (Option ℕ)) → record_of a None c d e f ≡ None
-lacks_journal None c d e f = refl
-lacks_journal (Some a) c d e f = refl
+lacks_journal a c d e f = grind arith
 
 lacks_nodes : (a b : Option ℕ) (d : Option Notices) (e : Option ℕ) (f : Option (Option ℕ)) → record_of a b None d e f ≡ None
-lacks_nodes None b d e f = refl
-lacks_nodes (Some a) None d e f = refl
-lacks_nodes (Some a) (Some b) d e f = refl
+lacks_nodes a b d e f = grind arith
 
 -- and neither is a making, or a load
 made_lacks_blocks : (a : Option Text) (c d : Option ℕ) → make_with a None c d ≡ None
-made_lacks_blocks None c d = refl
-made_lacks_blocks (Some a) c d = refl
+made_lacks_blocks a c d = grind arith
 
 made_lacks_journal : (a : Option Text) (b d : Option ℕ) → make_with a b None d ≡ None
-made_lacks_journal None b d = refl
-made_lacks_journal (Some a) None d = refl
-made_lacks_journal (Some a) (Some b) d = refl
+made_lacks_journal a b d = grind arith
 
 made_lacks_nodes : (a : Option Text) (b c : Option ℕ) → make_with a b c None ≡ None
-made_lacks_nodes None b c = refl
-made_lacks_nodes (Some a) None c = refl
-made_lacks_nodes (Some a) (Some b) None = refl
-made_lacks_nodes (Some a) (Some b) (Some c) = refl
+made_lacks_nodes a b c = grind arith
 
 load_lacks_count : (a : Option ℕ) → load_with a None ≡ None
-load_lacks_count None = refl
-load_lacks_count (Some a) = refl
+load_lacks_count a = grind arith
 
 -- the texts in their places
 abbrev blocks_in : Option Text → Option ℕ
@@ -95,56 +77,23 @@ no_name (t ∷ texts) name none = go (no_name texts name) (bytes_eq t.0 name) no
     go later true h = absurd (false≢true (sym h))
     go later false h = later h
 
+-- a part whose text isn't there is none
 numbers_missing : (texts : List Named) → has_needed to_record texts ≡ false → recording_of (text_of texts) ≡ None
-numbers_missing texts h = by_blocks (has_name (codes "blocks") texts) refl
-  where
-    text : Text → Option Text
-    text = text_of texts
-
-    by_journal : (b : Bool) → has_name (codes "journal") texts ≡ b → (b && has_name (codes "nodes") texts) ≡ false → recording_of text ≡ None
-    by_journal true e h = rw (no_name texts (codes "nodes") h) (lacks_nodes (blocks_in (text (codes "blocks"))) (count_in (text (codes "journal")))
-        (notices_in (text (codes "notices"))) (room_in (text (codes "room"))) (fail_in (text (codes "fail"))))
-    by_journal false e h = rw (no_name texts (codes "journal") e) (lacks_journal (blocks_in (text (codes "blocks"))) (count_in (text (codes "nodes")))
-        (notices_in (text (codes "notices"))) (room_in (text (codes "room"))) (fail_in (text (codes "fail"))))
-
-    by_blocks : (b : Bool) → has_name (codes "blocks") texts ≡ b → recording_of text ≡ None
-    by_blocks true e = by_journal (has_name (codes "journal") texts) refl (rw e at h)
-    by_blocks false e = rw (no_name texts (codes "blocks") e) refl
+numbers_missing texts h = grind (arith, no_name texts (codes "blocks"), no_name texts (codes "journal"), no_name texts (codes "nodes"), lacks_journal, lacks_nodes)
 
 made_missing : (texts : List Named) → has_needed to_make texts ≡ false → make_of (text_of texts) ≡ None
-made_missing texts h = go (has_name (codes "image") texts) (has_name (codes "blocks") texts) (has_name (codes "journal") texts) (has_name (codes "nodes") texts) refl refl refl refl h
-  where
-    text : Text → Option Text
-    text = text_of texts
-
-    go : (a b c d : Bool) → has_name (codes "image") texts ≡ a → has_name (codes "blocks") texts ≡ b → has_name (codes "journal") texts ≡ c → has_name (codes "nodes") texts ≡ d
-        → (a && (b && (c && d))) ≡ false → make_of text ≡ None
-    go false b c d x y z w e = rw (no_name texts (codes "image") x) refl
-    go true false c d x y z w e = rw (no_name texts (codes "blocks") y)
-        (made_lacks_blocks (text (codes "image")) (count_in (text (codes "journal"))) (count_in (text (codes "nodes"))))
-    go true true false d x y z w e = rw (no_name texts (codes "journal") z)
-        (made_lacks_journal (text (codes "image")) (blocks_in (text (codes "blocks"))) (count_in (text (codes "nodes"))))
-    go true true true false x y z w e = rw (no_name texts (codes "nodes") w)
-        (made_lacks_nodes (text (codes "image")) (blocks_in (text (codes "blocks"))) (count_in (text (codes "journal"))))
-    go true true true true x y z w e = absurd (false≢true (sym e))
+made_missing texts h =
+    grind (arith, no_name texts (codes "image"), no_name texts (codes "blocks"), no_name texts (codes "journal"), no_name texts (codes "nodes"), made_lacks_blocks, made_lacks_journal, made_lacks_nodes)
 
 load_missing : (texts : List Named) → has_needed to_load texts ≡ false → load_of (text_of texts) ≡ None
-load_missing texts h = go (has_name (codes "seed") texts) refl h
-  where
-    text : Text → Option Text
-    text = text_of texts
-
-    go : (a : Bool) → has_name (codes "seed") texts ≡ a → (a && has_name (codes "count") texts) ≡ false → load_of text ≡ None
-    go false x e = rw (no_name texts (codes "seed") x) refl
-    go true x e = rw (no_name texts (codes "count") e) (load_lacks_count (option_and_then (number_in 0 4294967295) (text (codes "seed"))))
+load_missing texts h = grind (arith, no_name texts (codes "seed"), no_name texts (codes "count"), load_lacks_count)
 
 needed_missing : (k : Command) (texts : List Named) → has_needed k texts ≡ false → asked k (text_of texts) ≡ None
 needed_missing to_record texts h = numbers_missing texts h
 needed_missing to_replay texts h = rw (no_name texts (codes "at") h) refl
-needed_missing to_show texts h = rw (no_name texts (codes "image") h) refl
 needed_missing to_make texts h = made_missing texts h
-needed_missing to_run texts h = rw (no_name texts (codes "image") h) refl
 needed_missing to_load texts h = load_missing texts h
+needed_missing other texts h = rw (no_name texts (codes "image") h) refl
 
 pub refused_none : (k : Command) (want : Option (List Named)) → Refused k want → option_and_then (asked_apart k) want ≡ None
 refused_none k None refused = refl
@@ -162,10 +111,8 @@ notices_range t = go (bytes_eq t (codes "none")) (bytes_eq t (codes "fifo")) (se
   where
     go : (a b : Bool) (seed : Option ℕ) → IfSome seed (λ n. (1 ≤ n) × (n ≤ 4294967295))
         → IfSome (if a then Some Silent else if b then Some Fifo else option_map (λ n. Seed n) seed) HasSeedInRange
-    go true b seed range = tt
-    go false true seed range = tt
-    go false false None range = tt
     go false false (Some n) range = range
+    go other b seed range = tt
 
 given_range : (low high : ℕ) (text : Option Text) → IfSome (option_and_then (number_in low high) text) (λ n. (low ≤ n) × (n ≤ high))
 given_range low high None = tt
@@ -181,62 +128,43 @@ room_in_range (Some t) = number_range 1 65536 t
 
 fail_in_range : (text : Option Text) → IfSome (fail_in text) (λ fail. IfSome fail (λ n. (1 ≤ n) × (n ≤ 4294967295)))
 fail_in_range None = tt
-fail_in_range (Some t) = go (number_in 1 4294967295 t) (number_range 1 4294967295 t)
-  where
-    go : (n : Option ℕ) → IfSome n (λ n. (1 ≤ n) × (n ≤ 4294967295)) → IfSome (option_map (λ write. Some write) n) (λ fail. IfSome fail (λ n. (1 ≤ n) × (n ≤ 4294967295)))
-    go None range = tt
-    go (Some n) range = range
+fail_in_range (Some t) = elim (number_in 1 4294967295 t) as (λ n. IfSome n (λ n. (1 ≤ n) × (n ≤ 4294967295)) → IfSome (option_map (λ write. Some write) n) (λ fail. IfSome fail (λ n. (1 ≤ n) × (n ≤ 4294967295)))) [
+  | None ↦ λ range. tt
+  | Some n ↦ λ range. range
+] (number_range 1 4294967295 t)
 
 record_range : (a b c : Option ℕ) (d : Option Notices) (e : Option ℕ) (f : Option (Option ℕ))
     → IfSome a (λ n. (64 ≤ n) × (n ≤ 1048576)) → IfSome b (λ n. (16 ≤ n) × (n ≤ 65536)) → IfSome c (λ n. (16 ≤ n) × (n ≤ 65536))
     → IfSome d HasSeedInRange → IfSome e (λ n. (1 ≤ n) × (n ≤ 65536)) → IfSome f (λ fail. IfSome fail (λ n. (1 ≤ n) × (n ≤ 4294967295)))
     → IsInRange (record_of a b c d e f)
-record_range None b c d e f ha hb hc hd he hf = tt
-record_range (Some a) None c d e f ha hb hc hd he hf = tt
-record_range (Some a) (Some b) None d e f ha hb hc hd he hf = tt
-record_range (Some a) (Some b) (Some c) None e f ha hb hc hd he hf = tt
-record_range (Some a) (Some b) (Some c) (Some d) None f ha hb hc hd he hf = tt
-record_range (Some a) (Some b) (Some c) (Some d) (Some e) None ha hb hc hd he hf = tt
 record_range (Some a) (Some b) (Some c) (Some d) (Some e) (Some f) ha hb hc hd he hf = (ha.0, ha.1, hb.0, hb.1, hc.0, hc.1, hd, he.0, he.1, hf)
+record_range other b c d e f ha hb hc hd he hf = tt
 
 replay_range : (moment : Option ℕ) (choice : Option ChoiceState) → IfSome moment (λ n. (0 ≤ n) × (n ≤ 4294967295)) → IsInRange (replay_at moment choice)
-replay_range None choice range = tt
-replay_range (Some n) None range = tt
 replay_range (Some n) (Some choice) range = range.1
+replay_range other choice range = tt
 
 make_range : (a : Option Text) (b c d : Option ℕ) → IfSome b (λ n. (64 ≤ n) × (n ≤ 1048576)) → IfSome c (λ n. (16 ≤ n) × (n ≤ 65536)) → IfSome d (λ n. (16 ≤ n) × (n ≤ 65536))
     → IsInRange (make_with a b c d)
-make_range None b c d hb hc hd = tt
-make_range (Some a) None c d hb hc hd = tt
-make_range (Some a) (Some b) None d hb hc hd = tt
-make_range (Some a) (Some b) (Some c) None hb hc hd = tt
 make_range (Some a) (Some b) (Some c) (Some d) hb hc hd = (hb.0, hb.1, hc.0, hc.1, hd.0, hd.1)
+make_range other b c d hb hc hd = tt
 
 load_range : (a b : Option ℕ) → IfSome a (λ n. (0 ≤ n) × (n ≤ 4294967295)) → IfSome b (λ n. (0 ≤ n) × (n ≤ 2000)) → IsInRange (load_with a b)
-load_range None b ha hb = tt
-load_range (Some a) None ha hb = tt
 load_range (Some a) (Some b) ha hb = (ha.1, hb.1)
+load_range other b ha hb = tt
 
 pub asked_range : (words : List Text) → IsInRange (request_of_texts words)
 asked_range [] = tt
-asked_range (name ∷ words) = by_command (command_of name)
+asked_range (name ∷ words) = elim (command_of name) as (λ o. IsInRange (option_and_then (asked_with words) o)) [ None ↦ tt | Some k ↦ by_texts k (named (options_of k) words None (words_of k)) ]
   where
     text_range : (k : Command) (text : Text → Option Text) → IsInRange (asked k text)
     text_range to_record text = record_range _ _ _ _ _ _ (given_range 64 1048576 (text (codes "blocks"))) (given_range 16 65536 (text (codes "journal")))
         (given_range 16 65536 (text (codes "nodes"))) (notices_in_range (text (codes "notices"))) (room_in_range (text (codes "room"))) (fail_in_range (text (codes "fail")))
     text_range to_replay text = replay_range (option_and_then (number_in 0 4294967295) (text (codes "at"))) (choice_of (unwrap_or (text (codes "stand")) (codes "none")) (text (codes "tear"))) (given_range 0 4294967295 (text (codes "at")))
-    text_range to_show text = by_image (text (codes "image"))
-      where
-        by_image : (o : Option Text) → IsInRange (option_map (λ image. Tree image) o)
-        by_image None = tt
-        by_image (Some image) = tt
+    text_range to_show text = elim (text (codes "image")) as (λ o. IsInRange (option_map (λ image. Tree image) o)) [ None ↦ tt | Some image ↦ tt ]
     text_range to_make text = make_range (text (codes "image")) _ _ _ (given_range 64 1048576 (text (codes "blocks")))
         (given_range 16 65536 (text (codes "journal"))) (given_range 16 65536 (text (codes "nodes")))
-    text_range to_run text = by_image (text (codes "image"))
-      where
-        by_image : (o : Option Text) → IsInRange (option_map (λ image. Run image) o)
-        by_image None = tt
-        by_image (Some image) = tt
+    text_range to_run text = elim (text (codes "image")) as (λ o. IsInRange (option_map (λ image. Run image) o)) [ None ↦ tt | Some image ↦ tt ]
     text_range to_load text = load_range (option_and_then (number_in 0 4294967295) (text (codes "seed"))) (option_and_then (number_in 0 2000) (text (codes "count")))
         (given_range 0 4294967295 (text (codes "seed"))) (given_range 0 2000 (text (codes "count")))
 
@@ -247,7 +175,3 @@ asked_range (name ∷ words) = by_command (command_of name)
     by_texts : (k : Command) (want : Option (List Named)) → IsInRange (option_and_then (asked_apart k) want)
     by_texts k None = tt
     by_texts k (Some texts) = apart_range k (are_apart texts) texts
-
-    by_command : (o : Option Command) → IsInRange (option_and_then (asked_with words) o)
-    by_command None = tt
-    by_command (Some k) = by_texts k (named (options_of k) words None (words_of k))

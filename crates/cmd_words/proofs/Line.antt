@@ -70,7 +70,7 @@ other_next dashes word = after_step top.rules word start (other_met dashes word)
 -- no number is wanted here, and no option is known
 no_option : (word : Text) → is_clean (other_faults false word) ≡ false
 unfolding bundle_met flags_fault
-no_option word = by_long (long_of word)
+no_option word = elim (long_of word) as (λ l. is_clean (or_else (flag_word_fault top.rules false l word nothing_held) (step_fault top 1 (met_long l).0 (met_long l).1)) ≡ false) [ Some p ↦ refl | None ↦ by_short (short_of word) ]
   where
     met_long : Option (Text × Option Text) → Held × Step
     met_long l = long_or_other top.rules idle word l nothing_held
@@ -87,14 +87,8 @@ no_option word = by_long (long_of word)
 
     by_short : (f : Option Text)
         → is_clean (or_else (option_map_or (λ flags. bundle_fault top.rules false flags nothing_held) f []) (step_fault top 1 (met_short f).0 (met_short f).1)) ≡ false
-    by_short None = refl
-    by_short (Some []) = refl
     by_short (Some (f ∷ fs)) = by_first f fs (slice_get (chars (f ∷ fs)) 0)
-
-    by_long : (l : Option (Text × Option Text))
-        → is_clean (or_else (flag_word_fault top.rules false l word nothing_held) (step_fault top 1 (met_long l).0 (met_long l).1)) ≡ false
-    by_long (Some p) = refl
-    by_long None = by_short (short_of word)
+    by_short other = refl
 
 other_refused : (dashes : Bool) (word : Text) (words : List Text) → is_clean (faults_behind (other_faults dashes word) (other_next dashes word) words) ≡ false
 unfolding walk_fault walked defaults_fault
@@ -118,11 +112,7 @@ ended_faults k words = or_else [] (end_faults (stopped_with k words))
 end_is : (k : Command) (words : List Text) → ended_faults k words ≡ or_else (faults_from k none_yet words) []
 unfolding defaults_fault
 end_is to_record words = refl
-end_is to_replay words = refl
-end_is to_show words = refl
-end_is to_make words = refl
-end_is to_run words = refl
-end_is to_load words = refl
+end_is other words = refl
 
 command_faults : (k : Command) (words : List Text) → is_clean (faults_behind [] (stopped_with k []) words) ≡ is_clean (faults_from k none_yet words)
 command_faults k words =
@@ -132,11 +122,7 @@ command_faults k words =
 -- and so is what is found
 found_is : (k : Command) (words : List Text) → entered (built program) (Some (name_of k, words)) ≡ Some (name_of k, rows_from k none_yet words)
 found_is to_record words = refl
-found_is to_replay words = refl
-found_is to_show words = refl
-found_is to_make words = refl
-found_is to_run words = refl
-found_is to_load words = refl
+found_is other words = refl
 
 command_found : (k : Command) (words : List Text) → entered (built program) (fold (walked top.rules names) (stopped_with k []) words).stopped
     ≡ Some (name_of k, rows_from k none_yet words)

@@ -17,7 +17,7 @@ use Rattle.clap.proofs.OnLiterals.{clap_on_literals}
 use Rattle.clap.proofs.WalkLemmas.{first_value-rows}
 use Rattle.cmd_words.specs.declared.request.Request.{Request}
 use Rattle.cmd_words.specs.Program.{bare, program}
-use Rattle.cmd_words.specs.Words.{Command as Wanted, to_record, to_replay, to_show, to_make, to_run, to_load, name_of, words_of, options_of, command_of, Named, named, asked, asked_apart, asked_by, asked_with, request_of_texts, text_of}
+use Rattle.cmd_words.specs.Words.{Command as Wanted, to_record, name_of, words_of, options_of, command_of, Named, named, asked, asked_apart, asked_by, asked_with, request_of_texts, text_of}
 use Rattle.cmd_words.proofs.Apart.{rows}
 use Rattle.cmd_words.proofs.Asked.{first_is, asked_same, refused_none}
 use Rattle.cmd_words.proofs.Line.{LineFate, LineRefused, behind_command, from_line, line_goes}
@@ -104,11 +104,7 @@ name_is f g (Some a) = refl
 
 named_command : (k : Wanted) → command_of (name_of k) ≡ Some k
 named_command to_record = refl
-named_command to_replay = refl
-named_command to_show = refl
-named_command to_make = refl
-named_command to_run = refl
-named_command to_load = refl
+named_command other = refl
 
 -- what is read of them is the request
 pub read_request : (words : List Text) (sub : Option (Text × List Row)) (name : Text) (found : Found) (result : Option Request)
@@ -137,10 +133,6 @@ refused_request p words e is kinds memory =
     no_kind [] clean (inr among) = among
     no_kind (k ∷ faults) clean among = absurd (false≢true clean)
 
-    refused : (want : Option (Wanted × List Named)) → LineRefused want → asked_of want ≡ None
-    refused None r = refl
-    refused (Some p) r = refused_none p.0 (Some p.1) r
-
     by_clean : (b : Bool) → is_clean (fault_of program words) ≡ b → LineFate b (subcommand_of program words) (from_line words) → asked_of (from_line words) ≡ None
     by_clean true clean fate = absurd (no_kind (fault_of program words) clean has)
-    by_clean false clean fate = refused (from_line words) fate
+    by_clean false clean fate = elim (from_line words) as (λ want. LineRefused want → asked_of want ≡ None) [ None ↦ λ r. refl | Some p ↦ λ r. refused_none p.0 (Some p.1) r ] fate

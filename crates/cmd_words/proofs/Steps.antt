@@ -141,57 +141,6 @@ is_arg k name (by_name required) found = record {
   takes = λ word rs. one_value name word rs _ _ found refl refl;
 }
 
-pub blocks_is : IsArg to_record (codes "blocks")
-blocks_is = is_arg to_record (codes "blocks") (at_place 1) refl
-
-pub journal_is : IsArg to_record (codes "journal")
-journal_is = is_arg to_record (codes "journal") (at_place 2) refl
-
-pub nodes_is : IsArg to_record (codes "nodes")
-nodes_is = is_arg to_record (codes "nodes") (at_place 3) refl
-
-pub notices_is : IsArg to_record (codes "notices")
-notices_is = is_arg to_record (codes "notices") (by_name false) refl
-
-pub room_is : IsArg to_record (codes "room")
-room_is = is_arg to_record (codes "room") (by_name false) refl
-
-pub fail_is : IsArg to_record (codes "fail")
-fail_is = is_arg to_record (codes "fail") (by_name false) refl
-
-pub at_is : IsArg to_replay (codes "at")
-at_is = is_arg to_replay (codes "at") (by_name true) refl
-
-pub stand_is : IsArg to_replay (codes "stand")
-stand_is = is_arg to_replay (codes "stand") (by_name false) refl
-
-pub tear_is : IsArg to_replay (codes "tear")
-tear_is = is_arg to_replay (codes "tear") (by_name false) refl
-
-pub image_is : IsArg to_show (codes "image")
-image_is = is_arg to_show (codes "image") (at_place 1) refl
-
-pub made_image_is : IsArg to_make (codes "image")
-made_image_is = is_arg to_make (codes "image") (at_place 1) refl
-
-pub made_blocks_is : IsArg to_make (codes "blocks")
-made_blocks_is = is_arg to_make (codes "blocks") (at_place 2) refl
-
-pub made_journal_is : IsArg to_make (codes "journal")
-made_journal_is = is_arg to_make (codes "journal") (at_place 3) refl
-
-pub made_nodes_is : IsArg to_make (codes "nodes")
-made_nodes_is = is_arg to_make (codes "nodes") (at_place 4) refl
-
-pub run_image_is : IsArg to_run (codes "image")
-run_image_is = is_arg to_run (codes "image") (at_place 1) refl
-
-pub seed_is : IsArg to_load (codes "seed")
-seed_is = is_arg to_load (codes "seed") (by_name true) refl
-
-pub count_is : IsArg to_load (codes "count")
-count_is = is_arg to_load (codes "count") (by_name true) refl
-
 -- ---- the text whose word was the last is kept, unless its name stands before
 
 abbrev pub IsKept : Command → List Named → Option Named → Type 0
@@ -228,9 +177,8 @@ with_no_default : (rs : List Row) (a : Rule) → is_empty a.defaults ≡ true �
 with_no_default rs a none = go (has_row a.id rs) a.defaults none
   where
     go : (b : Bool) (ds : List Text) → is_empty ds ≡ true → (if b then rs else default_rows a.id (reading_by a) ds rs) ≡ rs
-    go true ds none = refl
-    go false [] none = refl
     go false (d ∷ ds) none = absurd (omega (arith, eqb-true (length (d ∷ ds)) 0 none))
+    go other ds none = refl
 
 abbrev no_defaults : List Rule → Bool
 no_defaults = list_all (λ a. is_empty a.defaults)
@@ -242,11 +190,7 @@ default_rows_same (a ∷ c) rs none =
     ap (λ (r : List Row). fold with_default r c) (with_no_default rs a parts.0) ∙ default_rows_same c rs parts.1
 
 default_no_fault : (rs : List Row) (a : Rule) → is_empty a.defaults ≡ true → default_fault rs a ≡ []
-default_no_fault rs a none = rw none (go (has_row a.id rs))
-  where
-    go : (b : Bool) → (if b || true then [] else given_default_fault a a.defaults) ≡ []
-    go true = refl
-    go false = refl
+default_no_fault rs a none = rw none (elim (has_row a.id rs) as (λ b. (if b || true then [] else given_default_fault a a.defaults) ≡ []) [ true ↦ refl | false ↦ refl ])
 
 defaults_no_fault : (c : List Rule) (rs : List Row) → no_defaults c ≡ true → defaults_fault rs c ≡ []
 unfolding defaults_fault
@@ -272,11 +216,7 @@ check_one false = refl
 
 pub no_defaults_in : (k : Command) → no_defaults (rules k) ≡ true
 no_defaults_in to_record = refl
-no_defaults_in to_replay = refl
-no_defaults_in to_show = refl
-no_defaults_in to_make = refl
-no_defaults_in to_run = refl
-no_defaults_in to_load = refl
+no_defaults_in other = refl
 
 -- what must stand is there
 abbrev pub has_needed : Command → List Named → Bool
@@ -294,9 +234,7 @@ check_is to_record texts =
   where
     go : (a b c : Bool) → is_clean (check_kinds false false (not a || (not b || (not c || false)))) ≡ (a && (b && c))
     go true true true = refl
-    go true true false = refl
-    go true false c = refl
-    go false b c = refl
+    go other b c = refl
 check_is to_replay texts = check_one (is_given (codes "at") (rows texts)) ∙ given_is (codes "at") texts
 check_is to_show texts = check_one (is_given (codes "image") (rows texts)) ∙ given_is (codes "image") texts
 check_is to_make texts =
@@ -305,10 +243,7 @@ check_is to_make texts =
   where
     go : (a b c d : Bool) → is_clean (check_kinds false false (not a || (not b || (not c || (not d || false))))) ≡ (a && (b && (c && d)))
     go true true true true = refl
-    go true true true false = refl
-    go true true false d = refl
-    go true false c d = refl
-    go false b c d = refl
+    go other b c d = refl
 check_is to_run texts = check_one (is_given (codes "image") (rows texts)) ∙ given_is (codes "image") texts
 check_is to_load texts =
     go (is_given (codes "seed") (rows texts)) (is_given (codes "count") (rows texts))
@@ -316,8 +251,7 @@ check_is to_load texts =
   where
     go : (a b : Bool) → is_clean (check_kinds false false (not a || (not b || false))) ≡ (a && b)
     go true true = refl
-    go true false = refl
-    go false b = refl
+    go other b = refl
 
 -- the faults of the end
 abbrev pub end_faults : Command → Held → Kinds

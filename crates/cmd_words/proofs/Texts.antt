@@ -38,11 +38,7 @@ number_read low high n t read least most =
 
 -- what isn't read at all
 no_number : (low high : ℕ) (t : List ℕ) → (is_number_in low high t ≡ true → ⊥) → None ≡ number_in low high t
-no_number low high t never = go (is_number_in low high t) refl
-  where
-    go : (b : Bool) → is_number_in low high t ≡ b → None ≡ (if b then Some (value_of t) else None)
-    go true e = absurd (never e)
-    go false e = refl
+no_number low high t never = elim (is_number_in low high t) as (λ b. is_number_in low high t ≡ b → None ≡ (if b then Some (value_of t) else None)) [ true ↦ λ e. absurd (never e) | false ↦ λ e. refl ] refl
 
 pub number_not_read : {E : Type 0} (low high : ℕ) (t : List ℕ) (why : E) → ParsesUnsigned 32 10 t (Err why) → high < 2 ^ 32 → None ≡ number_in low high t
 number_not_read low high t why read small = no_number low high t (λ e.
@@ -53,11 +49,10 @@ number_not_read low high t why read small = no_number low high t (λ e.
 
 -- a number is in its range
 pub number_range : (low high : ℕ) (t : List ℕ) → IfSome (number_in low high t) (λ n. (low ≤ n) × (n ≤ high))
-number_range low high t = go (is_number_in low high t) refl
-  where
-    go : (b : Bool) → is_number_in low high t ≡ b → IfSome (if b then Some (value_of t) else None) (λ n. (low ≤ n) × (n ≤ high))
-    go true e = let range = and_parts _ _ (and_parts _ _ e).1 in (leb-true _ _ range.0, leb-true _ _ range.1)
-    go false e = tt
+number_range low high t = elim (is_number_in low high t) as (λ b. is_number_in low high t ≡ b → IfSome (if b then Some (value_of t) else None) (λ n. (low ≤ n) × (n ≤ high))) [
+  | true ↦ λ e. let range = and_parts _ _ (and_parts _ _ e).1 in (leb-true _ _ range.0, leb-true _ _ range.1)
+  | false ↦ λ e. tt
+] refl
 
 -- ---- seeds
 
@@ -72,14 +67,10 @@ seed_read t n text some small = go (digits_value 10 t) (ap (digits_value 10) (sy
         (rw ((bytes_eq-Decides (decimal n) t).1 text, le-leb 1 n some, le-leb n 4294967295 (omega arith)) refl)
 
 no_seed : (t : List ℕ) → ((v : ℕ) → decimal v ≡ t → 1 ≤ v → v < 2 ^ 32 → ⊥) → None ≡ seed_of t
-no_seed t never = go (is_seed t) refl
-  where
-    go : (b : Bool) → is_seed t ≡ b → None ≡ (if b then Some (digits_value 10 t) else None)
-    go true e =
-        let parts = and_parts _ _ e in
-        let range = and_parts _ _ parts.1 in
-        absurd (never (digits_value 10 t) ((bytes_eq-Decides _ _).0 parts.0) (leb-true _ _ range.0) (omega (arith, leb-true _ _ range.1)))
-    go false e = refl
+no_seed t never = elim (is_seed t) as (λ b. is_seed t ≡ b → None ≡ (if b then Some (digits_value 10 t) else None)) [
+  | true ↦ λ e. let parts = and_parts _ _ e in let range = and_parts _ _ parts.1 in absurd (never (digits_value 10 t) ((bytes_eq-Decides _ _).0 parts.0) (leb-true _ _ range.0) (omega (arith, leb-true _ _ range.1)))
+  | false ↦ λ e. refl
+] refl
 
 -- the decimal text of a number is read as that number
 reads_decimal : (t : List ℕ) (n v : ℕ) → Reads t n → decimal v ≡ t → v < 2 ^ 32 → n ≡ v
@@ -102,8 +93,7 @@ seed_not_read t why read = no_seed t (λ v text some small.
 
 -- a seed is in its range
 pub seed_range : (t : List ℕ) → IfSome (seed_of t) (λ n. (1 ≤ n) × (n ≤ 4294967295))
-seed_range t = go (is_seed t) refl
-  where
-    go : (b : Bool) → is_seed t ≡ b → IfSome (if b then Some (digits_value 10 t) else None) (λ n. (1 ≤ n) × (n ≤ 4294967295))
-    go true e = let range = and_parts _ _ (and_parts _ _ e).1 in (leb-true _ _ range.0, leb-true _ _ range.1)
-    go false e = tt
+seed_range t = elim (is_seed t) as (λ b. is_seed t ≡ b → IfSome (if b then Some (digits_value 10 t) else None) (λ n. (1 ≤ n) × (n ≤ 4294967295))) [
+  | true ↦ λ e. let range = and_parts _ _ (and_parts _ _ e).1 in (leb-true _ _ range.0, leb-true _ _ range.1)
+  | false ↦ λ e. tt
+] refl

@@ -15,7 +15,7 @@ use Rattle.clap.specs.declared.error.kind.ErrorKind.TheVariants.{TooManyValues}
 use Rattle.clap.specs.declared.parser.matches.ValueSource.TheVariants.{CommandLine}
 use Rattle.cmd_words.specs.Words.{Command, to_record, to_replay, to_show, to_make, to_run, to_load, words_of, options_of, Named, is_flag, before, with_next, with_option, with_word, placed, named, are_apart}
 use Rattle.cmd_words.proofs.Apart.{rows}
-use Rattle.cmd_words.proofs.Steps.{is_clean, unclean_first, unclean_second, clean_first, or_else_nil, or_else_assoc, shape, rules, held_at, at, pends, listed, IsArg, at_place, by_name, rule_as, blocks_is, journal_is, nodes_is, notices_is, room_is, fail_is, at_is, stand_is, tear_is, image_is, made_image_is, made_blocks_is, made_journal_is, made_nodes_is, run_image_is, seed_is, count_is, IsKept, IsRepeated, settles, end_faults, Refused, Fate, behind, ends}
+use Rattle.cmd_words.proofs.Steps.{is_clean, unclean_first, unclean_second, clean_first, or_else_nil, or_else_assoc, shape, rules, held_at, at, pends, listed, IsArg, is_arg, at_place, by_name, rule_as, IsKept, IsRepeated, settles, end_faults, Refused, Fate, behind, ends}
 
 -- ---- the words that are left
 
@@ -79,28 +79,15 @@ position past = 5
 
 -- the names of the words that are still to come
 abbrev names_from : Command → Place → List Text
-names_from to_record first = words_of to_record
+names_from to_replay place = []
+names_from to_load place = []
+names_from k first = words_of k
 names_from to_record second = codes "journal" ∷ codes "nodes" ∷ []
 names_from to_record third = codes "nodes" ∷ []
-names_from to_record fourth = []
-names_from to_record past = []
-names_from to_replay place = []
-names_from to_show first = words_of to_show
-names_from to_show second = []
-names_from to_show third = []
-names_from to_show fourth = []
-names_from to_show past = []
-names_from to_make first = words_of to_make
 names_from to_make second = codes "blocks" ∷ codes "journal" ∷ codes "nodes" ∷ []
 names_from to_make third = codes "journal" ∷ codes "nodes" ∷ []
 names_from to_make fourth = codes "nodes" ∷ []
-names_from to_make past = []
-names_from to_run first = words_of to_run
-names_from to_run second = []
-names_from to_run third = []
-names_from to_run fourth = []
-names_from to_run past = []
-names_from to_load place = []
+names_from k place = []
 
 -- the walk over these words finds what `rest` says of them, wherever it stands
 abbrev Later : Command → Bool → List Text → (List Text → Option (List Named)) → Type 0
@@ -122,28 +109,16 @@ record OneWord (k : Command) (place : Place) : Type 0 where
   leads : next_position (rule_as (at_place (position place)) name) (position place) ≡ position next
 
 at_each : (k : Command) (place : Place) → NoWord k place ⊎ OneWord k place
-at_each to_record first = inr record { name = codes "blocks"; next = second; is = blocks_is; there = refl; names = refl; leads = refl }
-at_each to_record second = inr record { name = codes "journal"; next = third; is = journal_is; there = refl; names = refl; leads = refl }
-at_each to_record third = inr record { name = codes "nodes"; next = fourth; is = nodes_is; there = refl; names = refl; leads = refl }
-at_each to_record fourth = inl record { there = refl; names = refl }
-at_each to_record past = inl record { there = refl; names = refl }
-at_each to_replay place = inl record { there = refl; names = refl }
-at_each to_show first = inr record { name = codes "image"; next = second; is = image_is; there = refl; names = refl; leads = refl }
-at_each to_show second = inl record { there = refl; names = refl }
-at_each to_show third = inl record { there = refl; names = refl }
-at_each to_show fourth = inl record { there = refl; names = refl }
-at_each to_show past = inl record { there = refl; names = refl }
-at_each to_make first = inr record { name = codes "image"; next = second; is = made_image_is; there = refl; names = refl; leads = refl }
-at_each to_make second = inr record { name = codes "blocks"; next = third; is = made_blocks_is; there = refl; names = refl; leads = refl }
-at_each to_make third = inr record { name = codes "journal"; next = fourth; is = made_journal_is; there = refl; names = refl; leads = refl }
-at_each to_make fourth = inr record { name = codes "nodes"; next = past; is = made_nodes_is; there = refl; names = refl; leads = refl }
-at_each to_make past = inl record { there = refl; names = refl }
-at_each to_run first = inr record { name = codes "image"; next = second; is = run_image_is; there = refl; names = refl; leads = refl }
-at_each to_run second = inl record { there = refl; names = refl }
-at_each to_run third = inl record { there = refl; names = refl }
-at_each to_run fourth = inl record { there = refl; names = refl }
-at_each to_run past = inl record { there = refl; names = refl }
-at_each to_load place = inl record { there = refl; names = refl }
+at_each to_record first = inr record { name = codes "blocks"; next = second; is = is_arg to_record (codes "blocks") (at_place 1) refl; there = refl; names = refl; leads = refl }
+at_each to_record second = inr record { name = codes "journal"; next = third; is = is_arg to_record (codes "journal") (at_place 2) refl; there = refl; names = refl; leads = refl }
+at_each to_record third = inr record { name = codes "nodes"; next = fourth; is = is_arg to_record (codes "nodes") (at_place 3) refl; there = refl; names = refl; leads = refl }
+at_each to_show first = inr record { name = codes "image"; next = second; is = is_arg to_show (codes "image") (at_place 1) refl; there = refl; names = refl; leads = refl }
+at_each to_make first = inr record { name = codes "image"; next = second; is = is_arg to_make (codes "image") (at_place 1) refl; there = refl; names = refl; leads = refl }
+at_each to_make second = inr record { name = codes "blocks"; next = third; is = is_arg to_make (codes "blocks") (at_place 2) refl; there = refl; names = refl; leads = refl }
+at_each to_make third = inr record { name = codes "journal"; next = fourth; is = is_arg to_make (codes "journal") (at_place 3) refl; there = refl; names = refl; leads = refl }
+at_each to_make fourth = inr record { name = codes "nodes"; next = past; is = is_arg to_make (codes "nodes") (at_place 4) refl; there = refl; names = refl; leads = refl }
+at_each to_run first = inr record { name = codes "image"; next = second; is = is_arg to_run (codes "image") (at_place 1) refl; there = refl; names = refl; leads = refl }
+at_each other place = inl record { there = refl; names = refl }
 
 -- the faults of such a word, by the test whether the last word was this one's too, and where it leads
 abbrev number_faults : Command → Bool → Held → Kinds
@@ -199,9 +174,8 @@ by_pending : (k : Command) (b trails : Bool) (name : Text) (word : Text) (h : He
     → Turn k (settle_fault (rules k) false h) (number_next k false trails name word h p) words want
     → Turn k (number_faults k b h) (number_behind k b trails name word h p) words want
 by_pending k true true name word h p words want turn = turn
-by_pending k true false name word h p words want turn = turn
 by_pending k false true name word h p words want turn = turn
-by_pending k false false name word h p words want turn = turn
+by_pending k other rest name word h p words want turn = turn
 
 abbrev is_last : Text → Option (Text × List Text) → Bool
 is_last name pending = option_map_or (λ (q : Text × List Text). bytes_eq q.0 name) pending false
@@ -217,7 +191,10 @@ number_turn : (k : Command) (trails : Bool) (place : Place) (texts : List Named)
     → Turn k (step_fault (shape k) (position place) (held_at texts (pends pending)) value)
     (after_step (rules k) word (at trails idle texts (pends pending) (position place)) (held_at texts (pends pending)) value)
     words (behind (texts ++ listed pending) (with_next word (names_from k place) rest))
-number_turn k trails place texts pending arg apart word words rest later = go (at_each k place)
+number_turn k trails place texts pending arg apart word words rest later = elim (at_each k place) as (λ _. TurnBy (arg_by_index (rules k) (position place)) (names_from k place)) [
+  | inl none ↦ subst (λ (o : Option Rule). TurnBy o (names_from k place)) (sym none.there) (subst (TurnBy None) (sym none.names) tt)
+  | inr one ↦ subst (λ (o : Option Rule). TurnBy o (names_from k place)) (sym one.there) (subst (TurnBy (Some (rule_as (at_place (position place)) one.name))) (sym one.names) (one_turn one))
+]
   where
     h : Held
     h = held_at texts (pends pending)
@@ -235,11 +212,6 @@ number_turn k trails place texts pending arg apart word words rest later = go (a
         subst (λ (p : ℕ). Turn k (number_faults k b h) (number_behind k b trails one.name word h p) words want) (sym one.leads)
         (by_pending k b trails one.name word h (position one.next) words want
         (number_goes k trails one.name one.is one.next texts pending arg apart word words rest later))
-
-    go : NoWord k place ⊎ OneWord k place → TurnBy (arg_by_index (rules k) (position place)) (names_from k place)
-    go (inl none) = subst (λ (o : Option Rule). TurnBy o (names_from k place)) (sym none.there) (subst (TurnBy None) (sym none.names) tt)
-    go (inr one) = subst (λ (o : Option Rule). TurnBy o (names_from k place)) (sym one.there)
-        (subst (TurnBy (Some (rule_as (at_place (position place)) one.name))) (sym one.names) (one_turn one))
 
 -- behind `--` each word is one that must stand
 behind_dashes : (k : Command) (words : List Text) → Later k true words (placed words)
@@ -410,8 +382,6 @@ value_turn k name is place texts pending arg apart word words rest later =
 
 long_goes : (k : Command) (rule : Option Rule) (name : Option Text) (given : Option Text) → IsOption k rule name → LongGoes k rule name given
 long_goes k None None given is place texts pending arg apart word words rest later waits = tt
-long_goes k None (Some name) given is place texts pending arg apart word words rest later waits = absurd is
-long_goes k (Some a) None given is place texts pending arg apart word words rest later waits = absurd is
 long_goes k (Some a) (Some name) (Some text) is place texts pending arg apart word words rest later waits =
     subst (λ (r : Rule). Turn k (long_faults k idle word (Some r) (Some text) (held_at texts (pends pending)) (position place))
     (after_step (rules k) word (at false idle texts (pends pending) (position place))
@@ -424,37 +394,36 @@ long_goes k (Some a) (Some name) None is place texts pending arg apart word word
     (long_step k idle word (Some r) None (held_at texts (pends pending))).0 (long_step k idle word (Some r) None (held_at texts (pends pending))).1)
     words (behind (texts ++ listed pending) (rest (Some name) (names_from k place)))) (sym is.2)
     (wait_goes k name is.1 place texts pending arg apart words (λ name. rest (Some name)) waits)
+long_goes k other more given is place texts pending arg apart word words rest later waits = absurd is
 
 record_option : (a b c : Bool) → IsOption to_record
     (first_of_three (rule_as (by_name false) (codes "notices")) (rule_as (by_name false) (codes "room")) (rule_as (by_name false) (codes "fail")) (a || false) (b || false) (c || false))
     (first_of_three (codes "notices") (codes "room") (codes "fail") a b c)
-record_option true b c = (false, notices_is, refl)
-record_option false true c = (false, room_is, refl)
-record_option false false true = (false, fail_is, refl)
+record_option true b c = (false, is_arg to_record (codes "notices") (by_name false) refl, refl)
+record_option false true c = (false, is_arg to_record (codes "room") (by_name false) refl, refl)
+record_option false false true = (false, is_arg to_record (codes "fail") (by_name false) refl, refl)
 record_option false false false = tt
 
 replay_option : (a b c : Bool) → IsOption to_replay
     (first_of_three (rule_as (by_name true) (codes "at")) (rule_as (by_name false) (codes "stand")) (rule_as (by_name false) (codes "tear")) (a || false) (b || false) (c || false))
     (first_of_three (codes "at") (codes "stand") (codes "tear") a b c)
-replay_option true b c = (true, at_is, refl)
-replay_option false true c = (false, stand_is, refl)
-replay_option false false true = (false, tear_is, refl)
+replay_option true b c = (true, is_arg to_replay (codes "at") (by_name true) refl, refl)
+replay_option false true c = (false, is_arg to_replay (codes "stand") (by_name false) refl, refl)
+replay_option false false true = (false, is_arg to_replay (codes "tear") (by_name false) refl, refl)
 replay_option false false false = tt
 
 load_option : (a b : Bool) → IsOption to_load
     (cond (a || false) (Some (rule_as (by_name true) (codes "seed"))) (cond (b || false) (Some (rule_as (by_name true) (codes "count"))) None))
     (cond a (Some (codes "seed")) (cond b (Some (codes "count")) None))
-load_option true b = (true, seed_is, refl)
-load_option false true = (true, count_is, refl)
+load_option true b = (true, is_arg to_load (codes "seed") (by_name true) refl, refl)
+load_option false true = (true, is_arg to_load (codes "count") (by_name true) refl, refl)
 load_option false false = tt
 
 is_option : (k : Command) (name : Text) → IsOption k (arg_by_long (rules k) name) (find (λ known. bytes_eq known name) (options_of k))
 is_option to_record name = record_option (bytes_eq (codes "notices") name) (bytes_eq (codes "room") name) (bytes_eq (codes "fail") name)
 is_option to_replay name = replay_option (bytes_eq (codes "at") name) (bytes_eq (codes "stand") name) (bytes_eq (codes "tear") name)
-is_option to_show name = tt
-is_option to_make name = tt
-is_option to_run name = tt
 is_option to_load name = load_option (bytes_eq (codes "seed") name) (bytes_eq (codes "count") name)
+is_option other name = tt
 
 long_turn : (k : Command) (name : Text) (given : Option Text) → LongGoes k (arg_by_long (rules k) name) (find (λ known. bytes_eq known name) (options_of k)) given
 long_turn k name given = long_goes k (arg_by_long (rules k) name) (find (λ known. bytes_eq known name) (options_of k)) given (is_option k name)
@@ -474,11 +443,10 @@ long_flag (x ∷ xs) l e = go (x == 45) e
   where
     second : (ys : Text) → option_and_then long_of_rest (strip_byte 45 ys) ≡ Some l → is_some (slice_get (chars ys) 0) ≡ true
     second [] f = cc
-    second (y ∷ ys) f = by_minus (y == 45) refl f
-      where
-        by_minus : (b : Bool) → (y == 45) ≡ b → option_and_then long_of_rest (cond b (Some ys) None) ≡ Some l → is_some (slice_get (chars (y ∷ ys)) 0) ≡ true
-        by_minus true minus g = subst (λ (z : ℕ). is_some (slice_get (chars (z ∷ ys)) 0) ≡ true) (sym (eqb-true y 45 minus)) (minus_first ys)
-        by_minus false minus g = cc
+    second (y ∷ ys) f = elim (y == 45) as (λ b. (y == 45) ≡ b → option_and_then long_of_rest (cond b (Some ys) None) ≡ Some l → is_some (slice_get (chars (y ∷ ys)) 0) ≡ true) [
+      | true ↦ λ minus g. subst (λ (z : ℕ). is_some (slice_get (chars (z ∷ ys)) 0) ≡ true) (sym (eqb-true y 45 minus)) (minus_first ys)
+      | false ↦ λ minus g. cc
+    ] refl f
 
     go : (b : Bool) → option_and_then long_of_rest (option_and_then (strip_byte 45) (cond b (Some xs) None)) ≡ Some l → (b && is_some (slice_get (chars xs) 0)) ≡ true
     go true f = second xs f
@@ -493,11 +461,7 @@ short_flag (x ∷ xs) flags e = go (x == 45) e
   where
     same : (ys : Text) → short_of_rest ys ≡ Some flags → ys ≡ flags
     same [] f = cc
-    same (y ∷ ys) f = by_minus (y == 45) f
-      where
-        by_minus : (b : Bool) → (if b then None else Some (y ∷ ys)) ≡ Some flags → (y ∷ ys) ≡ flags
-        by_minus true g = cc
-        by_minus false g = cc
+    same (y ∷ ys) f = elim (y == 45) as (λ b. (if b then None else Some (y ∷ ys)) ≡ Some flags → (y ∷ ys) ≡ flags) [ true ↦ λ g. cc | false ↦ λ g. cc ] f
 
     go : (b : Bool) → option_and_then short_of_rest (cond b (Some xs) None) ≡ Some flags → (b && is_some (slice_get (chars xs) 0)) ≡ is_some (slice_get (chars flags) 0)
     go true f = ap (λ (ys : Text). is_some (slice_get (chars ys) 0)) (same xs f)
@@ -515,16 +479,14 @@ no_flag (x ∷ xs) dashes long short = go (x == 45) dashes long short
       where
         second : (ys : Text) → bytes_eq ys (codes "-") ≡ false → option_and_then long_of_rest (strip_byte 45 ys) ≡ None → short_of_rest ys ≡ None → is_some (slice_get (chars ys) 0) ≡ false
         second [] d l s = refl
-        second (y ∷ ys) d l s = by_minus (y == 45) d l s
+        second (y ∷ ys) d l s = elim (y == 45) as (λ b. (b && bytes_eq ys []) ≡ false → option_and_then long_of_rest (cond b (Some ys) None) ≡ None → (if b then None else Some (y ∷ ys)) ≡ None → is_some (slice_get (chars (y ∷ ys)) 0) ≡ false) [
+          | true ↦ λ d l s. absurd (third ys d l)
+          | false ↦ λ d l s. cc
+        ] d l s
           where
             third : (zs : Text) → bytes_eq zs [] ≡ false → long_of_rest zs ≡ None → ⊥
             third [] d l = cc
             third (z ∷ zs) d l = cc
-
-            by_minus : (b : Bool) → (b && bytes_eq ys []) ≡ false → option_and_then long_of_rest (cond b (Some ys) None) ≡ None → (if b then None else Some (y ∷ ys)) ≡ None
-                → is_some (slice_get (chars (y ∷ ys)) 0) ≡ false
-            by_minus true d l s = absurd (third ys d l)
-            by_minus false d l s = cc
 
 abbrev open_met : Command → Bool → Waiting → Held → ℕ → Text → Held × Step
 open_met k dashes waiting h p word = if dashes then (h, trailing p) else long_or_other (rules k) waiting word (long_of word) h
@@ -539,11 +501,7 @@ open_next k dashes w waiting h p word = after_step (rules k) word w (open_met k 
 
 no_short : (k : Command) (x : ℕ) → arg_by_short (rules k) x ≡ None
 no_short to_record x = refl
-no_short to_replay x = refl
-no_short to_show x = refl
-no_short to_make x = refl
-no_short to_run x = refl
-no_short to_load x = refl
+no_short other x = refl
 
 -- A word that is neither `--` nor an option's goes where words go, or is taken for an option that isn't there.
 plain_turn : (k : Command) (waiting : Waiting) (texts : List Named) (pending : Option (Text × List Text)) (p : ℕ) (word : Text) (words : List Text) (want : Option (List Named))
@@ -646,10 +604,9 @@ long_refused c None given h bad = refl
 long_refused c (Some a) given h bad = go (takes_values a) given
   where
     go : (b : Bool) (v : Option Text) → is_clean (if b then option_fault c false a v h else (if is_some v then TooManyValues ∷ [] else react_fault c false a [] h)) ≡ false
-    go true (Some v) = unclean_first (settle_fault c false h) _ bad
     go true None = bad
     go false (Some v) = refl
-    go false None = unclean_first (settle_fault c false h) _ bad
+    go other rest = unclean_first (settle_fault c false h) _ bad
 
 waits_goes : (k : Command) (word : Text) (words : List Text) (rest : List Text → Option (List Named)) → Later k false words rest
     → Waits k (word ∷ words) (λ name names. if is_flag word then None else before (name, word) (rest names))
@@ -730,18 +687,10 @@ none_yet = at false idle [] None 1
 
 first_names : (k : Command) → names_from k first ≡ words_of k
 first_names to_record = refl
-first_names to_replay = refl
-first_names to_show = refl
-first_names to_make = refl
-first_names to_run = refl
-first_names to_load = refl
+first_names other = refl
 
 pub words_go : (k : Command) (words : List Text) → Goes k none_yet words (named (options_of k) words None (words_of k))
 words_go k words =
     let goes = (walks k words).idly first [] None tt refl in
     subst (λ (names : List Text). Goes k none_yet words (named (options_of k) words None names)) (first_names k)
-    (subst (Goes k none_yet words) (same (named (options_of k) words None (names_from k first))) goes)
-  where
-    same : (o : Option (List Named)) → behind [] o ≡ o
-    same None = refl
-    same (Some texts) = refl
+    (subst (Goes k none_yet words) (elim (named (options_of k) words None (names_from k first)) as (λ o. behind [] o ≡ o) [ None ↦ refl | Some texts ↦ refl ]) goes)

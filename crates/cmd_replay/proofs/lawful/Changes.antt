@@ -7,7 +7,7 @@ use Rattle.std.specs.Cmp.Lexicographic.{lists_total}
 use Rattle.std.specs.FinMap.{IsAntisymmetric, get, insert, remove, empty, entries, find, get-insert, get-remove, get-empty, get-from_entries, nat_cmp-IsAntisymmetric, slice_cmp-IsAntisymmetric}
 use Rattle.std.specs.Ordering.{is_eq, eq_by_cmp, nat_cmp}
 use Rattle.std.specs.declared.cmp.Ordering.{Ordering}
-use Rattle.std.specs.declared.cmp.Ordering.TheVariants.{Less, Equal, Greater}
+use Rattle.std.specs.declared.cmp.Ordering.TheVariants.{Equal}
 use Rattle.std.proofs.lemmas.Bool.{and_parts}
 use Rattle.std.proofs.lemmas.Option.{same_Some, none-some}
 use Rattle.base_types.specs.Name.{is_name}
@@ -16,7 +16,6 @@ use Rattle.lang_script.specs.Values.{IsCommand}
 use Rattle.cmd_trace.specs.Contents.{Each}
 use Rattle.lang_tree.specs.declared.command.Cmd.{Cmd}
 use Rattle.lang_tree.specs.declared.command.Cmd.TheVariants.{Mkdir, Create, Write, Fill, Read, Truncate, Link, Unlink, Rmdir, Rename, Stat, List as ListNames, Osync, Dsync, Durable, Poll, Bad}
-use Rattle.lang_tree.specs.declared.command.Refusal.{Refusal}
 use Rattle.lang_tree.specs.declared.command.Reply.TheVariants.{Ok as Done}
 use Rattle.lang_tree.specs.Conditions.{least_unused, refusal}
 use Rattle.lang_tree.specs.Names.{path_count, renamed}
@@ -44,32 +43,25 @@ path_same : IsAntisymmetric path_cmp
 path_same = slice_cmp-IsAntisymmetric (slice_cmp-IsAntisymmetric nat_cmp-IsAntisymmetric)
 
 equal_of : (o : Ordering) → is_eq o ≡ true → o ≡ Equal
-equal_of Less e = absurd cc
 equal_of Equal e = refl
-equal_of Greater e = absurd cc
+equal_of other e = absurd cc
 
 names_put : (names : Names) (k : List (List ℕ)) (v : ℕ) → Lawful k → AreLawful names → AreLawful (insert names k v)
-names_put names k v law h p n e = by (eq_by_cmp path_cmp p k) refl (sym (get-insert path_total names k v p) ∙ e)
-  where
-    by : (b : Bool) → eq_by_cmp path_cmp p k ≡ b → cond b (Some v) (get names p) ≡ Some n → Lawful p
-    by true same is = subst Lawful (sym (path_same p k (equal_of (path_cmp p k) same))) law
-    by false same is = h p n is
+names_put names k v law h p n e = elim (eq_by_cmp path_cmp p k) as (λ b. eq_by_cmp path_cmp p k ≡ b → cond b (Some v) (get names p) ≡ Some n → Lawful p) [
+  | true ↦ λ same is. subst Lawful (sym (path_same p k (equal_of (path_cmp p k) same))) law
+  | false ↦ λ same is. h p n is
+] refl (sym (get-insert path_total names k v p) ∙ e)
 
 names_out : (names : Names) (k : List (List ℕ)) → AreLawful names → AreLawful (remove names k)
-names_out names k h p n e = by (eq_by_cmp path_cmp p k) (sym (get-remove path_total names k p) ∙ e)
-  where
-    by : (b : Bool) → cond b None (get names p) ≡ Some n → Lawful p
-    by true is = cc is
-    by false is = h p n is
+names_out names k h p n e = elim (eq_by_cmp path_cmp p k) as (λ b. cond b None (get names p) ≡ Some n → Lawful p) [ true ↦ λ is. cc is | false ↦ λ is. h p n is ] (sym (get-remove path_total names k p) ∙ e)
 
 behind_is_lawful : (front path rest : List (List ℕ)) → Lawful path → strip front path ≡ Some rest → Lawful rest
 behind_is_lawful [] path rest h e = subst Lawful (same_Some path rest e) h
 behind_is_lawful (a ∷ front) [] rest h e = cc e
-behind_is_lawful (a ∷ front) (b ∷ path) rest h e = by (bytes_eq a b) (behind_is_lawful front path rest (and_parts (is_name b) (list_all is_name path) h).1) e
-  where
-    by : (t : Bool) → (strip front path ≡ Some rest → Lawful rest) → (if t then strip front path else None) ≡ Some rest → Lawful rest
-    by true later is = later is
-    by false later is = cc is
+behind_is_lawful (a ∷ front) (b ∷ path) rest h e = elim (bytes_eq a b) as (λ t. (strip front path ≡ Some rest → Lawful rest) → (if t then strip front path else None) ≡ Some rest → Lawful rest) [
+  | true ↦ λ later is. later is
+  | false ↦ λ later is. cc is
+] (behind_is_lawful front path rest (and_parts (is_name b) (list_all is_name path) h).1) e
 
 both_lawful : (p q : List (List ℕ)) → Lawful p → Lawful q → Lawful (p ++ q)
 both_lawful [] q h k = k
@@ -78,11 +70,10 @@ both_lawful (x ∷ p) q h k =
     rw parts.0 (both_lawful p q parts.1 k)
 
 moved_is_lawful : (from to path : List (List ℕ)) → Lawful to → Lawful path → Lawful (moved_path from to path)
-moved_is_lawful from to path h k = by (strip from path) (λ rest. behind_is_lawful from path rest k)
-  where
-    by : (o : Option (List (List ℕ))) → ((rest : List (List ℕ)) → o ≡ Some rest → Lawful rest) → Lawful (moved_by to path o)
-    by None later = k
-    by (Some rest) later = both_lawful to rest h (later rest refl)
+moved_is_lawful from to path h k = elim (strip from path) as (λ o. ((rest : List (List ℕ)) → o ≡ Some rest → Lawful rest) → Lawful (moved_by to path o)) [
+  | None ↦ λ later. k
+  | Some rest ↦ λ later. both_lawful to rest h (later rest refl)
+] (λ rest. behind_is_lawful from path rest k)
 
 each_moved : (from to : List (List ℕ)) (es : List (List (List ℕ) × ℕ)) → Lawful to → Each (λ e. Lawful e.0) es → Each (λ (e : List (List ℕ) × ℕ). Lawful e.0) (map (λ e. (moved_path from to e.0, e.1)) es)
 each_moved from to [] h k = tt
@@ -90,11 +81,10 @@ each_moved from to (e ∷ es) h k = (moved_is_lawful from to e.0 h k.0, each_mov
 
 found_is_lawful : (es : List (List (List ℕ) × ℕ)) (q : List (List ℕ)) (n : ℕ) → Each (λ e. Lawful e.0) es → find path_cmp q es ≡ Some n → Lawful q
 found_is_lawful [] q n h e = cc e
-found_is_lawful (f ∷ es) q n h e = by (eq_by_cmp path_cmp q f.0) refl (found_is_lawful es q n h.1) e
-  where
-    by : (b : Bool) → eq_by_cmp path_cmp q f.0 ≡ b → (find path_cmp q es ≡ Some n → Lawful q) → cond b (Some f.1) (find path_cmp q es) ≡ Some n → Lawful q
-    by true same later is = subst Lawful (sym (path_same q f.0 (equal_of (path_cmp q f.0) same))) h.0
-    by false same later is = later is
+found_is_lawful (f ∷ es) q n h e = elim (eq_by_cmp path_cmp q f.0) as (λ b. eq_by_cmp path_cmp q f.0 ≡ b → (find path_cmp q es ≡ Some n → Lawful q) → cond b (Some f.1) (find path_cmp q es) ≡ Some n → Lawful q) [
+  | true ↦ λ same later is. subst Lawful (sym (path_same q f.0 (equal_of (path_cmp q f.0) same))) h.0
+  | false ↦ λ same later is. later is
+] refl (found_is_lawful es q n h.1) e
 
 names_moved : (names : Names) (from to : List (List ℕ)) → Lawful to → AreLawful names → AreLawful (renamed names from to)
 names_moved names from to law h p n e =
@@ -107,18 +97,16 @@ abbrev HaveBytes : Nodes → Type 0
 HaveBytes nodes = (n : ℕ) (bytes : List ℕ) → get nodes n ≡ Some (File bytes) → AreBytes bytes
 
 nodes_put : (nodes : Nodes) (k : ℕ) (x : Thing) → ThingBytes x → HaveBytes nodes → HaveBytes (insert nodes k x)
-nodes_put nodes k x law h n bytes e = by (eq_by_cmp nat_cmp n k) (sym (get-insert nat_cmp_total nodes k x n) ∙ e)
-  where
-    by : (b : Bool) → cond b (Some x) (get nodes n) ≡ Some (File bytes) → AreBytes bytes
-    by true is = subst ThingBytes (same_Some x (File bytes) is) law
-    by false is = h n bytes is
+nodes_put nodes k x law h n bytes e = elim (eq_by_cmp nat_cmp n k) as (λ b. cond b (Some x) (get nodes n) ≡ Some (File bytes) → AreBytes bytes) [
+  | true ↦ λ is. subst ThingBytes (same_Some x (File bytes) is) law
+  | false ↦ λ is. h n bytes is
+] (sym (get-insert nat_cmp_total nodes k x n) ∙ e)
 
 nodes_out : (nodes : Nodes) (k : ℕ) → HaveBytes nodes → HaveBytes (remove nodes k)
-nodes_out nodes k h n bytes e = by (eq_by_cmp nat_cmp n k) (sym (get-remove nat_cmp_total nodes k n) ∙ e)
-  where
-    by : (b : Bool) → cond b None (get nodes n) ≡ Some (File bytes) → AreBytes bytes
-    by true is = cc is
-    by false is = h n bytes is
+nodes_out nodes k h n bytes e = elim (eq_by_cmp nat_cmp n k) as (λ b. cond b None (get nodes n) ≡ Some (File bytes) → AreBytes bytes) [
+  | true ↦ λ is. cc is
+  | false ↦ λ is. h n bytes is
+] (sym (get-remove nat_cmp_total nodes k n) ∙ e)
 
 pub all_join : (xs ys : List ℕ) → AreBytes xs → AreBytes ys → AreBytes (xs ++ ys)
 all_join [] ys h k = k
@@ -127,11 +115,10 @@ all_join (x ∷ xs) ys h k =
     rw parts.0 (all_join xs ys parts.1 k)
 
 pub all_take : (n : ℕ) (xs : List ℕ) → AreBytes xs → AreBytes (take n xs)
-all_take zero xs h = refl
-all_take (suc n) [] h = refl
 all_take (suc n) (x ∷ xs) h =
     let parts = and_parts (nat_lt x 256) (list_all (λ b. nat_lt b 256) xs) h in
     rw parts.0 (all_take n xs parts.1)
+all_take other xs h = refl
 
 pub all_drop : (n : ℕ) (xs : List ℕ) → AreBytes xs → AreBytes (drop n xs)
 all_drop zero xs h = h
@@ -201,9 +188,8 @@ bytes_kept = record {
 
     node_at : (nodes : Nodes) (n : ℕ) (change : List ℕ → List ℕ) → ((xs : List ℕ) → AreBytes xs → AreBytes (change xs)) → HaveBytes nodes → (o : Option Thing) → get nodes n ≡ o
         → HaveBytes (with_bytes nodes n change o)
-    node_at nodes n change same h None is = h
-    node_at nodes n change same h (Some Dir) is = h
     node_at nodes n change same h (Some (File bytes)) is = nodes_put nodes n (File (change bytes)) (same bytes (h n bytes is)) h
+    node_at nodes n change same h other is = h
 
     change_at : (t : Tree) (change : List ℕ → List ℕ) → ((xs : List ℕ) → AreBytes xs → AreBytes (change xs)) → HasBytes t → (o : Option ℕ) → HasBytes (edited_at t change o)
     change_at t change same h None = h
@@ -225,25 +211,22 @@ bytes_kept = record {
 
 module _ (P : Tree → Type 0) (kept : IsKept P) where
   write_keeps : (s : Session) (path : List (List ℕ)) (offset : ℕ) (bytes : List ℕ) → AreBytes bytes → P s.tree → P (write s path offset bytes).0.tree
-  write_keeps s path offset bytes law h = by (length bytes == 0)
-    where
-      by : (b : Bool) → P (if b then (s, Done) else changed_to s (edited s.tree path (written offset bytes))).0.tree
-      by true = h
-      by false = kept.changed s.tree path (written offset bytes) (λ xs k. written_bytes offset bytes xs law k) h
+  write_keeps s path offset bytes law h = elim (length bytes == 0) as (λ b. P (if b then (s, Done) else changed_to s (edited s.tree path (written offset bytes))).0.tree) [
+    | true ↦ h
+    | false ↦ kept.changed s.tree path (written offset bytes) (λ xs k. written_bytes offset bytes xs law k) h
+  ]
 
   truncate_keeps : (s : Session) (path : List (List ℕ)) (size : ℕ) → P s.tree → P (truncate s path size).0.tree
-  truncate_keeps s path size h = by (size == length (content s.tree path))
-    where
-      by : (b : Bool) → P (if b then (s, Done) else changed_to s (edited s.tree path (resized size))).0.tree
-      by true = h
-      by false = kept.changed s.tree path (resized size) (resized_bytes size) h
+  truncate_keeps s path size h = elim (size == length (content s.tree path)) as (λ b. P (if b then (s, Done) else changed_to s (edited s.tree path (resized size))).0.tree) [
+    | true ↦ h
+    | false ↦ kept.changed s.tree path (resized size) (resized_bytes size) h
+  ]
 
   rename_keeps : (s : Session) (from to : List (List ℕ)) → Lawful to → P s.tree → P (rename s from to).0.tree
-  rename_keeps s from to law h = by (is_same_node s.tree from to)
-    where
-      by : (b : Bool) → P (if b then (s, Done) else changed_to s (moved (removed s.tree to) from to)).0.tree
-      by true = h
-      by false = kept.shifted (removed s.tree to) from to law (kept.gone s.tree to h)
+  rename_keeps s from to law h = elim (is_same_node s.tree from to) as (λ b. P (if b then (s, Done) else changed_to s (moved (removed s.tree to) from to)).0.tree) [
+    | true ↦ h
+    | false ↦ kept.shifted (removed s.tree to) from to law (kept.gone s.tree to h)
+  ]
 
   sync_keeps : (s : Session) (changed : Bool) → P s.tree → P (osync s changed).0.tree
   sync_keeps s true h = h
@@ -264,26 +247,17 @@ module _ (P : Tree → Type 0) (kept : IsKept P) where
     where
       byte_low : (b : ℕ) → nat_le b 255 ≡ true → nat_lt b 256 ≡ true
       byte_low b k = grind (arith, tests)
-  accepted_keeps s (Read path offset count) law h = h
   accepted_keeps s (Truncate path size) law h = truncate_keeps s path size h
   accepted_keeps s (Link path other) law h = kept.tied s.tree path other (and_parts (list_all is_name path) (list_all is_name other) law).1 h
   accepted_keeps s (Unlink path) law h = kept.gone s.tree path h
   accepted_keeps s (Rmdir path) law h = kept.gone s.tree path h
   accepted_keeps s (Rename from to) law h = rename_keeps s from to (and_parts (list_all is_name from) (list_all is_name to) law).1 h
-  accepted_keeps s (Stat path) law h = h
-  accepted_keeps s (ListNames path) law h = h
   accepted_keeps s Osync law h = sync_keeps s s.changed h
   accepted_keeps s Dsync law h = sync_keeps s s.changed h
-  accepted_keeps s Durable law h = h
-  accepted_keeps s Poll law h = h
-  accepted_keeps s Bad law h = h
+  accepted_keeps s other law h = h
 
   step_keeps : (s : Session) (cmd : Cmd) → IsCommand cmd → P s.tree → P (step s cmd).0.tree
-  step_keeps s cmd law h = by (refusal s.limit s.tree cmd)
-    where
-      by : (o : Option Refusal) → P (answered s cmd o).0.tree
-      by None = accepted_keeps s cmd law h
-      by (Some why) = h
+  step_keeps s cmd law h = elim (refusal s.limit s.tree cmd) as (λ o. P (answered s cmd o).0.tree) [ None ↦ accepted_keeps s cmd law h | Some why ↦ h ]
 
 pub step_names : (s : Session) (cmd : Cmd) → IsCommand cmd → HasLawfulNames s.tree → HasLawfulNames (step s cmd).0.tree
 step_names = step_keeps HasLawfulNames names_kept

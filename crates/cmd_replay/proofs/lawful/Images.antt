@@ -8,15 +8,14 @@ use Rattle.base_types.specs.Seal.{Blocks}
 use Rattle.layout_geometry.specs.Geometry.{Geometry}
 use Rattle.layout_journal.specs.declared.entry.Entry.{Entry}
 use Rattle.layout_journal.specs.declared.entry.EntryKind.{EntryKind}
-use Rattle.layout_journal.specs.declared.entry.EntryKind.TheVariants.{Payload, Fresh, Escaped}
+use Rattle.layout_journal.specs.declared.entry.EntryKind.TheVariants.{Escaped}
 use Rattle.layout_journal.specs.Layout.{unescaped}
 use Rattle.layout_geometry.specs.Geometry.{ring_block}
 use Rattle.layout_journal.specs.Run.{Record, HeldIs, names_block, heads, payload_from, payload_of, or_else, covered_by, otherwise, replayed, is_live}
 use Rattle.layout_bytes.specs.Bytes.{when}
 use Rattle.layout_bytes.specs.Slot.{slot_size, slots_in}
-use Rattle.layout_bytes.specs.declared.node.Node.{Node}
 use Rattle.layout_bytes.specs.declared.node.NodeKind.{NodeKind}
-use Rattle.layout_bytes.specs.declared.node.NodeKind.TheVariants.{Free, Dir as DirNode, File as FileOf}
+use Rattle.layout_bytes.specs.declared.node.NodeKind.TheVariants.{Dir as DirNode}
 use Rattle.layout_bytes.specs.declared.slot.Slot.{Slot}
 use Rattle.crash_stands.specs.Files.{FileNode, joined, file_of, files_of, used_node}
 use Rattle.crash_stands.specs.Inodes.{Inode, ADir, AFile, IsInodeOf, inode_by, thing_of}
@@ -42,18 +41,15 @@ SomeBytes (Some xs) = AreBytes xs
 -- ---- what an image holds
 
 payload_bytes : (kind : EntryKind) (stored : List ℕ) → AreBytes stored → AreBytes (unescaped kind stored)
-payload_bytes Payload stored h = h
-payload_bytes Fresh stored h = h
 payload_bytes Escaped stored h = all_drop 1 stored h
+payload_bytes other stored h = h
 
 payloads_bytes : (g : Geometry) (img : Blocks) → AllBytes img → (es : List Entry) (place b : ℕ) → SomeBytes (payload_from g img place es b)
 payloads_bytes g img h [] place b = tt
-payloads_bytes g img h (e ∷ es) place b = by (e.block == b) (payloads_bytes g img h es (place + 1) b)
-  where
-    by : (t : Bool) → SomeBytes (payload_from g img (place + 1) es b)
-        → SomeBytes (if t then Some (unescaped e.kind (img (ring_block g place))) else payload_from g img (place + 1) es b)
-    by true later = payload_bytes e.kind (img (ring_block g place)) (h (ring_block g place))
-    by false later = later
+payloads_bytes g img h (e ∷ es) place b = elim (e.block == b) as (λ t. SomeBytes (payload_from g img (place + 1) es b) → SomeBytes (if t then Some (unescaped e.kind (img (ring_block g place))) else payload_from g img (place + 1) es b)) [
+  | true ↦ λ later. payload_bytes e.kind (img (ring_block g place)) (h (ring_block g place))
+  | false ↦ λ later. later
+] (payloads_bytes g img h es (place + 1) b)
 
 either : (x y : Option (List ℕ)) → SomeBytes x → SomeBytes y → SomeBytes (or_else x y)
 either None y h k = k
@@ -95,21 +91,15 @@ FileBytes None = Unit {0}
 FileBytes (Some file) = AreBytes file.bytes
 
 files_bytes : (g : Geometry) (m : Blocks) (k : ℕ) → AllBytes m → FileBytes (files_of g m k)
-files_bytes g m k h = by (used_node g m k)
-  where
-    by : (o : Option Node) → FileBytes (option_map (file_of m) o)
-    by None = tt
-    by (Some node) = all_take node.size (joined m (run_places node.runs)) (joined_bytes m (run_places node.runs) h)
+files_bytes g m k h = elim (used_node g m k) as (λ o. FileBytes (option_map (file_of m) o)) [ None ↦ tt | Some node ↦ all_take node.size (joined m (run_places node.runs)) (joined_bytes m (run_places node.runs) h) ]
 
 no_file : (t : Bool) (o : Option (List Slot)) (links : ℕ) (bytes : List ℕ) → when t (option_map ADir o) ≡ Some (AFile links bytes) → ⊥
-no_file false o links bytes e = cc e
 no_file true None links bytes e = cc e
-no_file true (Some slots) links bytes e = cc e
+no_file other o links bytes e = cc e
 
 same_bytes : (kind : NodeKind) (count : ℕ) (xs : List ℕ) (links : ℕ) (bytes : List ℕ) → inode_by kind count xs ≡ Some (AFile links bytes) → xs ≡ bytes
-same_bytes Free count xs links bytes e = cc e
 same_bytes DirNode count xs links bytes e = absurd (no_file (count == 1) (slots_in (length xs / slot_size) xs) links bytes e)
-same_bytes FileOf count xs links bytes e = cc e
+same_bytes other count xs links bytes e = cc e
 
 inode_bytes : (file : Option FileNode) (x : Inode) → FileBytes file → IsInodeOf file (Some x) → ThingBytes (thing_of x)
 inode_bytes file (ADir slots) h is = tt

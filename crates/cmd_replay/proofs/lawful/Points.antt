@@ -53,20 +53,17 @@ module _ (sound_start : (limit : ℕ) → 1 ≤ limit → IsSound limit (start l
       }
 
   made : (s : Session) (cmd : Cmd) (reply : Reply) (mark : ℕ) → IsOn limit s → Each (λ p. IsListable limit p.tree) (made_by s cmd reply mark)
-  made s cmd reply mark h = by (is_sync cmd && (s.changed && may_have_written reply))
-    where
-      by : (b : Bool) → Each (λ (p : Point). IsListable limit p.tree) (if b then record { tree = s.tree; begun = mark } ∷ [] else [])
-      by true = (h.tree, tt)
-      by false = tt
+  made s cmd reply mark h = elim (is_sync cmd && (s.changed && may_have_written reply)) as (λ b. Each (λ (p : Point). IsListable limit p.tree) (if b then record { tree = s.tree; begun = mark } ∷ [] else [])) [
+    | true ↦ (h.tree, tt)
+    | false ↦ tt
+  ]
 
   points_are : (s : Session) (begun : ℕ) (cmds : List Cmd) (replies : List Reply) (marks : List ℕ) → Each IsCommand cmds → IsOn limit s
       → Each (λ p. IsListable limit p.tree) (points_after s begun cmds replies marks)
-  points_are s begun [] replies marks law h = tt
-  points_are s begun (cmd ∷ cmds) [] marks law h = tt
-  points_are s begun (cmd ∷ cmds) (reply ∷ replies) [] law h = tt
   points_are s begun (cmd ∷ cmds) (reply ∷ replies) (mark ∷ marks) law h =
       each_join (λ p. IsListable limit p.tree) (made_by s cmd reply begun) (points_after (after_reply s cmd reply) mark cmds replies marks)
       (made s cmd reply begun h) (points_are (after_reply s cmd reply) mark cmds replies marks law.1 (after s cmd reply law.0 h))
+  points_are s begun other replies marks law h = tt
 
   begins : 1 ≤ limit → IsOn limit (start limit)
   begins low = record { limited = refl; tree = record { sound = sound_start limit low; names = start_names limit; bytes = start_bytes limit } }

@@ -3,7 +3,7 @@ use Rattle.std.proofs.Common.{◌≡◌, ap, ◌∙◌, refl, subst, Bool, true,
 use Rattle.std.specs.Prelude.{T, ◌&&◌}
 use Rattle.std.specs.Ordering.{is_lt, is_eq, eq_by_cmp, ordering_reverse}
 use Rattle.std.specs.declared.cmp.Ordering.{Ordering}
-use Rattle.std.specs.declared.cmp.Ordering.TheVariants.{Less, Equal, Greater}
+use Rattle.std.specs.declared.cmp.Ordering.TheVariants.{Less}
 use Rattle.std.specs.Cmp.{IsTotalOrder, tied_itself}
 use Rattle.std.specs.FinMap.{FinMap, get, entries, entries_sorted, get-entries, find, is_sorted}
 use Rattle.std.specs.FinMap.Entries.{below_all}
@@ -33,8 +33,7 @@ module _ {K : Type 0} {R : K → K → Ordering} (o : IsTotalOrder R) where
     where
       by : (r : Ordering) → T (is_lt r) → is_eq (ordering_reverse r) ≡ false
       by Less h = refl
-      by Equal h = absurd h
-      by Greater h = absurd h
+      by other h = absurd h
 
 module _ {K X : Type 0} {R : K → K → Ordering} (o : IsTotalOrder R) where
   apart_each : (k : K) (es : List (K × X)) → T (below_all R k es) → Each (λ e. eq_by_cmp R e.0 k ≡ false) es
@@ -55,8 +54,7 @@ module _ {K X : Type 0} {R : K → K → Ordering} (o : IsTotalOrder R) where
 -- what holds of each entry's value holds of what is found
 pub found_such : {K X : Type 0} (R : K → K → Ordering) (P : X → Type 0) (q : K) (es : List (K × X)) (v : X) → Each (λ e. P e.1) es → find R q es ≡ Some v → P v
 found_such R P q [] v h is = cc is
-found_such R P q (e ∷ es) v h is = by (eq_by_cmp R q e.0) (found_such R P q es v h.1) is
-  where
-    by : (b : Bool) → (find R q es ≡ Some v → P v) → cond b (Some e.1) (find R q es) ≡ Some v → P v
-    by true later is = subst P (same_Some e.1 v is) h.0
-    by false later is = later is
+found_such R P q (e ∷ es) v h is = elim (eq_by_cmp R q e.0) as (λ b. (find R q es ≡ Some v → P v) → cond b (Some e.1) (find R q es) ≡ Some v → P v) [
+  | true ↦ λ later is. subst P (same_Some e.1 v is) h.0
+  | false ↦ λ later is. later is
+] (found_such R P q es v h.1) is

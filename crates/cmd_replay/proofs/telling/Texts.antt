@@ -1,5 +1,6 @@
 -- Parts of a listing's line: where each of them ends, and that it tells what it was written from.
 use Rattle.std.proofs.Common.{◌≡◌, sym, ap, refl, ◌∙◌, ◌⊎◌, inl, inr, arith, tests, ℕ, zero, suc, ◌+◌, ◌<◌, ◌≤◌, ◌/◌, ◌%◌, ◌==◌, Bool, true, false, not, if◌then◌else◌, List, [], ◌∷◌, ◌++◌, drop, get_or, length, unwrap_or, decimal, nat_lt, nat_le, codes, slice_index}
+use Rattle.std.proofs.lemmas.List.Sums.{AllPass-from_list_all, list_all-from_AllPass}
 use Rattle.std.proofs.lemmas.Bool.{and_parts, false≢true, and_from}
 use Rattle.std.proofs.lemmas.Bool.Decides.{Decides-ltb}
 use Rattle.std.specs.Fmt.{digits, digits_onto, digit_glyph}
@@ -25,43 +26,32 @@ above b h = (Decides-ltb 32 b).0 h
 
 pub cut : (xs ys r s : List ℕ) → Part xs → Part ys → Low r → Low s → xs ++ r ≡ ys ++ s → (xs ≡ ys) × (r ≡ s)
 cut [] [] r s p q low down e = (refl, e)
-cut [] (y ∷ ys) [] s p q low down e = absurd cc
 cut [] (y ∷ ys) (b ∷ r) s p q low down e =
     absurd (omega (arith, low, above y (and_parts (nat_lt 32 y) (list_all (nat_lt 32) ys) q).0, ap (λ l. get_or l 0 0) e))
-cut (x ∷ xs) [] r [] p q low down e = absurd cc
 cut (x ∷ xs) [] r (b ∷ s) p q low down e =
     absurd (omega (arith, down, above x (and_parts (nat_lt 32 x) (list_all (nat_lt 32) xs) p).0, ap (λ l. get_or l 0 0) e))
 cut (x ∷ xs) (y ∷ ys) r s p q low down e =
     let rest = cut xs ys r s (and_parts (nat_lt 32 x) (list_all (nat_lt 32) xs) p).1 (and_parts (nat_lt 32 y) (list_all (nat_lt 32) ys) q).1 low down (ap (drop 1) e) in
     let head : x ≡ y = ap (λ l. get_or l 0 0) e in
     (rw head (ap (λ l. y ∷ l) rest.0), rest.1)
+cut other rest r s p q low down e = absurd cc
 
 weaker : (p q : ℕ → Bool) → ((b : ℕ) → p b ≡ true → q b ≡ true) → (xs : List ℕ) → list_all p xs ≡ true → list_all q xs ≡ true
-weaker p q more [] h = refl
-weaker p q more (x ∷ xs) h =
-    let parts = and_parts (p x) (list_all p xs) h in
-    rw (more x parts.0) (weaker p q more xs parts.1)
+weaker p q more xs h = list_all-from_AllPass q xs (λ k d low. more (get_or xs k d) (AllPass-from_list_all p xs h k d low))
 
 -- ---- numbers
 
 glyph_past : (d : ℕ) → nat_lt 32 (digit_glyph false d) ≡ true
-glyph_past d = by (nat_lt d 10)
-  where
-    by : (b : Bool) → nat_lt 32 (if b then 48 + d else 87 + d) ≡ true
-    by true = (Decides-ltb 32 (48 + d)).1 (omega arith)
-    by false = (Decides-ltb 32 (87 + d)).1 (omega arith)
+glyph_past d = elim (nat_lt d 10) as (λ b. nat_lt 32 (if b then 48 + d else 87 + d) ≡ true) [ true ↦ (Decides-ltb 32 (48 + d)).1 (omega arith) | false ↦ (Decides-ltb 32 (87 + d)).1 (omega arith) ]
 
 onto_part : (k n : ℕ) (acc : List ℕ) → Part acc → Part (digits_onto k 10 false n acc)
 onto_part zero n acc h = h
-onto_part (suc k) n acc h = by (n / 10 == 0) more (onto_part k (n / 10) (digit_glyph false (n % 10) ∷ acc) more)
-  where
-    more : Part (digit_glyph false (n % 10) ∷ acc)
-    more = rw (glyph_past (n % 10)) h
-
-    by : (b : Bool) → Part (digit_glyph false (n % 10) ∷ acc) → Part (digits_onto k 10 false (n / 10) (digit_glyph false (n % 10) ∷ acc))
-        → Part (if b then digit_glyph false (n % 10) ∷ acc else digits_onto k 10 false (n / 10) (digit_glyph false (n % 10) ∷ acc))
-    by true h k = h
-    by false h k = k
+onto_part (suc k) n acc h =
+    let more : Part (digit_glyph false (n % 10) ∷ acc) = rw (glyph_past (n % 10)) h in
+    elim (n / 10 == 0) as (λ b. Part (if b then digit_glyph false (n % 10) ∷ acc else digits_onto k 10 false (n / 10) (digit_glyph false (n % 10) ∷ acc))) [
+      | true ↦ more
+      | false ↦ onto_part k (n / 10) (digit_glyph false (n % 10) ∷ acc) more
+    ]
 
 -- the digits of a number are a part, however many there are
 pub number_part : (n : ℕ) → Part (decimal n)
@@ -102,24 +92,22 @@ is_slash b h e = false≢true (sym (ap no_slash e) ∙ h)
 cut_name : (xs ys : List ℕ) (p q : List (List ℕ)) → list_all no_slash xs ≡ true → list_all no_slash ys ≡ true
     → xs ++ slashed p ≡ ys ++ slashed q → (xs ≡ ys) × (slashed p ≡ slashed q)
 cut_name [] [] p q h k e = (refl, e)
-cut_name [] (y ∷ ys) [] q h k e = absurd cc
 cut_name [] (y ∷ ys) (name ∷ p) q h k e = absurd (is_slash y (and_parts (no_slash y) (list_all no_slash ys) k).0 (sym (ap (λ l. get_or l 0 0) e)))
-cut_name (x ∷ xs) [] p [] h k e = absurd cc
 cut_name (x ∷ xs) [] p (name ∷ q) h k e = absurd (is_slash x (and_parts (no_slash x) (list_all no_slash xs) h).0 (ap (λ l. get_or l 0 0) e))
 cut_name (x ∷ xs) (y ∷ ys) p q h k e =
     let rest = cut_name xs ys p q (and_parts (no_slash x) (list_all no_slash xs) h).1 (and_parts (no_slash y) (list_all no_slash ys) k).1 (ap (drop 1) e) in
     let head : x ≡ y = ap (λ l. get_or l 0 0) e in
     (rw head (ap (λ l. y ∷ l) rest.0), rest.1)
+cut_name other rest p q h k e = absurd cc
 
 slashed_same : (p q : List (List ℕ)) → list_all is_name p ≡ true → list_all is_name q ≡ true → slashed p ≡ slashed q → p ≡ q
 slashed_same [] [] h k e = refl
-slashed_same [] (y ∷ q) h k e = absurd cc
-slashed_same (x ∷ p) [] h k e = absurd cc
 slashed_same (x ∷ p) (y ∷ q) h k e =
     let here = and_parts (is_name x) (list_all is_name p) h in
     let there = and_parts (is_name y) (list_all is_name q) k in
     let one = cut_name x y p q (weaker is_name_byte no_slash byte_no_slash x (name_bytes x here.0)) (weaker is_name_byte no_slash byte_no_slash y (name_bytes y there.0)) (ap (drop 1) e) in
     rw one.0 (ap (λ l. y ∷ l) (slashed_same p q here.1 there.1 one.1))
+slashed_same other rest h k e = absurd cc
 
 -- the root's text is that of no other path
 root_alone : (p : List (List ℕ)) (name : List ℕ) → is_name name ≡ true → codes "/" ≡ slashed (name ∷ p) → ⊥
@@ -143,23 +131,8 @@ value_of c = unwrap_or (hex_digit_value c) 16
 
 -- a digit tells its value, and there are sixteen
 back : (v : ℕ) → ((v < 16) × (value_of (slice_index lower_digits v) ≡ v)) ⊎ ((16 ≤ v) × (value_of (slice_index lower_digits v) ≡ 16))
-back zero = inl (omega arith, refl)
-back (suc zero) = inl (omega arith, refl)
-back (suc (suc zero)) = inl (omega arith, refl)
-back (suc (suc (suc zero))) = inl (omega arith, refl)
-back (suc (suc (suc (suc zero)))) = inl (omega arith, refl)
-back (suc (suc (suc (suc (suc zero))))) = inl (omega arith, refl)
-back (suc (suc (suc (suc (suc (suc zero)))))) = inl (omega arith, refl)
-back (suc (suc (suc (suc (suc (suc (suc zero))))))) = inl (omega arith, refl)
-back (suc (suc (suc (suc (suc (suc (suc (suc zero)))))))) = inl (omega arith, refl)
-back (suc (suc (suc (suc (suc (suc (suc (suc (suc zero))))))))) = inl (omega arith, refl)
-back (suc (suc (suc (suc (suc (suc (suc (suc (suc (suc zero)))))))))) = inl (omega arith, refl)
-back (suc (suc (suc (suc (suc (suc (suc (suc (suc (suc (suc zero))))))))))) = inl (omega arith, refl)
-back (suc (suc (suc (suc (suc (suc (suc (suc (suc (suc (suc (suc zero)))))))))))) = inl (omega arith, refl)
-back (suc (suc (suc (suc (suc (suc (suc (suc (suc (suc (suc (suc (suc zero))))))))))))) = inl (omega arith, refl)
-back (suc (suc (suc (suc (suc (suc (suc (suc (suc (suc (suc (suc (suc (suc zero)))))))))))))) = inl (omega arith, refl)
-back (suc (suc (suc (suc (suc (suc (suc (suc (suc (suc (suc (suc (suc (suc (suc zero))))))))))))))) = inl (omega arith, refl)
 back (suc (suc (suc (suc (suc (suc (suc (suc (suc (suc (suc (suc (suc (suc (suc (suc v)))))))))))))))) = inr (omega arith, refl)
+back other = inl (omega arith, refl)
 
 digit_same : (v w : ℕ) → v < 16 → slice_index lower_digits v ≡ slice_index lower_digits w → v ≡ w
 digit_same v w low e = by (back v) (back w)
@@ -195,9 +168,8 @@ digits_same (x ∷ xs) (y ∷ ys) r s h e =
 
 pub bytes_same : (xs ys r s : List ℕ) → AreBytes xs → digits_behind_blank xs ++ 10 ∷ r ≡ digits_behind_blank ys ++ 10 ∷ s → (xs ≡ ys) × (r ≡ s)
 bytes_same [] [] r s h e = (refl, ap (drop 1) e)
-bytes_same [] (y ∷ ys) r s h e = absurd cc
-bytes_same (x ∷ xs) [] r s h e = absurd cc
 bytes_same (x ∷ xs) (y ∷ ys) r s h e = digits_same (x ∷ xs) (y ∷ ys) r s h (ap (drop 1) e)
+bytes_same other rest r s h e = absurd cc
 
 pub behind_low : (xs r : List ℕ) → Low (digits_behind_blank xs ++ 10 ∷ r)
 behind_low [] r = omega arith

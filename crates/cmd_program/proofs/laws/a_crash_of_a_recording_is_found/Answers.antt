@@ -15,7 +15,7 @@ use Rattle.cmd_trace.specs.Line.{end_line}
 use Rattle.cmd_session.specs.Crashes.{LeavesPoints, StandsForOne}
 use Rattle.cmd_session.specs.Images.{StandsForNone}
 use Rattle.cmd_replay.specs.declared.refusal.ReplayRefusal.{ReplayRefusal}
-use Rattle.cmd_replay.specs.declared.refusal.ReplayRefusal.TheVariants.{Choice, Damaged, Spent, NoMemory}
+use Rattle.cmd_replay.specs.declared.refusal.ReplayRefusal.TheVariants.{Damaged}
 use Rattle.cmd_replay.specs.Newest.{IsNewest}
 use Rattle.cmd_replay.specs.Points.{points_in, floor_at, top_at}
 use Rattle.cmd_replay.specs.Replays.{Found, Answers, LeavesImage}
@@ -69,11 +69,9 @@ placed : OneTree → (c : Contents) (moment : ℕ) (choice : ChoiceState) → ((
     → (answer : Result Found ReplayRefusal) → Answers c moment choice answer → IsPlaced answer
 placed one c moment choice some (Ok found) told =
     pointed one (length told.0) (blocks_of told.0) (points_in c) (floor_at moment c) (top_at moment c) told.2.tree (some told.0 told.1) told.2.stands.stands found.point told.2.newest
-placed one c moment choice some (Err Choice) told = tt
 placed one c moment choice some (Err (Damaged damage)) told =
     undamaged (length told.0) (blocks_of told.0) (points_in c) (floor_at moment c) (top_at moment c) (some told.0 told.1) told.2.1
-placed one c moment choice some (Err Spent) told = tt
-placed one c moment choice some (Err NoMemory) told = tt
+placed one c moment choice some other told = tt
 
 pub returns : goal.returns
 returns c = λ g seen text t contents is same moment choice honest answer told.

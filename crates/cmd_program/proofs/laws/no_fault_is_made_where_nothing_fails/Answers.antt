@@ -1,5 +1,5 @@
 -- A fault has its reason, and a bay and a disk of which nothing fails have none.
-use Rattle.std.proofs.Common.{◌≡◌, inl, inr, ℕ, ◌+◌, Bool, false, IsTrue, List, Result, Ok, Err, refl, sym, ap, ◌∙◌, subst}
+use Rattle.std.proofs.Common.{◌≡◌, inl, inr, ℕ, ◌+◌, Bool, false, IsTrue, List, Result, Err, refl, sym, ap, ◌∙◌, subst}
 use Rattle.std.proofs.lemmas.Bool.{false≢true}
 use Rattle.disk_contract.specs.Bay.{BayState}
 use Rattle.disk_contract.specs.Disk.{State}
@@ -28,9 +28,8 @@ runs_none tells image answer old new before after t calm (inr (back, failed)) =
 
 -- a formatting leaves the disk's manner
 same_manner : (written : Result (Unit {0}) MkfsRefusal) (count : ℕ) (first last : State) → MkfsSpends written count first last → last.manner ≡ first.manner
-same_manner (Ok done) count first last spends = spends.same.manner
-same_manner (Err mkfs.DiskFault) count first last spends = spends.same.manner
 same_manner (Err mkfs.NoMemory) count first last same = ap (λ (d : State). d.manner) same
+same_manner other count first last spends = spends.same.manner
 
 makes_none : (tells : Bool) (image : List ℕ) (g : Geometry) (answer : Result (Unit {0}) MakeRefusal) (old new : BayState) → IsTrue tells → old.may_fail ≡ false → NothingFails (old.manner image) → HasMakeReason tells image g answer old new → ⊥
 makes_none tells image g answer old new t calls calm (inl may) = false≢true (sym calls ∙ may)

@@ -9,31 +9,20 @@ use Rattle.cmd_program.proofs.program.serve.Goals as goal
 
 pub returns-in-Record-clause-completes : goal.returns-in-Record-clause-completes
 returns-in-Record-clause-completes g c =
-    let m : Met = met (g.S.Source.remaining c.args.input.now) (g.S.Source.remaining c.record_asked.new.input) (g.K.Sink.taken c.args.out.now) (g.K.Sink.taken c.record_asked.new.out)
-    (g.S.Source.faults c.args.input.now) (g.S.Source.faults c.record_asked.new.input) (g.K.Sink.faults c.args.out.now) (g.K.Sink.faults c.record_asked.new.out) (g.Y.Bay.state c.args.bay.now) (g.Y.Bay.state c.args.bay.now) in
     let range = subst (λ (r : Request). IsInRange (Some r)) c.in-Record.is c.requires.range in
-    subst (λ (r : Request). Completes (Some r) c.record_asked.result m) (sym c.in-Record.is) (c.record_asked.ensures.completes range.7)
+    rw c.in-Record.is (c.record_asked.ensures.completes range.7)
 
 pub returns-in-Replay-clause-completes : goal.returns-in-Replay-clause-completes
 returns-in-Replay-clause-completes g c =
-    let m : Met = met (g.S.Source.remaining c.args.input.now) (g.S.Source.remaining c.replay.new.input) (g.K.Sink.taken c.args.out.now) (g.K.Sink.taken c.replay.new.out)
-    (g.S.Source.faults c.args.input.now) (g.S.Source.faults c.replay.new.input) (g.K.Sink.faults c.args.out.now) (g.K.Sink.faults c.replay.new.out) (g.Y.Bay.state c.args.bay.now) (g.Y.Bay.state c.args.bay.now) in
-    subst (λ (r : Request). Completes (Some r) c.replay.result m) (sym c.in-Replay.is)
-    (completes_replay _ _ c.replay.result m (c.replay.ensures.replays (g.Y.Bay.state c.args.bay.now)) c.replay.ensures.faults)
+    rw c.in-Replay.is (completes_replay _ _ c.replay.result _ (c.replay.ensures.replays (g.Y.Bay.state c.args.bay.now)) c.replay.ensures.faults)
 
 pub returns-in-Tree-clause-completes : goal.returns-in-Tree-clause-completes
 returns-in-Tree-clause-completes g c =
-    let m : Met = met (g.S.Source.remaining c.args.input.now) (g.S.Source.remaining c.args.input.now) (g.K.Sink.taken c.args.out.now) (g.K.Sink.taken c.show.new.out)
-    (g.S.Source.faults c.args.input.now) (g.S.Source.faults c.args.input.now) (g.K.Sink.faults c.args.out.now) (g.K.Sink.faults c.show.new.out) (g.Y.Bay.state c.args.bay.now) (g.Y.Bay.state c.show.new.bay) in
-    subst (λ (r : Request). Completes (Some r) c.show.result m) (sym c.in-Tree.is)
-    (completes_show _ _ c.show.result m (c.show.ensures.shows (g.S.Source.remaining c.args.input.now) (g.S.Source.faults c.args.input.now)) (c.show.ensures.faults (g.S.Source.faults c.args.input.now)))
+    rw c.in-Tree.is (completes_show _ _ c.show.result _ (c.show.ensures.shows (g.S.Source.remaining c.args.input.now) (g.S.Source.faults c.args.input.now)) (c.show.ensures.faults (g.S.Source.faults c.args.input.now)))
 
 pub returns-in-Make-clause-completes : goal.returns-in-Make-clause-completes
 returns-in-Make-clause-completes g c =
-    let m : Met = met (g.S.Source.remaining c.args.input.now) (g.S.Source.remaining c.args.input.now) (g.K.Sink.taken c.args.out.now) (g.K.Sink.taken c.make.new.out)
-    (g.S.Source.faults c.args.input.now) (g.S.Source.faults c.args.input.now) (g.K.Sink.faults c.args.out.now) (g.K.Sink.faults c.make.new.out) (g.Y.Bay.state c.args.bay.now) (g.Y.Bay.state c.make.new.bay) in
-    subst (λ (r : Request). Completes (Some r) c.make.result m) (sym c.in-Make.is)
-    (completes_make _ _ _ _ c.make.result m (c.make.ensures.makes (g.S.Source.remaining c.args.input.now) (g.S.Source.faults c.args.input.now)) (c.make.ensures.faults (g.S.Source.faults c.args.input.now)))
+    rw c.in-Make.is (completes_make _ _ _ _ c.make.result _ (c.make.ensures.makes (g.S.Source.remaining c.args.input.now) (g.S.Source.faults c.args.input.now)) (c.make.ensures.faults (g.S.Source.faults c.args.input.now)))
 
 pub returns-in-Load-clause-completes : goal.returns-in-Load-clause-completes
 returns-in-Load-clause-completes g c =
@@ -44,7 +33,4 @@ returns-in-Load-clause-completes g c =
 
 pub returns-in-Run-clause-completes : goal.returns-in-Run-clause-completes
 returns-in-Run-clause-completes g c =
-    let m : Met = met (g.S.Source.remaining c.args.input.now) (g.S.Source.remaining c.run.new.input) (g.K.Sink.taken c.args.out.now) (g.K.Sink.taken c.run.new.out)
-    (g.S.Source.faults c.args.input.now) (g.S.Source.faults c.run.new.input) (g.K.Sink.faults c.args.out.now) (g.K.Sink.faults c.run.new.out) (g.Y.Bay.state c.args.bay.now) (g.Y.Bay.state c.run.new.bay) in
-    subst (λ (r : Request). Completes (Some r) c.run.result m) (sym c.in-Run.is)
-    (completes_run _ _ c.run.result m c.run.ensures.runs c.run.ensures.faults)
+    rw c.in-Run.is (completes_run _ _ c.run.result _ c.run.ensures.runs c.run.ensures.faults)
