@@ -54,9 +54,7 @@ last_same h run last some is = omega (arith, is)
 pub window_of : (k h : Header) (s t : ℕ) (at : Blocks) (run : List Record) (base : Blocks) (log : List Event) (from last : ℕ) → k ≡ h → s ≡ t
     → (IsFound k.geom.n at s k run → last ≡ last_number k run → Window k.geom.n base log from (λ img. HoldsUnder k.geom.n k.geom img (found_map at k run)))
     → IsFound h.geom.n at t h run → last ≡ last_number h run → Window h.geom.n base log from (λ img. HoldsUnder h.geom.n h.geom img (found_map at h run))
-window_of k h s t at run base log from last is same w =
-    subst (λ (u : ℕ). IsFound h.geom.n at u h run → last ≡ last_number h run → Window h.geom.n base log from (λ img. HoldsUnder h.geom.n h.geom img (found_map at h run))) same
-    (subst (λ (f : Header). IsFound f.geom.n at s f run → last ≡ last_number f run → Window f.geom.n base log from (λ img. HoldsUnder f.geom.n f.geom img (found_map at f run))) is w)
+window_of k h s t at run base log from last is same w = rw (sym is) (rw (sym same) w)
 
 -- what a search spends, as a mount
 pub searches_spend : (tells unread faulty : Bool) (most : ℕ) (old new : State) → faulty ≡ false → Searches tells unread old new → MountSpends unread faulty most old new

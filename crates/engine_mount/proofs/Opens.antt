@@ -26,11 +26,11 @@ use Rattle.engine_mount.proofs.States.{same_settled}
 pub none_above : ((g : Geometry) (img : Blocks) (e slot : ℕ) (h : Header) → IsGreatestEpoch g img e → slot < 2 → header_of g.n (img slot) ≡ Some h → h.epoch ≤ e)
     → ((g : Geometry) (img : Blocks) (e place : ℕ) (c : Commit) → IsGreatestEpoch g img e → 0 < g.j → commit_of g (img (ring_block g place)) ≡ Some c → c.epoch ≤ e)
     → ((g : Geometry) (img : Blocks) (e place : ℕ) (d : Descriptor) → IsGreatestEpoch g img e → 0 < g.j → descriptor_of g (img (ring_block g place)) ≡ Some d → d.epoch ≤ e)
-    → (g : Geometry) (img : Blocks) (e : ℕ) → 0 < g.j → IsGreatestEpoch g img e → HasNoEpochAbove g img e
-none_above headers commits descriptors g img e some is = record {
-  headers = λ slot h two reads. headers g img e slot h is two reads;
-  commits = λ place c reads. commits g img e place c is some reads;
-  descriptors = λ place d reads. descriptors g img e place d is some reads;
+    → (k h : Header) (img : Blocks) (e : ℕ) → k ≡ h → 16 ≤ k.geom.j → IsGreatestEpoch h.geom img e → HasNoEpochAbove h.geom img e
+none_above headers commits descriptors k h img e same some is = record {
+  headers = λ slot f two reads. headers h.geom img e slot f is two reads;
+  commits = λ place c reads. commits h.geom img e place c is (rw (sym same) (omega (arith, some))) reads;
+  descriptors = λ place d reads. descriptors h.geom img e place d is (rw (sym same) (omega (arith, some))) reads;
 }
 
 -- a session that has begun, and each image of whose mount held the same map
@@ -65,21 +65,16 @@ pub empty_holds : (k h : Header) (s slot e : ℕ) (rs : List Record) (d : State)
     → (IsReadyToOpen (cells_of d) s k e → IsRun (settled_on d) k [] → Window k.geom.n d.base log (length d.log) (λ img. HoldsUnder k.geom.n k.geom img (found_map (settled_on d) k [])))
     → Window h.geom.n d.base log (length d.log) (λ img. HoldsUnder h.geom.n h.geom img (found_map (settled_on d) h rs))
 empty_holds k h s slot e rs d log same on few idle found none opens =
-    let all = subst (λ (u : ℕ). IsReadyToOpen (cells_of d) u h e → IsRun (settled_on d) h [] → Window h.geom.n d.base log (length d.log) (λ img. HoldsUnder h.geom.n h.geom img (found_map (settled_on d) h []))) on
-    (subst (λ (f : Header). IsReadyToOpen (cells_of d) s f e → IsRun (settled_on d) f [] → Window f.geom.n d.base log (length d.log) (λ img. HoldsUnder f.geom.n f.geom img (found_map (settled_on d) f []))) same opens) in
     let empty = empty_run (settled_on d) slot h rs few found in
-    subst (λ (qs : List Record). Window h.geom.n d.base log (length d.log) (λ img. HoldsUnder h.geom.n h.geom img (found_map (settled_on d) h qs))) (sym empty.0) (all (ready_at_once d slot h rs e idle found none) empty.1)
+    rw empty.0 (rw (sym same) (opens (rw same (rw on (ready_at_once d slot h rs e idle found none))) (rw same empty.1)))
 
 -- and the session begins with it
 pub empty_opened : (k h next : Header) (s slot beside e : ℕ) (rs : List Record) (d new : State) → k ≡ h → s ≡ slot → length rs ≡ 0 → IsIdle d → IsFound h.geom.n (settled_on d) slot h rs → HasNoEpochAbove h.geom (settled_on d) e
     → (IsReadyToOpen (cells_of d) s k e → HasBegun new k.geom beside next (length new.log) (live_part k.geom (settled_on d)))
     → HasBegun new h.geom beside next (length new.log) (found_map (settled_on d) h rs)
 empty_opened k h next s slot beside e rs d new same on few idle found none opens =
-    let all = subst (λ (u : ℕ). IsReadyToOpen (cells_of d) u h e → HasBegun new h.geom beside next (length new.log) (live_part h.geom (settled_on d))) on
-    (subst (λ (f : Header). IsReadyToOpen (cells_of d) s f e → HasBegun new f.geom beside next (length new.log) (live_part f.geom (settled_on d))) same opens) in
-    let empty = empty_run (settled_on d) slot h rs few found in
-    subst (λ (qs : List Record). HasBegun new h.geom beside next (length new.log) (found_map (settled_on d) h qs)) (sym empty.0)
-    (subst (λ (m : Blocks). HasBegun new h.geom beside next (length new.log) m) (fun_ext (λ b. refl)) (all (ready_at_once d slot h rs e idle found none)))
+    let begun = opens (rw same (rw on (ready_at_once d slot h rs e idle found none))) in
+    rw (empty_run (settled_on d) slot h rs few found).0 (rw (sym same) (subst (λ (m : Blocks). HasBegun new k.geom beside next (length new.log) m) (fun_ext (λ b. refl)) begun))
 
 -- a window of equal bases
 pub window_from : (n : ℕ) (base base2 : Blocks) (log : List Event) (t : ℕ) (g : Geometry) (m : Blocks) → base2 ≡ base → Window n base log t (λ img. HoldsUnder n g img m) → Window n base2 log t (λ img. HoldsUnder n g img m)
@@ -114,21 +109,12 @@ found_there old now r base log size found =
 pub window_held : (old now new : State) (r : finding.FoundRun) (g : Geometry) (m : Blocks) → now.base ≡ old.base → now.log ≡ old.log → r.header.geom.n ≡ old.blocks → (g ≡ r.header.geom) × (m ≡ found_map (settled_on old) r.header r.records)
     → Window r.header.geom.n now.base new.log (length now.log) (λ img. HoldsUnder r.header.geom.n r.header.geom img (found_map (settled_on now) r.header r.records))
     → Window old.blocks old.base new.log (length old.log) (λ img. HoldsUnder old.blocks g img m)
-window_held old now new r g m base log size is w =
-    let shape = sym is.0 in
-    let map = ap (λ (at : Blocks). found_map at r.header r.records) (same_settled old now base log) ∙ sym is.1 in
-    subst (λ (n : ℕ). Window n old.base new.log (length old.log) (λ img. HoldsUnder n g img m)) size
-    (subst (λ (q : Blocks). Window r.header.geom.n old.base new.log (length old.log) (λ img. HoldsUnder r.header.geom.n g img q)) map
-    (subst (λ (k : Geometry). Window r.header.geom.n old.base new.log (length old.log) (λ img. HoldsUnder r.header.geom.n k img (found_map (settled_on now) r.header r.records))) shape
-    (subst (λ (lg : List Event). Window r.header.geom.n old.base new.log (length lg) (λ img. HoldsUnder r.header.geom.n r.header.geom img (found_map (settled_on now) r.header r.records))) log
-    (subst (λ (b : Blocks). Window r.header.geom.n b new.log (length now.log) (λ img. HoldsUnder r.header.geom.n r.header.geom img (found_map (settled_on now) r.header r.records))) base w))))
+window_held old now new r g m base log size is w = rw is.0 (rw is.1 (rw (sym size) (rw (sym (same_settled old now base log)) (rw (sym base) (rw (sym log) w)))))
 
 -- and so is the session
 pub begun_held : (old now new : State) (r : finding.FoundRun) (g : Geometry) (m : Blocks) (slot : ℕ) (h : Header) → now.base ≡ old.base → now.log ≡ old.log → (g ≡ r.header.geom) × (m ≡ found_map (settled_on old) r.header r.records)
     → HasBegun new r.header.geom slot h (length now.log) (found_map (settled_on now) r.header r.records) → HasBegun new g slot h (length old.log) m
-begun_held old now new r g m slot h base log is b =
-    subst (λ (lg : List Event). HasBegun new g slot h (length lg) m) log
-    (begun_as new g r.header.geom slot h (length now.log) m (found_map (settled_on now) r.header r.records) (sym is.0) (ap (λ (at : Blocks). found_map at r.header r.records) (same_settled old now base log) ∙ sym is.1) b)
+begun_held old now new r g m slot h base log is b = rw is.0 (rw is.1 (rw (sym (same_settled old now base log)) (rw (sym log) b)))
 
 -- the greatest epoch too
 pub greatest_there : (old now : State) (g : Geometry) (e : ℕ) → now.base ≡ old.base → now.log ≡ old.log → IsGreatestEpoch g (settled_on old) e → IsGreatestEpoch g (settled_on now) e
@@ -151,10 +137,7 @@ held_still old now g m size base log held = subst (λ (n : ℕ). HoldsUnder n g 
 -- A window, a session and a header that go on from there go on from the disk before those reads.
 pub window_before : (old now new : State) (g : Geometry) (m : Blocks) → now.blocks ≡ old.blocks → now.base ≡ old.base → now.log ≡ old.log
     → Window now.blocks now.base new.log (length now.log) (λ img. HoldsUnder now.blocks g img m) → Window old.blocks old.base new.log (length old.log) (λ img. HoldsUnder old.blocks g img m)
-window_before old now new g m size base log w =
-    subst (λ (n : ℕ). Window n old.base new.log (length old.log) (λ img. HoldsUnder n g img m)) size
-    (subst (λ (b : Blocks). Window now.blocks b new.log (length old.log) (λ img. HoldsUnder now.blocks g img m)) base
-    (subst (λ (lg : List Event). Window now.blocks now.base new.log (length lg) (λ img. HoldsUnder now.blocks g img m)) log w))
+window_before old now new g m size base log w = rw (sym size) (rw (sym base) (rw (sym log) w))
 
 pub begun_before : (old now new : State) (g : Geometry) (slot : ℕ) (h : Header) (m : Blocks) → now.log ≡ old.log → HasBegun new g slot h (length now.log) m → HasBegun new g slot h (length old.log) m
 begun_before old now new g slot h m log b = subst (λ (lg : List Event). HasBegun new g slot h (length lg) m) log b
@@ -164,10 +147,7 @@ goes_before old now h size base log goes = subst (λ (n : ℕ). GoesOn n (settle
 
 -- a run and an epoch that are those that were found
 pub found_of : (d : State) (f : FoundDisk) (r : finding.FoundRun) (e : ℕ) → r ≡ f.run → e ≡ f.epoch → IsFoundOn d f → finding.IsFound d.blocks (settled_on d) r × IsGreatestEpoch r.header.geom (settled_on d) e
-found_of d f r e run epoch is = (
-  subst (λ (q : finding.FoundRun). finding.IsFound d.blocks (settled_on d) q) (sym run) is.is_found,
-  subst (λ (k : ℕ). IsGreatestEpoch r.header.geom (settled_on d) k) (sym epoch) (subst (λ (q : finding.FoundRun). IsGreatestEpoch q.header.geom (settled_on d) f.epoch) (sym run) is.is_greatest),
-)
+found_of d f r e run epoch is = rw run (rw epoch (is.is_found, is.is_greatest))
 
 -- what keeps the map that was found keeps what the disk held
 pub window_on : ((n : ℕ) (img : Blocks) (s t : ℕ) (h k : Header) → Newest n img s h → Newest n img t k → (s ≡ t) × (h ≡ k)) → ((img : Blocks) (h : Header) (rs qs : List Record) → IsRun img h rs → IsRun img h qs → rs ≡ qs)

@@ -38,9 +38,7 @@ stays_on joins h rs at old mid new base one two first second =
 
 -- a step after which the log is as it was
 pub stays_same : (h : Header) (rs : List Record) (at : Blocks) (old mid new : State) → mid.base ≡ old.base → mid.log ≡ old.log → Stays h rs at mid new → Stays h rs at old new
-stays_same h rs at old mid new base log w =
-    subst (λ (lg : List Event). Window h.geom.n old.base new.log (length lg) (λ img. HoldsUnder h.geom.n h.geom img (found_map at h rs))) log
-    (subst (λ (b : Blocks). Window h.geom.n b new.log (length mid.log) (λ img. HoldsUnder h.geom.n h.geom img (found_map at h rs))) base w)
+stays_same h rs at old mid new base log w = rw (sym base) (rw (sym log) w)
 
 -- a run that was replayed so far is so after a read
 pub replayed_still : (n : ℕ) (at : Blocks) (slot : ℕ) (h closed : Header) (rs : List Record) (old mid : State) → mid.base ≡ old.base → mid.log ≡ old.log → IsReplaying n (cells_of old) at slot h closed rs → IsReplaying n (cells_of mid) at slot h closed rs

@@ -16,14 +16,8 @@ same_cells old new base log = ap₂ (λ (b : Blocks) (l : List Event). cell_of b
 
 -- so many calls, and then more
 more_calls : (a b n : ℕ) → after_calls a (after_calls b n) ≡ after_calls (a + b) n
-more_calls zero b n = ap (λ k. after_calls k n) (none b)
-  where
-    none : (k : ℕ) → k ≡ 0 + k
-    none k = omega arith
-more_calls (suc a) b n = ap next_count (more_calls a b n) ∙ ap (λ k. after_calls k n) (one a b)
-  where
-    one : (x y : ℕ) → suc (x + y) ≡ suc x + y
-    one x y = omega arith
+more_calls zero b n = ap (λ k. after_calls k n) {x = b} {y = 0 + b} (omega arith)
+more_calls (suc a) b n = ap next_count (more_calls a b n) ∙ ap (λ k. after_calls k n) {x = suc (a + b)} {y = suc a + b} (omega arith)
 
 -- calls in a row spend together, where only the last one may have failed
 pub spends_on : (unread faulty : Bool) (a b most : ℕ) (old mid new : State) → a + b ≤ most → MountSpends false false a old mid → MountSpends unread faulty b mid new → MountSpends unread faulty most old new
