@@ -1,5 +1,5 @@
 -- Where a blank parts a text.
-use Rattle.std.proofs.Common.{◌≡◌, sym, ap, refl, ◌∙◌, add-one, take-append-drop, arith, tests, ℕ, zero, suc, ◌+◌, ◌<◌, ◌^◌, Bool, true, not, List, [], ◌∷◌, ◌++◌, take, drop, get_or, length, decimal, Option, Some, None}
+use Rattle.std.proofs.Common.{◌≡◌, sym, ap, refl, ◌∙◌, add-one, take-append-drop, arith, tests, ℕ, ◌+◌, ◌<◌, ◌^◌, Bool, true, not, List, [], ◌∷◌, ◌++◌, take, drop, get_or, length, decimal, Option, Some, None}
 use Rattle.std.specs.Prelude.{◌-◌, option_map}
 use Rattle.std.specs.List.{list_all, position_or_len, position}
 use Rattle.std.specs.Char.{is_ascii_digit}

@@ -1,5 +1,5 @@
 -- Lists of bytes that all pass a test, the digits of numbers, and the bytes of a block.
-use Rattle.std.proofs.Common.{◌≡◌, refl, arith, rules, ℕ, zero, suc, ◌<◌, Bool, true, List, [], ◌∷◌, get_or, length}
+use Rattle.std.proofs.Common.{◌≡◌, arith, rules, ℕ, zero, suc, ◌<◌, Bool, true, List, [], ◌∷◌, get_or, length}
 use Rattle.std.specs.Prelude.{slice_index_or}
 use Rattle.std.specs.Char.{is_ascii_digit}
 use Rattle.std.specs.List.{list_all}

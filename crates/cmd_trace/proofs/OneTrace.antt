@@ -1,7 +1,7 @@
 -- The text of a trace has one contents.
 use Rattle.std.proofs.Common.{◌≡◌, sym, ap, ap₂, refl, ◌∙◌, arith, subst, ℕ, zero, suc, ◌+◌, ◌-◌, ◌<◌, ◌≤◌, ◌^◌, ◌==◌, ◌||◌, Bool, true, List, [], ◌∷◌, ◌++◌, take, drop, length, decimal, codes, append_assoc, append-nil, take-append-drop}
 use Rattle.std.proofs.lemmas.Bool.{or_parts, false≢true}
-use Rattle.std.proofs.lemmas.List.{length-take-le, length-drop, drop_all}
+use Rattle.std.proofs.lemmas.List.{length-take-le, drop_all}
 use Rattle.std.proofs.Math.Seq.{drop-drop}
 use Rattle.layout_geometry.specs.Geometry.{Geometry}
 use Rattle.disk_contract.specs.declared.event.Event.{Event}
