@@ -185,8 +185,9 @@ module _ (p : Progress) (cmd : Cmd) (law : IsLoadCommand cmd) where
       of_tree reply next room tree holds calm read (inl (inl done)) = of_done reply next room done
       of_tree reply next room tree holds calm read (inl (inr refused)) = of_refused reply next room tree holds calm refused
       of_tree reply next room tree holds calm read (inr (why, because, is, same, still)) = absurd (elim because as (λ _. ⊥) [
-            inl fault ↦ false≢true (sym calm ∙ ap has_run_out (is ∙ ap Refused fault))
-          | inr unread ↦ read (is ∙ ap Refused unread.1) ])
+        | inl fault ↦ false≢true (sym calm ∙ ap has_run_out (is ∙ ap Refused fault))
+        | inr unread ↦ read (is ∙ ap Refused unread.1)
+      ])
 
     -- A sync.
 
@@ -199,8 +200,9 @@ module _ (p : Progress) (cmd : Cmd) (law : IsLoadCommand cmd) where
 
       cleared : (room : Room) → ClearsRoom back room → room.held ≡ 0
       cleared room clears = elim (cases_eq back.weight 0) as (λ _. room.held ≡ 0) [
-            inl nothing_weighed ↦ clears.held ∙ cond-true {A = ℕ} (back.weight == 0) back.held 0 (eq-eqb back.weight 0 nothing_weighed) ∙ held ∙ empty (sym weight ∙ nothing_weighed)
-          | inr some ↦ clears.held ∙ cond-false {A = ℕ} (back.weight == 0) back.held 0 (ne_eqb back.weight 0 some) ]
+        | inl nothing_weighed ↦ clears.held ∙ cond-true {A = ℕ} (back.weight == 0) back.held 0 (eq-eqb back.weight 0 nothing_weighed) ∙ held ∙ empty (sym weight ∙ nothing_weighed)
+        | inr some ↦ clears.held ∙ cond-false {A = ℕ} (back.weight == 0) back.held 0 (ne_eqb back.weight 0 some)
+      ]
 
       of_sync : (reply : Reply) (next : Session) (room : Room) → has_run_out reply ≡ false → SyncsOver f back cmd reply next room → Comes p cmd reply next room
       of_sync reply next room calm (inl (is, clears)) = comes_done reply next room

@@ -24,8 +24,9 @@ path_of : (up path rest : List (List ℕ)) → strip up path ≡ Some rest → p
 path_of [] path rest e = same_Some path rest e
 path_of (a ∷ up) [] rest e = cc e
 path_of (a ∷ up) (b ∷ path) rest e = elim (bytes_eq a b) as (λ t. bytes_eq a b ≡ t → (strip up path ≡ Some rest → path ≡ up ++ rest) → (if t then strip up path else None) ≡ Some rest → b ∷ path ≡ a ∷ (up ++ rest)) [
-      true ↦ λ same later is. ap (λ x. x ∷ path) (sym ((bytes_eq-Decides a b).0 same)) ∙ ap (λ p. a ∷ p) (later is)
-    | false ↦ λ same later is. cc is ] refl (path_of up path rest) e
+  | true ↦ λ same later is. ap (λ x. x ∷ path) (sym ((bytes_eq-Decides a b).0 same)) ∙ ap (λ p. a ∷ p) (later is)
+  | false ↦ λ same later is. cc is
+] refl (path_of up path rest) e
 
 lone_is : (o : Option (List (List ℕ))) (x : List ℕ) → lone_name o ≡ Some x → o ≡ Some (x ∷ [])
 lone_is (Some (y ∷ [])) x e = ap (λ z. Some (z ∷ [])) (same_Some y x e)
@@ -92,8 +93,9 @@ distinct : (up : List (List ℕ)) (es : List (List (List ℕ) × ℕ)) → T (is
 unfolding IsDistinct
 distinct up [] sorted h = tt
 distinct up (e ∷ es) sorted h = elim (name_in up e.0) as (λ o. name_in up e.0 ≡ o → IsDistinct eqb (map digit_of (names_of up es)) → IsDistinct eqb (map digit_of (cons_option o (names_of up es)))) [
-      None ↦ λ at later. later
-    | Some x ↦ λ at later. (apart_all up e x h.0 at es h.1 (apart_each path_total e.0 es (first_of _ _ sorted)), later) ] refl (distinct up es (second_of _ _ sorted) h.1)
+  | None ↦ λ at later. later
+  | Some x ↦ λ at later. (apart_all up e x h.0 at es h.1 (apart_each path_total e.0 es (first_of _ _ sorted)), later)
+] refl (distinct up es (second_of _ _ sorted) h.1)
 
 pub few_names : (t : Tree) (up : List (List ℕ)) → IsLoadTree t → length (names_in t.names up) ≤ 8
 few_names t up is =

@@ -101,8 +101,9 @@ equal_of other e = absurd cc
 
 names_put : (names : Names) (k : List (List ℕ)) (v : ℕ) → Named k → AreNamed names → AreNamed (insert names k v)
 names_put names k v law h p n e = elim (eq_by_cmp path_cmp p k) as (λ b. eq_by_cmp path_cmp p k ≡ b → cond b (Some v) (get names p) ≡ Some n → Named p) [
-      true ↦ λ same is. subst Named (sym (path_same p k (equal_of (path_cmp p k) same))) law
-    | false ↦ λ same is. h p n is ] refl (sym (get-insert path_total names k v p) ∙ e)
+  | true ↦ λ same is. subst Named (sym (path_same p k (equal_of (path_cmp p k) same))) law
+  | false ↦ λ same is. h p n is
+] refl (sym (get-insert path_total names k v p) ∙ e)
 
 names_out : (names : Names) (k : List (List ℕ)) → AreNamed names → AreNamed (remove names k)
 names_out names k h p n e = elim (eq_by_cmp path_cmp p k) as (λ b. cond b None (get names p) ≡ Some n → Named p) [ true ↦ λ is. cc is | false ↦ λ is. h p n is ] (sym (get-remove path_total names k p) ∙ e)
@@ -111,8 +112,9 @@ behind_is_named : (front path rest : List (List ℕ)) → Named path → strip f
 behind_is_named [] path rest h e = subst Named (same_Some path rest e) h
 behind_is_named (a ∷ front) [] rest h e = cc e
 behind_is_named (a ∷ front) (b ∷ path) rest h e = elim (bytes_eq a b) as (λ t. (strip front path ≡ Some rest → Named rest) → (if t then strip front path else None) ≡ Some rest → Named rest) [
-      true ↦ λ later is. later is
-    | false ↦ λ later is. cc is ] (behind_is_named front path rest (and_parts (is_load_name b) (list_all is_load_name path) h).1) e
+  | true ↦ λ later is. later is
+  | false ↦ λ later is. cc is
+] (behind_is_named front path rest (and_parts (is_load_name b) (list_all is_load_name path) h).1) e
 
 both_named : (p q : List (List ℕ)) → Named p → Named q → Named (p ++ q)
 both_named [] q h k = k
@@ -122,8 +124,9 @@ both_named (x ∷ p) q h k =
 
 moved_is_named : (from to path : List (List ℕ)) → Named to → Named path → Named (moved_path from to path)
 moved_is_named from to path h k = elim (strip from path) as (λ o. ((rest : List (List ℕ)) → o ≡ Some rest → Named rest) → Named (moved_by to path o)) [
-      None ↦ λ later. k
-    | Some rest ↦ λ later. both_named to rest h (later rest refl) ] (λ rest. behind_is_named from path rest k)
+  | None ↦ λ later. k
+  | Some rest ↦ λ later. both_named to rest h (later rest refl)
+] (λ rest. behind_is_named from path rest k)
 
 each_moved : (from to : List (List ℕ)) (es : List (List (List ℕ) × ℕ)) → Named to → Each (λ e. Named e.0) es → Each (λ (e : List (List ℕ) × ℕ). Named e.0) (map (λ e. (moved_path from to e.0, e.1)) es)
 each_moved from to [] h k = tt
@@ -132,8 +135,9 @@ each_moved from to (e ∷ es) h k = (moved_is_named from to e.0 h k.0, each_move
 found_is_named : (es : List (List (List ℕ) × ℕ)) (q : List (List ℕ)) (n : ℕ) → Each (λ e. Named e.0) es → find path_cmp q es ≡ Some n → Named q
 found_is_named [] q n h e = cc e
 found_is_named (f ∷ es) q n h e = elim (eq_by_cmp path_cmp q f.0) as (λ b. eq_by_cmp path_cmp q f.0 ≡ b → (find path_cmp q es ≡ Some n → Named q) → cond b (Some f.1) (find path_cmp q es) ≡ Some n → Named q) [
-      true ↦ λ same later is. subst Named (sym (path_same q f.0 (equal_of (path_cmp q f.0) same))) h.0
-    | false ↦ λ same later is. later is ] refl (found_is_named es q n h.1) e
+  | true ↦ λ same later is. subst Named (sym (path_same q f.0 (equal_of (path_cmp q f.0) same))) h.0
+  | false ↦ λ same later is. later is
+] refl (found_is_named es q n h.1) e
 
 names_moved : (names : Names) (from to : List (List ℕ)) → Named to → AreNamed names → AreNamed (renamed names from to)
 names_moved names from to law h p n e =
@@ -152,13 +156,15 @@ IsSmall (File bytes) = length bytes ≤ largest
 
 nodes_put : (nodes : Nodes) (k : ℕ) (x : Thing) → IsSmall x → Small nodes → Small (insert nodes k x)
 nodes_put nodes k x law h n bytes e = elim (eq_by_cmp nat_cmp n k) as (λ b. cond b (Some x) (get nodes n) ≡ Some (File bytes) → length bytes ≤ largest) [
-      true ↦ λ is. subst IsSmall (same_Some x (File bytes) is) law
-    | false ↦ λ is. h n bytes is ] (sym (get-insert nat_cmp_total nodes k x n) ∙ e)
+  | true ↦ λ is. subst IsSmall (same_Some x (File bytes) is) law
+  | false ↦ λ is. h n bytes is
+] (sym (get-insert nat_cmp_total nodes k x n) ∙ e)
 
 nodes_out : (nodes : Nodes) (k : ℕ) → Small nodes → Small (remove nodes k)
 nodes_out nodes k h n bytes e = elim (eq_by_cmp nat_cmp n k) as (λ b. cond b None (get nodes n) ≡ Some (File bytes) → length bytes ≤ largest) [
-      true ↦ λ is. cc is
-    | false ↦ λ is. h n bytes is ] (sym (get-remove nat_cmp_total nodes k n) ∙ e)
+  | true ↦ λ is. cc is
+  | false ↦ λ is. h n bytes is
+] (sym (get-remove nat_cmp_total nodes k n) ∙ e)
 
 -- it leaves no small file larger
 abbrev KeepsSmall : (List ℕ → List ℕ) → Type 0
@@ -252,18 +258,21 @@ files_kept = record {
 module _ (P : Tree → Type 0) (kept : IsKept P) where
   write_keeps : (s : Session) (path : List (List ℕ)) (offset : ℕ) (bytes : List ℕ) → offset + length bytes ≤ largest → P s.tree → P (write s path offset bytes).0.tree
   write_keeps s path offset bytes low h = elim (length bytes == 0) as (λ b. P (if b then (s, Done) else changed_to s (edited s.tree path (written offset bytes))).0.tree) [
-        true ↦ h
-      | false ↦ kept.changed s.tree path (written offset bytes) (λ xs small. written_small largest offset bytes xs low small) h ]
+    | true ↦ h
+    | false ↦ kept.changed s.tree path (written offset bytes) (λ xs small. written_small largest offset bytes xs low small) h
+  ]
 
   truncate_keeps : (s : Session) (path : List (List ℕ)) (size : ℕ) → size ≤ largest → P s.tree → P (truncate s path size).0.tree
   truncate_keeps s path size low h = elim (size == length (content s.tree path)) as (λ b. P (if b then (s, Done) else changed_to s (edited s.tree path (resized size))).0.tree) [
-        true ↦ h
-      | false ↦ kept.changed s.tree path (resized size) (λ xs small. resized_small largest size xs low) h ]
+    | true ↦ h
+    | false ↦ kept.changed s.tree path (resized size) (λ xs small. resized_small largest size xs low) h
+  ]
 
   rename_keeps : (s : Session) (from to : List (List ℕ)) → Named to → P s.tree → P (rename s from to).0.tree
   rename_keeps s from to law h = elim (is_same_node s.tree from to) as (λ b. P (if b then (s, Done) else changed_to s (moved (removed s.tree to) from to)).0.tree) [
-        true ↦ h
-      | false ↦ kept.shifted (removed s.tree to) from to law (kept.gone s.tree to h) ]
+    | true ↦ h
+    | false ↦ kept.shifted (removed s.tree to) from to law (kept.gone s.tree to h)
+  ]
 
   sync_keeps : (s : Session) (changed : Bool) → P s.tree → P (osync s changed).0.tree
   sync_keeps s true h = h
