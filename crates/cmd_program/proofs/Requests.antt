@@ -75,8 +75,9 @@ fails_so room fail rule log some (inl reads) = absurd (false≢true (sym (no_cal
 fails_so room fail rule log some (inr (inl stalls)) = absurd (false≢true (sym (or_from _ _ (no_call calls.Poll fail refl) (no_call calls.Wait fail refl)) ∙ stalls))
 fails_so room fail rule log some (inr (inr (inl refuses))) = absurd (false≢true (sym (not_from_true (nat_lt 0 room) (lt-ltb 0 room some)) ∙ refuses))
 fails_so room fail rule log some (inr (inr (inr loses))) = first_listed fail (elim (nat_lt 0 room) as (λ a. (b : Bool) → (a && b) ≡ true → b ≡ true) [
-      true ↦ λ b e. e
-    | false ↦ λ b e. absurd (false≢true e) ] (is_listed calls.Write 1 (fails_of fail)) loses.1)
+  | true ↦ λ b e. e
+  | false ↦ λ b e. absurd (false≢true e)
+] (is_listed calls.Write 1 (fails_of fail)) loses.1)
 
 -- where the first write may be accepted it isn't listed
 not_listed : (room : ℕ) (fail : Option ℕ) (rule : Rule) → (manner_by room (fails_of fail) rule).accepts [] ≡ true → fail ≡ Some 1 → ⊥
@@ -207,8 +208,9 @@ ends_so_behind May X status line told out source source_now sink sink_now may (i
 ends_found : (found : Found) (status : Status) (told out : Option (List ℕ)) (source source_now sink sink_now : ℕ) → EndsFound found status told out → HasFault status source source_now sink sink_now
     → ¬ Rose sink sink_now → EndsReplay status
 ends_found found status told out source source_now sink sink_now (inl (between, took, ends)) fault no_sink = elim found.point as (λ point. EndsAt point status between out → EndsReplay status) [
-      None ↦ λ e. ends_so_behind EndsReplay NoPrefix status no_prefix_line between out source source_now sink sink_now tt e fault no_sink
-    | Some p ↦ λ e. subst EndsReplay (sym e.0) tt ] ends
+  | None ↦ λ e. ends_so_behind EndsReplay NoPrefix status no_prefix_line between out source source_now sink sink_now tt e fault no_sink
+  | Some p ↦ λ e. subst EndsReplay (sym e.0) tt
+] ends
 ends_found found status told out source source_now sink sink_now (inr t) fault no_sink = absurd (no_sink (subst (λ (s : Status). HasFault s source source_now sink sink_now) t.0 fault))
 
 ends_crash : (answer : Result Found ReplayRefusal) (status : Status) (told out : Option (List ℕ)) (source source_now sink sink_now : ℕ) → EndsCrash answer status told out → HasFault status source source_now sink sink_now

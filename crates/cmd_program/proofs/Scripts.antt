@@ -42,8 +42,9 @@ not_long is = cc
 -- where the answer is a fault of the source, its count rose
 source_rose : (tells : Bool) (image : List ℕ) (old new : BayState) (before after : Streams) → ComesOf tells image (Ok script.SourceFault) old new before after → Rose before.source_faults after.source_faults
 source_rose tells image old new before after (inl u) = elim u.answer as (λ _. Rose before.source_faults after.source_faults) [
-      inl is ↦ absurd (no_err script.SourceFault run.Fault is)
-    | inr is ↦ absurd (no_err script.SourceFault run.NoMemory is) ]
+  | inl is ↦ absurd (no_err script.SourceFault run.Fault is)
+  | inr is ↦ absurd (no_err script.SourceFault run.NoMemory is)
+]
 source_rose tells image old new before after (inr h) = by h.answer h.back h.comes h.answered
   where
     by : (answer : Result Ending RunRefusal) (back : Result (Unit {0}) BayFault) → ComesOfDisk tells h.first h.last h.marks answer before after → Ok script.SourceFault ≡ run_answer_of answer back → Rose before.source_faults after.source_faults
