@@ -79,8 +79,9 @@ answered_begins l s cmd reply text h may lawful =
 -- a command that waits may be refused as the session has ended, and a bad line is answered
 asked_begins : Limits → (s : State) (cmd : Cmd) (text : List ℕ) → Holds (record s { place = Asked cmd }) text → BeginsTrace text
 asked_begins l s cmd text h = elim (is_bad cmd) as (λ b. is_bad cmd ≡ b → BeginsTrace text) [
-      true ↦ λ e. answered_begins l s cmd NotUnderstood text h (bad_reply s.kept.session s.kept.stopped cmd NotUnderstood (bad_is cmd e) refl) tt
-    | false ↦ λ e. answered_begins l s cmd (Refused Stopped) text h (refused_reply s.kept.session s.kept.stopped cmd Stopped (Refused Stopped) e record { number = refl; figures = tt } (λ _. refl) refl) tt ] refl
+  | true ↦ λ e. answered_begins l s cmd NotUnderstood text h (bad_reply s.kept.session s.kept.stopped cmd NotUnderstood (bad_is cmd e) refl) tt
+  | false ↦ λ e. answered_begins l s cmd (Refused Stopped) text h (refused_reply s.kept.session s.kept.stopped cmd Stopped (Refused Stopped) e record { number = refl; figures = tt } (λ _. refl) refl) tt
+] refl
 
 begins_at : Limits → (s : State) (p : Place) (text : List ℕ) → Holds (record s { place = p }) text → BeginsTrace text
 begins_at l s (Asked cmd) text h = asked_begins l s cmd text h

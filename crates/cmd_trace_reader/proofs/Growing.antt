@@ -207,8 +207,9 @@ some_is line b e is none = false≢true (sym is ∙ e ∙ ap (λ (l : List ℕ).
 
 pub next_of : (s : Option State) (first t : State) (line : List ℕ) (taken : Bool) → s ≡ Some first → TakesLine Follows first line taken t → TakesNext s line taken (Some t)
 next_of s first t line taken is h = subst (λ u. TakesNext u line taken (Some t)) (sym is) (elim taken as (λ b. TakesLine Follows first line b t → TakesNext (Some first) line b (Some t)) [
-      true ↦ λ k. (t, k, refl)
-    | false ↦ λ k. k ] h)
+  | true ↦ λ k. (t, k, refl)
+  | false ↦ λ k. k
+] h)
 
 pub first_of : (s : Option State) (found : Option Reader) (line : List ℕ) (taken : Bool) → s ≡ None → taken ≡ is_some found → Begins line (option_map state_of found)
     → TakesNext s line taken (option_map state_of found)

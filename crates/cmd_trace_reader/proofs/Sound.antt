@@ -210,8 +210,14 @@ pub answers : (s : State) (cmd : Cmd) (reply : Reply) (text : List ℕ) → Hold
 answers s cmd reply text h may lawful =
     let answered : length (s.cmds ++ cmd ∷ []) ≡ length (s.replies ++ reply ∷ []) = omega (arith, h.answered, push_length s.cmds cmd, push_length s.replies reply) in
     let marked : length (s.marks ++ length s.log ∷ []) ≡ length (s.replies ++ reply ∷ []) = omega (arith, h.marked, push_length s.marks (length s.log), push_length s.replies reply) in
-    assumption (each_push IsCommand s.cmds cmd h.cmds h.stands, each_push IsReply s.replies reply h.replies lawful, within_push s.mounted s.marks (length s.log) h.within, replied s cmd reply h.may may,
-    last_push s.mounted s.marks (length s.log), reply_text s cmd reply text h)
+    assumption (
+      each_push IsCommand s.cmds cmd h.cmds h.stands,
+      each_push IsReply s.replies reply h.replies lawful,
+      within_push s.mounted s.marks (length s.log) h.within,
+      replied s cmd reply h.may may,
+      last_push s.mounted s.marks (length s.log),
+      reply_text s cmd reply text h,
+    )
 
 -- ---- lines
 

@@ -129,8 +129,9 @@ room_in_range (Some t) = number_range 1 65536 t
 fail_in_range : (text : Option Text) → IfSome (fail_in text) (λ fail. IfSome fail (λ n. (1 ≤ n) × (n ≤ 4294967295)))
 fail_in_range None = tt
 fail_in_range (Some t) = elim (number_in 1 4294967295 t) as (λ n. IfSome n (λ n. (1 ≤ n) × (n ≤ 4294967295)) → IfSome (option_map (λ write. Some write) n) (λ fail. IfSome fail (λ n. (1 ≤ n) × (n ≤ 4294967295)))) [
-      None ↦ λ range. tt
-    | Some n ↦ λ range. range ] (number_range 1 4294967295 t)
+  | None ↦ λ range. tt
+  | Some n ↦ λ range. range
+] (number_range 1 4294967295 t)
 
 record_range : (a b c : Option ℕ) (d : Option Notices) (e : Option ℕ) (f : Option (Option ℕ))
     → IfSome a (λ n. (64 ≤ n) × (n ≤ 1048576)) → IfSome b (λ n. (16 ≤ n) × (n ≤ 65536)) → IfSome c (λ n. (16 ≤ n) × (n ≤ 65536))

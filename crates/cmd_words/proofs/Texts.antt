@@ -50,8 +50,9 @@ number_not_read low high t why read small = no_number low high t (λ e.
 -- a number is in its range
 pub number_range : (low high : ℕ) (t : List ℕ) → IfSome (number_in low high t) (λ n. (low ≤ n) × (n ≤ high))
 number_range low high t = elim (is_number_in low high t) as (λ b. is_number_in low high t ≡ b → IfSome (if b then Some (value_of t) else None) (λ n. (low ≤ n) × (n ≤ high))) [
-      true ↦ λ e. let range = and_parts _ _ (and_parts _ _ e).1 in (leb-true _ _ range.0, leb-true _ _ range.1)
-    | false ↦ λ e. tt ] refl
+  | true ↦ λ e. let range = and_parts _ _ (and_parts _ _ e).1 in (leb-true _ _ range.0, leb-true _ _ range.1)
+  | false ↦ λ e. tt
+] refl
 
 -- ---- seeds
 
@@ -67,8 +68,9 @@ seed_read t n text some small = go (digits_value 10 t) (ap (digits_value 10) (sy
 
 no_seed : (t : List ℕ) → ((v : ℕ) → decimal v ≡ t → 1 ≤ v → v < 2 ^ 32 → ⊥) → None ≡ seed_of t
 no_seed t never = elim (is_seed t) as (λ b. is_seed t ≡ b → None ≡ (if b then Some (digits_value 10 t) else None)) [
-      true ↦ λ e. let parts = and_parts _ _ e in let range = and_parts _ _ parts.1 in absurd (never (digits_value 10 t) ((bytes_eq-Decides _ _).0 parts.0) (leb-true _ _ range.0) (omega (arith, leb-true _ _ range.1)))
-    | false ↦ λ e. refl ] refl
+  | true ↦ λ e. let parts = and_parts _ _ e in let range = and_parts _ _ parts.1 in absurd (never (digits_value 10 t) ((bytes_eq-Decides _ _).0 parts.0) (leb-true _ _ range.0) (omega (arith, leb-true _ _ range.1)))
+  | false ↦ λ e. refl
+] refl
 
 -- the decimal text of a number is read as that number
 reads_decimal : (t : List ℕ) (n v : ℕ) → Reads t n → decimal v ≡ t → v < 2 ^ 32 → n ≡ v
@@ -92,5 +94,6 @@ seed_not_read t why read = no_seed t (λ v text some small.
 -- a seed is in its range
 pub seed_range : (t : List ℕ) → IfSome (seed_of t) (λ n. (1 ≤ n) × (n ≤ 4294967295))
 seed_range t = elim (is_seed t) as (λ b. is_seed t ≡ b → IfSome (if b then Some (digits_value 10 t) else None) (λ n. (1 ≤ n) × (n ≤ 4294967295))) [
-      true ↦ λ e. let range = and_parts _ _ (and_parts _ _ e).1 in (leb-true _ _ range.0, leb-true _ _ range.1)
-    | false ↦ λ e. tt ] refl
+  | true ↦ λ e. let range = and_parts _ _ (and_parts _ _ e).1 in (leb-true _ _ range.0, leb-true _ _ range.1)
+  | false ↦ λ e. tt
+] refl

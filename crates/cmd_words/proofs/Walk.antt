@@ -192,8 +192,9 @@ number_turn : (k : Command) (trails : Bool) (place : Place) (texts : List Named)
     (after_step (rules k) word (at trails idle texts (pends pending) (position place)) (held_at texts (pends pending)) value)
     words (behind (texts ++ listed pending) (with_next word (names_from k place) rest))
 number_turn k trails place texts pending arg apart word words rest later = elim (at_each k place) as (λ _. TurnBy (arg_by_index (rules k) (position place)) (names_from k place)) [
-      inl none ↦ subst (λ (o : Option Rule). TurnBy o (names_from k place)) (sym none.there) (subst (TurnBy None) (sym none.names) tt)
-    | inr one ↦ subst (λ (o : Option Rule). TurnBy o (names_from k place)) (sym one.there) (subst (TurnBy (Some (rule_as (at_place (position place)) one.name))) (sym one.names) (one_turn one)) ]
+  | inl none ↦ subst (λ (o : Option Rule). TurnBy o (names_from k place)) (sym none.there) (subst (TurnBy None) (sym none.names) tt)
+  | inr one ↦ subst (λ (o : Option Rule). TurnBy o (names_from k place)) (sym one.there) (subst (TurnBy (Some (rule_as (at_place (position place)) one.name))) (sym one.names) (one_turn one))
+]
   where
     h : Held
     h = held_at texts (pends pending)
@@ -443,8 +444,9 @@ long_flag (x ∷ xs) l e = go (x == 45) e
     second : (ys : Text) → option_and_then long_of_rest (strip_byte 45 ys) ≡ Some l → is_some (slice_get (chars ys) 0) ≡ true
     second [] f = cc
     second (y ∷ ys) f = elim (y == 45) as (λ b. (y == 45) ≡ b → option_and_then long_of_rest (cond b (Some ys) None) ≡ Some l → is_some (slice_get (chars (y ∷ ys)) 0) ≡ true) [
-          true ↦ λ minus g. subst (λ (z : ℕ). is_some (slice_get (chars (z ∷ ys)) 0) ≡ true) (sym (eqb-true y 45 minus)) (minus_first ys)
-        | false ↦ λ minus g. cc ] refl f
+      | true ↦ λ minus g. subst (λ (z : ℕ). is_some (slice_get (chars (z ∷ ys)) 0) ≡ true) (sym (eqb-true y 45 minus)) (minus_first ys)
+      | false ↦ λ minus g. cc
+    ] refl f
 
     go : (b : Bool) → option_and_then long_of_rest (option_and_then (strip_byte 45) (cond b (Some xs) None)) ≡ Some l → (b && is_some (slice_get (chars xs) 0)) ≡ true
     go true f = second xs f
@@ -478,8 +480,9 @@ no_flag (x ∷ xs) dashes long short = go (x == 45) dashes long short
         second : (ys : Text) → bytes_eq ys (codes "-") ≡ false → option_and_then long_of_rest (strip_byte 45 ys) ≡ None → short_of_rest ys ≡ None → is_some (slice_get (chars ys) 0) ≡ false
         second [] d l s = refl
         second (y ∷ ys) d l s = elim (y == 45) as (λ b. (b && bytes_eq ys []) ≡ false → option_and_then long_of_rest (cond b (Some ys) None) ≡ None → (if b then None else Some (y ∷ ys)) ≡ None → is_some (slice_get (chars (y ∷ ys)) 0) ≡ false) [
-              true ↦ λ d l s. absurd (third ys d l)
-            | false ↦ λ d l s. cc ] d l s
+          | true ↦ λ d l s. absurd (third ys d l)
+          | false ↦ λ d l s. cc
+        ] d l s
           where
             third : (zs : Text) → bytes_eq zs [] ≡ false → long_of_rest zs ≡ None → ⊥
             third [] d l = cc
