@@ -30,10 +30,10 @@ pub(crate) enum NewImage {
 /// What the system said; that another program has the file; that it isn't empty, or neither a plain file nor a device; that
 /// the device is in use, or has another number of blocks. What was at the path is as it was.
 pub(crate) fn new_image(rt: &HostRuntime, path: &str, blocks: u32) -> io::Result<(File, NewImage)> {
-    match fs::metadata(rt, path) {
-        Ok(there) if is_device(&there) => Ok((device_at(rt, path, blocks)?, NewImage::OnDevice)),
-        _ => new_file(rt, path, blocks),
+    if is_device_at(rt, path)? {
+        return Ok((device_at(rt, path, blocks)?, NewImage::OnDevice));
     }
+    new_file(rt, path, blocks)
 }
 
 impl NewImage {
@@ -68,6 +68,20 @@ impl NewImage {
                 }
             }
         }
+    }
+}
+
+// Whether a block device is at a path, to which links may lead; or what the system said of what is at the path itself,
+// unless nothing is there.
+fn is_device_at(rt: &HostRuntime, path: &str) -> io::Result<bool> {
+    match fs::symlink_metadata(rt, path) {
+        Err(why) if why.kind() == ErrorKind::NotFound => Ok(false),
+        Err(why) => Err(why),
+        Ok(there) if there.file_type().is_symlink() => match fs::metadata(rt, path) {
+            Ok(end) => Ok(is_device(&end)),
+            Err(_) => Ok(false),
+        },
+        Ok(there) => Ok(is_device(&there)),
     }
 }
 
