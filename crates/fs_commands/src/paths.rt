@@ -15,13 +15,14 @@ ghost use Rattle.fs_files.specs.Content.{fails_reading};
 ghost use Rattle.fs_files.specs.Drafts.{nothing_drafted};
 ghost use Rattle.fs_files.specs.Effects.{LooksOnly};
 ghost use Rattle.fs_dirs.specs.Directories.{inodes_in, IsNumber};
+ghost use Rattle.fs_dirs.specs.Reading.{IsOpened};
 ghost use Rattle.fs_commands.specs.Looks.{LeadsToFound, ComesTo, HasEntry, IsWithin, MayBeEntry};
 ghost use Rattle.fs_session.specs.Sessions.{MayBegin};
 
 use base_types::Name;
 use crash_stands::slots_name_nodes_in_use;
 use engine_blocks::{Blocks, calls_compose};
-use fs_dirs::{count_slots, find, walk, walk_to_parent};
+use fs_dirs::{Directory, find_in_directory, walk, walk_to_parent};
 use fs_files::{Draft, FileFacts, FileRefusal, a_draft_begins};
 use fs_inodes::{a_name_stands_at_its_place, walks_are_the_same};
 use fs_session::blocks_have_the_map_of_their_tree;
@@ -113,38 +114,39 @@ pub(crate) fn look_up<S: Blocks>(
     blocks_have_the_map_of_their_tree();
     walks_are_the_same();
     let draft = Draft::new(alloc);
-    let dir = match walk_to_parent(&draft, blocks, path)? {
-        Ok(Some(dir)) => dir,
+    let above = match walk_to_parent(&draft, blocks, path)? {
+        Ok(Some(above)) => above,
         Ok(None) => return Ok(Ok(Spot::Root)),
         Err(why) => return Ok(Err(why)),
     };
     let Some(name) = path.names().last() else {
         return Ok(Ok(Spot::Root));
     };
-    let Some(count) = count_slots(&draft, blocks, dir)? else {
-        return Ok(Err(Refusal::NotDir));
-    };
-    let entry = find_entry(&draft, blocks, dir, name)?;
-    Ok(Ok(Spot::Inside { dir, count, entry }))
+    let entry = find_entry(&draft, blocks, &above, name)?;
+    Ok(Ok(Spot::Inside {
+        dir: above.number,
+        count: above.count,
+        entry,
+    }))
 }
 
-/// What stands under a name in directory `dir`.
+/// What stands under a name in a directory that was read.
 ///
 /// # Errors
 /// A read of the disk failed, which the disk has counted.
 fn find_entry<S: Blocks>(
     draft: &Draft,
     blocks: &mut S,
-    dir: u32,
+    dir: &Directory,
     name: &Name,
 ) -> Result<Option<Entry>, FileRefusal>
     requires going { (S.state blocks.old).books.stopped ≡ false }
-    requires number { IsNumber (S.state blocks.old).books.geom.i dir }
+    requires opened { IsOpened S.tells (S.state blocks.old) draft.now dir.now }
     requires draft { IsDraftOf S.tells (S.state blocks.old) draft.now }
     ensures entry { IsTrue S.tells → IfOk result (λ entry. (t : Tree) (slots : List Slot)
         → IsMapOf (S.state blocks.old).books.geom.i (inodes_in (S.state blocks.old) draft.now) t
-        → inodes_in (S.state blocks.old) draft.now dir ≡ Some (ADir slots)
-        → HasEntry (files_in (S.state blocks.old) draft.now) dir (length slots) name.now entry) }
+        → inodes_in (S.state blocks.old) draft.now dir.now.number ≡ Some (ADir slots)
+        → HasEntry (files_in (S.state blocks.old) draft.now) dir.now.number (length slots) name.now entry) }
     ensures within { IfOk result (λ entry. IfSome entry (MayBeEntry (S.state blocks.old).books.geom.i)) }
     ensures refused { IfErr result LookRefused }
     ensures looks { LooksOnly S.tells (fails_reading result) (S.state blocks.old) (S.state blocks.new) }
@@ -152,7 +154,7 @@ fn find_entry<S: Blocks>(
     calls_compose::<S>();
     slots_name_nodes_in_use();
     a_name_stands_at_its_place();
-    let Some(found) = find(draft, blocks, dir, name)? else {
+    let Some(found) = find_in_directory(draft, blocks, dir, name)? else {
         return Ok(None);
     };
     let Some(facts) = draft.look(blocks, found.node)? else {

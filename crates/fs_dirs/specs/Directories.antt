@@ -11,6 +11,7 @@ use Rattle.fs_inodes.specs.Refusals.{parent_reason}
 use Rattle.engine_blocks.specs.State.{State}
 use Rattle.fs_files.specs.Drafts.{DraftState}
 use Rattle.fs_files.specs.Calls.{files_in}
+use Rattle.fs_dirs.specs.declared.lookup.Directory.{Directory}
 use Rattle.fs_dirs.specs.declared.lookup.Found.{Found}
 
 -- the inodes as a draft has them
@@ -36,8 +37,8 @@ pub record IsNumber (limit k : ℕ) : Type 0 where
   pub from : 1 ≤ k
   pub upto : k ≤ limit
 
--- What a walk to the directory above a path comes to: its number; nothing, for the root; or why nothing can come to be at the path.
-abbrev pub EndsAtParent : Inodes → List (List ℕ) → Result (Option ℕ) Refusal → Type 0
+-- What a walk to the directory above a path comes to: that directory, with as many slots as it has; nothing, for the root; or why nothing can come to be at the path.
+abbrev pub EndsAtParent : Inodes → List (List ℕ) → Result (Option Directory) Refusal → Type 0
 EndsAtParent m path (Ok None) = path ≡ []
-EndsAtParent m path (Ok (Some k)) = (path ≢ []) × (walk_on m 1 (parent path) ≡ Ok k) × ((slots : List Slot) × (m k ≡ Some (ADir slots)))
+EndsAtParent m path (Ok (Some dir)) = (path ≢ []) × (walk_on m 1 (parent path) ≡ Ok dir.number) × ((slots : List Slot) × (m dir.number ≡ Some (ADir slots)) × (dir.count ≡ length slots))
 EndsAtParent m path (Err why) = parent_reason m path ≡ Some why

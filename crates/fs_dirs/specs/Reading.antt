@@ -1,5 +1,5 @@
 -- What the steps of reading a directory need and give.
-use Rattle.std.specs.Prelude.{◌≡◌, ◌≢◌, ℕ, ◌%◌, ◌^◌, ◌<◌, Bool, false, IsTrue, IfErr, IfOk, IfSome, List, ◌++◌, length, map, take, drop, slice_get, Option, Some, Result, Ok}
+use Rattle.std.specs.Prelude.{◌≡◌, ◌≢◌, ℕ, ◌%◌, ◌^◌, ◌<◌, Bool, false, IsTrue, IfErr, IfNone, IfOk, IfSome, is_err, List, ◌++◌, length, map, take, drop, slice_get, Option, None, Some, Result, Ok}
 use Rattle.std.specs.List.{All}
 use Rattle.layout_bytes.specs.declared.slot.Slot.{Slot}
 use Rattle.lang_tree.specs.declared.command.Refusal.{Refusal}
@@ -18,8 +18,9 @@ use Rattle.fs_files.specs.Calls.{files_in, places_in, IsUsed, LookRefused}
 use Rattle.fs_files.specs.Content.{fails_reading}
 use Rattle.fs_files.specs.Effects.{LooksOnly}
 use Rattle.fs_files.specs.declared.refusal.FileRefusal.{FileRefusal}
+use Rattle.fs_dirs.specs.declared.lookup.Directory.{Directory}
 use Rattle.fs_dirs.specs.declared.lookup.Found.{Found}
-use Rattle.fs_dirs.specs.Directories.{inodes_in, Finds, IsNumber}
+use Rattle.fs_dirs.specs.Directories.{inodes_in, slot_count, Finds, IsNumber}
 
 -- Node k may be read: it may be looked at, and is in use.
 pub record MayRead (tells : Bool) (s : State) (d : DraftState) (k : ℕ) : Type 0 where
@@ -51,6 +52,23 @@ pub record HasSought (tells : Bool) (start now : State) (d : DraftState) (node :
   pub looks : LooksOnly tells false start now
   pub begins : first % 16 ≡ 0
   pub misses : IsTrue tells → (slots : List Slot) → HasSlots start d node slots → length slots ≡ count → MissesBefore slots name first
+
+-- This directory was read: its number is one of the table, it has so many slots, and these are its blocks, all of the data.
+pub record IsOpened (tells : Bool) (s : State) (d : DraftState) (dir : Directory) : Type 0 where
+  pub number : IsNumber s.books.geom.i dir.number
+  pub count : IsTrue tells → (x : Inode) → inodes_in s d dir.number ≡ Some x → Some dir.count ≡ slot_count x
+  pub few : dir.count < 2 ^ 24
+  pub blocks : IsTrue tells → dir.blocks ≡ places_in s d dir.number
+  pub inside : All (IsData s.books.geom) dir.blocks
+
+-- What reading node k as a directory answers.
+pub record OpensDirectory {E : Type 0} (tells : Bool) (k : ℕ) (result : Result (Option Directory) E) (s t : State) (d : DraftState) : Type 0 where
+  -- the directory
+  pub opened : IfOk result (λ found. IfSome found (λ dir. (dir.number ≡ k) × IsOpened tells t d dir))
+  -- or nothing, where it has no slots to count
+  pub none : IsTrue tells → IfOk result (λ found. IfNone found ((x : Inode) → inodes_in s d k ≡ Some x → None ≡ slot_count x))
+  -- blocks are only read
+  pub looks : LooksOnly tells (is_err result) s t
 
 -- What a look for a name in directory `dir` answers.
 pub record LooksForName (tells : Bool) (dir : ℕ) (name : List ℕ) (result : Result (Option Found) FileRefusal) (s t : State) (d : DraftState) : Type 0 where

@@ -16,7 +16,7 @@ ghost use Rattle.fs_dirs.specs.Changing.{CutsSlots, SetsSlot, TakesSlot};
 ghost use Rattle.fs_dirs.specs.Changing.{HasPlace};
 
 use crate::block::{SLOTS_IN_BLOCK, ZEROS, read_slots, slot_in};
-use crate::lookup::count_slots;
+use crate::lookup::{count_slots, open_directory};
 use engine_blocks::{Blocks, calls_compose};
 use fs_files::{
     Draft, FileRefusal, a_directory_has_whole_slots, a_file_has_its_blocks, bytes_lie_in_blocks,
@@ -125,10 +125,13 @@ fn slot_at<S: Blocks>(
     ensures looks { LooksOnly S.tells (fails_reading result) (S.state blocks.old) (S.state blocks.new) }
 {
     calls_compose::<S>();
-    let node = draft.blocks_of(blocks, dir)?;
+    let Some(directory) = open_directory(draft, blocks, dir)? else {
+        return Ok(None);
+    };
     let within = place % SLOTS_IN_BLOCK;
+    let first = place - within;
     let mut block = ZEROS;
-    read_slots(draft, blocks, &node, place - within, &mut block)?;
+    read_slots(draft, blocks, &directory.blocks, first, &mut block)?;
     Ok(slot_in(&block, within))
 }
 

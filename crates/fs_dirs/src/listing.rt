@@ -15,7 +15,7 @@ ghost use Rattle.fs_dirs.specs.Directories.{inodes_in};
 ghost use Rattle.fs_dirs.specs.Reading.{MayReadBlocks, HasSlots};
 
 use crate::block::{SLOTS_IN_BLOCK, ZEROS, read_slots, slot_in};
-use crate::lookup::count_slots;
+use crate::lookup::open_directory;
 use base_types::{Block, Name, NoMemory};
 use engine_blocks::{Blocks, calls_compose};
 use fs_files::{Draft, FileRefusal, NodeBlocks};
@@ -42,12 +42,16 @@ pub fn names<S: Blocks>(
 {
     calls_compose::<S>();
     let mut names = Vec::new(alloc);
-    let count = match count_slots(draft, blocks, dir)? {
-        Some(count) => count,
-        None => return Ok(NameList::from_names(names)),
+    let Some(directory) = open_directory(draft, blocks, dir)? else {
+        return Ok(NameList::from_names(names));
     };
-    let node = draft.blocks_of(blocks, dir)?;
-    push_names(draft, blocks, &node, count, &mut names)?;
+    push_names(
+        draft,
+        blocks,
+        &directory.blocks,
+        directory.count,
+        &mut names,
+    )?;
     names.sort_unstable();
     Ok(NameList::from_names(names))
 }

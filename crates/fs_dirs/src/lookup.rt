@@ -1,17 +1,16 @@
 //! Names looked up in a directory of a draft. A directory is read a block at a time, and nothing of it is
 //! kept.
 
-ghost use Rattle.std.specs.Prelude.{◌≡◌, ◌<◌, ◌/◌, ◌^◌, IsTrue, is_err, List, length, Some, IfOk, IfErr, IfSome};
+ghost use Rattle.std.specs.Prelude.{◌≡◌, ◌<◌, ◌/◌, ◌^◌, IsTrue, false, is_err, List, length, Some, IfOk, IfSome};
 ghost use Rattle.layout_bytes.specs.declared.node.NodeKind.TheVariants.{Dir, File};
 ghost use Rattle.layout_bytes.specs.declared.slot.Slot.{Slot};
-ghost use Rattle.crash_stands.specs.Inodes.{Inode, ADir};
+ghost use Rattle.crash_stands.specs.Inodes.{Inode};
 ghost use Rattle.fs_files.specs.Asks.{MayLook};
-ghost use Rattle.fs_files.specs.Content.{fails_reading};
 ghost use Rattle.fs_files.specs.Effects.{LooksOnly};
-ghost use Rattle.fs_files.specs.Calls.{files_in, IsUsed, LookRefused};
+ghost use Rattle.fs_files.specs.Calls.{files_in, IsUsed};
+ghost use Rattle.fs_files.specs.Sound.{IsDraftOf};
 ghost use Rattle.fs_dirs.specs.Directories.{inodes_in, slot_count, Finds, IsNumber};
-ghost use Rattle.fs_dirs.specs.Reading.{LooksForName};
-ghost use Rattle.fs_dirs.specs.Reading.{MayRead, MayReadBlocks, HasSlots};
+ghost use Rattle.fs_dirs.specs.Reading.{LooksForName, OpensDirectory, IsOpened, MayReadBlocks, HasSlots};
 
 use crate::block::{SLOTS_IN_BLOCK, ZEROS, find_in, read_slots};
 use base_types::{Name, ReadFault};
@@ -73,8 +72,44 @@ fn slots_of(kind: NodeKind, size: u64) -> Option<u32>
     }
 }
 
-/// What stands under a name in directory `dir`: the first slot that has it. `None` where no slot has it, and
-/// where the node is no directory.
+/// A directory that was read: how many slots it has, and its blocks.
+#[derive(Drop)]
+pub struct Directory {
+    pub number: u32,
+    pub count: u32,
+    pub blocks: NodeBlocks,
+}
+
+/// Node `number` as a directory, which is read once. `None` where it is none.
+///
+/// # Errors
+/// A read of the disk failed, which the disk has counted.
+pub(crate) fn open_directory<S: Blocks>(
+    draft: &Draft,
+    blocks: &mut S,
+    number: u32,
+) -> Result<Option<Directory>, ReadFault>
+    requires { MayLook S.tells (S.state blocks.old) draft.now number }
+    ensures { OpensDirectory S.tells number result (S.state blocks.old) (S.state blocks.new) draft.now }
+{
+    a_directory_has_whole_slots::<S>();
+    a_file_fits_the_disk::<S>(blocks);
+    slots_follow_the_bytes();
+    let Some(file) = draft.open(blocks, number)? else {
+        return Ok(None);
+    };
+    let Some(count) = slots_of(file.facts.kind, file.facts.size) else {
+        return Ok(None);
+    };
+    Ok(Some(Directory {
+        number,
+        count,
+        blocks: file.blocks,
+    }))
+}
+
+/// What stands under a name in node `dir`: the first slot that has it. `None` where no slot has it, and where
+/// the node is no directory.
 ///
 /// # Errors
 /// A read of the disk failed, which the disk has counted.
@@ -88,33 +123,31 @@ pub fn find<S: Blocks>(
     ensures { LooksForName S.tells dir name.now result (S.state blocks.old) (S.state blocks.new) draft.now }
 {
     calls_compose::<S>();
-    let Some(count) = count_slots(draft, blocks, dir)? else {
+    let Some(directory) = open_directory(draft, blocks, dir)? else {
         return Ok(None);
     };
-    find_among(draft, blocks, dir, count, name)
+    find_in_directory(draft, blocks, &directory, name)
 }
 
-/// What stands under a name in directory `dir`, which has so many slots. A slot that names no number of the
-/// table isn't one.
+/// What stands under a name in a directory that was read. A slot that names no number of the table isn't one.
 ///
 /// # Errors
 /// As `find`.
-pub(crate) fn find_among<S: Blocks>(
+pub fn find_in_directory<S: Blocks>(
     draft: &Draft,
     blocks: &mut S,
-    dir: u32,
-    count: u32,
+    dir: &Directory,
     name: &Name,
 ) -> Result<Option<Found>, FileRefusal>
-    requires read { MayRead S.tells (S.state blocks.old) draft.now dir }
-    requires count { IsTrue S.tells → (x : Inode) → inodes_in (S.state blocks.old) draft.now dir ≡ Some x → Some count ≡ slot_count x }
-    requires few { count < 2 ^ 24 }
-    ensures { LooksForName S.tells dir name.now result (S.state blocks.old) (S.state blocks.new) draft.now }
+    requires going { (S.state blocks.old).books.stopped ≡ false }
+    requires draft { IsDraftOf S.tells (S.state blocks.old) draft.now }
+    requires opened { IsOpened S.tells (S.state blocks.old) draft.now dir.now }
+    ensures { LooksForName S.tells dir.now.number name.now result (S.state blocks.old) (S.state blocks.new) draft.now }
 {
     slots_name_nodes_in_use();
     a_name_stands_at_its_place();
     let limit = blocks.geom().i();
-    let found = find_slot(draft, blocks, dir, count, name)?;
+    let found = search(draft, blocks, &dir.blocks, dir.count, name)?;
     Ok(in_table(found, limit))
 }
 
@@ -132,31 +165,6 @@ fn in_table(found: Option<Found>, limit: u32) -> Option<Found>
         return None;
     }
     Some(found)
-}
-
-/// The first of the slots of directory `dir` that has this name; there are so many slots.
-///
-/// # Errors
-/// As `find`.
-fn find_slot<S: Blocks>(
-    draft: &Draft,
-    blocks: &mut S,
-    dir: u32,
-    count: u32,
-    name: &Name,
-) -> Result<Option<Found>, FileRefusal>
-    requires read { MayRead S.tells (S.state blocks.old) draft.now dir }
-    requires count { IsTrue S.tells → (x : Inode) → inodes_in (S.state blocks.old) draft.now dir ≡ Some x → Some count ≡ slot_count x }
-    requires few { count < 2 ^ 24 }
-    ensures found { IsTrue S.tells → IfOk result (λ found. (slots : List Slot) → inodes_in (S.state blocks.old) draft.now dir ≡ Some (ADir slots)
-        → Finds slots name.now found) }
-    ensures place { IfOk result (λ found. IfSome found (λ f. f.place < 2 ^ 24)) }
-    ensures refused { IfErr result LookRefused }
-    ensures looks { LooksOnly S.tells (fails_reading result) (S.state blocks.old) (S.state blocks.new) }
-{
-    calls_compose::<S>();
-    let node = draft.blocks_of(blocks, dir)?;
-    Ok(search(draft, blocks, &node, count, name)?)
 }
 
 /// The first slot with this name of the directory with these blocks, which has so many slots.

@@ -10,9 +10,9 @@ ghost use Rattle.fs_files.specs.Content.{fails_reading};
 ghost use Rattle.fs_files.specs.Effects.{LooksOnly};
 ghost use Rattle.fs_files.specs.Calls.{LookRefused};
 ghost use Rattle.fs_dirs.specs.Directories.{inodes_in, EndsAtParent, IsNumber};
-ghost use Rattle.fs_dirs.specs.Reading.{EntersOn};
+ghost use Rattle.fs_dirs.specs.Reading.{EntersOn, IsOpened};
 
-use crate::lookup::{count_slots, find_among};
+use crate::lookup::{Directory, find_in_directory, open_directory};
 use base_types::Name;
 use crash_stands::slots_name_nodes_in_use;
 use engine_blocks::{Blocks, calls_compose};
@@ -44,8 +44,8 @@ pub fn walk<S: Blocks>(
     walk_names(draft, blocks, path.names())
 }
 
-/// The number of the directory above a path, or why nothing can come to be at the path. `None` for the
-/// root, which has none above it.
+/// The directory above a path, or why nothing can come to be at the path. `None` for the root, which has none
+/// above it.
 ///
 /// # Errors
 /// As `walk`.
@@ -53,13 +53,13 @@ pub fn walk_to_parent<S: Blocks>(
     draft: &Draft,
     blocks: &mut S,
     path: &Path,
-) -> Result<Result<Option<u32>, Refusal>, FileRefusal>
+) -> Result<Result<Option<Directory>, Refusal>, FileRefusal>
     requires going { (S.state blocks.old).books.stopped ≡ false }
     requires draft { IsDraftOf S.tells (S.state blocks.old) draft.now }
     ensures end { IsTrue S.tells → IfOk result (λ end. (t : Tree)
         → IsMapOf (S.state blocks.old).books.geom.i (inodes_in (S.state blocks.old) draft.now) t
         → EndsAtParent (inodes_in (S.state blocks.old) draft.now) path.now end) }
-    ensures number { IfOk result (λ end. IfOk end (λ up. IfSome up (IsNumber (S.state blocks.old).books.geom.i))) }
+    ensures opened { IfOk result (λ end. IfOk end (λ up. IfSome up (IsOpened S.tells (S.state blocks.new) draft.now))) }
     ensures refused { IfErr result LookRefused }
     ensures looks { LooksOnly S.tells (fails_reading result) (S.state blocks.old) (S.state blocks.new) }
 {
@@ -74,8 +74,8 @@ pub fn walk_to_parent<S: Blocks>(
         Ok(number) => number,
         Err(why) => return Ok(Err(why)),
     };
-    match count_slots(draft, blocks, number)? {
-        Some(_) => Ok(Ok(Some(number))),
+    match open_directory(draft, blocks, number)? {
+        Some(above) => Ok(Ok(Some(above))),
         None => Ok(Err(Refusal::NotDir)),
     }
 }
@@ -137,10 +137,10 @@ fn enter<S: Blocks>(
     calls_compose::<S>();
     slots_name_nodes_in_use();
     a_name_stands_at_its_place();
-    let Some(count) = count_slots(draft, blocks, number)? else {
+    let Some(directory) = open_directory(draft, blocks, number)? else {
         return Ok(Err(Refusal::NotDir));
     };
-    match find_among(draft, blocks, number, count, name)? {
+    match find_in_directory(draft, blocks, &directory, name)? {
         Some(found) => Ok(Ok(found.node)),
         None => Ok(Err(Refusal::NotFound)),
     }

@@ -28,5 +28,5 @@ pub use laws::{
     bytes_lie_in_blocks, settlings_add_up,
 };
 pub use look::FileFacts;
-pub use node_blocks::NodeBlocks;
+pub use node_blocks::{NodeBlocks, OpenFile};
 pub use refusal::FileRefusal;

@@ -7,8 +7,7 @@ ghost use Rattle.fs_files.specs.Asks.{MayLook};
 ghost use Rattle.fs_files.specs.Calls.{facts_of, files_in};
 ghost use Rattle.fs_files.specs.Effects.{LooksOnly};
 
-use crate::draft::{Draft, ZEROS};
-use crate::nodes::load;
+use crate::draft::Draft;
 use base_types::ReadFault;
 use engine_blocks::Blocks;
 use layout_node::NodeKind;
@@ -37,15 +36,9 @@ impl Draft {
         ensures used { IfOk result (λ found. IfSome found (λ f. f.kind ≢ Free)) }
         ensures looks { LooksOnly S.tells (is_err result) (S.state blocks.old) (S.state blocks.new) }
     {
-        blocks.geom().lawful();
-        let mut table = ZEROS;
-        let Some(node) = load(self, blocks, number, &mut table)? else {
-            return Ok(None);
-        };
-        Ok(Some(FileFacts {
-            kind: node.kind,
-            links: node.links,
-            size: node.size,
-        }))
+        match self.open(blocks, number)? {
+            Some(file) => Ok(Some(file.facts)),
+            None => Ok(None),
+        }
     }
 }

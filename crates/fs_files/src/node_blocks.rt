@@ -1,16 +1,19 @@
-//! The blocks of a node, looked up once, and read whole, one at a time. Bytes from any place on are read
-//! elsewhere.
+//! A node read once, with what is known of it and its blocks, and those blocks read whole, one at a time.
+//! Bytes from any place on are read elsewhere.
 
-ghost use Rattle.std.specs.Prelude.{◌≡◌, ◌≤◌, ℕ, false, IsTrue, is_err, length, take, IfOk, OnOk, Some};
+ghost use Rattle.std.specs.Prelude.{◌≡◌, ◌≢◌, ◌≤◌, ℕ, false, IsTrue, is_err, length, take, IfOk, IfSome, OnOk, Some, option_map};
 ghost use Rattle.std.specs.List.{All};
 ghost use Rattle.engine_blocks.specs.Puts.{IsData};
+ghost use Rattle.layout_bytes.specs.declared.node.NodeKind.TheVariants.{Free};
 ghost use Rattle.crash_stands.specs.Files.{FileNode};
 ghost use Rattle.fs_files.specs.Asks.{MayLook};
-ghost use Rattle.fs_files.specs.Calls.{block_bytes, files_in, places_in};
+ghost use Rattle.fs_files.specs.Calls.{block_bytes, facts_of, files_in, places_in};
 ghost use Rattle.fs_files.specs.Effects.{LooksOnly};
 ghost use Rattle.fs_files.specs.Sound.{IsDraftOf};
+ghost use Rattle.fs_files.specs.declared.node_blocks.OpenFile.{OpenFile};
 
 use crate::draft::{Draft, ZEROS};
+use crate::look::FileFacts;
 use crate::nodes::load;
 use base_types::{Block, ReadFault};
 use engine_blocks::Blocks;
@@ -32,28 +35,47 @@ impl Model for NodeBlocks {
     ghost view = { λ n. n.places };
 }
 
+/// A node in use that was read: what it is but for its bytes, and its blocks.
+#[derive(Drop)]
+pub struct OpenFile {
+    pub facts: FileFacts,
+    pub blocks: NodeBlocks,
+}
+
 impl Draft {
-    /// The blocks of node `number`, in order. None where it isn't in use.
+    /// What node `number` is, and its blocks, read at once. `None` where it isn't in use.
     ///
     /// # Errors
     /// A read of the disk failed, which the disk has counted.
-    pub fn blocks_of<S: Blocks>(&self, blocks: &mut S, number: u32) -> Result<NodeBlocks, ReadFault>
+    pub fn open<S: Blocks>(
+        &self,
+        blocks: &mut S,
+        number: u32,
+    ) -> Result<Option<OpenFile>, ReadFault>
         requires { MayLook S.tells (S.state blocks.old) self.now number }
-        ensures places { IsTrue S.tells → IfOk result (λ node. node ≡ places_in (S.state blocks.old) self.now number) }
-        ensures data { IfOk result (All (IsData (S.state blocks.old).books.geom)) }
+        ensures facts { IsTrue S.tells → IfOk result (λ file. option_map (λ (f : OpenFile). f.facts) file
+            ≡ option_map facts_of (files_in (S.state blocks.old) self.now number)) }
+        ensures used { IfOk result (λ file. IfSome file (λ f. f.facts.kind ≢ Free)) }
+        ensures places { IsTrue S.tells → IfOk result (λ file. IfSome file (λ f. f.blocks ≡ places_in (S.state blocks.old) self.now number)) }
+        ensures data { IfOk result (λ file. IfSome file (λ f. All (IsData (S.state blocks.old).books.geom) f.blocks)) }
         ensures looks { LooksOnly S.tells (is_err result) (S.state blocks.old) (S.state blocks.new) }
     {
         a_list_has_its_runs();
         blocks.geom().lawful();
         let mut table = ZEROS;
-        match load(self, blocks, number, &mut table)? {
-            None => Ok(NodeBlocks {
-                places: Runs::new(),
-            }),
-            Some(node) => Ok(NodeBlocks {
+        let Some(node) = load(self, blocks, number, &mut table)? else {
+            return Ok(None);
+        };
+        Ok(Some(OpenFile {
+            facts: FileFacts {
+                kind: node.kind,
+                links: node.links,
+                size: node.size,
+            },
+            blocks: NodeBlocks {
                 places: node.places,
-            }),
-        }
+            },
+        }))
     }
 
     /// Reads the block of a node at a place of its order, from 0 on. Where the node has bytes there, the

@@ -15,8 +15,9 @@ use Rattle.fs_files.specs.declared.look.FileFacts.{FileFacts}
 use Rattle.fs_files.specs.Calls.{facts_of, files_in}
 use Rattle.fs_files.specs.Drafts.{DraftState, nothing_drafted}
 use Rattle.fs_files.specs.Effects.{LooksOnly}
+use Rattle.fs_dirs.specs.declared.lookup.Directory.{Directory}
 use Rattle.fs_dirs.specs.declared.lookup.Found.{Found}
-use Rattle.fs_dirs.specs.Directories.{inodes_in, slot_count, EndsAtParent, Finds}
+use Rattle.fs_dirs.specs.Directories.{inodes_in, EndsAtParent, Finds}
 use Rattle.fs_commands.specs.declared.paths.Entry.{Entry}
 use Rattle.fs_commands.specs.declared.paths.Spot.TheVariants.{Inside}
 use Rattle.fs_commands.specs.Looks.{ComesTo, HasEntry}
@@ -44,7 +45,7 @@ module _ (files : Files) (dir : ℕ) (slots : List Slot) (name : List ℕ) (at :
       absurd (is_used (files found.node) x.0 (ap (inodes_of files) (same_Some found.node r.0 (finds.node ∙ r.2)) ∙ x.1) unknown)
 
 -- what the walk to the directory above a path comes to in an empty draft
-pub above_as : (s : State) (d : DraftState) (path : List (List ℕ)) (end r : Result (Option ℕ) Refusal) → d ≡ nothing_drafted → end ≡ r
+pub above_as : (s : State) (d : DraftState) (path : List (List ℕ)) (end r : Result (Option Directory) Refusal) → d ≡ nothing_drafted → end ≡ r
     → ((t : Tree) → IsMapOf s.books.geom.i (inodes_in s d) t → EndsAtParent (inodes_in s d) path end)
     → (t : Tree) → IsMapOf s.books.geom.i (inodes_in s nothing_drafted) t → EndsAtParent (inodes_in s nothing_drafted) path r
 above_as s d path end r none is ends t map =
@@ -69,17 +70,12 @@ last_name path names name same is = by (from_end path)
         r.2 ∙ ap (λ n. r.0 ++ n ∷ []) (sym named) ∙ ap (λ up. up ++ name ∷ []) (sym (ap parent r.2 ∙ above r.0 r.1))
 
 -- a path whose directory was found comes to an entry there, or to none
-pub comes_inside : (files : Files) (path names : List (List ℕ)) (name : List ℕ) (dir count : ℕ) (entry : Option Entry) → names ≡ path → Some name ≡ slice_get names (length names - 1) → EndsAtParent (inodes_of files) path (Ok (Some dir))
-    → ((x : Inode) → inodes_of files dir ≡ Some x → Some count ≡ slot_count x) → ((slots : List Slot) → inodes_of files dir ≡ Some (ADir slots) → HasEntry files dir (length slots) name entry)
-    → ComesTo files path (Ok (Inside dir count entry))
-comes_inside files path names name dir count entry same is ends counted has =
+pub comes_inside : (files : Files) (path names : List (List ℕ)) (name : List ℕ) (dir : Directory) (entry : Option Entry) → names ≡ path → Some name ≡ slice_get names (length names - 1) → EndsAtParent (inodes_of files) path (Ok (Some dir))
+    → ((slots : List Slot) → inodes_of files dir.number ≡ Some (ADir slots) → HasEntry files dir.number (length slots) name entry)
+    → ComesTo files path (Ok (Inside dir.number dir.count entry))
+comes_inside files path names name dir entry same is ends has =
     let slots = ends.2.0 in
-    let many : count ≡ length slots = same_Some count (length slots) (counted (ADir slots) ends.2.1) in
-    (parent path, name, last_name path names name same is, ends.1, subst (λ n. HasEntry files dir n name entry) (sym many) (has slots ends.2.1))
-
--- the directory above a path has slots
-pub no_file_above : {A : Type 0} (files : Files) (path : List (List ℕ)) (dir : ℕ) → EndsAtParent (inodes_of files) path (Ok (Some dir)) → ((x : Inode) → inodes_of files dir ≡ Some x → None ≡ slot_count x) → A
-no_file_above files path dir ends counted = absurd (none-some (length ends.2.0) (counted (ADir ends.2.0) ends.2.1))
+    (parent path, name, last_name path names name same is, ends.1, subst (λ n. HasEntry files dir.number n name entry) (sym ends.2.2) (has slots ends.2.1))
 
 -- after looks an empty draft has the map that it had
 module _ (tells : Bool) (s t : State) (d : DraftState) (none : d ≡ nothing_drafted) (told : IsTrue tells) (looks : LooksOnly tells false s t) where

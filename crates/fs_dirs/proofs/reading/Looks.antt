@@ -1,5 +1,5 @@
 -- Looking at the blocks of a draft, one look behind the other: what may be read still may, and reads as before.
-use Rattle.std.proofs.Common.{◌≡◌, ℕ, Bool, false, IsTrue, sym, subst, ap, ap₂, arith, rules}
+use Rattle.std.proofs.Common.{◌≡◌, ℕ, Bool, false, IsTrue, All, Option, None, Some, IfNone, IfSome, sym, subst, ap, ap₂, ◌∙◌, arith, rules}
 use Rattle.base_types.specs.Seal.{Blocks}
 use Rattle.engine_blocks.specs.State.{Bookkeeping, State}
 use Rattle.crash_stands.specs.Files.{files_of, used_node}
@@ -10,7 +10,18 @@ use Rattle.fs_files.specs.Calls.{files_in, places_in, places_or_none}
 use Rattle.fs_files.specs.Drafts.{DraftState, drafted}
 use Rattle.fs_files.specs.Effects.{LooksOnly}
 use Rattle.fs_files.specs.Sound.{FitsBooks, IsSoundDraft, IsDraftOf}
-use Rattle.fs_dirs.specs.Directories.{inodes_in}
+use Rattle.engine_blocks.specs.Puts.{IsData}
+use Rattle.fs_dirs.specs.declared.lookup.Directory.{Directory}
+use Rattle.fs_dirs.specs.Directories.{inodes_in, IsNumber}
+use Rattle.fs_dirs.specs.Reading.{IsOpened}
+
+-- what holds of what was found
+pub of_found : {A : Type 0} (P : A → Type 0) (o : Option A) (x : A) → o ≡ Some x → IfSome o P → P x
+of_found {A} P o x is h = subst (λ (o : Option A). IfSome o P) is h
+
+-- what holds where nothing was
+pub of_none : {A P : Type 0} (o : Option A) → o ≡ None → IfNone o P → P
+of_none {A} {P} o is h = subst (λ (o : Option A). IfNone o P) is h
 
 -- nothing was done
 pub looks_none : (tells : Bool) (s : State) → LooksOnly tells false s s
@@ -43,4 +54,14 @@ module _ (tells failed : Bool) (s t : State) (d : DraftState) (k : LooksOnly tel
     fits = subst (λ b. FitsBooks b d) (sym k.books) h.fits;
     sound = λ told. subst (λ b. IsSoundDraft b t.map d) (sym k.books) (subst (λ m. IsSoundDraft s.books m d) (sym (k.map told)) (h.sound told));
     content = h.content;
+  }
+
+  -- and a directory that was read is as it was read
+  pub opened_stays : (dir : Directory) → IsOpened tells s d dir → IsOpened tells t d dir
+  opened_stays dir h = record {
+    number = subst (λ (b : Bookkeeping). IsNumber b.geom.i dir.number) (sym k.books) h.number;
+    count = λ told x is. h.count told x (ap (λ m. m dir.number) (sym (same_inodes told)) ∙ is);
+    few = h.few;
+    blocks = λ told. h.blocks told ∙ sym (same_places dir.number told);
+    inside = subst (λ (b : Bookkeeping). All (IsData b.geom) dir.blocks) (sym k.books) h.inside;
   }

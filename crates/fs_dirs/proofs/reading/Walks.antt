@@ -18,6 +18,7 @@ use Rattle.fs_files.specs.Effects.{LooksOnly}
 use Rattle.fs_inodes.specs.Changes.{slot_of}
 use Rattle.fs_inodes.specs.Lookups.{is_dir_inode, walk_on}
 use Rattle.fs_inodes.specs.Refusals.{dir_reason, parent_reason}
+use Rattle.fs_dirs.specs.declared.lookup.Directory.{Directory}
 use Rattle.fs_dirs.specs.declared.lookup.Found.{Found}
 use Rattle.fs_dirs.specs.Directories.{inodes_in, slot_count, EndsAtParent, Finds, IsNumber}
 use Rattle.fs_dirs.specs.Reading.{EntersOn, HasWalked}
@@ -127,7 +128,7 @@ parent_file m path up k (AFile links bytes) some same e is none =
     parent_by m path some ∙ ap (λ p. dir_reason m (walk_on m 1 p)) (sym same) ∙ ap (dir_reason m) (sym e) ∙ ap (λ o. if is_dir_inode o then None else Some NotDir) is
 
 -- it comes to a directory
-pub parent_found : (m : Inodes) (path up : List (List ℕ)) (k count : ℕ) (x : Inode) → 0 < length path → up ≡ parent path → Ok k ≡ walk_on m 1 up → m k ≡ Some x → Some count ≡ slot_count x → EndsAtParent m path (Ok (Some k))
-parent_found m path up k count (AFile links bytes) some same e is many = absurd (none-some count (sym many))
-parent_found m path up k count (ADir slots) some same e is many =
-    ((λ none. omega (arith, some, ap length none)), ap (walk_on m 1) (sym same) ∙ sym e, (slots, is))
+pub parent_found : (m : Inodes) (path up : List (List ℕ)) (dir : Directory) (k : ℕ) (x : Inode) → 0 < length path → up ≡ parent path → Ok k ≡ walk_on m 1 up → dir.number ≡ k → m k ≡ Some x → Some dir.count ≡ slot_count x → EndsAtParent m path (Ok (Some dir))
+parent_found m path up dir k (AFile links bytes) some same e at is many = absurd (none-some dir.count (sym many))
+parent_found m path up dir k (ADir slots) some same e at is many =
+    ((λ none. omega (arith, some, ap length none)), ap (walk_on m 1) (sym same) ∙ sym e ∙ ap Ok (sym at), (slots, ap m at ∙ is, same_Some dir.count (length slots) many))

@@ -12,11 +12,11 @@ look-requires g c = record {
   going = search rules;
   from = search rules;
   upto = search rules;
-  draft = draft_stays g.S.Blocks.tells false (g.S.Blocks.state c.args.blocks.now) (g.S.Blocks.state c.find.new.blocks) c.args.draft.now c.in_ok-found.ensures.looks c.requires.draft;
+  draft = draft_stays g.S.Blocks.tells false (g.S.Blocks.state c.args.blocks.now) (g.S.Blocks.state c.find_in_directory.new.blocks) c.args.draft.now c.in_ok-found.ensures.looks c.requires.draft;
 }
 
 pub returns-in_err-facts-clause-looks : goal.returns-in_err-facts-clause-looks
-returns-in_err-facts-clause-looks g c = looks_more g.S.Blocks.tells (fails_reading c.from_residual-in_err-facts.result) (g.S.Blocks.state c.args.blocks.now) (g.S.Blocks.state c.find.new.blocks) (g.S.Blocks.state c.look.new.blocks) c.in_ok-found.ensures.looks (search (rules, tests))
+returns-in_err-facts-clause-looks g c = looks_more g.S.Blocks.tells (fails_reading c.from_residual-in_err-facts.result) (g.S.Blocks.state c.args.blocks.now) (g.S.Blocks.state c.find_in_directory.new.blocks) (g.S.Blocks.state c.look.new.blocks) c.in_ok-found.ensures.looks (search (rules, tests))
 
 pub returns-in_default-2-clause-looks : goal.returns-in_default-2-clause-looks
 returns-in_default-2-clause-looks g c = looks_more g.S.Blocks.tells false _ _ _ c.in_ok-found.ensures.looks c.in_ok-facts.ensures.looks
@@ -26,14 +26,14 @@ returns-clause-looks g c = looks_more g.S.Blocks.tells false _ _ _ c.in_ok-found
 
 pub returns-in_default-clause-entry : goal.returns-in_default-clause-entry
 returns-in_default-clause-entry g c = λ told t slots map at.
-    no_entry (files_in (g.S.Blocks.state c.args.blocks.now) c.args.draft.now) c.args.dir slots c.args.name.now at c.in_ok-found.field-0 c.in_default.is (c.in_ok-found.ensures.found told t slots map at)
+    no_entry (files_in (g.S.Blocks.state c.args.blocks.now) c.args.draft.now) c.args.dir.now.number slots c.args.name.now at c.in_ok-found.field-0 c.in_default.is (c.in_ok-found.ensures.found told t slots map at)
 
 pub returns-in_default-2-clause-entry : goal.returns-in_default-2-clause-entry
 returns-in_default-2-clause-entry g c = λ told t slots map at.
     let s = g.S.Blocks.state c.args.blocks.now in
     let files = files_in s c.args.draft.now in
-    let same = same_files g.S.Blocks.tells false s (g.S.Blocks.state c.find.new.blocks) c.args.draft.now c.in_ok-found.ensures.looks told in
-    no_stray files c.args.dir slots c.args.name.now at c.a_name_stands_at_its_place.ensures.found (c.slots_name_nodes_in_use.ensures.used s.books.geom.i _ t map) c.in-Some.found
+    let same = same_files g.S.Blocks.tells false s (g.S.Blocks.state c.find_in_directory.new.blocks) c.args.draft.now c.in_ok-found.ensures.looks told in
+    no_stray files c.args.dir.now.number slots c.args.name.now at c.a_name_stands_at_its_place.ensures.found (c.slots_name_nodes_in_use.ensures.used s.books.geom.i _ t map) c.in-Some.found
     (subst (λ o. Finds slots c.args.name.now o) c.in-Some.is (c.in_ok-found.ensures.found told t slots map at))
     (sym c.in_default-2.is ∙ c.in_ok-facts.ensures.facts told ∙ ap (λ f. option_map facts_of (f c.in-Some.found.node)) same)
 
@@ -41,7 +41,7 @@ pub returns-clause-entry : goal.returns-clause-entry
 returns-clause-entry g c = λ told t slots map at.
     let s = g.S.Blocks.state c.args.blocks.now in
     let files = files_in s c.args.draft.now in
-    let same = same_files g.S.Blocks.tells false s (g.S.Blocks.state c.find.new.blocks) c.args.draft.now c.in_ok-found.ensures.looks told in
-    an_entry files c.args.dir slots c.args.name.now at c.in-Some.found c.in-Some-2.facts
+    let same = same_files g.S.Blocks.tells false s (g.S.Blocks.state c.find_in_directory.new.blocks) c.args.draft.now c.in_ok-found.ensures.looks told in
+    an_entry files c.args.dir.now.number slots c.args.name.now at c.in-Some.found c.in-Some-2.facts
     (subst (λ o. Finds slots c.args.name.now o) c.in-Some.is (c.in_ok-found.ensures.found told t slots map at))
     (sym c.in-Some-2.is ∙ c.in_ok-facts.ensures.facts told ∙ ap (λ f. option_map facts_of (f c.in-Some.found.node)) same)

@@ -1,69 +1,46 @@
-use Rattle.std.proofs.Common.{rules, tests, option_copied, false, Ok, Err, None, Some, sym, ap, ◌∙◌}
-use Rattle.crash_stands.specs.Inodes.{inodes_of}
+use Rattle.std.proofs.Common.{rules, tests, option_copied, false, Ok, Err, None, Some, sym, subst, ap, ◌∙◌}
+use Rattle.std.specs.Prelude.{Result, Option, IfOk, IfSome}
+use Rattle.lang_tree.specs.declared.command.Refusal.{Refusal}
 use Rattle.fs_files.specs.Calls.{files_in}
 use Rattle.fs_files.specs.Content.{fails_reading}
 use Rattle.fs_files.specs.Drafts.{nothing_drafted}
-use Rattle.fs_commands.proofs.looking.Entries.{above_as, comes_inside, no_file_above, entry_stays}
-use Rattle.fs_commands.proofs.looking.Found.{looks_more, draft_stays, files_stay, draft_begun}
+use Rattle.fs_dirs.specs.declared.lookup.Directory.{Directory}
+use Rattle.fs_dirs.specs.Reading.{IsOpened}
+use Rattle.fs_commands.proofs.looking.Entries.{above_as, comes_inside, entry_stays}
+use Rattle.fs_commands.proofs.looking.Found.{looks_more, draft_stays, draft_begun}
 use Rattle.fs_commands.proofs.paths.look_up.Goals as goal
 
 pub returns-in-Ok-None-clause-comes : goal.returns-in-Ok-None-clause-comes
 returns-in-Ok-None-clause-comes g c = λ told t h.
     let s = g.S.Blocks.state c.args.blocks.now in
-    above_as s c.new-draft.result c.args.path.now c.in_ok-dir.field-0 (Ok None) c.new-draft.ensures (c.in-Ok-None.is ∙ ap Ok c.in-Ok-None.field-0-is) (c.in_ok-dir.ensures.end told) t (c.blocks_have_the_map_of_their_tree.ensures.map s.books.geom s.map t h)
+    above_as s c.new-draft.result c.args.path.now c.in_ok-above.field-0 (Ok None) c.new-draft.ensures (c.in-Ok-None.is ∙ ap Ok c.in-Ok-None.field-0-is) (c.in_ok-above.ensures.end told) t (c.blocks_have_the_map_of_their_tree.ensures.map s.books.geom s.map t h)
 
 pub returns-in-Err-clause-comes : goal.returns-in-Err-clause-comes
 returns-in-Err-clause-comes g c = λ told t h.
     let s = g.S.Blocks.state c.args.blocks.now in
-    above_as s c.new-draft.result c.args.path.now c.in_ok-dir.field-0 (Err c.in-Err.why) c.new-draft.ensures c.in-Err.is (c.in_ok-dir.ensures.end told) t (c.blocks_have_the_map_of_their_tree.ensures.map s.books.geom s.map t h)
-
-pub returns-in_err-count-clause-looks : goal.returns-in_err-count-clause-looks
-returns-in_err-count-clause-looks g c =
-    looks_more g.S.Blocks.tells (fails_reading c.from_residual-in_err-count.result) (g.S.Blocks.state c.args.blocks.now) (g.S.Blocks.state c.walk_to_parent.new.blocks) (g.S.Blocks.state c.count_slots.new.blocks) c.in_ok-dir.ensures.looks (search (rules, tests))
-
-pub returns-in_default-2-clause-comes : goal.returns-in_default-2-clause-comes
-returns-in_default-2-clause-comes g c = λ told t h.
-    let s = g.S.Blocks.state c.args.blocks.now in
-    let d = c.new-draft.result in
-    let ends = above_as s d c.args.path.now c.in_ok-dir.field-0 (Ok (Some c.in-Ok-Some.dir)) c.new-draft.ensures (c.in-Ok-Some.is ∙ ap Ok c.in-Ok-Some.field-0-is) (c.in_ok-dir.ensures.end told) t (c.blocks_have_the_map_of_their_tree.ensures.map s.books.geom s.map t h) in
-    let same = files_stay g.S.Blocks.tells s (g.S.Blocks.state c.walk_to_parent.new.blocks) d c.new-draft.ensures told c.in_ok-dir.ensures.looks in
-    no_file_above (files_in s nothing_drafted) c.args.path.now c.in-Ok-Some.dir ends (λ x at. sym c.in_default-2.is ∙ c.in_ok-count.ensures.count told x (ap (λ files. inodes_of files c.in-Ok-Some.dir) same ∙ at))
-
-pub returns-in_default-2-clause-looks : goal.returns-in_default-2-clause-looks
-returns-in_default-2-clause-looks g c =
-    looks_more g.S.Blocks.tells false (g.S.Blocks.state c.args.blocks.now) (g.S.Blocks.state c.walk_to_parent.new.blocks) (g.S.Blocks.state c.count_slots.new.blocks) c.in_ok-dir.ensures.looks c.in_ok-count.ensures.looks
+    above_as s c.new-draft.result c.args.path.now c.in_ok-above.field-0 (Err c.in-Err.why) c.new-draft.ensures c.in-Err.is (c.in_ok-above.ensures.end told) t (c.blocks_have_the_map_of_their_tree.ensures.map s.books.geom s.map t h)
 
 pub find_entry-requires-clause-draft : goal.find_entry-requires-clause-draft
 find_entry-requires-clause-draft g c =
-    draft_stays g.S.Blocks.tells false _ _ c.new-draft.result c.in_ok-count.ensures.looks (draft_stays g.S.Blocks.tells false _ _ c.new-draft.result c.in_ok-dir.ensures.looks (draft_begun g.S.Blocks.tells _ _ c.new-draft.ensures c.requires.begin c.a_draft_begins.ensures.draft))
+    draft_stays g.S.Blocks.tells false _ _ c.new-draft.result c.in_ok-above.ensures.looks (draft_begun g.S.Blocks.tells _ _ c.new-draft.ensures c.requires.begin c.a_draft_begins.ensures.draft)
+
+pub find_entry-requires-clause-opened : goal.find_entry-requires-clause-opened
+find_entry-requires-clause-opened g c =
+    subst (λ (r : Result (Option Directory) Refusal). IfOk r (λ up. IfSome up (IsOpened g.S.Blocks.tells (g.S.Blocks.state c.walk_to_parent.new.blocks) c.new-draft.result))) (c.in-Ok-Some.is ∙ ap Ok c.in-Ok-Some.field-0-is) c.in_ok-above.ensures.opened
 
 pub returns-in_err-entry-clause-looks : goal.returns-in_err-entry-clause-looks
 returns-in_err-entry-clause-looks g c =
-    looks_more g.S.Blocks.tells (fails_reading c.from_residual-in_err-entry.result) (g.S.Blocks.state c.args.blocks.now) (g.S.Blocks.state c.count_slots.new.blocks) (g.S.Blocks.state c.find_entry.new.blocks)
-    (looks_more g.S.Blocks.tells false _ _ _ c.in_ok-dir.ensures.looks c.in_ok-count.ensures.looks) (search (rules, tests))
+    looks_more g.S.Blocks.tells (fails_reading c.from_residual-in_err-entry.result) (g.S.Blocks.state c.args.blocks.now) (g.S.Blocks.state c.walk_to_parent.new.blocks) (g.S.Blocks.state c.find_entry.new.blocks) c.in_ok-above.ensures.looks (search (rules, tests))
 
 pub returns-clause-looks : goal.returns-clause-looks
-returns-clause-looks g c =
-    looks_more g.S.Blocks.tells false _ _ _ (looks_more g.S.Blocks.tells false _ _ _ c.in_ok-dir.ensures.looks c.in_ok-count.ensures.looks) c.in_ok-entry.ensures.looks
+returns-clause-looks g c = looks_more g.S.Blocks.tells false _ _ _ c.in_ok-above.ensures.looks c.in_ok-entry.ensures.looks
 
 pub returns-clause-comes : goal.returns-clause-comes
 returns-clause-comes g c = λ told t h.
     let s = g.S.Blocks.state c.args.blocks.now in
     let mid = g.S.Blocks.state c.walk_to_parent.new.blocks in
-    let next = g.S.Blocks.state c.count_slots.new.blocks in
     let d = c.new-draft.result in
     let map = c.blocks_have_the_map_of_their_tree.ensures.map s.books.geom s.map t h in
-    let ends = above_as s d c.args.path.now c.in_ok-dir.field-0 (Ok (Some c.in-Ok-Some.dir)) c.new-draft.ensures (c.in-Ok-Some.is ∙ ap Ok c.in-Ok-Some.field-0-is) (c.in_ok-dir.ensures.end told) t map in
-    let same = files_stay g.S.Blocks.tells s mid d c.new-draft.ensures told c.in_ok-dir.ensures.looks in
-    let both = looks_more g.S.Blocks.tells false s mid next c.in_ok-dir.ensures.looks c.in_ok-count.ensures.looks in
-    comes_inside (files_in s nothing_drafted) c.args.path.now c.names.result.now c.in-Some.name.now c.in-Ok-Some.dir c.in-Some-2.count c.in_ok-entry.entry c.names.ensures (ap option_copied (sym c.in-Some.is) ∙ c.last.ensures.value) ends
-    (λ x at. sym c.in-Some-2.is ∙ c.in_ok-count.ensures.count told x (ap (λ files. inodes_of files c.in-Ok-Some.dir) same ∙ at))
-    (entry_stays g.S.Blocks.tells s next d c.new-draft.ensures told both c.in-Ok-Some.dir c.in-Some.name.now c.in_ok-entry.entry t map (c.in_ok-entry.ensures.entry told))
-
-pub count_slots-requires : goal.count_slots-requires
-count_slots-requires g c = record {
-  going = search rules;
-  from = search rules;
-  upto = search rules;
-  draft = draft_stays g.S.Blocks.tells false (g.S.Blocks.state c.args.blocks.now) (g.S.Blocks.state c.walk_to_parent.new.blocks) c.new-draft.result c.in_ok-dir.ensures.looks (draft_begun g.S.Blocks.tells (g.S.Blocks.state c.args.blocks.now) c.new-draft.result c.new-draft.ensures c.requires.begin c.a_draft_begins.ensures.draft);
-}
+    let ends = above_as s d c.args.path.now c.in_ok-above.field-0 (Ok (Some c.in-Ok-Some.above)) c.new-draft.ensures (c.in-Ok-Some.is ∙ ap Ok c.in-Ok-Some.field-0-is) (c.in_ok-above.ensures.end told) t map in
+    comes_inside (files_in s nothing_drafted) c.args.path.now c.names.result.now c.in-Some.name.now c.in-Ok-Some.above c.in_ok-entry.entry c.names.ensures (ap option_copied (sym c.in-Some.is) ∙ c.last.ensures.value) ends
+    (entry_stays g.S.Blocks.tells s mid d c.new-draft.ensures told c.in_ok-above.ensures.looks c.in-Ok-Some.above.number c.in-Some.name.now c.in_ok-entry.entry t map (c.in_ok-entry.ensures.entry told))

@@ -3,7 +3,7 @@ use Rattle.layout_geometry.specs.Geometry.{IsGeometry}
 use Rattle.fs_files.specs.Nodes.{node_of_open}
 use Rattle.fs_files.proofs.calling.Nodes.{has_table}
 use Rattle.fs_files.proofs.calling.Reads.{looked_up, none_up}
-use Rattle.fs_files.proofs.draft.Draft.look.Goals as goal
+use Rattle.fs_files.proofs.draft.Draft.open.Goals as goal
 
 pub returns-in_default-clause-facts : goal.returns-in_default-clause-facts
 returns-in_default-clause-facts g c = λ tells.
