@@ -1,12 +1,12 @@
 -- An inode map and its tree, in the form in which each change is proved: the tree is sound, its paths go on as the map's entries do, and nodes and links are those of the map.
-use Rattle.std.proofs.Common.{◌≡◌, ℕ, true≢false, List, [], ◌∷◌, ◌++◌, Option, Some, None, option_map, option_and_then, sym, ap, ◌∙◌, append_assoc, append-nil, arith}
+use Rattle.std.proofs.Common.{◌≡◌, ℕ, List, [], ◌∷◌, ◌++◌, Option, Some, None, option_map, option_and_then, sym, ap, ◌∙◌, append_assoc, append-nil, arith}
 use Rattle.std.specs.FinMap.{get}
 use Rattle.std.proofs.lemmas.Option.{none-some}
 use Rattle.layout_bytes.specs.declared.slot.Slot.{Slot}
-use Rattle.lang_tree.specs.Tree.{Tree, Thing, IsSound, Dir}
+use Rattle.lang_tree.specs.Tree.{Tree, IsSound}
 use Rattle.lang_tree.specs.Names.{path_count}
 use Rattle.crash_stands.specs.Inodes.{Inode, Inodes, ADir, AFile, AreDistinct, thing_of}
-use Rattle.crash_stands.specs.Walks.{Entries, entries_of, entry_in, walk}
+use Rattle.crash_stands.specs.Walks.{Entries, entries_of, walk}
 use Rattle.crash_stands.specs.Maps.{IsMapOf}
 use Rattle.fs_inodes.specs.TreeLaws.{TreeLaws}
 use Rattle.fs_inodes.proofs.basics.Paths.{Path}
@@ -38,27 +38,19 @@ onward e names goes here (x ∷ rest) k at = by (e k x) (goes here x ∙ ap (opt
     by None is on = ap names (sym (append_assoc here (x ∷ []) rest)) ∙ nowhere e names goes (here ++ x ∷ []) rest is
     by (Some j) is on = ap names (sym (append_assoc here (x ∷ []) rest)) ∙ on j is
 
--- what has an entry is a directory
-pub dir_with : (o : Option Inode) (name : List ℕ) (n : ℕ) → entry_in o name ≡ Some n → (slots : List Slot) × (o ≡ Some (ADir slots))
-dir_with o name n h1 = grind (arith, none-some)
-
--- a thing of the tree is an inode's
-pub inode_with : (o : Option Inode) (x : Thing) → option_map thing_of o ≡ Some x → (y : Inode) × (o ≡ Some y)
-inode_with o x h1 = grind (arith, none-some)
-
--- a directory of the tree is a directory's
-pub dir_in : (o : Option Inode) → option_map thing_of o ≡ Some Dir → (slots : List Slot) × (o ≡ Some (ADir slots))
-dir_in o h1 = grind (arith, none-some)
-
 module _ (limit : ℕ) (m : Inodes) (t : Tree) (a : Agrees limit m t) where
   -- each path leads where its walk does
   pub walked : (p : Path) → get t.names p ≡ walk (entries_of m) 1 p
   walked p = onward (entries_of m) (get t.names) a.goes [] p 1 a.sound.root
 
+  -- and what a path of the tree leads to is an inode
+  pub inode_named : (p : Path) (k : ℕ) → get t.names p ≡ Some k → (x : Inode) × (m k ≡ Some x)
+  inode_named p k at = let x = a.sound.named p k at in grind (arith, none-some, m k, a.nodes k, x.1)
+
   -- so the map is that of the tree
   pub is_map : IsMapOf limit m t
   is_map = record {
-    root = dir_in (m 1) (sym (a.nodes 1) ∙ a.sound.root_dir);
+    root = grind (arith, none-some, m 1, a.nodes 1, a.sound.root_dir);
     distinct = a.distinct;
     within = λ k x e. a.sound.within k (thing_of x) (a.nodes k ∙ ap (option_map thing_of) e);
     shows = record {
@@ -67,7 +59,7 @@ module _ (limit : ℕ) (m : Inodes) (t : Tree) (a : Agrees limit m t) where
       links = a.links;
       only = λ k slots p e at q at_q. a.sound.one_path k q p (a.nodes k ∙ ap (option_map thing_of) e) (walked q ∙ at_q) (walked p ∙ at);
       reached = λ k x e. let p = a.sound.reached k (thing_of x) (a.nodes k ∙ ap (option_map thing_of) e) in (p.0, sym (walked p.0) ∙ p.1);
-      used = λ p k at. let x = a.sound.named p k (walked p ∙ at) in inode_with (m k) x.0 (sym (a.nodes k) ∙ x.1);
+      used = λ p k at. inode_named p k (walked p ∙ at);
     };
   }
 

@@ -1,5 +1,5 @@
 -- Options, and paths by their last name.
-use Rattle.std.proofs.Common.{◌≡◌, ℕ, Bool, true, false, List, [], ◌∷◌, ◌++◌, ◌-◌, length, bytes_eq, Option, Some, None, is_some, if◌then◌else◌, refl, ap, ◌∙◌, ◌⊎◌, inl, inr, length-append, arith, true≢false, take_at}
+use Rattle.std.proofs.Common.{◌≡◌, ℕ, Bool, true, false, List, [], ◌∷◌, ◌++◌, ◌-◌, length, bytes_eq, Option, Some, None, is_some, if◌then◌else◌, refl, ap, ◌∙◌, ◌⊎◌, inl, inr, length-append, arith, take_at}
 use Rattle.std.proofs.lemmas.Bool.{cases_Bool, cases_eq}
 use Rattle.std.proofs.lemmas.List.{same_from_push}
 use Rattle.std.proofs.lemmas.Slice.Eq.{bytes_eq-Decides}
@@ -9,10 +9,6 @@ use Rattle.lang_tree.specs.Paths.{strip, is_within, parent}
 -- a path as the list of its names
 abbrev pub Path : Type 0
 Path = List (List ℕ)
-
--- what isn't something is nothing
-pub lacks : {A : Type 0} (o : Option A) → is_some o ≡ false → o ≡ None
-lacks o h1 = grind arith
 
 -- an option is nothing or something
 pub which : {A : Type 0} (o : Option A) → (o ≡ None) ⊎ ((x : A) × (o ≡ Some x))

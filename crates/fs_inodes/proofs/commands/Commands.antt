@@ -18,7 +18,7 @@ use Rattle.crash_stands.specs.Walks.{LeadsTo}
 use Rattle.fs_inodes.specs.Lookups.{least_free}
 use Rattle.fs_inodes.specs.Changes.{new_inode, Sets, AddsSlot, AddsName, TakesSlot, TakesName, MovesSlot, MovesName}
 use Rattle.fs_inodes.specs.TreeLaws.{TreeLaws}
-use Rattle.fs_inodes.proofs.basics.Paths.{Path, lacks}
+use Rattle.fs_inodes.proofs.basics.Paths.{Path}
 use Rattle.fs_inodes.proofs.basics.Numbers.{unused_is_free, free_is}
 use Rattle.fs_inodes.proofs.agreement.Agree.{Agrees, agrees, is_map}
 use Rattle.fs_inodes.proofs.commands.Adding.{adds_name, node_agrees, link_agrees}
@@ -73,7 +73,7 @@ module _ (laws : TreeLaws) (s : Session) (m new : Inodes) (is : IsMapOf s.limit 
         let one = no_reason (parent_refusal s.tree (up ++ name ∷ [])) (when (is_there s.tree (up ++ name ∷ [])) Exists ∷ when (is_none (least_unused s.limit s.tree.nodes)) NoNode ∷ []) accepts in
         let two = no_reason (when (is_there s.tree (up ++ name ∷ [])) Exists) (when (is_none (least_unused s.limit s.tree.nodes)) NoNode ∷ []) one.1 in
         let number = free_is s.limit n m free in
-        node_agrees laws s.limit m new s.tree a up name d n (new_inode thing) (at up d leads) (lacks (get s.tree.names (up ++ name ∷ [])) (not_so (is_there s.tree (up ++ name ∷ [])) Exists two.0)) ch
+        node_agrees laws s.limit m new s.tree a up name d n (new_inode thing) (at up d leads) (grind (arith, get s.tree.names (up ++ name ∷ []), not_so (is_there s.tree (up ++ name ∷ [])) Exists two.0)) ch
         thing refl number.0 number.1 number.2
 
   -- a mkdir or a create
@@ -94,7 +94,7 @@ module _ (laws : TreeLaws) (s : Session) (m new : Inodes) (is : IsMapOf s.limit 
       let two = no_reason (parent_refusal s.tree other) (there ∷ rest) one.1 in
       let three = no_reason there rest two.1 in
       by_tree s (Link path other) new _ (done s (Link path other) accepts ∙ ap (linked_by s.tree other) (at path n to_file))
-      (link_agrees laws s.limit m new s.tree a up name d n (AFile (l + 1) bytes) (at up d leads) (lacks (get s.tree.names other) (not_so (is_there s.tree other) Exists three.0)) ch l bytes file refl)
+      (link_agrees laws s.limit m new s.tree a up name d n (AFile (l + 1) bytes) (at up d leads) (grind (arith, get s.tree.names other, not_so (is_there s.tree other) Exists three.0)) ch l bytes file refl)
 
   -- A path that goes.
   taken_named : (cmd : Cmd) (up : Path) (name : List ℕ) (d n : ℕ) → (step s cmd).0.tree ≡ removed s.tree (up ++ name ∷ []) → holds_names s.tree.names (up ++ name ∷ []) ≡ false

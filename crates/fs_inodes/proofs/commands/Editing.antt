@@ -1,5 +1,5 @@
 -- A file has other bytes.
-use Rattle.std.proofs.Common.{◌≡◌, ℕ, List, Some, option_map, ◌∙◌, ◌⊎◌, arith}
+use Rattle.std.proofs.Common.{◌≡◌, ℕ, List, Some, option_map, arith}
 use Rattle.std.proofs.lemmas.Bool.{cases_eq}
 use Rattle.std.specs.FinMap.{get, insert}
 use Rattle.layout_bytes.specs.declared.slot.Slot.{Slot}

@@ -1,5 +1,5 @@
 -- One inode set, and each change as some inodes set one after the other: the map with them in place of the old ones is one that a command makes.
-use Rattle.std.proofs.Common.{◌≡◌, ◌≢◌, ℕ, if◌then◌else◌, List, [], ◌∷◌, ◌++◌, slice_get, Option, Some, option_and_then, sym, refl, ap, ◌∙◌, ◌⊎◌, eq-eqb, ne_eqb, arith}
+use Rattle.std.proofs.Common.{◌≡◌, ◌≢◌, ℕ, if◌then◌else◌, List, [], ◌∷◌, ◌++◌, slice_get, Option, Some, option_and_then, sym, refl, ap, ◌∙◌, eq-eqb, ne_eqb, arith}
 use Rattle.layout_bytes.specs.declared.slot.Slot.{Slot}
 use Rattle.layout_directory.specs.Directory.{without_at}
 use Rattle.crash_stands.specs.Inodes.{Inode, Inodes, ADir}

@@ -1,5 +1,5 @@
 -- What is at a path moves, whatever slots of which directories that changed: what these give of entries, nodes, links and names is a premise here.
-use Rattle.std.proofs.Common.{◌≡◌, ℕ, false, true≢false, List, [], ◌∷◌, ◌++◌, Some, None, if◌then◌else◌, option_map, sym, ap, ◌∙◌, ◌⊎◌, inl, inr, arith}
+use Rattle.std.proofs.Common.{◌≡◌, ℕ, false, true≢false, List, [], ◌∷◌, ◌++◌, Some, None, option_map, sym, ap, ◌∙◌, ◌⊎◌, inl, inr, arith}
 use Rattle.std.specs.FinMap.{get, remove}
 use Rattle.layout_bytes.specs.declared.slot.Slot.{Slot}
 use Rattle.lang_tree.specs.declared.command.Cmd.TheVariants.{Rename}

@@ -1,6 +1,6 @@
 -- What no tree stands for: an inode map that a scan finds wrong.
 use Rattle.std.proofs.Common.{◌≡◌, ℕ, List, [], ◌∷◌, ◌++◌, length, slice_get, Some, None, sym, refl, ap, ◌∙◌, ◌⊎◌, inl, inr, arith, append-nil, append_assoc}
-use Rattle.std.proofs.lemmas.Option.{slice_get_within, same_Some}
+use Rattle.std.proofs.lemmas.Option.{slice_get_within, same_Some, none-some}
 use Rattle.std.specs.FinMap.{get, same_map}
 use Rattle.layout_bytes.specs.declared.slot.Slot.{Slot}
 use Rattle.lang_tree.specs.Tree.{Tree}
@@ -14,7 +14,7 @@ use Rattle.fs_inodes.proofs.basics.Paths.{Path, which, from_end}
 use Rattle.fs_inodes.proofs.basics.FinMaps.{path_total, path_same}
 use Rattle.fs_inodes.proofs.slots.Slots.{found, front_at}
 use Rattle.fs_inodes.proofs.agreement.Steps.{step_at}
-use Rattle.fs_inodes.proofs.agreement.Agree.{Agrees, agrees, nowhere, inode_with, dir_with}
+use Rattle.fs_inodes.proofs.agreement.Agree.{Agrees, agrees, nowhere, inode_named}
 use Rattle.fs_inodes.proofs.commands.Adding.{one_dir}
 use Rattle.fs_inodes.proofs.scanning.Scanning.{path_to}
 
@@ -68,7 +68,7 @@ module _ (laws : TreeLaws) (limit : ℕ) (m w : Inodes) (t u : Tree) (seen : IsM
       by p at (inr end) =
           let up = a.sound.parents end.0 end.1 s.node (ap (get t.names) (sym end.2) ∙ at) in
           let entry : entry_in (m up.0) end.1 ≡ Some s.node = sym (step_at (entries_of m) (get t.names) a.goes end.0 end.1 up.0 up.1) ∙ ap (get t.names) (sym end.2) ∙ at in
-          let slots_up = dir_with (m up.0) end.1 s.node entry in
+          let slots_up : (slots : List Slot) × (m up.0 ≡ Some (ADir slots)) = grind (arith, none-some, m up.0, entry) in
           let v = found slots_up.0 end.1 s.node (sym (ap (λ o. entry_in o end.1) slots_up.1) ∙ entry) in
           by_slot up.0 v.1.0 slots_up.0 v.0 slots_up.1 v.1.1 v.3
 
@@ -85,7 +85,7 @@ module _ (laws : TreeLaws) (limit : ℕ) (m w : Inodes) (t u : Tree) (seen : IsM
         ap (get t.names) (sym (append_assoc here (x ∷ []) rest)) ∙ by (which (entries_of m k x)) (λ j one two. same_from (here ++ x ∷ []) rest j one two) ∙ ap (get u.names) (append_assoc here (x ∷ []) rest)
       where
         inode : (y : Inode) × (m k ≡ Some y)
-        inode = let y = a.sound.named here k at_t in inode_with (m k) y.0 (sym (a.nodes k) ∙ y.1)
+        inode = inode_named limit m t a here k at_t
 
         in_t : get t.names (here ++ x ∷ []) ≡ entries_of m k x
         in_t = step_at (entries_of m) (get t.names) a.goes here x k at_t
@@ -107,8 +107,7 @@ module _ (laws : TreeLaws) (limit : ℕ) (m w : Inodes) (t u : Tree) (seen : IsM
     pub all_seen : (k : ℕ) (x : Inode) → w k ≡ Some x → (y : Inode) × (m k ≡ Some y)
     all_seen k x in_w =
         let p = path_to limit w u c k x in_w in
-        let y = a.sound.named p.0 k (ap (λ names. get names p.0) same_names ∙ p.1) in
-        inode_with (m k) y.0 (sym (a.nodes k) ∙ y.1)
+        inode_named limit m t a p.0 k (ap (λ names. get names p.0) same_names ∙ p.1)
 
     -- and each file says how many slots name it
     pub links_fit : (k one all : ℕ) (bytes more : List ℕ) → m k ≡ Some (AFile one bytes) → w k ≡ Some (AFile all more) → one ≡ all

@@ -17,7 +17,7 @@ use Rattle.fs_inodes.specs.Scan.{IsPartOf, IsThrough, SawAll, LinksFit}
 use Rattle.fs_inodes.specs.TreeLaws.{TreeLaws}
 use Rattle.fs_inodes.proofs.basics.Paths.{Path}
 use Rattle.fs_inodes.proofs.agreement.Steps.{step_at}
-use Rattle.fs_inodes.proofs.agreement.Agree.{Agrees, agrees, inode_with}
+use Rattle.fs_inodes.proofs.agreement.Agree.{Agrees, agrees, inode_named}
 use Rattle.fs_inodes.proofs.commands.Adding.{one_dir, dir_file}
 use Rattle.fs_inodes.proofs.sums.Totals.{sum_from}
 use Rattle.fs_inodes.proofs.lookups.NamingSlots.{paths_are_slots, file_apart}
@@ -253,7 +253,7 @@ module _ (laws : TreeLaws) (limit : ℕ) (w : Inodes) (rules : FollowsRules limi
     same_in_use k x b h1 = grind (arith, s.part.files)
 
     used_at : (p : Path) (k : ℕ) → get s.tree.names p ≡ Some k → (x : Inode) × (m k ≡ Some x)
-    used_at p k at = let y = e.sound.named p k at in inode_with (m k) y.0 (sym (e.nodes k) ∙ y.1)
+    used_at = inode_named limit m s.tree e
 
     -- where the whole map leads, a path of the tree does
     leads_there : (here rest : Path) (k j : ℕ) → get s.tree.names here ≡ Some k → walk (entries_of w) k rest ≡ Some j → get s.tree.names (here ++ rest) ≡ Some j

@@ -19,10 +19,6 @@ use Rattle.fs_inodes.proofs.commands.Adding.{adds_name, one_dir, dir_file, node_
 
 -- The root alone.
 
--- only the root is there
-at_root : (k : ℕ) (x : Inode) → root_alone k ≡ Some x → (k ≡ 1) × (x ≡ ADir [])
-at_root k x h1 = grind (arith, none-some, same_Some)
-
 -- no slots are no slots
 no_slots : {slots : List Slot} → ADir slots ≡ ADir [] → slots ≡ []
 no_slots e = cc
@@ -30,8 +26,8 @@ no_slots e = cc
 -- the root alone is a part where the root is a directory
 pub root_is_part : (w : Inodes) (slots : List Slot) → w 1 ≡ Some (ADir slots) → IsPartOf root_alone w
 root_is_part w slots root = record {
-  dirs = λ k seen is. let r = at_root k (ADir seen) is in (slots, ap w r.0 ∙ root ∙ ap (λ l. Some (ADir (l ++ slots))) (sym (no_slots r.1)));
-  files = λ k links bytes is. absurd (dir_file [] links bytes refl (ap Some (sym (at_root k _ is).1)));
+  dirs = λ k seen is. let r : (k ≡ 1) × (ADir seen ≡ ADir []) = grind (arith, none-some, same_Some, is) in (slots, ap w r.0 ∙ root ∙ ap (λ l. Some (ADir (l ++ slots))) (sym (no_slots r.1)));
+  files = λ k links bytes is. absurd (dir_file [] links bytes refl (ap Some (grind (arith, none-some, same_Some, is))));
 }
 
 -- A slot more.

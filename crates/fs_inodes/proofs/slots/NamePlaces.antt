@@ -1,5 +1,5 @@
 -- The place of a name among slots, what is under it, and the slots with one that has the name.
-use Rattle.std.proofs.Common.{◌≡◌, ℕ, zero, suc, ◌+◌, ◌-◌, ◌<◌, ◌≤◌, nat_lt, Bool, true, false, cond, not, List, [], ◌∷◌, ◌++◌, length, take, set, get_or, bytes_eq, slice_get, Option, Some, None, refl, sym, ap, ◌∙◌, arith, length-append, take_all}
+use Rattle.std.proofs.Common.{◌≡◌, ℕ, zero, suc, ◌+◌, ◌<◌, ◌≤◌, nat_lt, Bool, true, false, cond, not, List, [], ◌∷◌, ◌++◌, length, take, set, get_or, bytes_eq, slice_get, Option, Some, None, refl, sym, ap, ◌∙◌, arith, length-append, take_all}
 use Rattle.std.proofs.lemmas.Bool.{ltb-true, ltb-false, le-ltb}
 use Rattle.std.proofs.lemmas.List.{take-append-le, length-set}
 use Rattle.std.proofs.lemmas.Slice.Eq.{bytes_eq-Decides}
