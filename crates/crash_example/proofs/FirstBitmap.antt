@@ -11,16 +11,6 @@ use Rattle.layout_bytes.specs.Bitmap.{is_set, first_bits, first_bits_block}
 use Rattle.layout_journal.specs.Run.{is_live}
 use Rattle.crash_example.specs.FirstRecord.{least, first_bitmap}
 
--- a bit of a byte that has the bits of the first d blocks
-bit_of_first : (d b : ℕ) → (bit_at (first_bits d (b / 8)) (b % 8) == 1) ≡ nat_lt b d
-bit_of_first d b = ⊎_elim inside outside (cases_lt b d)
-  where
-    inside : b < d → (bit_at (first_bits d (b / 8)) (b % 8) == 1) ≡ nat_lt b d
-    inside lt = ap (λ x. x == 1) (bit_at_ones (min (d - 8 * (b / 8)) 8) (b % 8) (omega arith)) ∙ sym (lt-ltb b d lt)
-
-    outside : d ≤ b → (bit_at (first_bits d (b / 8)) (b % 8) == 1) ≡ nat_lt b d
-    outside ge = ap (λ x. x == 1) (bit_at_ones_above (min (d - 8 * (b / 8)) 8) (b % 8) (omega arith)) ∙ sym (le-ltb b d ge)
-
 -- a byte of the formatted bitmap
 byte_before : (d i n : ℕ) → i < n → get_or (map (first_bits d) (range_with_len 0 n)) i 0 ≡ first_bits d i
 byte_before d i n lt = get_or-map-range_with_len (first_bits d) 0 n i i 0 lt (omega arith)
@@ -39,7 +29,9 @@ bits_are m d b bytes is low byte =
     ∙ ap (λ i. bit_at (get_or (m 18) i 0) (b % 8) == 1) {x = b % 8192 / 8} {y = b / 8} (omega arith)
     ∙ ap (λ (xs : List ℕ). bit_at (get_or xs (b / 8) 0) (b % 8) == 1) is
     ∙ ap (λ x. bit_at x (b % 8) == 1) byte
-    ∙ bit_of_first d b
+    ∙ ⊎_elim
+    (λ lt. ap (λ x. x == 1) (bit_at_ones (min (d - 8 * (b / 8)) 8) (b % 8) (omega (arith, lt))) ∙ sym (lt-ltb b d lt))
+    (λ ge. ap (λ x. x == 1) (bit_at_ones_above (min (d - 8 * (b / 8)) 8) (b % 8) (omega (arith, ge))) ∙ sym (le-ltb b d ge)) (cases_lt b d)
 
 -- before the record the bits are those of the first 23 blocks
 pub set_before : (m : Blocks) → m 18 ≡ first_bits_block 23 0 → (b : ℕ) → b < 64 → is_set least m b ≡ nat_lt b 23
