@@ -26,12 +26,11 @@ use Rattle.engine_checkpoint.proofs.Index.{kept_turned, kept_ended}
 
 -- The newest payload in a row of records, of which some before it have left.
 
-newest_step : (before : Option (List ℕ)) (k : Kept) (b : ℕ) → (newest_after None k b ≡ newest_after before k b) ⊎ (newest_after None k b ≡ None)
-newest_step before k b = grind (arith, nat_tests)
-
 newest_more : (before : Option (List ℕ)) (ks : List Kept) (b : ℕ) (x : List ℕ) → newest_in None ks b ≡ Some x → newest_in before ks b ≡ Some x
 newest_more before [] b x is = absurd (none-some x is)
-newest_more before (k ∷ ks) b x is = ⊎_elim (λ same. ap (λ o. newest_in o ks b) (sym same) ∙ is) (λ none. newest_more (newest_after before k b) ks b x (ap (λ o. newest_in o ks b) (sym none) ∙ is)) (newest_step before k b)
+newest_more before (k ∷ ks) b x is =
+    let step : (newest_after None k b ≡ newest_after before k b) ⊎ (newest_after None k b ≡ None) = grind (arith, nat_tests) in
+    ⊎_elim (λ same. ap (λ o. newest_in o ks b) (sym same) ∙ is) (λ none. newest_more (newest_after before k b) ks b x (ap (λ o. newest_in o ks b) (sym none) ∙ is)) step
 
 -- records that have left don't take away the newest payload of those behind them
 pub newest_before : (n : ℕ) (ks : List Kept) (b : ℕ) (x : List ℕ) → newest_in None (drop n ks) b ≡ Some x → newest_in None ks b ≡ Some x

@@ -17,6 +17,7 @@ use Rattle.engine_checkpoint.specs.Waits.{HearsMore}
 use Rattle.engine_checkpoint.specs.Advance.{IsSound, HasTurns, LeavesTurns, MayServe, NothingIsDue, writes_owed}
 use Rattle.engine_checkpoint.proofs.Hears.{expected_same, heard_opens}
 
+-- the pipeline with other notes
 abbrev pub heard : Pipeline → Expected → Pipeline
 heard v notes = record v { notes = notes }
 

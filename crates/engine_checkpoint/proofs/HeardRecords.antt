@@ -12,7 +12,7 @@ use Rattle.disk_contract.specs.Cell.{IsNoticed, notices}
 use Rattle.disk_contract.specs.Disk.{State, AreWrites, GrowsByWrites, HearsAlone}
 use Rattle.disk_contract.specs.Manner.{Manner}
 use Rattle.crash_argument.specs.HomeTest.{is_one_of}
-use Rattle.crash_argument.specs.Writes.{AddsWrites, AddsFront, AddsAll}
+use Rattle.crash_argument.specs.Writes.{AddsWrites, AddsAll}
 use Rattle.engine_notes.specs.declared.notes.Note.{Note}
 use Rattle.engine_notes.specs.Notes.{Expected, is_expected, is_noticed, is_open}
 use Rattle.engine_running.specs.Writes.{fresh_write}
@@ -72,12 +72,11 @@ grows_writes [] (t ∷ ts) old new bad = absurd bad
 grows_writes (w ∷ ws) [] old new bad = absurd bad
 grows_writes (w ∷ ws) (t ∷ ts) old new adds = grows_on old (old ++ Wrote t w.0 w.1 ∷ []) new (record { more = Wrote t w.0 w.1 ∷ []; log = refl; writes = tt }) (grows_writes ws ts (old ++ Wrote t w.0 w.1 ∷ []) new adds.2)
 
-grows_front : (ws : List (ℕ × List ℕ)) (old new : List Event) → AddsFront ws old new → GrowsByWrites old new
-grows_front ws old new f = grows_on old f.middle new (grows_writes f.front f.tickets old f.middle f.accepted) (⊎_elim (λ same. grows_none f.middle new same) (λ (b, x, later, next, log). record { more = Lost b x ∷ []; log = log; writes = tt }) f.ends)
-
 grows_all : {A E : Type 0} (ws : List (ℕ × List ℕ)) (r : Result A E) (before now : List ℕ) (old new : List Event) → AddsAll ws r before now old new → GrowsByWrites old new
 grows_all ws (Ok a) before now old new adds = grows_writes ws adds.0 old new adds.2
-grows_all ws (Err e) before now old new adds = grows_front ws old new adds
+grows_all ws (Err e) before now old new f =
+    let lost : GrowsByWrites f.middle new = ⊎_elim (λ same. grows_none f.middle new same) (λ (b, x, later, next, log). record { more = Lost b x ∷ []; log = log; writes = tt }) f.ends in
+    grows_on old f.middle new (grows_writes f.front f.tickets old f.middle f.accepted) lost
 
 pub grows_batch : {A E : Type 0} (due : Bool) (r : Result A E) (v w : Pipeline) (old new : List Event) → AddsBatch due r v w old new → GrowsByWrites old new
 grows_batch true r v w old new adds = grows_all (map fresh_write adds.0) r [] (map home_ticket w.home.items) old new adds.2

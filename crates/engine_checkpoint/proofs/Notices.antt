@@ -20,6 +20,7 @@ use Rattle.engine_checkpoint.specs.Agree.{HomeIsSent, PipelineAgrees, NotesAreTr
 use Rattle.engine_checkpoint.specs.Steps.{TakesOne}
 use Rattle.engine_checkpoint.proofs.Apart.{accepted_more, greatest_more, apart_on}
 use Rattle.engine_checkpoint.proofs.Expected.{expected_with, same_more}
+use Rattle.engine_checkpoint.proofs.Heard.{heard}
 use Rattle.engine_checkpoint.proofs.HomeSent.{sent_noticed}
 
 -- what is noticed stays so, and the last notice is one
@@ -44,13 +45,9 @@ noticed_or false e t u is = inl (sym (eqb-true t u (and_parts (t == u) e is).0))
 pub notes_more : (t : ℕ) (log : List Event) (old new : List Note) → NotesAreTrue log old → ((u : ℕ) → is_noticed u new ≡ (is_noticed u old || (t == u && is_expected u old))) → NotesAreTrue (log ++ Noticed t ∷ []) new
 notes_more t log old new true_then mark u e = ⊎_elim (λ same. subst (λ n. IsNoticed n (log ++ Noticed t ∷ [])) (sym same) (last_noticed t log)) (λ was. noticed_before u log (Noticed t) (true_then u was)) (noticed_or (is_noticed u old) (is_expected u old) t u (sym (mark u) ∙ e))
 
--- the pipeline with other notes
-abbrev pub with_notes : Pipeline → Expected → Pipeline
-with_notes v notes = record v { notes = notes }
-
 module _ (base : Blocks) (log new : List Event) (l : Ledger) (v : Pipeline) (ring : RingPlaces) (waiting : List (ℕ × ℕ)) (taken : List ℕ) (a : PipelineAgrees base log l v ring waiting taken) where
   pub moved : (notes : Expected) → DataAgree base new l (data_of v ring waiting) → NoneIsBeingWritten (cell_of base new) l → HasOnePending base new l (data_of v ring waiting) [] → NotesAreTrue new notes.notes → ((u : ℕ) → is_expected u notes.notes ≡ is_expected u v.notes.notes)
-      → MayWriteAllFresh new l (data_of v ring waiting) taken → greatest_ticket log ≤ greatest_ticket new → ((u : ℕ) → IsAccepted u log → IsAccepted u new) → HomeIsSent l.geom new (map home_pair v.home.items) → PipelineAgrees base new l (with_notes v notes) ring waiting taken
+      → MayWriteAllFresh new l (data_of v ring waiting) taken → greatest_ticket log ≤ greatest_ticket new → ((u : ℕ) → IsAccepted u log → IsAccepted u new) → HomeIsSent l.geom new (map home_pair v.home.items) → PipelineAgrees base new l (heard v notes) ring waiting taken
   moved notes agree idle one true_now same free grows stays sent = record {
     geom = a.geom;
     ring_geom = a.ring_geom;
@@ -85,7 +82,7 @@ module _ (base : Blocks) (log new : List Event) (l : Ledger) (v : Pipeline) (rin
       → ((base : Blocks) (log : List Event) (l : Ledger) (p : PipelineData) (uw : List ℕ) (t : ℕ) → HasOnePending base log l p uw → HasOnePending base (log ++ Noticed t ∷ []) l p uw)
       → ((log more : List Event) (l : Ledger) (p : PipelineData) (taken : List ℕ) → MayWriteAllFresh log l p taken → MayWriteAllFresh (log ++ more) l p taken)
       → ((u : ℕ) → is_expected u notes.notes ≡ is_expected u v.notes.notes) → ((u : ℕ) → is_noticed u notes.notes ≡ (is_noticed u v.notes.notes || (t == u && is_expected u v.notes.notes)))
-      → PipelineAgrees base new l (with_notes v notes) ring waiting taken
+      → PipelineAgrees base new l (heard v notes) ring waiting taken
   agrees_notice t notes is agree idle one free same mark = moved notes agree
       (subst (λ (lg : List Event). NoneIsBeingWritten (cell_of base lg) l) (sym is) (idle base log l t a.idle))
       (subst (λ (lg : List Event). HasOnePending base lg l (data_of v ring waiting) []) (sym is) (one base log l (data_of v ring waiting) [] t a.one))

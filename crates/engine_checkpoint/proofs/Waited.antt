@@ -14,8 +14,9 @@ use Rattle.engine_notes.specs.Notes.{Expected, is_expected, is_noticed}
 use Rattle.engine_checkpoint.specs.declared.pipeline.Pipeline.{Pipeline}
 use Rattle.engine_checkpoint.specs.Agree.{HomeIsSent, PipelineAgrees, data_of, home_pair}
 use Rattle.engine_checkpoint.proofs.Apart.{accepted_more, greatest_more}
+use Rattle.engine_checkpoint.proofs.Heard.{heard}
 use Rattle.engine_checkpoint.proofs.HomeSent.{sent_noticed}
-use Rattle.engine_checkpoint.proofs.Notices.{moved, noticed_before, with_notes}
+use Rattle.engine_checkpoint.proofs.Notices.{moved, noticed_before}
 
 -- what one notice keeps, a row of them keeps
 pub through_notices : (P : List Event → Type 0) → ((log : List Event) (t : ℕ) → P log → P (log ++ Noticed t ∷ [])) → (ts : List ℕ) (log : List Event) → P log → P (log ++ notices ts)
@@ -34,7 +35,7 @@ module _ (base : Blocks) (log new : List Event) (l : Ledger) (v : Pipeline) (rin
       → ((base : Blocks) (log : List Event) (l : Ledger) (p : PipelineData) (uw : List ℕ) (t : ℕ) → HasOnePending base log l p uw → HasOnePending base (log ++ Noticed t ∷ []) l p uw)
       → ((log more : List Event) (l : Ledger) (p : PipelineData) (taken : List ℕ) → MayWriteAllFresh log l p taken → MayWriteAllFresh (log ++ more) l p taken)
       → ((u : ℕ) → is_expected u notes.notes ≡ is_expected u v.notes.notes) → ((u : ℕ) → is_noticed u notes.notes ≡ true → (is_noticed u v.notes.notes ≡ true) ⊎ IsNoticed u new)
-      → PipelineAgrees base new l (with_notes v notes) ring waiting taken
+      → PipelineAgrees base new l (heard v notes) ring waiting taken
   agrees_waited ts notes is agree idle one free same marks = moved base log new l v ring waiting taken a notes agree
       (subst (λ (lg : List Event). NoneIsBeingWritten (cell_of base lg) l) (sym is) (through_notices (λ lg. NoneIsBeingWritten (cell_of base lg) l) (λ lg t. idle base lg l t) ts log a.idle))
       (subst (λ (lg : List Event). HasOnePending base lg l (data_of v ring waiting) []) (sym is) (through_notices (λ lg. HasOnePending base lg l (data_of v ring waiting) []) (λ lg t. one base lg l (data_of v ring waiting) [] t) ts log a.one))
