@@ -1,5 +1,5 @@
 -- Logs that go on by writes alone: no notice comes by them.
-use Rattle.std.proofs.Common.{◌≡◌, ℕ, ◌==◌, false, ◌||◌, List, [], ◌∷◌, ◌++◌, refl, sym, ap, ◌∙◌, append_assoc}
+use Rattle.std.proofs.Common.{◌≡◌, ℕ, ◌==◌, false, ◌||◌, List, [], ◌∷◌, ◌++◌, refl, sym, ap, ◌∙◌}
 use Rattle.std.proofs.lemmas.List.{append-nil}
 use Rattle.disk_contract.specs.declared.event.Event.{Event}
 use Rattle.disk_contract.specs.declared.event.Event.TheVariants.{Wrote, Lost, Noticed}
@@ -24,18 +24,11 @@ pub heard_same : (t : ℕ) (old new : List Event) → GrowsByWrites old new → 
 heard_same t old new grows = ap (is_noticed t) grows.log ∙ told_before t old grows.more grows.writes
 
 -- writes behind writes
-writes_on : (xs ys : List Event) → AreWrites xs → AreWrites ys → AreWrites (xs ++ ys)
+pub writes_on : (xs ys : List Event) → AreWrites xs → AreWrites ys → AreWrites (xs ++ ys)
 writes_on [] ys h k = k
 writes_on (Wrote ticket block bytes ∷ xs) ys h k = writes_on xs ys h k
 writes_on (Lost block bytes ∷ xs) ys h k = writes_on xs ys h k
 writes_on (Noticed ticket ∷ xs) ys h k = absurd h
-
-pub grows_on : (a b c : List Event) → GrowsByWrites a b → GrowsByWrites b c → GrowsByWrites a c
-grows_on a b c one two = record {
-  more = one.more ++ two.more;
-  log = two.log ∙ ap (λ (es : List Event). es ++ two.more) one.log ∙ append_assoc a one.more two.more;
-  writes = writes_on one.more two.more one.writes two.writes;
-}
 
 -- a log that stays goes on by no writes
 pub grows_by_none : (a b : List Event) → b ≡ a → GrowsByWrites a b

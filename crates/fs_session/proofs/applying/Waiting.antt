@@ -1,5 +1,6 @@
 -- A command that needn't wait for the disk has writes alone behind the notices of its tick.
-use Rattle.std.proofs.Common.{◌≡◌, ◌≢◌, inl, inr, ⊎_elim, ◌-◌, ◌≤◌, Bool, false, IsTrue, filter, length, Result, refl, sym, subst, ap, ap₂, ◌∙◌, arith}
+use Rattle.std.proofs.Common.{◌≡◌, ◌≢◌, inl, inr, ⊎_elim, ◌-◌, ◌≤◌, Bool, false, IsTrue, List, ◌++◌, filter, length, Result, refl, sym, subst, ap, ap₂, ◌∙◌, append_assoc, arith}
+use Rattle.disk_contract.specs.declared.event.Event.{Event}
 use Rattle.disk_contract.specs.Disk.{GrowsByWrites, PollsThenWrites}
 use Rattle.layout_geometry.specs.Geometry.{Geometry, data_start}
 use Rattle.lang_tree.specs.declared.command.Cmd.{Cmd}
@@ -14,7 +15,7 @@ use Rattle.engine_blocks.specs.State.{Bookkeeping, State, data_blocks, reusable_
 use Rattle.fs_session.specs.Applying.{Began, NeedsNoWait, Runs, Ticks}
 use Rattle.fs_session.specs.Commands.{Carries, figures_on}
 use Rattle.fs_session.specs.Sessions.{IsSession}
-use Rattle.fs_session.proofs.Logs.{grows_by_none, grows_on}
+use Rattle.fs_session.proofs.Logs.{grows_by_none, writes_on}
 use Rattle.fs_session.specs.Staying.{session_ticks}
 use Rattle.fs_session.proofs.applying.Ticking.{ticked_first}
 use Rattle.fs_session.proofs.rooms.Lists.{as_many_kept}
@@ -66,6 +67,12 @@ module _ {S : Type 0} (tells : Bool) (state : S → State) (told : IsTrue tells)
     ((ticked_first tells state cmd reply old new began).polled told p is).0,
     ⊎_elim
         (λ failed. (failed.0.writes told p is).1)
-        (λ ran. grows_on p.log (state began.mid).crash.log (state new).crash.log (ran.0.writes told p is).1
-        (of_run f cmd began.result old began.mid new good ran.0 (session_ticks tells false (state old) (state began.mid) ran.0 f going told h) needs ran.1)) began.ran,
+        (λ ran.
+        let first = (ran.0.writes told p is).1 in
+        let then = of_run f cmd began.result old began.mid new good ran.0 (session_ticks tells false (state old) (state began.mid) ran.0 f going told h) needs ran.1 in
+        record {
+          more = first.more ++ then.more;
+          log = then.log ∙ ap (λ (es : List Event). es ++ then.more) first.log ∙ append_assoc p.log first.more then.more;
+          writes = writes_on first.more then.more first.writes then.writes;
+        }) began.ran,
   )

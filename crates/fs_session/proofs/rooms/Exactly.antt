@@ -39,15 +39,6 @@ use Rattle.fs_session.proofs.rooms.Nodes.{marked_is}
 use Rattle.fs_session.proofs.rooms.Over.{begun_over, itself, synced_over, tick_back}
 use Rattle.fs_session.proofs.rooms.Waits.{all_or_none, room_on_with, same_wait, serves_room, syncs_room_on}
 
--- what failed for the disk is refused so
-disk_fault : (why : Refusal) → is_disk_fault (Err why) ≡ true → why ≡ because.DiskFault
-disk_fault because.DiskFault e = refl
-disk_fault why e = absurd (false≢true e)
-
-fault_reply : (result : Result Reply Refusal) → is_disk_fault result ≡ true → reply_for result ≡ Refused because.DiskFault
-fault_reply (Ok reply) e = absurd (false≢true e)
-fault_reply (Err why) e = ap (λ w. Refused w) (disk_fault why e)
-
 -- a point that is waited for since is a new one, and waits for a write behind the tick, which made no point
 awaits_since : (old mid new : State) → IsTold mid → mid.books.point ≡ old.books.point → Advances old mid → Advances mid new → (p t : ℕ) → new.crash.awaits p t → old.crash.awaits p t ⊎ ((old.books.point < p) × (is_accepted t mid.crash.log ≡ false))
 awaits_since old mid new told point first then p t waits = by (then.awaits p t waits)
@@ -353,7 +344,7 @@ module _ {S : Type 0} (tells : Bool) (state : S → State) (known : Known tells 
             same = session_ticks tells false (state old) (state s) ticks f going known.told h
 
             by : (is_disk_fault result ≡ true) ⊎ (is_disk_fault result ≡ false) → LeavesSession state old new (AnyOver s reply)
-            by (inl fault) = faulted s (is ∙ fault_reply result fault)
+            by (inl fault) = let refused : reply_for result ≡ Refused because.DiskFault = grind (arith, false≢true, fault) in faulted s (is ∙ refused)
             by (inr well) =
                 let x = begins_at f cmd (reply_for result) old s new ticks same (run_at f result s new well same cmd good ticks.moves.disk.stopped runs) in
                 (x.0, x.1, x.2, subst (λ (r : Reply). AnyOver s r x.0) (sym is) (inr (inr x.3)))

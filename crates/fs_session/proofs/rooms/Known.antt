@@ -94,10 +94,6 @@ back_again g f r s t one two = record {
   is_room = two.is_room;
 }
 
--- and a room of the session came back to itself
-pub back_at_once : (g : Geometry) (f : Session) (r : Room) → IsRoomOf g f r → ComesBack g f r r
-back_at_once g f r is = record { weight = refl; held = refl; keeps = record { places = refl; takeable = λ b may. may }; is_room = is }
-
 module _ {S : Type 0} (tells : Bool) (state : S → State) (known : Known tells state) where
   -- the room with what may be taken by another bookkeeping of the same blocks
   pub room_is_with : (s : S) (f : Session) → IsSession (state s) f → (k : Bookkeeping) → IsSound k → k.geom ≡ (state s).books.geom → k.marked ≡ (state s).books.marked → k.running ≡ (state s).books.running → IsRoomOf (state s).books.geom f (room_with (state s) k)

@@ -1,12 +1,12 @@
 -- The numbers of a range that pass a test: where two tests keep the same ones, and what is left without the first of them. The blocks of nodes, one behind the other.
 use Rattle.std.proofs.Common.{⊎_elim, [], ◌≡◌, ◌≢◌, ◌⊎◌, inl, inr, ℕ, zero, suc, ◌+◌, ◌<◌, ◌≤◌, Bool, true, false, not, ◌&&◌, ◌||◌, cond, List, ◌∷◌, ◌++◌, length, take, drop, filter, refl, sym, ap, ap₂, subst, ◌∙◌, arith}
 use Rattle.std.proofs.Math.Bool.{and-false}
-use Rattle.std.proofs.lemmas.Bool.{cases_Bool, cases_eq, eq-eqb, ne_eqb, true≢false, false≢true}
+use Rattle.std.proofs.lemmas.Bool.{cases_Bool, cases_eq, eq-eqb, ne_eqb, or_left, or_right, true≢false, false≢true}
 use Rattle.std.specs.List.{range_with_len}
 use Rattle.engine_blocks.specs.Ranges.{counted, same_from, first_passes, first_fails}
 use Rattle.engine_blocks.specs.Running.{has}
 use Rattle.fs_session.specs.Room.{node_blocks}
-use Rattle.fs_session.proofs.standing.Lists.{in_append, in_first, in_second, is_kept, kept_is}
+use Rattle.fs_session.proofs.standing.Lists.{has_append, in_append, is_kept, kept_is}
 
 -- a test keeps fewer than one that passes what it passes, or the same
 fewer_or_same : (p q : ℕ → Bool) (a n : ℕ) → ((b : ℕ) → a ≤ b → b < a + n → p b ≡ true → q b ≡ true) → (counted p a n < counted q a n) ⊎ (filter p (range_with_len a n) ≡ filter q (range_with_len a n))
@@ -97,8 +97,8 @@ among_nodes places zero k b from upto is = absurd (omega (arith, from, upto))
 among_nodes places (suc n) k b from upto is = by (cases_eq k (suc n)) (λ below. among_nodes places n k b from below is)
   where
     by : (k ≡ suc n) ⊎ (k ≢ suc n) → (k ≤ n → has (node_blocks places n) b ≡ true) → has (node_blocks places n ++ places (suc n)) b ≡ true
-    by (inl last) further = in_second (node_blocks places n) (places (suc n)) b (ap (λ j. has (places j) b) (sym last) ∙ is)
-    by (inr other) further = in_first (node_blocks places n) (places (suc n)) b (further (omega (arith, upto, other)))
+    by (inl last) further = has_append (node_blocks places n) (places (suc n)) b ∙ or_right (has (node_blocks places n) b) (has (places (suc n)) b) (ap (λ j. has (places j) b) (sym last) ∙ is)
+    by (inr other) further = has_append (node_blocks places n) (places (suc n)) b ∙ or_left (has (node_blocks places n) b) (has (places (suc n)) b) (further (omega (arith, upto, other)))
 
 -- and one of their blocks is a block of one of them
 pub node_among : (places : ℕ → List ℕ) (n b : ℕ) → has (node_blocks places n) b ≡ true → (k : ℕ) × (has (places k) b ≡ true)

@@ -30,7 +30,7 @@ use Rattle.fs_session.specs.Memory.{room_of}
 use Rattle.fs_session.specs.Room.{HoldsTree, node_blocks}
 use Rattle.fs_session.proofs.standing.Lists.{has_place}
 use Rattle.fs_session.proofs.standing.Marks.{HasSlots, HasItsBytes, inode_has, place_marked}
-use Rattle.fs_session.proofs.standing.Nodes.{block_place, first_fits, fits_parts, place_data, places_at, used_fits, used_number}
+use Rattle.fs_session.proofs.standing.Nodes.{block_place, first_fits, place_data, places_at, used_fits, used_number}
 use Rattle.fs_session.proofs.rooms.Lists.{among_nodes, node_among}
 
 -- The runs of a node.
@@ -56,7 +56,7 @@ in_few_runs back many g m k = by (used_node g m k) refl
     by : (o : Option Node) → used_node g m k ≡ o → stretches (places_or_none o) ≤ 28
     by None none = omega arith
     by (Some node) used =
-        let fits = fits_parts g node (used_fits g m k node used) in
+        let fits = used_fits g m k node used in
         omega (arith, fits.few, many (run_places node.runs), ap (λ (rs : List Run). length rs) (back node.runs (are_tidy g 0 node.runs fits.runs)))
 
 -- How many blocks a node has.

@@ -22,7 +22,7 @@ use Rattle.fs_session.specs.Staying.{session_ticks}
 use Rattle.fs_session.proofs.applying.Cases.{answered_as}
 use Rattle.fs_session.proofs.rooms.Answered.{bad_in, known_in, polled_in}
 use Rattle.fs_session.proofs.rooms.Carried.{carried_over}
-use Rattle.fs_session.proofs.rooms.Known.{Known, LeavesSession, back_again, back_at_once, brings_back, keeps_room, room_is}
+use Rattle.fs_session.proofs.rooms.Known.{Known, LeavesSession, back_again, brings_back, keeps_room, room_is}
 
 -- the blocks are those of a session after a command that began, which was answered in a room that came back
 abbrev pub AnswersBack : {S : Type 0} → (S → State) → Session → Cmd → Reply → S → S → Type 0
@@ -63,7 +63,7 @@ held_after r = ⊎_elim
 module _ {S : Type 0} (tells : Bool) (state : S → State) (known : Known tells state) where
   -- a session's room came back to itself
   pub itself : (f : Session) (s : S) → IsSession (state s) f → ComesBack (state s).books.geom f (room_of (state s)) (room_of (state s))
-  itself f s h = back_at_once (state s).books.geom f (room_of (state s)) (room_is tells state known s f h)
+  itself f s h = record { weight = refl; held = refl; keeps = record { places = refl; takeable = λ b may. may }; is_room = room_is tells state known s f h }
 
   -- a sync
   pub synced_over : (orders : Bool) (f : Session) (cmd : Cmd) (result : Result Reply Refusal) (old new : S) → IsSession (state old) f → SyncsSession tells orders cmd result (state old) (state new)

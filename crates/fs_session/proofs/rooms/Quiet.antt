@@ -10,7 +10,6 @@ use Rattle.lang_tree.specs.declared.command.Reply.TheVariants.{Refused}
 use Rattle.lang_tree.specs.Step.{Session, step, osync}
 use Rattle.fs_session.specs.DiskRoom.{AnswersOn, AnswersOver, BeginsOver, IsRoomOf, SyncsOver, without_memory}
 use Rattle.fs_session.specs.Room.{Room}
-use Rattle.fs_session.proofs.rooms.Known.{back_at_once}
 use Rattle.fs_session.proofs.rooms.Over.{answers_on}
 
 -- a command is answered, and the room is one of the session that follows
@@ -28,7 +27,7 @@ osync_tree f false = refl
 
 module _ (g : Geometry) (f : Session) (r : Room) (is : IsRoomOf g f r) where
   begins : (cmd : Cmd) (reply : Reply) (next : Session) → AnswersOver g f r cmd reply next r → IsRoomOf g next r → BeginsOver g f r cmd reply next r
-  begins cmd reply next answers same = record { back = r; comes_back = back_at_once g f r is; answers = answers; is_room = same }
+  begins cmd reply next answers same = record { back = r; comes_back = record { weight = refl; held = refl; keeps = record { places = refl; takeable = λ b may. may }; is_room = is }; answers = answers; is_room = same }
 
   -- a sync, done where it has nothing to commit, and else out of memory
   quiet_sync : (cmd : Cmd) → (step f cmd).0.tree ≡ f.tree

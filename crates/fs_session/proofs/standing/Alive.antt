@@ -1,6 +1,6 @@
 -- Blocks that have the live blocks of others stand for the same tree.
-use Rattle.std.proofs.Common.{◌≡◌, ℕ, ◌+◌, ◌-◌, ◌*◌, ◌/◌, ◌%◌, ◌<◌, ◌≤◌, nat_le, nat_lt, Bool, true, false, ◌&&◌, ◌||◌, List, drop, take, length, Option, None, Some, option_map, refl, sym, subst, ap, ap₂, ◌∙◌, arith}
-use Rattle.std.proofs.lemmas.Bool.{and_parts, leb-true, ltb-true}
+use Rattle.std.proofs.Common.{⊎_elim, ◌≡◌, ℕ, ◌+◌, ◌-◌, ◌*◌, ◌/◌, ◌%◌, ◌<◌, ◌≤◌, nat_le, nat_lt, true, ◌&&◌, ◌||◌, List, drop, take, length, Option, None, Some, option_map, refl, sym, subst, ap, ap₂, ◌∙◌, arith}
+use Rattle.std.proofs.lemmas.Bool.{and_parts, cases_Bool, leb-true, ltb-true}
 use Rattle.base_types.specs.Seal.{Blocks}
 use Rattle.base_types.specs.Runs.{run_places}
 use Rattle.layout_geometry.specs.Geometry.{Geometry, IsGeometry, bitmap_start, bitmap_blocks, table_start, data_start, nodes_in_block}
@@ -17,12 +17,8 @@ use Rattle.crash_stands.specs.Inodes.{IsInodeOf}
 use Rattle.crash_stands.specs.Stands.{HasBlock, AreSound, IsTreeOf}
 use Rattle.lang_tree.specs.Tree.{Tree}
 use Rattle.fs_files.specs.Calls.{places_or_none}
-use Rattle.fs_session.proofs.standing.Nodes.{node_data, joined_same}
+use Rattle.fs_session.proofs.standing.Nodes.{joined_same, runs_data, used_fits}
 use Rattle.fs_session.proofs.standing.Marks.{data_live, low_live, place_marked}
-
-when_same : {A : Type 0} (t : Bool) (x y : Option A) → (t ≡ true → x ≡ y) → when t x ≡ when t y
-when_same true x y e = e refl
-when_same false x y e = refl
 
 module _ (g : Geometry) (fits : IsGeometry g) (map m : Blocks) (sound : AreSound g map) (same : HasLiveBlocks g map m) where
   -- The live blocks, one kind after the other.
@@ -59,13 +55,13 @@ module _ (g : Geometry) (fits : IsGeometry g) (map m : Blocks) (sound : AreSound
   node_same k from upto = ap (node_of g) (bytes_same k from upto)
 
   used_same : (k : ℕ) → used_node g m k ≡ used_node g map k
-  used_same k = when_same (nat_le 1 k && nat_le k g.i) (node_at g m k) (node_at g map k) (λ is.
-      let number = and_parts (nat_le 1 k) (nat_le k g.i) is in
-      node_same k (leb-true 1 k number.0) (leb-true k g.i number.1))
+  used_same k = ⊎_elim
+      (λ is. let number = and_parts (nat_le 1 k) (nat_le k g.i) is in ap (when (nat_le 1 k && nat_le k g.i)) (node_same k (leb-true 1 k number.0) (leb-true k g.i number.1)))
+      (λ out. ap (λ t. when t (node_at g m k)) out ∙ sym (ap (λ t. when t (node_at g map k)) out)) (cases_Bool (nat_le 1 k && nat_le k g.i))
 
   places_same : (k : ℕ) (node : Node) → used_node g map k ≡ Some node → joined m (run_places node.runs) ≡ joined map (run_places node.runs)
   places_same k node used = joined_same map m (run_places node.runs) (λ b is.
-      let at = node_data g map k node used b is in
+      let at = runs_data g 0 node.runs b (used_fits g map k node used).runs is in
       data_same b at.from at.below (place_marked g map sound k b (ap (λ o. has (places_or_none o) b) used ∙ is)))
 
   files_same : (k : ℕ) → files_of g m k ≡ files_of g map k

@@ -9,7 +9,7 @@ use Rattle.layout_bytes.specs.declared.node.NodeKind.{NodeKind}
 use Rattle.layout_bytes.specs.declared.node.NodeKind.TheVariants.{File}
 use Rattle.layout_bytes.specs.Node.{kind_fits}
 use Rattle.crash_stands.specs.Files.{FileNode, file_of, files_of, used_node}
-use Rattle.fs_session.proofs.standing.Nodes.{Fits, fits_parts, used_fits}
+use Rattle.fs_session.proofs.standing.Nodes.{Fits, used_fits}
 
 abbrev HasLinks : NodeKind → ℕ → Type 0
 HasLinks kind links = (1 ≤ links) × (kind ≡ File → links ≤ 65535)
@@ -27,4 +27,4 @@ file_links g m k x e = by (used_node g m k) refl e
     by None is none = absurd (none-some x none)
     by (Some node) is some =
         subst (λ (f : FileNode). HasLinks f.kind f.links) (same_Some (file_of m node) x some)
-        (node_links g node (fits_parts g node (used_fits g m k node is)))
+        (node_links g node (used_fits g m k node is))

@@ -3,7 +3,7 @@ use Rattle.std.proofs.Common.{◌≡◌, ◌≢◌, ◌⊎◌, inl, inr, ℕ, ze
 use Rattle.std.specs.Cmp.{nat_eq_equiv, unsigned_Decides}
 use Rattle.std.specs.List.{AllByRecursion, IsDistinct, range_with_len}
 use Rattle.std.specs.Set.{is_member}
-use Rattle.std.proofs.lemmas.Bool.{cases_Bool, cases_order, eqb-true, eq-eqb, false≢true, or_right, or_cases}
+use Rattle.std.proofs.lemmas.Bool.{cases_Bool, cases_order, eqb-true, eq-eqb, false≢true, or_left, or_right, or_cases}
 use Rattle.std.proofs.lemmas.List.FromFn.{get_or-range_with_len, length-range_with_len}
 use Rattle.std.proofs.lemmas.List.Kept.{AllPairs-filter}
 use Rattle.std.proofs.lemmas.Map.Made.{IsDistinct-from_AllPairs, length-le_from_is_member}
@@ -28,7 +28,7 @@ has_place (x ∷ xs) zero b e = ap (λ t. t || has xs b) (eq-eqb b x (sym (same_
 has_place (x ∷ xs) (suc i) b e = or_right (b == x) (has xs b) (has_place xs i b e)
 
 -- a number of two lists, one behind the other, is in one of them
-has_append : (xs ys : List ℕ) (b : ℕ) → has (xs ++ ys) b ≡ (has xs b || has ys b)
+pub has_append : (xs ys : List ℕ) (b : ℕ) → has (xs ++ ys) b ≡ (has xs b || has ys b)
 has_append [] ys b = refl
 has_append (x ∷ xs) ys b = ap (λ t. (b == x) || t) (has_append xs ys b) ∙ either (b == x)
   where
@@ -38,13 +38,6 @@ has_append (x ∷ xs) ys b = ap (λ t. (b == x) || t) (has_append xs ys b) ∙ e
 
 pub in_append : (xs ys : List ℕ) (b : ℕ) → has (xs ++ ys) b ≡ true → (has xs b ≡ true) ⊎ (has ys b ≡ true)
 in_append xs ys b e = or_cases (has xs b) (has ys b) (sym (has_append xs ys b) ∙ e)
-
--- and what is in one of them is in both
-pub in_first : (xs ys : List ℕ) (b : ℕ) → has xs b ≡ true → has (xs ++ ys) b ≡ true
-in_first xs ys b e = has_append xs ys b ∙ ap (λ t. t || has ys b) e
-
-pub in_second : (xs ys : List ℕ) (b : ℕ) → has ys b ≡ true → has (xs ++ ys) b ≡ true
-in_second xs ys b e = has_append xs ys b ∙ or_right (has xs b) (has ys b) e
 
 -- Lists without repeats.
 
@@ -148,8 +141,8 @@ in_its_turn f k zero b l low high e = absurd (omega (arith, low, high))
 in_its_turn f k (suc n) b l low high e = by (cases_order k l) (λ from. in_its_turn f (k + 1) n b l from (omega (arith, high)) e)
   where
     by : (k ≡ l) ⊎ ((k < l) ⊎ (l < k)) → (k + 1 ≤ l → has (in_turn f (k + 1) n) b ≡ true) → has (f k ++ in_turn f (k + 1) n) b ≡ true
-    by (inl same) further = in_first (f k) (in_turn f (k + 1) n) b (ap (λ j. has (f j) b) same ∙ e)
-    by (inr (inl later)) further = in_second (f k) (in_turn f (k + 1) n) b (further (omega (arith, later)))
+    by (inl same) further = has_append (f k) (in_turn f (k + 1) n) b ∙ or_left (has (f k) b) (has (in_turn f (k + 1) n) b) (ap (λ j. has (f j) b) same ∙ e)
+    by (inr (inl later)) further = has_append (f k) (in_turn f (k + 1) n) b ∙ or_right (has (f k) b) (has (in_turn f (k + 1) n) b) (further (omega (arith, later)))
     by (inr (inr before)) further = absurd (omega (arith, low, before))
 
 -- a number has one place in one of the lists

@@ -22,7 +22,7 @@ use Rattle.crash_stands.specs.Stands.{AreSound, HasBlock}
 use Rattle.fs_inodes.specs.Figures.{inode_blocks, blocks_from}
 use Rattle.fs_files.specs.Calls.{places_or_none}
 use Rattle.fs_session.proofs.standing.Lists.{place_of, has_place, as_long, kept_is, is_kept, distinct_kept, in_turn, turn_of, in_its_turn, distinct_turns}
-use Rattle.fs_session.proofs.standing.Nodes.{Fits, used_number, used_fits, fits_parts, node_count, content_length, places_at, block_place, place_block, place_data}
+use Rattle.fs_session.proofs.standing.Nodes.{Fits, used_number, used_fits, node_count, content_length, places_at, block_place, place_block, place_data}
 
 -- Which blocks are live: those of the bitmap and the node table, and the data blocks that are marked.
 
@@ -99,7 +99,7 @@ module _ (slots_law : HasSlots) (bytes_law : HasItsBytes) (g : Geometry) (m : Bl
   used_blocks k node x used reads = by x reads
     where
       fits : Fits g node
-      fits = fits_parts g node (used_fits g m k node used)
+      fits = used_fits g m k node used
 
       long : length (content m node) ≡ node.size
       long = content_length g m node fits (λ b is. place_whole g m sound k b (ap (λ o. has (places_or_none o) b) used ∙ is))

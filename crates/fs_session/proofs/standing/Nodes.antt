@@ -35,14 +35,11 @@ read_fits : (g : Geometry) (b : List ℕ) (node : Node) → node_of g b ≡ Some
 unfolding node_of
 read_fits g b node e = fits_with g b (used_kind (slice_index b 0)) node e
 
--- a node in use has a number of the geometry's, and fits
+-- a node in use has a number of the geometry's
 pub used_number : (g : Geometry) (m : Blocks) (k : ℕ) (node : Node) → used_node g m k ≡ Some node → (1 ≤ k) × (k ≤ g.i)
 used_number g m k node e =
     let is = and_parts (nat_le 1 k) (nat_le k g.i) (when_some (nat_le 1 k && nat_le k g.i) (node_at g m k) node e).0 in
     (leb-true 1 k is.0, leb-true k g.i is.1)
-
-pub used_fits : (g : Geometry) (m : Blocks) (k : ℕ) (node : Node) → used_node g m k ≡ Some node → node_fits g node ≡ true
-used_fits g m k node e = read_fits g (node_bytes g m k) node (when_some (nat_le 1 k && nat_le k g.i) (node_at g m k) node e).1
 
 -- What it is to fit.
 
@@ -66,6 +63,10 @@ fits_parts g node fits =
       count = eqb-true (run_blocks node.runs) ((node.size + 1023) / 1024) blocks.0;
       kind = blocks.1;
     }
+
+-- a node in use fits
+pub used_fits : (g : Geometry) (m : Blocks) (k : ℕ) (node : Node) → used_node g m k ≡ Some node → Fits g node
+used_fits g m k node e = fits_parts g node (read_fits g (node_bytes g m k) node (when_some (nat_le 1 k && nat_le k g.i) (node_at g m k) node e).1)
 
 -- what it is that the first of runs fits
 pub record FirstFits (g : Geometry) (end : ℕ) (r : Run) (rs : List Run) : Type 0 where
@@ -99,7 +100,7 @@ blocks_within x (suc c) b e = by (blocks_within (x + 1) c b) (or_cases (b == x) 
     by further (inl same) = let is = eqb-true b x same in (omega (arith, is), omega (arith, is))
     by further (inr rest) = let r = further rest in (omega (arith, r.0), omega (arith, r.1))
 
-runs_data : (g : Geometry) (end : ℕ) (rs : List Run) (b : ℕ) → runs_fit g end rs ≡ true → has (run_places rs) b ≡ true → IsData g b
+pub runs_data : (g : Geometry) (end : ℕ) (rs : List Run) (b : ℕ) → runs_fit g end rs ≡ true → has (run_places rs) b ≡ true → IsData g b
 runs_data g end [] b fits e = absurd (false≢true e)
 runs_data g end (r ∷ rs) b fits e =
     let first = first_fits g end r rs fits in
@@ -108,9 +109,6 @@ runs_data g end (r ∷ rs) b fits e =
     by : data_start g ≤ r.first → r.first + r.count ≤ g.n → (has (run_places rs) b ≡ true → IsData g b) → (has (blocks_from r.first r.count) b ≡ true) ⊎ (has (run_places rs) b ≡ true) → IsData g b
     by low high next (inl here) = let at = blocks_within r.first r.count b here in record { from = omega (arith, at.0, low); below = omega (arith, at.1, high) }
     by low high next (inr rest) = next rest
-
-pub node_data : (g : Geometry) (m : Blocks) (k : ℕ) (node : Node) → used_node g m k ≡ Some node → (b : ℕ) → has (run_places node.runs) b ≡ true → IsData g b
-node_data g m k node e b is = runs_data g 0 node.runs b (fits_parts g node (used_fits g m k node e)).runs is
 
 -- They are as many as its bytes need.
 
@@ -166,4 +164,4 @@ pub place_data : (g : Geometry) (m : Blocks) (k b : ℕ) → has (places_at g m 
 place_data g m k b is =
     let r = place_of (places_at g m k) b is in
     let h = place_block g m k r.0 b r.1 in
-    node_data g m k h.node h.is_node b (has_place (run_places h.node.runs) r.0 b h.place)
+    runs_data g 0 h.node.runs b (used_fits g m k h.node h.is_node).runs (has_place (run_places h.node.runs) r.0 b h.place)
