@@ -72,9 +72,6 @@ paid_where x y new o is = grind (arith, is)
 laid_where : (x y : Bool) (o : Option (List ℕ)) → is_some (cond x None (cond y None o)) ≡ true → (y ≡ false) × (is_some o ≡ true)
 laid_where x y o is = grind (arith, is)
 
-none_is : (o : Option (List ℕ)) → is_some o ≡ false → o ≡ None
-none_is o e = grind (arith, e)
-
 module _ (v : TransactionBooks) (bitmap : List (List ℕ)) (c : Changes) (bs : List ℕ) (k : AreKept v) (may : MayBeTaken v.geom (is_free_now v) bs) (h : HasTaken bs v (record v { bitmap = bitmap; changes = c })) where
   lies : (b : ℕ) → has bs b ≡ true → LiesIn v.geom Data b
   lies b is = let one = among (MayTake v.geom (is_free_now v)) bs may.each b is in record { from = one.from; below = one.below }
@@ -171,7 +168,10 @@ module _ (v : TransactionBooks) (bitmap : List (List ℕ)) (c : Changes) (bs : L
   -- The last point.
 
   no_laid : (b : ℕ) → b < data_start v.geom → put_of b v.changes.laid ≡ None
-  no_laid b low = none_is (put_of b v.changes.laid) (false_from_ne_true (has_put b v.changes.laid) (λ is. false≢true (sym (not_taken b low) ∙ and_first (is_one_of b v.changes.taken) (bit_now v b) (k.lie.laid b is))))
+  no_laid b low = elim (put_of b v.changes.laid) as (λ o. is_some o ≡ false → o ≡ None) [
+    | None ↦ λ none. refl
+    | Some x ↦ λ some. absurd (false≢true (sym some))
+  ] (false_from_ne_true (has_put b v.changes.laid) (λ is. false≢true (sym (not_taken b low) ∙ and_first (is_one_of b v.changes.taken) (bit_now v b) (k.lie.laid b is))))
 
   -- the puts of a block that isn't taken and has none of the bits
   paid_same : (b : ℕ) → has_bit v.geom bs b ≡ false → has bs b ≡ false → put_of b c.paid ≡ put_of b v.changes.paid
