@@ -5,12 +5,11 @@ use Rattle.std.proofs.lemmas.Bool.Decides.{nat_tests}
 use mathlib.Core.Path.{fun_ext}
 use Rattle.base_types.specs.Seal.{Blocks, blocks_of}
 use Rattle.base_types.specs.declared.words.Class.{Class}
-use Rattle.engine_blocks.specs.declared.role.Role.{Role}
 use Rattle.layout_geometry.specs.Geometry.{bitmap_start, table_start, data_start}
 use Rattle.layout_bytes.specs.Bitmap.{is_set}
 use Rattle.layout_journal.specs.Run.{is_live}
 use Rattle.engine_blocks.specs.declared.role.Role.TheVariants.{Untouched, Changed, Bare}
-use Rattle.engine_blocks.specs.Running.{is_bare, has, has_bit, bit_block, put_role, HasNoBare}
+use Rattle.engine_blocks.specs.Running.{is_bare, has, has_bit, bit_block, HasNoBare}
 use Rattle.engine_blocks.specs.State.{Bookkeeping, IsReusable, MayBeTaken, defined_by, is_defined, after_put, after_take, after_free, defined_part}
 use Rattle.engine_blocks.specs.Calls.{IsWithBlock, IsWithTaken, IsWithFreed}
 use Rattle.engine_blocks.specs.Crashes.{HasLiveBlocks}
@@ -30,10 +29,6 @@ same_part k l old new geom marked before after now = fun_ext (λ c. same_there k
 
 -- A put.
 
--- no block is bare after a put
-put_fills : (class : Class) (r : Role) → is_bare (put_role class r) ≡ false
-put_fills class r = grind arith
-
 data_defined : (k : Bookkeeping) (b : ℕ) → table_start k.geom ≤ b → b < k.geom.n → (data_start k.geom ≤ b → k.marked b ≡ true) → is_bare (k.running.roles b) ≡ false → is_defined k b ≡ true
 data_defined k b from low marked filled = elim (cases_lt b (data_start k.geom)) [
   | inl early ↦ grind (arith, nat_tests, from, early)
@@ -43,7 +38,7 @@ data_defined k b from low marked filled = elim (cases_lt b (data_start k.geom)) 
 pub put_told : (k : Bookkeeping) (old new : Blocks) (b : ℕ) (class : Class) (bytes : List ℕ) → table_start k.geom ≤ b → b < k.geom.n → (data_start k.geom ≤ b → k.marked b ≡ true) → IsWithBlock old new b bytes
     → IsWithBlock (defined_part k old) (defined_part (after_put k b class) new) b bytes
 put_told k old new b class bytes from low marked w = record {
-  own = defined_at (after_put k b class) new b (data_defined (after_put k b class) b from low marked (grind (arith, nat_tests, put_fills class (k.running.roles b)))) ∙ w.own;
+  own = defined_at (after_put k b class) new b (data_defined (after_put k b class) b from low marked (grind (arith, nat_tests, class, k.running.roles b))) ∙ w.own;
   others = λ c d. same_there k (after_put k b class) old new c (grind (arith, nat_tests, d)) (w.others c d);
 }
 
