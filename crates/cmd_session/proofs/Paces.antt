@@ -1,5 +1,5 @@
 -- A run that goes by the log of its disk, with one command more.
-use Rattle.std.proofs.Common.{◌≡◌, ◌≢◌, ◌⊎◌, inl, inr, ⊎_elim, ℕ, zero, suc, ◌+◌, ◌<◌, ◌≤◌, ◌||◌, if◌then◌else◌, Bool, true, false, List, [], ◌∷◌, ◌++◌, length, take, drop, append-nil, Some, unwrap_or, refl, sym, ap, ◌∙◌, subst, arith}
+use Rattle.std.proofs.Common.{◌≡◌, ◌≢◌, ◌⊎◌, inl, inr, ⊎_elim, ℕ, zero, suc, ◌+◌, ◌<◌, ◌≤◌, ◌||◌, if◌then◌else◌, Bool, true, false, List, [], ◌∷◌, ◌++◌, length, take, drop, append-nil, Some, refl, sym, ap, ◌∙◌, subst, arith}
 use Rattle.std.proofs.Math.Logic.{∥∥₁_map}
 use Rattle.std.proofs.Math.Seq.{take-append_seam, take-length}
 use Rattle.std.proofs.lemmas.Bool.{cases_Bool, cases_lt, false≢true}
@@ -33,6 +33,7 @@ use Rattle.cmd_session.specs.Going.{pace_of}
 use Rattle.cmd_session.specs.Pacing.{AnswersBy, DoesBehind, FailsSince, FindsPlaces, FindsRoom, HearsIn, KnowsUpTo, LosesSince, OrdersAtOnce, Pace, PacesBy, StepsBy, TellsRing, WritesRecordBy, is_fault}
 use Rattle.cmd_session.specs.Places.{LiesAt}
 use Rattle.cmd_session.specs.Taking.{Span, Taken, is_done_sync, places_wanted, taken_by}
+use Rattle.cmd_session.proofs.Histories.{from_le, get_split}
 use Rattle.cmd_session.proofs.Rooms.{answered_longer, own_longer}
 
 -- Lost writes.
@@ -79,20 +80,6 @@ fails_since m old new grows none (inr other) = inr other
 get_behind : {A : Type 0} (xs : List A) (y : A) → slice_get (xs ++ y ∷ []) (length xs) ≡ Some y
 get_behind [] y = refl
 get_behind (x ∷ xs) y = get_behind xs y
-
-get_split_at : {A : Type 0} (xs : List A) (x y : A) (i : ℕ) → slice_get (xs ++ x ∷ []) i ≡ Some y → (slice_get xs i ≡ Some y) ⊎ ((x ≡ y) × (i ≡ length xs))
-get_split_at [] x y zero is = inr (ap (λ o. unwrap_or o x) is, refl)
-get_split_at [] x y (suc i) is = inl is
-get_split_at (z ∷ xs) x y zero is = inl is
-get_split_at (z ∷ xs) x y (suc i) is = grind (arith, get_split_at xs x y i is)
-
-pub get_split : {A : Type 0} (xs : List A) (x y : A) (i : ℕ) → slice_get (xs ++ x ∷ []) i ≡ Some y → (slice_get xs i ≡ Some y) ⊎ (x ≡ y)
-get_split xs x y i is = ⊎_elim (λ earlier. inl earlier) (λ last. inr last.0) (get_split_at xs x y i is)
-
--- marks that ascend are none past the last event
-within : (from : ℕ) (marks : List ℕ) (events : ℕ) → Ascend from marks events → from ≤ events
-within from [] events is = omega (arith, is)
-within from (mark ∷ marks) events is = omega (arith, is.0, within mark marks events is.1)
 
 or_cases : (a b : Bool) → (a || b) ≡ true → (a ≡ true) ⊎ (b ≡ true)
 or_cases a b h1 = grind arith
@@ -177,7 +164,7 @@ module _ (ses : MountedSession) (base : Blocks) (m : Manner) (log more : List Ev
   paces_longer cmd reply mark mid end p (c ∷ cmds) (r ∷ replies) (k ∷ marks) up paces is step =
       let at : paces.0.events ≡ k = paces.1 in
       let up_next : Ascend paces.0.events marks (length log) = subst (λ (n : ℕ). Ascend n marks (length log)) (sym at) up.1 in
-      let low = within k marks (length log) up.1 in
+      let low = from_le k marks (length log) up.1 in
       (paces.0, at, steps_longer c r p paces.0 (omega (arith, up.0, low)) (omega (arith, at, low)) paces.2, paces_longer cmd reply mark mid end paces.0 cmds replies marks up_next paces.3 is step)
   paces_longer cmd reply mark mid end p [] [] (k ∷ marks) up paces is step = absurd paces
   paces_longer cmd reply mark mid end p [] (r ∷ replies) marks up paces is step = absurd paces

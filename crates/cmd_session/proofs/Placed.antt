@@ -36,9 +36,6 @@ use Rattle.cmd_session.proofs.Rooms.{said}
 
 -- A map that has the live blocks of another one: each node has the same blocks in both.
 
-when_same : {A : Type 0} (t : Bool) (x y : Option A) → (t ≡ true → x ≡ y) → when t x ≡ when t y
-when_same t x y h1 = grind arith
-
 module _ (g : Geometry) (limits : IsGeometry g) (map m : Blocks) (same : HasLiveBlocks g map m) where
   -- a block of the node table
   table_same : (b : ℕ) → bitmap_start g ≤ b → b < data_start g → m b ≡ map b
@@ -48,9 +45,9 @@ module _ (g : Geometry) (limits : IsGeometry g) (map m : Blocks) (same : HasLive
   node_same k from upto = grind (arith, table_same, limits.whole_blocks)
 
   pub places_same : (k : ℕ) → places_of g m k ≡ places_of g map k
-  places_same k = ap places_or_none (when_same (nat_le 1 k && nat_le k g.i) (node_at g m k) (node_at g map k) (λ is.
-      let number = and_parts (nat_le 1 k) (nat_le k g.i) is in
-      node_same k (leb-true 1 k number.0) (leb-true k g.i number.1)))
+  places_same k = ⊎_elim
+      (λ is. let number = and_parts (nat_le 1 k) (nat_le k g.i) is in ap (λ o. places_or_none (when (nat_le 1 k && nat_le k g.i) o)) (node_same k (leb-true 1 k number.0) (leb-true k g.i number.1)))
+      (λ out. ap (λ t. places_or_none (when t (node_at g m k))) out ∙ sym (ap (λ t. places_or_none (when t (node_at g map k))) out)) (cases_Bool (nat_le 1 k && nat_le k g.i))
 
 -- An image that is alike below n holds the same map under the same geometry.
 module _ (g : Geometry) (laws : PlaceLaws g) (img other m : Blocks) (same : (b : ℕ) → b < g.n → img b ≡ other b) where

@@ -1,6 +1,6 @@
 -- Weight and budget of one command more.
 use Rattle.std.proofs.Common.{◌≡◌, ◌≢◌, ◌⊎◌, inl, inr, ⊎_elim, ℕ, ◌+◌, ◌≤◌, nat_lt, Bool, true, false, IsTrue, ◌&&◌, if◌then◌else◌, List, [], ◌∷◌, ◌++◌, length, Result, Ok, Err, refl, sym, ◌∙◌, ap, subst, arith}
-use Rattle.std.proofs.lemmas.Bool.{cases_Bool, cond-true, true≢false, false≢true}
+use Rattle.std.proofs.lemmas.Bool.{and_from, cases_Bool, cond-true, true≢false, false≢true}
 use Rattle.disk_contract.specs.Disk.{writes_in}
 use Rattle.layout_geometry.specs.Geometry.{Geometry, bitmap_blocks}
 use Rattle.lang_tree.specs.declared.command.Cmd.{Cmd}
@@ -32,9 +32,6 @@ use Rattle.cmd_session.proofs.Weights.{weighs, within_weight}
 osync_begun : (f : Session) (b : Bool) → may_have_begun (osync f b).1 ≡ true
 osync_begun f b = grind arith
 
-and_true : (a b : Bool) → a ≡ true → b ≡ true → (a && b) ≡ true
-and_true a b one two = ap (λ c. c && b) one ∙ two
-
 -- a commit stands for so many writes after a tick as before it
 ticked_writes : (old new : Bookkeeping) → MovesPipeline old new → commit_writes new ≡ commit_writes old
 ticked_writes old new moves = ap (λ (r : Running). commit_writes (record new { running = r })) moves.running ∙ ap (λ (g : Geometry). commit_writes (record old { geom = g })) moves.geom
@@ -61,7 +58,7 @@ module _ {S : Type 0} (tells : Bool) (state : S → State) (told : IsTrue tells)
   of_synced : (orders : Bool) (f : Session) (cmd : Cmd) (result : Result Reply Refusal) (mid new : S) → is_sync cmd ≡ true → may_have_begun (step f cmd).1 ≡ true → IsSession (state mid) f → SyncsSession tells orders cmd result (state mid) (state new)
       → WritesAtMost (writes_of cmd (reply_for result) (state mid).books) (state mid) (state new)
   of_synced orders f cmd result mid new is begun h s =
-      subst (λ (n : ℕ). WritesAtMost n (state mid) (state new)) (sym (cond-true {A = ℕ} (commits cmd (reply_for result)) (commit_writes (state mid).books) 0 (and_true (is_sync cmd) (may_have_begun (reply_for result)) is (sync_begun orders f cmd result mid new begun h s)))) (s.writes told)
+      subst (λ (n : ℕ). WritesAtMost n (state mid) (state new)) (sym (cond-true {A = ℕ} (commits cmd (reply_for result)) (commit_writes (state mid).books) 0 (and_from (is_sync cmd) (may_have_begun (reply_for result)) is (sync_begun orders f cmd result mid new begun h s)))) (s.writes told)
 
   of_run : (f : Session) (cmd : Cmd) (result : Result Reply Refusal) (mid new : S) → IsSession (state mid) f → Runs tells state cmd result mid new → WritesAtMost (writes_of cmd (reply_for result) (state mid).books) (state mid) (state new)
   of_run f Osync result mid new h runs = of_synced true f Osync result mid new refl (osync_begun f f.changed) h runs

@@ -4,7 +4,7 @@ use Rattle.std.proofs.Props.{props}
 use Rattle.std.proofs.Math.Logic.{∥∥₁_elim, ∥∥₁_map, ∥∥₁_prop}
 use Rattle.std.proofs.Math.Seq.{take-append_seam, take-length, drop-append_seam, drop-length}
 use Rattle.std.proofs.lemmas.Bool.Decides.{nat_tests}
-use Rattle.std.proofs.lemmas.Bool.{cases_Bool, cond-true, cond-false, eqb-true, eq-eqb, ne_eqb, false≢true, true≢false, or_left, or_parts, or_right}
+use Rattle.std.proofs.lemmas.Bool.{and_from, cases_Bool, cond-true, cond-false, eqb-true, eq-eqb, ne_eqb, false≢true, true≢false, or_left, or_parts, or_right}
 use Rattle.std.proofs.lemmas.List.{append_cancel_left, drop-append-le, take-append-le, length-append}
 use Rattle.std.specs.List.{slice_get}
 use Rattle.base_types.specs.Seal.{Blocks}
@@ -29,7 +29,7 @@ use Rattle.lang_tree.specs.declared.command.Reply.{Reply}
 use Rattle.lang_tree.specs.declared.command.Reply.TheVariants as replied
 use Rattle.lang_tree.specs.declared.command.Reply.TheVariants.{Known, Refused}
 use Rattle.lang_tree.specs.Figures.{figures}
-use Rattle.lang_tree.specs.Points.{after_reply, is_refusal, is_sync, made_by, may_have_written, points_after}
+use Rattle.lang_tree.specs.Points.{Point, after_reply, is_refusal, is_sync, made_by, may_have_written, points_after}
 use Rattle.lang_tree.specs.Step.{Session}
 use Rattle.lang_tree.specs.Tree.{Tree}
 use Rattle.engine_blocks.specs.Calls.{commit_places, commit_writes}
@@ -43,13 +43,14 @@ use Rattle.fs_session.specs.Memory.{room_of}
 use Rattle.fs_session.specs.Room.{figures_in}
 use Rattle.fs_session.specs.Sessions.{IsSession}
 use Rattle.cmd_session.specs.Budget.{commits, sync_budget, sync_places, weight_after, weight_by, writes_of}
-use Rattle.cmd_session.specs.Histories.{session_after}
+use Rattle.cmd_session.specs.Histories.{last_mark, session_after}
 use Rattle.cmd_session.specs.Serving.{HasServed}
 use Rattle.cmd_session.specs.Records.{own_records}
 use Rattle.cmd_session.specs.Answered.{AnsweredIn, FitsAmong, FreesBy, WaitsOn, WritesIn}
 use Rattle.cmd_session.specs.Going.{KeepsTaken, pace_of, session_at}
 use Rattle.cmd_session.specs.Pacing.{DoneInRing, FindsPlaces, FindsRoom, FitsUnder, HearsIn, KnowsUpTo, OrdersAtOnce, TellsRing, WritesRecordBy, is_fault}
 use Rattle.cmd_session.specs.Taking.{CameIn, Span, Taken, is_done_sync, makes_point, nothing_taken, places_wanted, stands_for, taken_by}
+use Rattle.cmd_session.proofs.Histories.{points_more}
 use Rattle.cmd_session.proofs.Rooms.{sync_is_meant}
 
 -- Accepted and noticed tickets of a log, and of its fronts.
@@ -116,15 +117,6 @@ length_if b x = grind arith
 made_one : (s : Session) (cmd : Cmd) (reply : Reply) (mark : ℕ) → length (made_by s cmd reply mark) ≡ one_if (makes_point s cmd reply)
 made_one s cmd reply mark = length_if (makes_point s cmd reply) (record { tree = s.tree; begun = mark })
 
-points_more : (s : Session) (begun : ℕ) (cmds : List Cmd) (replies : List Reply) (marks : List ℕ) (cmd : Cmd) (reply : Reply) (mark : ℕ) → length cmds ≡ length replies → length marks ≡ length replies
-    → length (points_after s begun (cmds ++ cmd ∷ []) (replies ++ reply ∷ []) (marks ++ mark ∷ [])) ≡ length (points_after s begun cmds replies marks) + one_if (makes_point (session_after s cmds replies) cmd reply)
-points_more s begun [] [] [] cmd reply mark same marked = omega (arith, length-append (made_by s cmd reply begun) [], made_one s cmd reply begun)
-points_more s begun [] [] (k ∷ marks) cmd reply mark same marked = absurd (omega (arith, marked))
-points_more s begun [] (r ∷ replies) marks cmd reply mark same marked = absurd (omega (arith, same))
-points_more s begun (c ∷ cmds) [] marks cmd reply mark same marked = absurd (omega (arith, same))
-points_more s begun (c ∷ cmds) (r ∷ replies) [] cmd reply mark same marked = absurd (omega (arith, marked))
-points_more s begun (c ∷ cmds) (r ∷ replies) (k ∷ marks) cmd reply mark same marked = grind (arith, points_more (after_reply s c r) k cmds replies marks cmd reply mark, length-append)
-
 -- What the log tells of records.
 
 commits_on : (g : Geometry) (epoch : ℕ) (xs ys : List Event) → commits_told g epoch (xs ++ ys) ≡ commits_told g epoch xs ++ commits_told g epoch ys
@@ -165,17 +157,11 @@ noticed_on t [] (Wrote u b x ∷ ys) all = noticed_on t [] ys all
 noticed_on t [] (Lost b x ∷ ys) all = noticed_on t [] ys all
 noticed_on t [] (Noticed u ∷ ys) all = absurd all
 
-noticed_before : (t : ℕ) (old new : List Event) → GrowsByWrites old new → IsNoticed t new → IsNoticed t old
-noticed_before t old new grows came = sym (noticed_on t old grows.more grows.writes) ∙ ap (is_noticed t) (sym grows.log) ∙ came
-
 are_writes_on : (xs ys : List Event) → AreWrites xs → AreWrites ys → AreWrites (xs ++ ys)
 are_writes_on [] ys a b = b
 are_writes_on (Wrote u k x ∷ xs) ys a b = are_writes_on xs ys a b
 are_writes_on (Lost k x ∷ xs) ys a b = are_writes_on xs ys a b
 are_writes_on (Noticed u ∷ xs) ys a b = absurd a
-
-writes_then : (a b c : List Event) → GrowsByWrites a b → GrowsByWrites b c → GrowsByWrites a c
-writes_then a b c one two = record { more = one.more ++ two.more; log = two.log ∙ ap (λ (es : List Event). es ++ two.more) one.log ∙ append_assoc a one.more two.more; writes = are_writes_on one.more two.more one.writes two.writes }
 
 -- A list that begins with another one and is no longer is that one.
 no_more : (xs more cs : List Commit) → cs ≡ xs ++ more → length cs ≡ length xs → cs ≡ xs
@@ -201,9 +187,6 @@ some_weighs n some = grind (arith, nat_tests, some)
 
 zero_or_some : (n : ℕ) → (n ≡ 0) ⊎ (0 < n)
 zero_or_some n = grind arith
-
-both : (a b : Bool) → a ≡ true → b ≡ true → (a && b) ≡ true
-both a b h1 h2 = grind arith
 
 parts_of : (a b : Bool) → (a && b) ≡ true → (a ≡ true) × (b ≡ true)
 parts_of a b h1 = grind (arith, false≢true)
@@ -415,7 +398,9 @@ module _ (cmd : Cmd) (reply : Reply) (old new : State) (w : WaitsOn cmd reply ol
     arith,
     before.goes_on.exact (going_before going).0,
     after.goes_on.exact going,
-    points_more (session_at ses tree) ses.mounted asked replies marks cmd reply (length new.crash.log) before.answered before.marked,
+    ap (λ (ps : List Point). length ps) (points_more (session_at ses tree) ses.mounted asked replies marks cmd reply (length new.crash.log) before.answered before.marked),
+    length-append (points_after (session_at ses tree) ses.mounted asked replies marks) (made_by (session_after (session_at ses tree) asked replies) cmd reply (last_mark ses.mounted marks)),
+    made_one (session_after (session_at ses tree) asked replies) cmd reply (last_mark ses.mounted marks),
     ap (λ (s : Session). one_if (makes_point s cmd reply)) keeps.session,
   )
 
@@ -427,7 +412,7 @@ module _ (cmd : Cmd) (reply : Reply) (old new : State) (w : WaitsOn cmd reply ol
   changed_is going = ap (λ (s : Session). s.changed) keeps.session ∙ is_session.changed going ∙ ap (nat_lt 0) (weight_is going)
 
   done_if : makes_point t.session cmd reply ≡ true → is_fault reply ≡ false → is_done_sync cmd reply ≡ true
-  done_if made calm = let parts = makes_parts made in both (is_sync cmd) (not (is_refusal reply)) parts.0 (is_not (is_refusal reply) (not_refused reply parts.2 calm))
+  done_if made calm = let parts = makes_parts made in and_from (is_sync cmd) (not (is_refusal reply)) parts.0 (is_not (is_refusal reply) (not_refused reply parts.2 calm))
 
   -- one with nothing to commit makes none
   makes_none : is_sync cmd ≡ true → t.session.changed ≡ false → makes_point t.session cmd reply ≡ false
@@ -541,7 +526,7 @@ module _ (cmd : Cmd) (reply : Reply) (old new : State) (w : WaitsOn cmd reply ol
         own_many sync well (inr some) = omega (
           arith,
           ap (λ (cs : List Commit). length cs) (own_one (wrote sync well going (subst (λ n. 0 < n) (sym (weight_is going)) some))),
-          ap one_if (both (is_sync cmd) (t.session.changed && may_have_written reply) sync (both t.session.changed (may_have_written reply) (changed_is going ∙ some_weighs t.weight some) (done_writes reply well))),
+          ap one_if (and_from (is_sync cmd) (t.session.changed && may_have_written reply) sync (and_from t.session.changed (may_have_written reply) (changed_is going ∙ some_weighs t.weight some) (done_writes reply well))),
         )
 
         done_one : is_sync cmd ≡ true → is_refusal reply ≡ false → FreesBy old a.behind a.free ⊎ ((new.crash.log ≡ a.behind) × (reply ≡ Refused because.DiskFault)) → is_done_sync cmd reply ≡ true → (length now_taken.records ≡ new.books.point) × ((more : List Commit) × (records_told ses new.crash.log ≡ now_taken.records ++ more))
@@ -604,6 +589,10 @@ module _ (cmd : Cmd) (reply : Reply) (old new : State) (w : WaitsOn cmd reply ol
         ticked : GrowsByWrites p.log behind
         ticked = (a.ticks meant going unspent p polled).1
 
+        -- what was noticed after the tick was noticed before the writes
+        already : IsNoticed ticket behind → IsNoticed ticket p.log
+        already was = sym (noticed_on ticket p.log ticked.more ticked.writes) ∙ ap (is_noticed ticket) (sym ticked.log) ∙ was
+
         accepted : is_accepted ticket new.crash.log ≡ true
         accepted = noticed_given ticket [] new.crash.log lawful noticed
 
@@ -614,8 +603,8 @@ module _ (cmd : Cmd) (reply : Reply) (old new : State) (w : WaitsOn cmd reply ol
             let nothing : writes_in a.goes_on.more ≡ 0 = omega (arith, idle.1, ap writes_in a.goes_on.log, writes_on behind a.goes_on.more) in
             absurd (true≢false (sym accepted ∙ ap (is_accepted ticket) a.goes_on.log ∙ none_accepted ticket behind a.goes_on.more nothing ∙ late_one))
         by_weight late_one well frees (inr more) =
-            let done = both (is_sync cmd) (not (is_refusal reply)) sync (is_not (is_refusal reply) well) in
-            let made : makes_point t.session cmd reply ≡ true = both (is_sync cmd) (t.session.changed && may_have_written reply) sync (both t.session.changed (may_have_written reply) (changed_is going ∙ some_weighs t.weight more) (done_writes reply well)) in
+            let done = and_from (is_sync cmd) (not (is_refusal reply)) sync (is_not (is_refusal reply) well) in
+            let made : makes_point t.session cmd reply ≡ true = and_from (is_sync cmd) (t.session.changed && may_have_written reply) sync (and_from t.session.changed (may_have_written reply) (changed_is going ∙ some_weighs t.weight more) (done_writes reply well)) in
             let x = mine.written done going more in
             let begun_is : begun ≡ length behind = x.fits alone (subst (λ (es : List Event). FindsPlaces ses base es (places_told x.commit)) (sym before_behind) (finds_own x.commit x.own well finds more)) in
             ∣ (
@@ -642,7 +631,7 @@ module _ (cmd : Cmd) (reply : Reply) (old new : State) (w : WaitsOn cmd reply ol
         ) ∣₁
 
         by_heard : FreesBy old a.behind a.free → IsNoticed ticket behind ⊎ (∥ ((q : ℕ) × old.crash.awaits q ticket) ∥₁ ⊎ (is_accepted ticket behind ≡ false)) → IsNoticed ticket p.log ⊎ Came ticket
-        by_heard frees (inl was) = inl (noticed_before ticket p.log behind ticked was)
+        by_heard frees (inl was) = inl (already was)
         by_heard frees (inr (inl some)) = inr (∥∥₁_map some (λ (x : (q : ℕ) × old.crash.awaits q ticket).
             let k = keeps.awaits going x.0 ticket x.1 in
             (x.0 - 1, k.0, at_front now_taken.spans (if is_refusal reply then failed_span ∷ [] else []) k.0 (x.0 - 1) (at_front t.spans (if makes_point t.session cmd reply then late ∷ [] else []) k.0 (x.0 - 1) k.1), came_still k.0 ticket k.2 k.3)))
@@ -650,7 +639,7 @@ module _ (cmd : Cmd) (reply : Reply) (old new : State) (w : WaitsOn cmd reply ol
 
         by_ring : FreesBy old a.behind a.free ⊎ ((new.crash.log ≡ a.behind) × (reply ≡ Refused because.DiskFault)) → IsNoticed ticket p.log ⊎ Came ticket
         by_ring (inl frees) = by_heard frees ((a.sync sync going unspent).hears (ap (λ (x : Manner). x.waits_alone) is_manner ∙ alone) (fits_among sync going frees finds) ticket noticed)
-        by_ring (inr all) = inl (noticed_before ticket p.log behind ticked (subst (IsNoticed ticket) all.0 noticed))
+        by_ring (inr all) = inl (already (subst (IsNoticed ticket) all.0 noticed))
 
   pub unwritten_on : is_sync cmd ≡ true → old.books.stopped ≡ false → reply ≡ Refused because.NoMemory → length new.crash.log ≡ length behind
   unwritten_on sync going memory = grind (arith, a.sync, false≢true)
@@ -703,7 +692,12 @@ module _ (cmd : Cmd) (reply : Reply) (old new : State) (w : WaitsOn cmd reply ol
       by_ring : cmd ≡ cmds.Osync → OrdersAtOnce ses base behind t wanted → FreesBy old a.behind a.free ⊎ ((new.crash.log ≡ a.behind) × (reply ≡ Refused because.DiskFault)) → PollsThenWrites old.counts.ticks.manner 64 old.counts.ticks.polls old.crash.log new.counts.ticks.polls new.crash.log
       by_ring is at_once (inl frees) =
           let sync = ap is_sync is in
-          λ p polled. ((polls meant going unspent p polled).0, writes_then p.log behind new.crash.log (a.ticks meant going unspent p polled).1 ((a.sync sync going unspent).orders is (fits_among sync going frees at_once)))
+          let order = (a.sync sync going unspent).orders is (fits_among sync going frees at_once) in
+          λ p polled.
+          let tick = (a.ticks meant going unspent p polled).1 in (
+            (polls meant going unspent p polled).0,
+            record { more = tick.more ++ order.more; log = order.log ∙ ap (λ (es : List Event). es ++ order.more) tick.log ∙ append_assoc p.log tick.more order.more; writes = are_writes_on tick.more order.more tick.writes order.writes },
+          )
       by_ring is at_once (inr all) = λ p polled. ((polls meant going unspent p polled).0, subst (GrowsByWrites p.log) (sym all.0) (a.ticks meant going unspent p polled).1)
 
       by : (cmd ≡ cmds.Osync) ⊎ NeedsNoWait old f cmd → PollsThenWrites old.counts.ticks.manner 64 old.counts.ticks.polls old.crash.log new.counts.ticks.polls new.crash.log
