@@ -4,4 +4,3 @@ mod Sureness
 mod FormattedFound
 mod MountLemmas
 mod OpenLemmas
-mod Unread

@@ -22,7 +22,7 @@ use Rattle.crash_stands.specs.Stands.{IsTreeOf}
 use Rattle.crash_argument.specs.Ledger.{HoldsUnder}
 use Rattle.crash_argument.specs.Opening.{WritesOne}
 use Rattle.crash_argument.specs.Points as points
-use Rattle.engine_blocks.specs.Crashes.{HasLiveBlocks, HasMapOfPoint, IsBegun}
+use Rattle.engine_blocks.specs.Crashes.{HasLiveBlocks, HasMapOfPoint}
 use Rattle.engine_blocks.specs.State.{Bookkeeping, State, Ticking}
 use Rattle.fs_files.specs.Effects.{LooksOnly}
 use Rattle.fs_session.specs.Memory.{HasNoBlocks, room_of}
@@ -62,18 +62,6 @@ module _ (g : Geometry) (limits : IsGeometry g) (bits : (b : ℕ) → b < 8192 *
   has_none s t is looks =
       subst (λ (k : Geometry). (b : ℕ) → data_start k ≤ b → b < k.n → is_set k t.map b ≡ false) (sym (ap (λ (k : Bookkeeping). k.geom) looks.books ∙ is.begins.geom))
       (subst (λ (m : Blocks). (b : ℕ) → data_start g ≤ b → b < g.n → is_set g m b ≡ false) (sym (looks.map refl ∙ is.begins.map)) unset)
-
--- nothing was done where blocks were only looked at
-pub still_begun : (s t : State) → t.books ≡ s.books → IsBegun s → IsBegun t
-still_begun s t same h = subst (λ (k : Bookkeeping). IsBegun (record t { books = k })) (sym same) (record {
-  point = h.point;
-  weight = h.weight;
-  held = h.held;
-  payloads = h.payloads;
-  fresh = h.fresh;
-  none_bare = h.none_bare;
-  going = h.going;
-})
 
 -- a first write that was accepted is one that may be
 first_accepted : (m : Manner) (log : List Event) → WritesOne [] log → GoesBy m log → IsTrue (m.accepts [])

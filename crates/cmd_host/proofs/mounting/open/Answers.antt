@@ -1,4 +1,4 @@
-use Rattle.std.proofs.Common.{true, refl, subst, ap, arith}
+use Rattle.std.proofs.Common.{true, refl, sym, subst, ap, arith}
 use Rattle.disk_contract.specs.Manner.{Manner}
 use Rattle.disk_memory.specs.MemDisk.{state_of as disk_state}
 use Rattle.layout_journal.specs.Formatted.{formatted}
@@ -7,13 +7,14 @@ use Rattle.crash_stands.specs.Stands.{IsTreeOf}
 use Rattle.lang_tree.specs.Step.{start}
 use Rattle.lang_tree.specs.Tree.{Tree}
 use Rattle.engine_store.specs.StoreOf.{state_of}
-use Rattle.engine_blocks.specs.State.{Ticking}
+use Rattle.engine_blocks.specs.Crashes.{IsBegun}
+use Rattle.engine_blocks.specs.State.{Bookkeeping, Ticking}
 use Rattle.fs_commands.specs.Opened.{blocks_in}
 use Rattle.fs_files.specs.Effects.{LooksOnly}
 use Rattle.fs_check.specs.Whole.{OnDamage, fails_by}
 use Rattle.fs_check.specs.declared.checking.CheckRefusal.{CheckRefusal}
 use Rattle.cmd_host.specs.Mounting.{Mounts}
-use Rattle.cmd_host.proofs.OpenLemmas.{drawn, has_none, mounted_with, nothing_waits, opened_with, root_stands, still_begun, still_shows}
+use Rattle.cmd_host.proofs.OpenLemmas.{drawn, has_none, mounted_with, nothing_waits, opened_with, root_stands, still_shows}
 use Rattle.cmd_host.proofs.mounting.open.Goals as goal
 
 -- the disk shows what it showed, and a read of it was counted
@@ -44,7 +45,9 @@ returns-in-Ok c =
     let looks = c.in-Ok.ensures.looks in
     let tree = c.the_formatted_disk_stands_for_the_root.ensures.blocks g c.lawful.ensures.fits in
     let served = c.in-Ok.ensures.serves refl (λ x. drawn disk_state x) g (live_part g (formatted g)) (start g.i).tree (mounted_with g s c.requires) tree in
+    let h = c.requires.begun in
+    let begun : IsBegun t = subst (λ (k : Bookkeeping). IsBegun (record t { books = k })) (sym looks.books) (record { point = h.point; weight = h.weight; held = h.held; payloads = h.payloads; fresh = h.fresh; none_bare = h.none_bare; going = h.going }) in
     let room = c.nothing_is_taken_at_first.ensures refl (blocks_in c.in-Ok.system) (start g.i) (nothing_waits g s c.requires t looks) served.goes_on.session
     (has_none g c.lawful.ensures.limits (λ b. c.the_formatted_disk_is_empty.ensures.bits g b c.lawful.ensures.fits) s t c.requires looks)
-    (still_begun s t looks.books c.requires.begun) in
+    begun in
     opened_with g s c.requires t looks served (c.in-Ok.ensures.budget refl (start g.i).tree) room c.the_disk_keeps_to_its_manner.ensures.log c.the_disk_keeps_to_its_manner.ensures.events c.the_disk_keeps_to_its_manner.ensures.writes c.the_disk_keeps_to_its_manner.ensures.floor
