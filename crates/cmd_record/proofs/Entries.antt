@@ -16,12 +16,6 @@ within : (from : ℕ) (marks : List ℕ) (events : ℕ) → Ascend from marks ev
 within from [] events is = omega (arith, is)
 within from (mark ∷ marks) events is = omega (arith, is.0, within mark marks events is.1)
 
--- events that come later aren't between two moments before them
-between_stays : (from to : ℕ) (log more : List Event) → from ≤ to → to ≤ length log → between from to (log ++ more) ≡ between from to log
-between_stays from to log more ascend below =
-    ap (λ (es : List Event). take (to - from) es) (drop-append-le from log more (omega (arith, ascend, below)))
-    ∙ take-append-le (to - from) (drop from log) more (omega (arith, length-drop from log, ascend, below))
-
 -- The entries of a run that goes on are those so far, and behind them those that are new.
 pub entries_on : (all log more : List Event) (from : ℕ) (cmds : List Cmd) (replies : List Reply) (marks : List ℕ) (next : List Cmd) (later : List Reply) (others : List ℕ) → all ≡ log ++ more → length cmds ≡ length replies → length marks ≡ length replies → Ascend from marks (length log)
     → entries all from (cmds ++ next) (replies ++ later) (marks ++ others) ≡ entries log from cmds replies marks ++ entries all (length log) next later others
@@ -31,7 +25,10 @@ entries_on all log more from [] (reply ∷ replies) marks next later others is a
 entries_on all log more from (cmd ∷ cmds) [] marks next later others is answered marked ascend = absurd (omega (arith, answered))
 entries_on all log more from (cmd ∷ cmds) (reply ∷ replies) [] next later others is answered marked ascend = absurd (omega (arith, marked))
 entries_on all log more from (cmd ∷ cmds) (reply ∷ replies) (mark ∷ marks) next later others is answered marked ascend =
-    let same : between from mark all ≡ between from mark log = ap (between from mark) is ∙ between_stays from mark log more ascend.0 (within mark marks (length log) ascend.1) in
+    let below = within mark marks (length log) ascend.1 in
+    let same : between from mark all ≡ between from mark log =
+    ap (between from mark) is ∙ ap (λ (es : List Event). take (mark - from) es) (drop-append-le from log more (omega (arith, ascend.0, below)))
+    ∙ take-append-le (mark - from) (drop from log) more (omega (arith, length-drop from log, ascend.0, below)) in
     ap (λ (es : List Event). entry es cmd reply mark ++ entries all mark (cmds ++ next) (replies ++ later) (marks ++ others)) same
     ∙ ap (λ (xs : List ℕ). entry (between from mark log) cmd reply mark ++ xs) (entries_on all log more mark cmds replies marks next later others is (omega (arith, answered)) (omega (arith, marked)) ascend.1)
     ∙ sym (append_assoc (entry (between from mark log) cmd reply mark) (entries log mark cmds replies marks) (entries all (length log) next later others))

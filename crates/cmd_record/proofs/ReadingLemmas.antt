@@ -48,10 +48,6 @@ firsts laws seen cmds r given none = by (cases_Bool r.over)
 serves_to : (set : Setting) (cmds same : List Cmd) (body : List ℕ) (s : State) (before after : Option (List ℕ)) → cmds ≡ same → Records set cmds body s → Appends before after body → ServesTo set same before after
 serves_to set cmds same body s before after is records told = record { body = body; served = subst (λ (cs : List Cmd). Each IsCommand cs → ServesBy set cs body) is records.served; told = told }
 
--- the faults of the source before this call count too
-rose_before : (first before now : ℕ) → first ≤ before → Rose before now → Rose first now
-rose_before first before now le rose = omega arith
-
 -- One turn.
 
 module _ (laws : GivenLaws) (set : Setting) (left mid now told out : Option (List ℕ)) (s : State) (r q : ReaderState) (h : At set left mid told out s r) where
@@ -113,7 +109,7 @@ module _ (laws : GivenLaws) (set : Setting) (left mid now told out : Option (Lis
     pub fault_at : (first : ℕ) → first ≤ faults → ReadsOn next.SourceFault r q mid now faults faults_now → Rose first faults_now × ReadsSome set left now told out
     fault_at first le reads =
         let given = same_commands reads.more (reads.given h.seen h.cmds h.given) in (
-          rose_before first faults faults_now le reads.ends.0,
+          omega (arith, le, reads.ends.0),
           record {
             seen = h.seen ++ reads.more;
             read = Consumes-trans left mid now h.seen reads.more h.read reads.read;
@@ -206,7 +202,7 @@ stopped_before T U (Err x) NoMemory first before now is le h =
     subst P (sym is) (omega (arith, le, h))
 stopped_before T U (Err x) SinkFault first before now is le h =
     let P : Stop → Type 0 = λ stop. StopsByCause {T = T} first now (Err stop) in
-    subst P (sym is) (omega (arith, le, h.0), rose_before first before now le h.1)
+    subst P (sym is) (omega (arith, le, h.0), omega (arith, le, h.1))
 
 -- The beginning.
 

@@ -2,6 +2,7 @@
 use Rattle.std.proofs.Common.{◌≡◌, ◌⊎◌, inl, inr, ℕ, zero, suc, ◌-◌, ◌^◌, ◌<◌, ◌≤◌, nat_le, Bool, true, false, if◌then◌else◌, List, [], ◌∷◌, ◌++◌, length, take, take_all, drop, Option, None, Some, unwrap_or, refl, sym, ap, ap₂, ◌∙◌, subst, arith, append_assoc, append-nil}
 use Rattle.std.proofs.Math.Logic.{∥∥₁_map}
 use Rattle.std.proofs.lemmas.List.{length-append, take-append-le}
+use Rattle.std.proofs.lemmas.Option.{none-some}
 use Rattle.std.specs.List.{slice_get}
 use Rattle.std.proofs.lemmas.Bool.{and_parts, leb-true}
 use Rattle.std.proofs.lemmas.Bool.Decides.{nat_tests}
@@ -9,7 +10,7 @@ use mathlib.Core.Path.{fun_ext}
 use Rattle.base_types.specs.Seal.{Blocks, sha256}
 use Rattle.disk_contract.specs.declared.event.Event.{Event}
 use Rattle.disk_contract.specs.Cell.{Cell, cell_of, has_lost}
-use Rattle.disk_contract.specs.Crash.{IsHonest, IsTorn, MayHold}
+use Rattle.disk_contract.specs.Crash.{IsTorn, MayHold}
 use Rattle.disk_contract.specs.Disk.{Grows, writes_in}
 use Rattle.disk_contract.specs.Lawful.{IsLogOf}
 use Rattle.disk_contract.specs.Manner.{Manner, GoesBy}
@@ -51,19 +52,6 @@ use Rattle.cmd_host.specs.Mounts.{MountsOnce}
 use Rattle.cmd_record.specs.Traces.{Serves, ServesBy, says}
 use Rattle.cmd_record.specs.Running.{BeginsSo, Ran, PacedRun, Records, GoesOnWith, RunLaws, KnownRun, IsAnswered}
 use Rattle.cmd_record.proofs.Entries.{front_on, one_entry, first_line}
-
--- Images that are alike are left by crashes of disks that began alike.
-
-cell_alike : (base other : Blocks) (log : List Event) (b : ℕ) → base b ≡ other b → cell_of base log b ≡ cell_of other log b
-cell_alike base other log b same = ap (λ (x : List ℕ). cell_of (λ _. x) log b) same
-
-honest_alike : (n : ℕ) (base other : Blocks) (log : List Event) (img : Blocks) → ((b : ℕ) → b < n → base b ≡ other b) → IsHonest n base log img → IsHonest n other log img
-honest_alike n base other log img same h = record {
-  leaves = λ b low. subst (λ (c : Cell). MayHold c (img b)) (cell_alike base other log b (same b low)) (h.leaves b low);
-  unsealed = λ b low torn. h.unsealed b low (subst (λ (c : Cell). IsTorn c (img b)) (sym (cell_alike base other log b (same b low))) torn);
-  like_base = λ b c low below e. h.like_base b c low below (e ∙ ap sha256 (sym (same c below))) ∙ same c below;
-  like_written = h.like_written;
-}
 
 -- Runs joined.
 
@@ -170,8 +158,20 @@ pub record RunsOf (g : Geometry) (base : Blocks) (log : List Event) (mounted : �
   pub answers : Each IsReply replies
 
 module _ (g : Geometry) (laws : RunLaws g) (base : Blocks) (log : List Event) (mounted : ℕ) (cmds : List Cmd) (replies : List Reply) (marks : List ℕ) (r : RunsOf g base log mounted cmds replies marks) where
+  -- a block of the disk is in the cell that it would be in on the formatted disk
+  cell_alike : (k b : ℕ) → b < g.n → cell_of base (take k log) b ≡ cell_of (formatted g) (take k log) b
+  cell_alike k b low = ap (λ (x : List ℕ). cell_of (λ _. x) (take k log) b) (r.same b low)
+
+  -- so an image that a crash of the formatted disk may leave is one that a crash of the disk may leave
   points_left : LeavesPoints g.n (formatted g) (start g.i) log mounted cmds replies marks
-  points_left = record { each = λ k img upto honest. r.run.crashes.each k img upto (honest_alike g.n (formatted g) base (take k log) img (λ b low. sym (r.same b low)) honest) }
+  points_left = record {
+    each = λ k img upto honest. r.run.crashes.each k img upto (record {
+      leaves = λ b low. subst (λ (c : Cell). MayHold c (img b)) (sym (cell_alike k b low)) (honest.leaves b low);
+      unsealed = λ b low torn. honest.unsealed b low (subst (λ (c : Cell). IsTorn c (img b)) (cell_alike k b low) torn);
+      like_base = λ b c low below e. honest.like_base b c low below (e ∙ ap sha256 (r.same c below)) ∙ sym (r.same c below);
+      like_written = honest.like_written;
+    });
+  }
 
   consistent : IsCrashConsistent g.n g.i (formatted g) log mounted cmds replies marks
   consistent = record {
@@ -330,7 +330,7 @@ module _ (cmd : Cmd) (reply : Reply) (old new : State) (a : IsAnswered cmd reply
 
 -- Lists with one element more.
 
-get_split_at : {A : Type 0} (xs : List A) (x y : A) (i : ℕ) → slice_get (xs ++ x ∷ []) i ≡ Some y → (slice_get xs i ≡ Some y) ⊎ ((x ≡ y) × (i ≡ length xs))
+pub get_split_at : {A : Type 0} (xs : List A) (x y : A) (i : ℕ) → slice_get (xs ++ x ∷ []) i ≡ Some y → (slice_get xs i ≡ Some y) ⊎ ((x ≡ y) × (i ≡ length xs))
 get_split_at [] x y zero is = inr (ap (λ o. unwrap_or o x) is, refl)
 get_split_at [] x y (suc i) is = inl is
 get_split_at (z ∷ xs) x y zero is = inl is
@@ -392,10 +392,6 @@ records_on cmd reply old new a laws known lawful set past text r =
     (records set (laws g r.ran.fits) new r.mounted (past ++ cmd ∷ []) (r.replies ++ reply ∷ []) (r.marks ++ length new.crash.log ∷ []) ran paced
     (known g r.mounted (past ++ cmd ∷ []) (r.replies ++ reply ∷ []) (r.marks ++ length new.crash.log ∷ []) ran))
 
-none_is : {A : Type 0} (i : ℕ) (x : A) → slice_get [] i ≡ Some x → ⊥
-none_is zero x is = cc
-none_is (suc i) x is = cc
-
 -- The first moment of a recording: the mount's events, and no command. The room is that of a formatted disk.
 
 first_room : (g : Geometry) (r : Room) → IsFirstRoom g r → r ≡ (room_at_first g).room
@@ -415,7 +411,7 @@ pub at_first : (set : Setting) (s : State) → geometry_fits set.shape ≡ true 
 at_first set s fits opened laws known begins =
     let g = set.shape in
     let ses = session_by g (length s.crash.log) in
-    let going : s.books.stopped ≡ false = opened.served.goes_on.going (λ i is. none_is i _ is) in
+    let going : s.books.stopped ≡ false = opened.served.goes_on.going (λ i is. none-some _ is) in
     let ran : Ran g (length s.crash.log) [] [] [] s = record {
       served = opened.served;
       first = room_of s;
@@ -451,6 +447,6 @@ at_first set s fits opened laws known begins =
       mounts = ap has_lost (take_all (length s.crash.log) s.crash.log (omega arith)) ∙ opened.unlost;
       once = subst (MountsOnce g) (sym (take_all (length s.crash.log) s.crash.log (omega arith))) opened.once;
       turns = omega (arith, opened.turns);
-      unspent = λ i few is. none_is i _ is;
+      unspent = λ i few is. none-some _ is;
     } in
     subst (λ (xs : List ℕ). Records set [] xs s) (front_at_first g s.crash.log) (records set (laws g fits) s (length s.crash.log) [] [] [] ran paced (known g (length s.crash.log) [] [] [] ran))

@@ -58,9 +58,6 @@ places_fewer n (c ∷ cs) = omega (arith, ap (λ (b : Bool). if b then places_to
     at_most true = omega arith
     at_most false = omega arith
 
-places_of_one : (c : Commit) → places_from 0 (c ∷ []) ≡ places_told c
-places_of_one c = omega (arith, ap (λ (b : Bool). if b then places_told c else 0) (from_none c.number))
-
 -- Where no write came, no record is told.
 
 pub none_written : (g : Geometry) (epoch : ℕ) (es : List Event) → writes_in es ≡ 0 → commits_told g epoch es ≡ []
@@ -121,7 +118,7 @@ module _ (ses : MountedSession) (base : Blocks) (m : Manner) (log : List Event) 
           omega (arith, ap (places_from 0) (none_written ses.geom ses.epoch (drop step.room.behind (take new.events log)) nothing))
       by (suc w) some =
           let x = step.does.written done going (omega (arith, some)) in
-          omega (arith, x.size, ap (places_from 0) x.own, places_of_one x.commit)
+          omega (arith, x.size, ap (places_from 0) x.own, ap (λ (b : Bool). if b then places_told x.commit else 0) (from_none x.commit.number))
 
   records_places : places_from 0 new.taken.records ≤ places_from 0 old.taken.records + (if is_sync cmd then sync_places old.taken.weight else 0)
   records_places = by (cases_Bool (is_done_sync cmd reply))

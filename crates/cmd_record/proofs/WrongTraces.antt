@@ -1,5 +1,5 @@
 -- Traces of wrong programs, each refused by a field of the clause.
-use Rattle.std.proofs.Common.{◌≡◌, ◌≢◌, ◌⊎◌, inl, inr, ⊎_elim, ℕ, zero, suc, ◌+◌, ◌<◌, ◌≤◌, ◌==◌, ◌&&◌, ◌||◌, not, if◌then◌else◌, Bool, true, false, List, [], ◌∷◌, ◌++◌, length, take, drop, Option, Some, None, unwrap_or, refl, sym, ap, ◌∙◌, subst, arith}
+use Rattle.std.proofs.Common.{◌≡◌, ◌≢◌, ◌⊎◌, inl, inr, ⊎_elim, ℕ, zero, suc, ◌+◌, ◌<◌, ◌≤◌, ◌==◌, ◌&&◌, ◌||◌, not, if◌then◌else◌, Bool, true, false, List, [], ◌∷◌, ◌++◌, length, take, drop, Option, Some, None, refl, sym, ap, ◌∙◌, subst, arith}
 use Rattle.std.proofs.Props.{props}
 use Rattle.std.proofs.Math.Logic.{∥∥₁_elim, ∥∥₁_map}
 use Rattle.std.proofs.Math.Seq.{take-take}
@@ -36,15 +36,10 @@ use Rattle.cmd_session.specs.Taking.{CameIn, Span, makes_point, places_wanted}
 use Rattle.cmd_host.specs.Behaving.{session_by}
 use Rattle.cmd_record.specs.Behaving.{pace_at_first}
 use Rattle.cmd_record.specs.WrongTraces.{Goes, IsHeard, IsUnwritten, LosesOwn, WaitsForNothing}
+use Rattle.cmd_record.proofs.Runs.{get_split_at}
 use Rattle.cmd_record.proofs.Weights.{none_written}
 
--- A list with one element more, and a log that goes on.
-
-get_split : {A : Type 0} (xs : List A) (x y : A) (i : ℕ) → slice_get (xs ++ x ∷ []) i ≡ Some y → (slice_get xs i ≡ Some y) ⊎ (x ≡ y)
-get_split [] x y zero is = inr (ap (λ o. unwrap_or o x) is)
-get_split [] x y (suc i) is = inl is
-get_split (z ∷ xs) x y zero is = inl is
-get_split (z ∷ xs) x y (suc i) is = get_split xs x y i is
+-- A log that goes on.
 
 accepted_on : (t : ℕ) (xs ys : List Event) → is_accepted t xs ≡ true → is_accepted t (xs ++ ys) ≡ true
 accepted_on t [] ys is = absurd (false≢true is)
@@ -144,7 +139,7 @@ module _ (s : MountedSession) (base : Blocks) (m : Manner) (log : List Event) (r
       no_earlier span from came = ⊎_elim (λ early. absurd (true≢false (sym (accepted_later t step.room.behind span.begun new.events from step.room.upto early) ∙ came.not_before))) (λ none. none) (cases_Bool (is_accepted t (take step.room.behind log)))
 
       at_end_or : (b : Bool) (xs : List Span) (y x : Span) (k : ℕ) → slice_get (xs ++ (if b then y ∷ [] else [])) k ≡ Some x → (slice_get xs k ≡ Some x) ⊎ (y ≡ x)
-      at_end_or true xs y x k is = get_split xs y x k is
+      at_end_or true xs y x k is = ⊎_elim (λ earlier. inl earlier) (λ last. inr last.0) (get_split_at xs y x k is)
       at_end_or false xs y x k is = inl (ap (λ (ys : List Span). slice_get ys k) (sym (Rattle.std.proofs.Common.append-nil xs)) ∙ is)
 
       in_new : (k : ℕ) (span : Span) → CameIn (take new.events log) span t → (slice_get old.taken.spans k ≡ Some span) ⊎ (late ≡ span) → is_accepted t (take step.room.behind log) ≡ false
