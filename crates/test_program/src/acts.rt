@@ -1,6 +1,7 @@
 //! The rows that do something and ask nothing: they change the bay, its images, the input, and which calls fail.
 
 use crate::at_hand::AtHand;
+use crate::digests::seal_there;
 use crate::fails::{bay_fails_of, disk_fails_of};
 use crate::images::{put_formatted, put_zeros, set_bytes};
 use crate::streams::Streams;
@@ -26,6 +27,7 @@ pub(crate) fn act(alloc: Global, at_hand: &mut AtHand, text: &str) -> Result<boo
         ["set", name, block, offset, digits @ ..] => {
             set(alloc, &mut at_hand.bay, (name, block, offset), digits)
         }
+        ["seal", name, block] => seal(alloc, &mut at_hand.bay, name, block),
         ["fail", "bay", calls @ ..] => fail_bay(alloc, &mut at_hand.bay, calls),
         ["fail", "disk", name, calls @ ..] => fail_disk(alloc, &mut at_hand.bay, name, calls),
         _ => set_streams(alloc, &mut at_hand.streams, words),
@@ -140,6 +142,14 @@ fn set(
     };
     match bytes_of(alloc, digits)? {
         Some(bytes) => set_bytes(alloc, bay, name, (block, offset), bytes.as_slice()),
+        None => Ok(false),
+    }
+}
+
+// Seals a block of an image.
+fn seal(alloc: Global, bay: &mut MemBay, name: &str, block: &str) -> Result<bool, NoMemory> {
+    match number(block) {
+        Some(block) => seal_there(alloc, bay, name, block),
         None => Ok(false),
     }
 }

@@ -5,6 +5,7 @@
 
 mod acts;
 mod at_hand;
+mod digests;
 mod fails;
 mod images;
 mod questions;

@@ -5,6 +5,7 @@ ghost use Rattle.test_program.specs.declared.questions.Outcome.TheVariants.{Righ
 
 use crate::acts::act;
 use crate::at_hand::AtHand;
+use crate::digests::{digest_text, is_sealed_there, sha256_text};
 use crate::images::{are_equal, blocks_text, bytes_text, events_text, marks_text};
 use crate::streams::Streams;
 use crate::texts::{flat, has_front, lines_of, push_number};
@@ -99,7 +100,7 @@ fn status(
     Ok(Some(text))
 }
 
-// What is asked of the last run's streams by this text, which has these words.
+// What is asked of the streams by this text, which has these words.
 fn of_output(
     alloc: Global,
     streams: &Streams,
@@ -118,6 +119,7 @@ fn of_output(
         ["front"] => told(alloc, output.len() < kept.len() && kept.starts_with(output))?,
         ["bytes"] => text_of(alloc, output.len() as u64)?,
         ["left"] => text_of(alloc, streams.left)?,
+        ["sha256"] => sha256_text(alloc, streams.input.as_slice())?,
         _ => return Ok(None),
     };
     Ok(Some(text))
@@ -140,6 +142,11 @@ fn of_bay(alloc: Global, bay: &MemBay, words: &[&str]) -> Result<Option<Vec<u8>>
             }
             None => Ok(None),
         },
+        ["digest", name, block] => match number(block) {
+            Some(block) => digest_text(alloc, bay, name, block),
+            None => Ok(None),
+        },
+        ["sealed", name, block] => sealed_answer(alloc, bay, name, block),
         ["events", name] => events_text(alloc, bay, name),
         ["marks", name] => {
             let text = marks_text(alloc, bay, name)?;
@@ -162,6 +169,22 @@ fn block_answer(
             bytes_text(alloc, bay, name, (block, offset), count)
         }
         _ => Ok(None),
+    }
+}
+
+// Whether a block is sealed.
+fn sealed_answer(
+    alloc: Global,
+    bay: &MemBay,
+    name: &str,
+    block: &str,
+) -> Result<Option<Vec<u8>>, NoMemory> {
+    match number(block).and_then(|b| is_sealed_there(bay, name, b)) {
+        Some(is_so) => {
+            let text = told(alloc, is_so)?;
+            Ok(Some(text))
+        }
+        None => Ok(None),
     }
 }
 
