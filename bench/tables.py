@@ -65,13 +65,13 @@ def rounded(number):
 
 
 def counts_cell(result):
-    """Syncs, and MiB written."""
-    return f"{result['syncs']}/{rounded(result['bytes'] / MIB)}"
+    """Syncs, writes, and MiB written."""
+    return f"{result['syncs']}/{result['writes']}/{rounded(result['bytes'] / MIB)}"
 
 
 def seconds_cell(result):
-    """Seconds, as they were and with 10 ms for each sync."""
-    return f"{rounded(result['seconds'])}/{rounded(priced(result, 10))}"
+    """Seconds, as they were, and with 1 and 10 ms for each sync."""
+    return "/".join(rounded(priced(result, milliseconds)) for milliseconds in (0, 1, 10))
 
 
 def effort_cell(result):
@@ -80,8 +80,8 @@ def effort_cell(result):
 
 
 SHORT = (
-    ("syncs/MiB written", counts_cell),
-    ("seconds/with 10 ms more for each sync", seconds_cell),
+    ("syncs/writes/MiB written", counts_cell),
+    ("seconds/with 1 ms/with 10 ms more for each sync", seconds_cell),
     ("processor seconds/peak MiB", effort_cell),
 )
 
