@@ -1,5 +1,5 @@
 -- What a run of commands comes to, and what its last reply promises.
-use Rattle.std.proofs.Common.{◌≡◌, ℕ, ◌+◌, ◌<◌, ◌≤◌, nat_le, List, [], ◌∷◌, ◌++◌, length, get_or, take, take_all, sym, ap, subst, arith}
+use Rattle.std.proofs.Common.{◌≡◌, ℕ, ◌+◌, ◌<◌, ◌≤◌, nat_le, List, [], ◌∷◌, ◌++◌, length, get_or, take, take_all, sym, ap, ◌∙◌, subst, arith}
 use Rattle.std.proofs.lemmas.Bool.{le-leb, cond-true}
 use Rattle.std.proofs.lemmas.List.{take_more}
 use Rattle.base_types.specs.Seal.{Blocks}
@@ -32,10 +32,10 @@ floor_at_last k (r ∷ replies) (m ∷ marks) reply mark same le = omega (arith,
 pub none_yet : (g : Geometry) (t : Tree) (mounted : ℕ) (cmds : List Cmd) (replies : List Reply) (marks : List ℕ) (s : State) → (replies ≡ []) × (marks ≡ []) → HasServed g t mounted [] [] [] s → HasServed g t mounted (take 0 cmds) replies marks s
 none_yet g t mounted cmds replies marks s empty served = subst (λ (rs : List Reply). HasServed g t mounted (take 0 cmds) rs marks s) (sym empty.0) (subst (λ (ms : List ℕ). HasServed g t mounted (take 0 cmds) [] ms s) (sym empty.1) served)
 
-pub one_more : (g : Geometry) (t : Tree) (mounted : ℕ) (cmds : List Cmd) (i : ℕ) (d : Cmd) (before after : List Reply) (reply : Reply) (marks : List ℕ) (s : State) → i < length cmds → after ≡ before ++ reply ∷ []
-    → HasServed g t mounted (take i cmds ++ get_or cmds i d ∷ []) (before ++ reply ∷ []) marks s → HasServed g t mounted (take (i + 1) cmds) after marks s
-one_more g t mounted cmds i d before after reply marks s lt is served =
-    subst (λ (cs : List Cmd). HasServed g t mounted cs after marks s) (sym (take_more cmds i d lt)) (subst (λ (rs : List Reply). HasServed g t mounted (take i cmds ++ get_or cmds i d ∷ []) rs marks s) (sym is) served)
+pub one_more : (g : Geometry) (t : Tree) (mounted : ℕ) (cmds : List Cmd) (i : ℕ) (cmd : Cmd) (before after : List Reply) (reply : Reply) (marks : List ℕ) (s : State) → i < length cmds → get_or cmds i cmd ≡ cmd → after ≡ before ++ reply ∷ []
+    → HasServed g t mounted (take i cmds ++ cmd ∷ []) (before ++ reply ∷ []) marks s → HasServed g t mounted (take (i + 1) cmds) after marks s
+one_more g t mounted cmds i cmd before after reply marks s lt own is served =
+    subst (λ (cs : List Cmd). HasServed g t mounted cs after marks s) (sym (take_more cmds i cmd lt ∙ ap (λ (x : Cmd). take i cmds ++ x ∷ []) own)) (subst (λ (rs : List Reply). HasServed g t mounted (take i cmds ++ cmd ∷ []) rs marks s) (sym is) served)
 
 pub all_of_them : (g : Geometry) (t : Tree) (mounted : ℕ) (cmds : List Cmd) (i : ℕ) (replies : List Reply) (marks : List ℕ) (s : State) → length cmds ≤ i → HasServed g t mounted (take i cmds) replies marks s → HasServed g t mounted cmds replies marks s
 all_of_them g t mounted cmds i replies marks s le served = subst (λ (cs : List Cmd). HasServed g t mounted cs replies marks s) (take_all i cmds le) served

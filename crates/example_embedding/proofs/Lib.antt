@@ -1,2 +1,3 @@
 pub mod Mounting
 pub mod Answering
+pub mod Cuts

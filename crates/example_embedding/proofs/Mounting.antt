@@ -27,6 +27,10 @@ drawn known s = record {
   issued = λ m h. h;
 }
 
+-- the blocks of the geometry are those of the disk
+pub stood_size : (tells : Bool) (first : disk.State) (s : State) → IsMountedOn tells false first s → s.books.geom.n ≡ first.blocks
+stood_size tells first s on = on.blocks
+
 module _ (tells : Bool) (told : IsTrue tells) (first : disk.State) (s : State) (on : IsMountedOn tells false first s) where
   -- the store has the map of its image, and so has each image so far
   pub mounted_with : BeginsWith s.books.geom s.map s → IsMountedWith s.books.geom s.map s

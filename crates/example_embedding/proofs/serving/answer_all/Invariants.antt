@@ -1,4 +1,4 @@
-use Rattle.std.proofs.Common.{◌≡◌, ◌+◌, ℕ, [], take, IsTrue, vec_len, vec_capacity}
+use Rattle.std.proofs.Common.{◌≡◌, ◌+◌, ◌≤◌, ℕ, [], length, take, IsTrue, vec_len, vec_capacity}
 use Rattle.layout_geometry.specs.Geometry.{Geometry}
 use Rattle.lang_tree.specs.Tree.{Tree}
 use Rattle.engine_store.specs.StoreOf.{state_of}
@@ -16,4 +16,5 @@ invariant-loop-place g l = record {
   replies_room : vec_capacity l.replies ≡ vec_capacity l.fn.replies;
   marks : vec_len l.marks ≡ vec_len l.fn.marks + l.place;
   marks_room : vec_capacity l.marks ≡ vec_capacity l.fn.marks;
+  upto : l.place ≤ length l.cmds;
 }

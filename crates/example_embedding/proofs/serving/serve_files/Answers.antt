@@ -1,4 +1,4 @@
-use Rattle.std.proofs.Common.{◌≡◌, ap, ◌∙◌}
+use Rattle.std.proofs.Common.{ap, ◌∙◌}
 use Rattle.engine_store.specs.StoreOf.{disk_in, state_of}
 use Rattle.fs_commands.specs.Opened.{blocks_in}
 use Rattle.example_embedding.proofs.Answering.{keeps_by}
