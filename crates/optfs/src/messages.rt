@@ -35,11 +35,9 @@ pub(crate) fn say_why(
         Status::Usage => say_usage(rt, words),
         Status::DiskFault if bay.why().is_some() => {}
         Status::Damaged(damage) => {
-            let _ = match words {
-                [command, image] if command.as_str() != "replay" => {
-                    eprintln!(rt; "optfs: {image} stands for no tree: {damage}")
-                }
-                _ => eprintln!(rt; "optfs: the crash leaves no tree: {damage}"),
+            let _ = match image_of(words) {
+                Some(image) => eprintln!(rt; "optfs: {image} stands for no tree: {damage}"),
+                None => eprintln!(rt; "optfs: the crash leaves no tree: {damage}"),
             };
         }
         Status::SourceFault => say_of(rt, "the input can't be read", streams.input_error),
@@ -50,6 +48,21 @@ pub(crate) fn say_why(
             }
         }
     }
+}
+
+// The image that the words of `run` or `tree` name: the first one behind the command, but for the `--` that ends options.
+fn image_of(words: &[String]) -> Option<&String> {
+    if words.first()?.as_str() == "replay" {
+        return None;
+    }
+    let mut are_ended = false;
+    for word in words.iter().skip(1) {
+        if are_ended || word.as_str() != "--" {
+            return Some(word);
+        }
+        are_ended = true;
+    }
+    None
 }
 
 // The first reply by which the disk failed.
