@@ -101,11 +101,11 @@ impl FileBay {
     // The blocks of the image at a path.
     fn image_at(&self, path: &str) -> Result<ImageBytes, Refused> {
         if self.only_shows {
-            let file = open_image(&self.rt, path, Access::Read)?;
-            return Ok(ImageBytes::copied(self.rt.alloc(), &file)?);
+            let locked = open_image(&self.rt, path, Access::Read)?;
+            return Ok(ImageBytes::copied(self.rt.alloc(), &locked.file)?);
         }
-        let file = open_image(&self.rt, path, Access::Write)?;
-        Ok(ImageBytes::of_file(file)?)
+        let locked = open_image(&self.rt, path, Access::Write)?;
+        Ok(ImageBytes::of_file(locked)?)
     }
 }
 

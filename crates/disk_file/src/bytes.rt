@@ -6,6 +6,7 @@ ghost use Rattle.std.specs.Prelude.{◌≡◌};
 use crate::copy::ImageCopy;
 use crate::device::bytes_in;
 use crate::fault::Refused;
+use crate::opening::LockedFile;
 use base_types::Block;
 use std::alloc::Global;
 use std::fs::File;
@@ -30,13 +31,13 @@ pub(crate) struct ImageBytes {
 /// Where they are.
 #[derive(Drop)]
 enum Place {
-    File(File),
+    File(LockedFile),
     Memory(ImageCopy),
 }
 
 impl ImageBytes {
     /// So many blocks at the beginning of a file.
-    pub(crate) fn new(file: File, blocks: u32) -> ImageBytes
+    pub(crate) fn new(file: LockedFile, blocks: u32) -> ImageBytes
         ensures { result.blocks ≡ blocks }
     {
         ImageBytes {
@@ -49,8 +50,8 @@ impl ImageBytes {
     ///
     /// # Errors
     /// What the system said; or that there are 2^32 or more.
-    pub(crate) fn of_file(file: File) -> io::Result<ImageBytes> {
-        let blocks = whole_blocks(&file)?;
+    pub(crate) fn of_file(file: LockedFile) -> io::Result<ImageBytes> {
+        let blocks = whole_blocks(&file.file)?;
         Ok(ImageBytes::new(file, blocks))
     }
 
@@ -69,7 +70,7 @@ impl ImageBytes {
     /// The file, where the blocks are in one.
     pub(crate) fn file(&self) -> Option<&File> {
         match &self.place {
-            Place::File(file) => Some(file),
+            Place::File(locked) => Some(&locked.file),
             Place::Memory(_) => None,
         }
     }
@@ -80,7 +81,7 @@ impl ImageBytes {
     /// What the system said.
     pub(crate) fn read(&self, b: u32, into: &mut Block) -> io::Result<()> {
         match &self.place {
-            Place::File(file) => file.read_exact_at(into.as_mut_slice(), length_of(b)),
+            Place::File(locked) => locked.file.read_exact_at(into.as_mut_slice(), length_of(b)),
             Place::Memory(copy) => {
                 *into = *copy.read(b);
                 Ok(())
@@ -98,11 +99,11 @@ impl ImageBytes {
     {
         let is_last = b >= self.blocks.saturating_sub(1);
         match &mut self.place {
-            Place::File(file) => {
+            Place::File(locked) => {
                 if is_last {
-                    check_length(file, self.blocks)?;
+                    check_length(&locked.file, self.blocks)?;
                 }
-                file.write_all_at(from.as_slice(), length_of(b))
+                locked.file.write_all_at(from.as_slice(), length_of(b))
             }
             Place::Memory(copy) => {
                 copy.write(b, from)?;
@@ -116,13 +117,13 @@ impl ImageBytes {
     /// # Errors
     /// What the system said, or that the file was cut short.
     pub(crate) fn sync(&self) -> Result<(), Refused> {
-        let Place::File(file) = &self.place else {
+        let Place::File(locked) = &self.place else {
             return Ok(());
         };
-        if let Err(why) = file.sync_data() {
+        if let Err(why) = locked.file.sync_data() {
             return Err(Refused::Sync(why));
         }
-        match check_length(file, self.blocks) {
+        match check_length(&locked.file, self.blocks) {
             Ok(()) => Ok(()),
             Err(why) => Err(Refused::Call(why)),
         }

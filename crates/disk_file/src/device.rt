@@ -2,7 +2,8 @@
 //! made on it. Nothing here is in a contract. How it is opened for a run is in the module of the opening.
 
 use crate::bytes::BLOCK;
-use crate::opening::{Access, busy, check_same, lock, open};
+use crate::device_lock::DeviceLocks;
+use crate::opening::{Access, LockedFile, busy, check_same, lock, open};
 use std::alloc::Global;
 use std::fs::{self, File, Metadata, OpenOptions};
 use std::io::{self, ErrorKind, Seek, SeekFrom};
@@ -32,13 +33,14 @@ pub(crate) fn bytes_in(file: &File) -> io::Result<u64> {
 ///
 /// # Errors
 /// What the system said; that another program has it; that it is in use, or has another number of blocks.
-pub(crate) fn device_at(rt: &HostRuntime, path: &str, blocks: u32) -> io::Result<File> {
+pub(crate) fn device_at(rt: &HostRuntime, path: &str, blocks: u32) -> io::Result<LockedFile> {
     let mut options = OpenOptions::new();
     options.read(true).write(true);
     let file = open(rt, path, &options)?;
     lock(&file, Access::Write)?;
     let there = fs::metadata(rt, path)?;
     check_same(&file, &there)?;
+    let locks = DeviceLocks::take(rt, &there, Access::Write)?;
     check_free(rt, &there)?;
     let all = bytes_in(&file)? / BLOCK;
     if all != u64::from(blocks) {
@@ -47,7 +49,10 @@ pub(crate) fn device_at(rt: &HostRuntime, path: &str, blocks: u32) -> io::Result
         return Err(io::Error::new(ErrorKind::InvalidInput, words));
     }
     let _ = eprintln!(rt; "optfs: {path}: what is on this device is written over");
-    Ok(file)
+    Ok(LockedFile {
+        file,
+        device: Some(locks),
+    })
 }
 
 /// Looks whether a block device is free: neither it nor a part of it is mounted or swapped to, and no other device stands
@@ -88,8 +93,8 @@ fn numbers_of(rt: &HostRuntime, device: u64) -> io::Result<Vec<String>> {
     Ok(numbers)
 }
 
-// The number of a device, as the system writes it.
-fn number_of(alloc: Global, device: u64) -> io::Result<String> {
+/// The number of a device, as the system writes it.
+pub(crate) fn number_of(alloc: Global, device: u64) -> io::Result<String> {
     let major = (device >> 8) & 0xfff | (device >> 32) & 0xffff_f000;
     let minor = device & 0xff | (device >> 12) & 0xffff_ff00;
     Ok(format!(in alloc; "{major}:{minor}")?)

@@ -7,6 +7,7 @@ mod bay;
 mod bytes;
 mod copy;
 mod device;
+mod device_lock;
 mod disk;
 mod fault;
 mod making;

@@ -3,7 +3,7 @@
 
 use crate::bytes::length_of;
 use crate::device::{device_at, is_device};
-use crate::opening::{Access, check_plain, check_same, lock, open};
+use crate::opening::{Access, LockedFile, check_plain, check_same, lock, open};
 use std::fs::{self, File, OpenOptions};
 use std::io::{self, ErrorKind};
 use std::path::Path;
@@ -23,13 +23,16 @@ pub(crate) enum NewImage {
     OnDevice,
 }
 
+/// Where a new image is made, and what has to be known of it.
+type Made = (LockedFile, NewImage);
+
 /// A file of so many blocks of zeros at a path, where nothing was, or an empty file; or the block device there, which has
 /// as many blocks and keeps what they hold until it is written over.
 ///
 /// # Errors
 /// What the system said; that another program has the file; that it isn't empty, or neither a plain file nor a device; that
 /// the device is in use, or has another number of blocks. What was at the path is as it was.
-pub(crate) fn new_image(rt: &HostRuntime, path: &str, blocks: u32) -> io::Result<(File, NewImage)> {
+pub(crate) fn new_image(rt: &HostRuntime, path: &str, blocks: u32) -> io::Result<Made> {
     if is_device_at(rt, path)? {
         return Ok((device_at(rt, path, blocks)?, NewImage::OnDevice));
     }
@@ -86,7 +89,7 @@ fn is_device_at(rt: &HostRuntime, path: &str) -> io::Result<bool> {
 }
 
 // A file of so many blocks of zeros at a path, where nothing was, or an empty file.
-fn new_file(rt: &HostRuntime, path: &str, blocks: u32) -> io::Result<(File, NewImage)> {
+fn new_file(rt: &HostRuntime, path: &str, blocks: u32) -> io::Result<Made> {
     let mut options = OpenOptions::new();
     options.read(true);
     let folder = open(rt, folder_of(path), &options)?;
@@ -105,13 +108,11 @@ fn new_file(rt: &HostRuntime, path: &str, blocks: u32) -> io::Result<(File, NewI
         }
         return Err(why);
     }
-    match file.set_len(length_of(blocks)) {
-        Ok(()) => Ok((file, image)),
-        Err(why) => {
-            image.give_up(rt, path, &file);
-            Err(why)
-        }
+    if let Err(why) = file.set_len(length_of(blocks)) {
+        image.give_up(rt, path, &file);
+        return Err(why);
     }
+    Ok((LockedFile { file, device: None }, image))
 }
 
 // Opens the plain file at a path, to which no link leads.

@@ -2,6 +2,7 @@
 //! made is in the module of the making, and what is read from a file and written to it in that of the bytes.
 
 use crate::device::{check_free, is_device};
+use crate::device_lock::DeviceLocks;
 use crate::fault::Refused;
 use std::fs::{self, File, Metadata, OpenOptions, TryLockError};
 use std::io::{self, ErrorKind};
@@ -18,13 +19,25 @@ pub(crate) enum Access {
     Write,
 }
 
+/// A file that is locked until it is closed.
+#[derive(Drop)]
+pub(crate) struct LockedFile {
+    pub(crate) file: File,
+    /// The locks of a block device, which may have several nodes.
+    pub(crate) device: Option<DeviceLocks>,
+}
+
 /// Opens the plain file or the block device at a path, to which links may lead. Where it is opened for writing, all that
 /// an earlier program wrote to it is durable then, and a device is in no other use.
 ///
 /// # Errors
 /// What the system said; that another program has the file; that the path leads to another file by now, or to one of
 /// another kind; that a device is in use.
-pub(crate) fn open_image(rt: &HostRuntime, path: &str, access: Access) -> Result<File, Refused> {
+pub(crate) fn open_image(
+    rt: &HostRuntime,
+    path: &str,
+    access: Access,
+) -> Result<LockedFile, Refused> {
     // a pipe or a terminal isn't even opened
     check_kind(&fs::metadata(rt, path)?)?;
     let mut options = OpenOptions::new();
@@ -34,13 +47,17 @@ pub(crate) fn open_image(rt: &HostRuntime, path: &str, access: Access) -> Result
     let there = fs::metadata(rt, path)?;
     check_kind(&there)?;
     check_same(&file, &there)?;
+    let device = match is_device(&there) {
+        true => Some(DeviceLocks::take(rt, &there, access)?),
+        false => None,
+    };
     if access == Access::Write {
-        if is_device(&there) {
+        if device.is_some() {
             check_free(rt, &there)?;
         }
         file.sync_data().map_err(Refused::Sync)?;
     }
-    Ok(file)
+    Ok(LockedFile { file, device })
 }
 
 /// Opens what is at a path by these options. It never has the number of a standard stream, also where the caller closed
