@@ -1,5 +1,6 @@
 pub mod Weighing
 pub mod Logs
+pub mod Holes
 pub mod carrying
 pub mod syncing
 pub mod applying

@@ -7,6 +7,7 @@ use Rattle.lang_tree.specs.declared.command.Reply.TheVariants.{Ok as Done}
 use Rattle.lang_tree.specs.Conditions.{refusal}
 use Rattle.lang_tree.specs.Figures.{nothing}
 use Rattle.lang_tree.specs.Step.{Session, step}
+use Rattle.crash_stands.specs.Files.{files_of}
 use Rattle.crash_stands.specs.Inodes.{AreInodesOf, inodes_of}
 use Rattle.crash_stands.specs.Maps.{IsMapOf}
 use Rattle.engine_blocks.specs.State.{State, reusable_blocks}
@@ -16,9 +17,10 @@ use Rattle.fs_files.specs.Effects.{LooksAndSettles}
 use Rattle.fs_files.specs.Sound.{IsDraftOf}
 use Rattle.fs_session.specs.declared.plan.Plan.{Plan}
 use Rattle.fs_session.specs.declared.plan.Plan.TheVariants.{Answer, Change}
+use Rattle.fs_session.specs.declared.unused.NodeUse.{NodeUse}
 use Rattle.fs_session.specs.Changes.{IsWithinCost, Uses}
 use Rattle.fs_session.specs.Commands.{figures_on, places_of, FindsRuns, IsCalm, IsRefusedFor, is_read_fault, is_disk_fault}
-use Rattle.fs_session.specs.Sessions.{IsSession, AreUsedBelow}
+use Rattle.fs_session.specs.Sessions.{IsSession, KeepsUsed}
 use Rattle.fs_session.specs.Space.{HasRoom}
 
 -- The draft makes the tree of the command, which the tree accepts and there is room for. It is within the command's cost, and uses the blocks that its figures say, of those that may be taken now: the pipeline settled only where there were fewer before.
@@ -35,24 +37,23 @@ pub record MakesTree (cmd : Cmd) (d : DraftState) (cost : ℕ) (old now : State)
   pub enough : (figures_on old f cmd).need ≤ length (reusable_blocks now.books)
   pub rests : (figures_on old f cmd).need ≤ length (reusable_blocks old.books) → now.books ≡ old.books
 
--- The draft may be finished now, its cost fits the transaction, and with it no node below the first one that may be unused is so.
-pub record MayBeMade (tells : Bool) (d : DraftState) (cost first : ℕ) (now : State) : Type 0 where
+-- The draft may be finished now, its cost fits the transaction, and it uses nodes so.
+pub record MayBeMade (tells : Bool) (d : DraftState) (cost : ℕ) (nodes : NodeUse) (now : State) : Type 0 where
   pub draft : IsDraftOf tells now d
   pub weight : now.books.running.weight + cost ≤ now.books.room
-  pub above : 1 ≤ first
-  pub used : IsTrue tells → AreUsedBelow (files_in now d) first
+  pub used : IsTrue tells → KeepsUsed nodes (files_of now.books.geom now.map) (files_in now d)
 
 -- what must hold of a change that was planned
-abbrev pub OnChange : Result Plan Refusal → (DraftState → ℕ → ℕ → Type 0) → Type 0
+abbrev pub OnChange : Result Plan Refusal → (DraftState → ℕ → NodeUse → Type 0) → Type 0
 OnChange (Err why) P = ⊤
 OnChange (Ok (Answer reply)) P = ⊤
-OnChange (Ok (Change draft cost first)) P = P draft cost first
+OnChange (Ok (Change draft cost nodes)) P = P draft cost nodes
 
 -- nothing is to change
 abbrev pub IsAnswer : Result Plan Refusal → Type 0
 IsAnswer (Err why) = ⊤
 IsAnswer (Ok (Answer reply)) = ⊤
-IsAnswer (Ok (Change draft cost first)) = ⊥
+IsAnswer (Ok (Change draft cost nodes)) = ⊥
 
 -- A reply is right that was planned: it is the tree's, which stays as it was; the command takes nothing, for which there is room, and the pipeline didn't settle.
 pub record IsRightAnswer (cmd : Cmd) (reply : Reply) (old now : State) (f : Session) : Type 0 where
@@ -66,7 +67,7 @@ pub record IsRightAnswer (cmd : Cmd) (reply : Reply) (old now : State) (f : Sess
 -- A plan is right: a reply is, or a draft makes the command's tree.
 abbrev pub IsRight : Cmd → Plan → State → State → Session → Type 0
 IsRight cmd (Answer reply) old now f = IsRightAnswer cmd reply old now f
-IsRight cmd (Change draft cost first) old now f = MakesTree cmd draft cost old now f
+IsRight cmd (Change draft cost nodes) old now f = MakesTree cmd draft cost old now f
 
 -- whether planning was refused by a failed read, or by another failed call of the disk
 abbrev pub plan_fails_reading : {T : Type 0} → Result T Refusal → Bool

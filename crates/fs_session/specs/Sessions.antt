@@ -1,5 +1,6 @@
 -- When the state of a map of blocks is that of a session of the tree, and what a command may begin with. It is described in docs/FILE-SYSTEM.md.
-use Rattle.std.specs.Prelude.{◌≡◌, ℕ, ◌<◌, ◌≤◌, nat_lt, Bool, false, IsTrue}
+use Rattle.std.specs.Prelude.{◌≡◌, ◌≢◌, ℕ, ◌+◌, ◌<◌, ◌≤◌, ◌==◌, nat_lt, Bool, false, IsTrue}
+use Rattle.std.specs.List.{list_any}
 use Rattle.lang_tree.specs.Tree.{Tree}
 use Rattle.lang_tree.specs.Step.{Session}
 use Rattle.crash_stands.specs.Files.{Files, files_of}
@@ -10,6 +11,9 @@ use Rattle.engine_blocks.specs.Calls.{HasTurns}
 use Rattle.engine_blocks.specs.State.{State}
 use Rattle.fs_files.specs.Calls.{IsUsed}
 use Rattle.fs_files.specs.Finish.{MayGoOn}
+use Rattle.fs_session.specs.declared.unused.NodeUse.{NodeUse}
+use Rattle.fs_session.specs.declared.unused.NodeUse.TheVariants.{Stays, Taken, Dropped}
+use Rattle.fs_session.specs.declared.unused.UnusedNodes.{UnusedNodes}
 
 -- what the nodes in use read as
 abbrev pub inodes : State → Inodes
@@ -34,21 +38,28 @@ pub record MayBegin (tells : Bool) (s : State) : Type 0 where
 abbrev pub AreUsedBelow : Files → ℕ → Type 0
 AreUsedBelow files first = (l : ℕ) → 1 ≤ l → l < first → IsUsed files l
 
+-- all nodes are in use but those that may be unused: those past the last one that is known to be in use, and the holes
+abbrev pub AreUsedBut : Files → UnusedNodes → Type 0
+AreUsedBut files unused = (l : ℕ) → 1 ≤ l → l ≤ unused.used_to → list_any (λ hole. hole == l) unused.holes.items ≡ false → IsUsed files l
+
+-- nodes in use stay so, but for one that is dropped; where one is taken, all up to it are in use then
+abbrev pub KeepsUsed : NodeUse → Files → Files → Type 0
+KeepsUsed Stays old new = (l : ℕ) → IsUsed old l → IsUsed new l
+KeepsUsed (Taken number) old new = ((l : ℕ) → IsUsed old l → IsUsed new l) × AreUsedBelow new (number + 1)
+KeepsUsed (Dropped number) old new = (l : ℕ) → l ≢ number → IsUsed old l → IsUsed new l
+
 -- a tree stands in the blocks
 abbrev pub Stands : State → Type 0
 Stands s = (t : Tree) × IsTreeOf s.books.geom s.map t
 
--- A command may be planned: a draft may begin, a tree stands in the blocks where they are known, the journal's numbers leave room, and no node below the first one that may be unused is so.
-pub record MayPlan (tells : Bool) (s : State) (first : ℕ) : Type 0 where
+-- A command may be planned: a draft may begin, a tree stands in the blocks where they are known, and the journal's numbers leave room.
+pub record MayPlan (tells : Bool) (s : State) : Type 0 where
   pub begin : MayBegin tells s
   pub stands : IsTrue tells → Stands s
   pub turns : HasTurns s.books
-  pub above : 1 ≤ first
-  pub used : IsTrue tells → AreUsedBelow (files_of s.books.geom s.map) first
 
--- What holds of blocks between two commands: a sync may follow, the blocks are sound where they are known, and no node below the first one that may be unused is so.
-pub record IsBetween (tells : Bool) (s : State) (first : ℕ) : Type 0 where
+-- What holds of blocks between two commands: a sync may follow, the blocks are sound where they are known, and all nodes are in use but those that may be unused.
+pub record IsBetween (tells : Bool) (s : State) (unused : UnusedNodes) : Type 0 where
   pub goes_on : MayGoOn s.books
   pub sound : IsTrue tells → AreSound s.books.geom s.map
-  pub above : 1 ≤ first
-  pub used : IsTrue tells → AreUsedBelow (files_of s.books.geom s.map) first
+  pub used : IsTrue tells → AreUsedBut (files_of s.books.geom s.map) unused

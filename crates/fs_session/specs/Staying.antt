@@ -1,5 +1,5 @@
 -- Lemmas on what stays of a session: while blocks are read, while the pipeline settles, over a tick, and where nothing is done. The session is described in docs/FILE-SYSTEM.md.
-use Rattle.std.proofs.Common.{◌≡◌, ℕ, ◌≤◌, nat_lt, Bool, false, IsTrue, refl, sym, subst, ap, ◌∙◌, arith}
+use Rattle.std.proofs.Common.{◌≡◌, ◌≤◌, nat_lt, Bool, false, IsTrue, refl, sym, subst, ap, ◌∙◌, arith}
 use Rattle.base_types.specs.Seal.{Blocks}
 use Rattle.layout_geometry.specs.Geometry.{Geometry}
 use Rattle.lang_tree.specs.Step.{Session}
@@ -13,7 +13,8 @@ use Rattle.engine_blocks.specs.State.{Bookkeeping, State}
 use Rattle.fs_files.specs.Effects.{LooksAndSettles}
 use Rattle.fs_files.specs.Finish.{MayGoOn}
 use Rattle.fs_session.specs.Applying.{Ticks}
-use Rattle.fs_session.specs.Sessions.{IsSession, IsBetween, AreUsedBelow, Stands}
+use Rattle.fs_session.specs.declared.unused.UnusedNodes.{UnusedNodes}
+use Rattle.fs_session.specs.Sessions.{IsSession, IsBetween, AreUsedBut, Stands}
 
 -- Where blocks and geometry are the same.
 module _ (s t : State) where
@@ -29,8 +30,8 @@ module _ (s t : State) where
   sound_stays g m h = subst (λ (k : Geometry). AreSound k t.map) (sym g) (subst (λ (b : Blocks). AreSound s.books.geom b) (sym m) h)
 
   -- and the same nodes are in use
-  pub below_stays : (first : ℕ) → t.books.geom ≡ s.books.geom → t.map ≡ s.map → AreUsedBelow (files_of s.books.geom s.map) first → AreUsedBelow (files_of t.books.geom t.map) first
-  below_stays first g m h = subst (λ (k : Geometry). AreUsedBelow (files_of k t.map) first) (sym g) (subst (λ (b : Blocks). AreUsedBelow (files_of s.books.geom b) first) (sym m) h)
+  pub others_stay : (unused : UnusedNodes) → t.books.geom ≡ s.books.geom → t.map ≡ s.map → AreUsedBut (files_of s.books.geom s.map) unused → AreUsedBut (files_of t.books.geom t.map) unused
+  others_stay unused g m h = subst (λ (k : Geometry). AreUsedBut (files_of k t.map) unused) (sym g) (subst (λ (b : Blocks). AreUsedBut (files_of s.books.geom b) unused) (sym m) h)
 
 -- The session is one of a state in which blocks, geometry, last point and weight are the same, and the floor didn't fall.
 pub session_stays : (s t : State) (f : Session) → s.books.stopped ≡ false → t.books.geom ≡ s.books.geom → t.map ≡ s.map → t.books.point ≡ s.books.point → t.books.running.weight ≡ s.books.running.weight → s.books.floor ≤ t.books.floor
@@ -49,27 +50,26 @@ session_settles tells read_failed failed s t f going told h =
     session_stays s t f going h.pipeline.geom (h.map told) h.pipeline.point (ap (λ (r : Running). r.weight) h.pipeline.running) h.pipeline.floor
 
 -- What holds between commands holds still where blocks and geometry are the same, and a sync may follow.
-pub between_stays : (tells : Bool) (s t : State) (first : ℕ) → t.books.geom ≡ s.books.geom → (IsTrue tells → t.map ≡ s.map) → MayGoOn t.books → IsBetween tells s first → IsBetween tells t first
-between_stays tells s t first g m goes_on h = record {
+pub between_stays : (tells : Bool) (s t : State) (unused : UnusedNodes) → t.books.geom ≡ s.books.geom → (IsTrue tells → t.map ≡ s.map) → MayGoOn t.books → IsBetween tells s unused → IsBetween tells t unused
+between_stays tells s t unused g m goes_on h = record {
   goes_on = goes_on;
   sound = λ told. sound_stays s t g (m told) (h.sound told);
-  above = h.above;
-  used = λ told. below_stays s t first g (m told) (h.used told);
+  used = λ told. others_stay s t unused g (m told) (h.used told);
 }
 
 -- so it does after reads and a settling
-pub between_settles : (tells read_failed failed : Bool) (s t : State) (first : ℕ) → ((new : Bookkeeping) → new.geom ≡ s.books.geom → new.running ≡ s.books.running → MayGoOn s.books → MayGoOn new)
-    → LooksAndSettles tells read_failed failed s t → IsBetween tells s first → IsBetween tells t first
-between_settles tells read_failed failed s t first rests h between =
-    between_stays tells s t first h.pipeline.geom h.map (rests t.books h.pipeline.geom h.pipeline.running between.goes_on) between
+pub between_settles : (tells read_failed failed : Bool) (s t : State) (unused : UnusedNodes) → ((new : Bookkeeping) → new.geom ≡ s.books.geom → new.running ≡ s.books.running → MayGoOn s.books → MayGoOn new)
+    → LooksAndSettles tells read_failed failed s t → IsBetween tells s unused → IsBetween tells t unused
+between_settles tells read_failed failed s t unused rests h between =
+    between_stays tells s t unused h.pipeline.geom h.map (rests t.books h.pipeline.geom h.pipeline.running between.goes_on) between
 
 -- A tick leaves the session, and what holds between two commands.
 module _ (tells failed : Bool) (s t : State) (h : Ticks tells failed s t) where
   pub session_ticks : (f : Session) → s.books.stopped ≡ false → IsTrue tells → IsSession s f → IsSession t f
   session_ticks f going told = session_stays s t f going h.moves.pipeline.geom (h.moves.map told) h.moves.pipeline.point (ap (λ (r : Running). r.weight) h.moves.pipeline.running) h.moves.pipeline.floor
 
-  pub between_ticks : (first : ℕ) → ((new : Bookkeeping) → new.geom ≡ s.books.geom → new.running ≡ s.books.running → MayGoOn s.books → MayGoOn new) → IsBetween tells s first → IsBetween tells t first
-  between_ticks first rests between = between_stays tells s t first h.moves.pipeline.geom h.moves.map (rests t.books h.moves.pipeline.geom h.moves.pipeline.running between.goes_on) between
+  pub between_ticks : (unused : UnusedNodes) → ((new : Bookkeeping) → new.geom ≡ s.books.geom → new.running ≡ s.books.running → MayGoOn s.books → MayGoOn new) → IsBetween tells s unused → IsBetween tells t unused
+  between_ticks unused rests between = between_stays tells s t unused h.moves.pipeline.geom h.moves.map (rests t.books h.moves.pipeline.geom h.moves.pipeline.running between.goes_on) between
 
   pub stands_ticks : IsTrue tells → Stands s → Stands t
   stands_ticks told stands = stands_still s t h.moves.pipeline.geom (h.moves.map told) stands

@@ -12,6 +12,7 @@ mod plan;
 mod points;
 mod space;
 mod syncs;
+mod unused;
 
 pub use disk::{
     a_command_is_answered_in_a_room_that_came_back, a_command_serves_what_is_sure,
@@ -32,3 +33,4 @@ pub use plan::{Plan, carry};
 pub use points::{a_crash_leaves_the_tree_of_a_point, live_blocks_are_enough, points_stay_known};
 pub use space::has_room;
 pub use syncs::{dsync, osync};
+pub use unused::{NodeUse, UnusedNodes};

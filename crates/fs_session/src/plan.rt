@@ -9,6 +9,7 @@ ghost use Rattle.fs_session.specs.Plans.{MayBeMade, OnChange, Plans};
 ghost use Rattle.fs_session.specs.Sessions.{IsBetween};
 
 use crate::change::carry_out;
+use crate::unused::{NodeUse, UnusedNodes};
 use engine_blocks::{Blocks, calls_compose};
 use fs_files::{Draft, a_sync_may_follow};
 use lang_tree::{Refusal, Reply, a_command_changes_where_it_costs};
@@ -19,16 +20,15 @@ use std::alloc::Global;
 pub enum Plan {
     /// This reply, and nothing changes.
     Answer(Reply),
-    /// The changes of this draft at this cost, and that the command is done. All nodes of a number below
-    /// `first_unused` are in use then.
+    /// The changes of this draft at this cost, which use nodes so, and that the command is done.
     Change {
         draft: Draft,
         cost: u32,
-        first_unused: u32,
+        nodes: NodeUse,
     },
 }
 
-/// Carries out what a command has planned. All nodes of a number below `first_unused` are in use.
+/// Carries out what a command has planned. All nodes are in use but those that may be unused.
 ///
 /// # Errors
 /// The plan's; or out of memory. Then nothing is changed. A draft past its cost is answered as `TooBig`,
@@ -37,13 +37,13 @@ pub fn carry<S: Blocks>(
     alloc: Global,
     blocks: &mut S,
     planned: Result<Plan, Refusal>,
-    first_unused: &mut u32,
+    unused: &mut UnusedNodes,
 ) -> Result<Reply, Refusal>
-    requires may { OnChange planned (λ draft cost first. MayBeMade S.tells draft cost first (S.state blocks.old)) }
-    requires between { IsBetween S.tells (S.state blocks.old) first_unused.old }
+    requires may { OnChange planned (λ draft cost nodes. MayBeMade S.tells draft cost nodes (S.state blocks.old)) }
+    requires between { IsBetween S.tells (S.state blocks.old) unused.old }
     ensures carries { (cmd : Cmd) (start : S) → is_sync cmd ≡ false → Plans S.tells cmd planned (S.state start) (S.state blocks.old)
         → Carries S.tells cmd result (S.state start) (S.state blocks.new) }
-    ensures between { IsBetween S.tells (S.state blocks.new) first_unused.new }
+    ensures between { IsBetween S.tells (S.state blocks.new) unused.new }
 {
     a_command_changes_where_it_costs();
     a_sync_may_follow();
@@ -51,16 +51,10 @@ pub fn carry<S: Blocks>(
     match planned {
         Err(why) => Err(why),
         Ok(Plan::Answer(reply)) => Ok(reply),
-        Ok(
-            Plan::Change {
-                draft,
-                cost,
-                first_unused: first,
-            },
-        ) => {
+        Ok(Plan::Change { draft, cost, nodes }) => {
             match carry_out(alloc, blocks, draft, cost) {
                 Ok(()) => {
-                    *first_unused = first;
+                    unused.follow(nodes);
                     Ok(Reply::Ok)
                 }
                 Err(why) => Err(why),

@@ -3,6 +3,7 @@
 ghost use Rattle.std.specs.Prelude.{◌≡◌, ◌<◌, ◌^◌, true, false};
 ghost use Rattle.lang_tree.specs.declared.command.Cmd.TheVariants.{Osync, Dsync};
 ghost use Rattle.lang_tree.specs.declared.command.Reply.TheVariants.{Synced, DurableAt};
+ghost use Rattle.fs_session.specs.declared.unused.UnusedNodes.{UnusedNodes};
 ghost use Rattle.fs_session.specs.Sessions.{IsBetween};
 ghost use Rattle.fs_session.specs.Syncs.{MaySyncNow, SyncsSession, refusal_of_sync};
 
@@ -15,11 +16,10 @@ use std::alloc::Global;
 ///
 /// # Errors
 /// The disk failed; or out of memory, and nothing was done.
-pub fn osync<S: Blocks>(alloc: Global, blocks: &mut S, first_unused: u32) -> Result<Reply, Refusal>
+pub fn osync<S: Blocks>(alloc: Global, blocks: &mut S) -> Result<Reply, Refusal>
     requires may { MaySyncNow (S.state blocks.old).books }
-    requires between { IsBetween S.tells (S.state blocks.old) first_unused }
     ensures syncs { SyncsSession S.tells true Osync result (S.state blocks.old) (S.state blocks.new) }
-    ensures between { IsBetween S.tells (S.state blocks.new) first_unused }
+    ensures between { (unused : UnusedNodes) → IsBetween S.tells (S.state blocks.old) unused → IsBetween S.tells (S.state blocks.new) unused }
 {
     a_sync_may_follow();
     match blocks.osync(alloc) {
@@ -33,11 +33,10 @@ pub fn osync<S: Blocks>(alloc: Global, blocks: &mut S, first_unused: u32) -> Res
 ///
 /// # Errors
 /// As `osync`.
-pub fn dsync<S: Blocks>(alloc: Global, blocks: &mut S, first_unused: u32) -> Result<Reply, Refusal>
+pub fn dsync<S: Blocks>(alloc: Global, blocks: &mut S) -> Result<Reply, Refusal>
     requires may { MaySyncNow (S.state blocks.old).books }
-    requires between { IsBetween S.tells (S.state blocks.old) first_unused }
     ensures syncs { SyncsSession S.tells false Dsync result (S.state blocks.old) (S.state blocks.new) }
-    ensures between { IsBetween S.tells (S.state blocks.new) first_unused }
+    ensures between { (unused : UnusedNodes) → IsBetween S.tells (S.state blocks.old) unused → IsBetween S.tells (S.state blocks.new) unused }
 {
     a_sync_may_follow();
     match blocks.dsync(alloc) {

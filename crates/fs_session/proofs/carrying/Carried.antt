@@ -13,7 +13,7 @@ use Rattle.lang_tree.specs.Step.{Session, step}
 use Rattle.lang_tree.specs.Figures.{Figures, figures, nothing}
 use Rattle.lang_tree.specs.Tree.{Tree}
 use Rattle.lang_tree.specs.Points.{is_sync}
-use Rattle.crash_stands.specs.Files.{files_of}
+use Rattle.crash_stands.specs.Files.{Files, files_of}
 use Rattle.crash_stands.specs.Inodes.{IsInodeOf, AreInodesOf, inodes_of}
 use Rattle.crash_stands.specs.Maps.{IsMapOf}
 use Rattle.crash_stands.specs.Stands.{AreSound, IsTreeOf}
@@ -31,9 +31,11 @@ use Rattle.fs_session.specs.Changes.{IsCarriedOut, KeepsBlocks, ChangeRefused}
 use Rattle.fs_session.specs.Commands.{RunsCommand, Carries, FindsBlocks, IsDone, Spends, SpendsNothing, figures_on, places_of, is_read_fault, is_disk_fault}
 use Rattle.fs_session.specs.Plans.{Plans, MakesTree, MayBeMade, plan_fails_reading, plan_fails_settling}
 use Rattle.fs_files.specs.Finish.{MayGoOn}
-use Rattle.fs_session.specs.Sessions.{IsSession, IsBetween, AreUsedBelow}
+use Rattle.fs_session.specs.Sessions.{IsSession, IsBetween, AreUsedBut, KeepsUsed}
 use Rattle.fs_session.specs.declared.plan.Plan.{Plan}
 use Rattle.fs_session.specs.declared.plan.Plan.TheVariants.{Answer, Change}
+use Rattle.fs_session.specs.declared.unused.NodeUse.{NodeUse}
+use Rattle.fs_session.specs.declared.unused.UnusedNodes.{UnusedNodes}
 use Rattle.fs_session.proofs.carrying.Points.{points_stay}
 use Rattle.fs_session.specs.Space.{ArePlaced}
 use Rattle.fs_session.specs.Staying.{session_stays, session_settles, between_stays, freed_alike}
@@ -166,9 +168,9 @@ module _ (tells : Bool) (cmd : Cmd) (start mid new : State) (costs : (bitmap : �
       }
 
   -- so the command is carried out
-  pub carried_change : (d : DraftState) (cost first : ℕ) → Plans tells cmd (Ok (Change d cost first)) start mid → IsCarriedOut tells d cost mid new → LeavesDisk tells mid new → (IsTrue tells → Advances start new)
+  pub carried_change : (d : DraftState) (cost : ℕ) (nodes : NodeUse) → Plans tells cmd (Ok (Change d cost nodes)) start mid → IsCarriedOut tells d cost mid new → LeavesDisk tells mid new → (IsTrue tells → Advances start new)
       → Carries tells cmd (Ok Done) start new
-  carried_change d cost first plans carried disk advances = record {
+  carried_change d cost nodes plans carried disk advances = record {
     done = λ told f h. done_so d cost f told plans.going plans.settles h (plans.is told f h) carried;
     refused = λ told. tt;
     kept = λ told. tt;
@@ -205,9 +207,9 @@ freed_still : (old new : Bookkeeping) (spare : Spare) → SameFreed old new → 
 freed_still old new spare same = record { reusable = same.reusable; since = same.since }
 
 -- a draft that isn't made, since memory ran out: past its cost it never is where the blocks are observed
-pub carried_refusal : (tells : Bool) (cmd : Cmd) (start mid new : State) (d : DraftState) (cost first : ℕ) (why : Refusal) → Plans tells cmd (Ok (Change d cost first)) start mid → ChangeRefused mid.books d cost why → KeepsBlocks tells mid new
+pub carried_refusal : (tells : Bool) (cmd : Cmd) (start mid new : State) (d : DraftState) (cost : ℕ) (nodes : NodeUse) (why : Refusal) → Plans tells cmd (Ok (Change d cost nodes)) start mid → ChangeRefused mid.books d cost why → KeepsBlocks tells mid new
     → LeavesDisk tells mid new → (IsTrue tells → Advances start new) → Carries tells cmd (Err why) start new
-carried_refusal tells cmd start mid new d cost first why plans refused kept disk advances = record {
+carried_refusal tells cmd start mid new d cost nodes why plans refused kept disk advances = record {
   done = λ told. tt;
   refused = λ told f h. inr (inr (inr (cut (plans.is told f h) refused)));
   kept = λ told f h. session_stays mid new f plans.settles.stopped rest.geom (kept.map told) rest.point (ap (λ (b : Bookkeeping). b.running.weight) kept.books) (omega (arith, rest.floor))
@@ -248,15 +250,16 @@ refused_plan tells cmd start mid why plans = record {
 }
 
 -- What holds between commands, once a draft is made, and where it isn't.
-pub between_made : (tells : Bool) (d : DraftState) (cost first before : ℕ) (s t : State) → IsCarriedOut tells d cost s t → MayBeMade tells d cost first s → MayGoOn t.books → IsBetween tells s before → IsBetween tells t first
-between_made tells d cost first before s t carried may goes_on h =
+pub between_made : (tells : Bool) (d : DraftState) (cost : ℕ) (nodes : NodeUse) (before after : UnusedNodes) (s t : State) → IsCarriedOut tells d cost s t → MayBeMade tells d cost nodes s → MayGoOn t.books
+    → ((old new : Files) → KeepsUsed nodes old new → AreUsedBut old before → AreUsedBut new after) → IsBetween tells s before → IsBetween tells t after
+between_made tells d cost nodes before after s t carried may goes_on follows h =
     let geom : t.books.geom ≡ s.books.geom = (made_rests tells d cost s t carried).geom in
     record {
       goes_on = goes_on;
       sound = λ told. subst (λ (g : Geometry). AreSound g t.map) (sym geom) ((carried.map told).sound (h.sound told));
-      above = may.above;
-      used = λ told. subst (λ (g : Geometry). AreUsedBelow (files_of g t.map) first) (sym geom) (λ l from below. let x = may.used told l from below in (x.0, (carried.map told).files l ∙ x.1));
+      used = λ told. subst (λ (g : Geometry). AreUsedBut (files_of g t.map) after) (sym geom)
+          (λ l from upto bare. let x = follows (files_of s.books.geom s.map) (files_in s d) (may.used told) (h.used told) l from upto bare in (x.0, (carried.map told).files l ∙ x.1));
     }
 
-pub between_kept : (tells : Bool) (s t : State) (first : ℕ) → KeepsBlocks tells s t → MayGoOn t.books → IsBetween tells s first → IsBetween tells t first
-between_kept tells s t first kept goes_on h = between_stays tells s t first (ap (λ (b : Bookkeeping). b.geom) kept.books) kept.map goes_on h
+pub between_kept : (tells : Bool) (s t : State) (unused : UnusedNodes) → KeepsBlocks tells s t → MayGoOn t.books → IsBetween tells s unused → IsBetween tells t unused
+between_kept tells s t unused kept goes_on h = between_stays tells s t unused (ap (λ (b : Bookkeeping). b.geom) kept.books) kept.map goes_on h

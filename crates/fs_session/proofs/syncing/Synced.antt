@@ -20,6 +20,7 @@ use Rattle.engine_blocks.specs.declared.refusals.SyncRefusal.{SyncRefusal}
 use Rattle.engine_blocks.specs.declared.refusals.SyncRefusal.TheVariants as sync
 use Rattle.fs_files.specs.Finish.{MayGoOn}
 use Rattle.fs_session.specs.Commands.{is_disk_fault}
+use Rattle.fs_session.specs.declared.unused.UnusedNodes.{UnusedNodes}
 use Rattle.fs_session.specs.Sessions.{IsSession, IsBetween}
 use Rattle.fs_session.specs.Syncs.{SyncsSession, refusal_of_sync}
 use Rattle.fs_session.proofs.Logs.{grows_by_none, heard_same}
@@ -84,12 +85,12 @@ sync_refused tells old new f sync.NoMemory told going syncs h =
     session_stays old new f going (ap (λ (b : Bookkeeping). b.geom) syncs.none.books) (syncs.map told) (ap (λ (b : Bookkeeping). b.point) syncs.none.books) (ap (λ (b : Bookkeeping). b.running.weight) syncs.none.books) (omega (arith, ap (λ (b : Bookkeeping). b.floor) syncs.none.books)) h
 
 -- what stays between commands over a sync that wasn't out of memory, and over one that was
-pub between_after : (tells : Bool) (s t : State) (first p : ℕ) → ((old new : Bookkeeping) → IsAfterSync old new → MayGoOn old → MayGoOn new) → Syncs tells (Ok p) s t → IsBetween tells s first → IsBetween tells t first
-between_after tells s t first p keeps syncs h = between_stays tells s t first syncs.after.geom syncs.map (keeps s.books t.books syncs.after h.goes_on) h
+pub between_after : (tells : Bool) (s t : State) (unused : UnusedNodes) (p : ℕ) → ((old new : Bookkeeping) → IsAfterSync old new → MayGoOn old → MayGoOn new) → Syncs tells (Ok p) s t → IsBetween tells s unused → IsBetween tells t unused
+between_after tells s t unused p keeps syncs h = between_stays tells s t unused syncs.after.geom syncs.map (keeps s.books t.books syncs.after h.goes_on) h
 
-pub between_refused : (tells : Bool) (s t : State) (first : ℕ) (why : SyncRefusal) → ((old new : Bookkeeping) → IsAfterSync old new → MayGoOn old → MayGoOn new) → Syncs tells (Err why) s t → IsBetween tells s first → IsBetween tells t first
-between_refused tells s t first sync.DiskFault keeps syncs h = between_stays tells s t first syncs.after.geom syncs.map (keeps s.books t.books syncs.after h.goes_on) h
-between_refused tells s t first sync.NoMemory keeps syncs h = between_stays tells s t first (ap (λ (b : Bookkeeping). b.geom) syncs.none.books) syncs.map (subst MayGoOn (sym syncs.none.books) h.goes_on) h
+pub between_refused : (tells : Bool) (s t : State) (unused : UnusedNodes) (why : SyncRefusal) → ((old new : Bookkeeping) → IsAfterSync old new → MayGoOn old → MayGoOn new) → Syncs tells (Err why) s t → IsBetween tells s unused → IsBetween tells t unused
+between_refused tells s t unused sync.DiskFault keeps syncs h = between_stays tells s t unused syncs.after.geom syncs.map (keeps s.books t.books syncs.after h.goes_on) h
+between_refused tells s t unused sync.NoMemory keeps syncs h = between_stays tells s t unused (ap (λ (b : Bookkeeping). b.geom) syncs.none.books) syncs.map (subst MayGoOn (sym syncs.none.books) h.goes_on) h
 
 -- what is done isn't refused
 pub ok_err : {T E : Type 0} (x : T) (y : E) → Ok x ≡ Err y → ⊥

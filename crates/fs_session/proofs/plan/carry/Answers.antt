@@ -21,32 +21,32 @@ returns-in-Ok-clause-carries g c = λ cmd start sync plans.
     let tells = g.S.Blocks.tells in
     let mid = g.S.Blocks.state c.args.blocks.now in
     let new = g.S.Blocks.state c.carry_out.new.blocks in
-    let is : c.args.planned ≡ Ok (Change c.in-Ok-Change.draft c.in-Ok-Change.cost c.in-Ok-Change.first) = c.in-Ok-Change.is ∙ ap (λ (p : Plan). Ok p) c.in-Ok-Change.field-0-is in
+    let is : c.args.planned ≡ Ok (Change c.in-Ok-Change.draft c.in-Ok-Change.cost c.in-Ok-Change.nodes) = c.in-Ok-Change.is ∙ ap (λ (p : Plan). Ok p) c.in-Ok-Change.field-0-is in
     let plan = subst (λ (r : Result Plan Refusal). Plans tells cmd r (g.S.Blocks.state start) mid) is plans in
     let rest = made_rests tells c.in-Ok-Change.draft c.in-Ok-Change.cost mid new c.in-Ok.ensures.made in
-    carried_change tells cmd (g.S.Blocks.state start) mid new (λ bitmap s. c.a_command_changes_where_it_costs.ensures bitmap s cmd sync) sync (g.met.S.Blocks.is_sound c.args.blocks.now) c.in-Ok-Change.draft c.in-Ok-Change.cost c.in-Ok-Change.first plan c.in-Ok.ensures.made c.in-Ok.ensures.disk
+    carried_change tells cmd (g.S.Blocks.state start) mid new (λ bitmap s. c.a_command_changes_where_it_costs.ensures bitmap s cmd sync) sync (g.met.S.Blocks.is_sound c.args.blocks.now) c.in-Ok-Change.draft c.in-Ok-Change.cost c.in-Ok-Change.nodes plan c.in-Ok.ensures.made c.in-Ok.ensures.disk
     (λ told. c.calls_compose.ensures.advances start c.args.blocks.now c.carry_out.new.blocks (plan.settles.crash told) (c.calls_compose.ensures.rests told c.args.blocks.now c.carry_out.new.blocks rest.point rest.floor (c.in-Ok.ensures.disk.crash told)))
 
 pub returns-in-Ok-clause-between : goal.returns-in-Ok-clause-between
 returns-in-Ok-clause-between g c =
     let tells = g.S.Blocks.tells in
     let mid = g.S.Blocks.state c.args.blocks.now in
-    let is : c.args.planned ≡ Ok (Change c.in-Ok-Change.draft c.in-Ok-Change.cost c.in-Ok-Change.first) = c.in-Ok-Change.is ∙ ap (λ (p : Plan). Ok p) c.in-Ok-Change.field-0-is in
-    between_made tells c.in-Ok-Change.draft c.in-Ok-Change.cost c.in-Ok-Change.first c.args.first_unused.now mid (g.S.Blocks.state c.carry_out.new.blocks) c.in-Ok.ensures.made
-    (subst (λ (r : Result Plan Refusal). OnChange r (λ d cost first. MayBeMade tells d cost first mid)) is c.requires.may) c.in-Ok.ensures.goes_on c.requires.between
+    let is : c.args.planned ≡ Ok (Change c.in-Ok-Change.draft c.in-Ok-Change.cost c.in-Ok-Change.nodes) = c.in-Ok-Change.is ∙ ap (λ (p : Plan). Ok p) c.in-Ok-Change.field-0-is in
+    between_made tells c.in-Ok-Change.draft c.in-Ok-Change.cost c.in-Ok-Change.nodes c.args.unused.now c.follow.new.self mid (g.S.Blocks.state c.carry_out.new.blocks) c.in-Ok.ensures.made
+    (subst (λ (r : Result Plan Refusal). OnChange r (λ d cost nodes. MayBeMade tells d cost nodes mid)) is c.requires.may) c.in-Ok.ensures.goes_on c.follow.ensures c.requires.between
 
 pub returns-in-Err-carry_out-clause-carries : goal.returns-in-Err-carry_out-clause-carries
 returns-in-Err-carry_out-clause-carries g c = λ cmd start sync plans.
     let tells = g.S.Blocks.tells in
     let mid = g.S.Blocks.state c.args.blocks.now in
     let new = g.S.Blocks.state c.carry_out.new.blocks in
-    let is : c.args.planned ≡ Ok (Change c.in-Ok-Change.draft c.in-Ok-Change.cost c.in-Ok-Change.first) = c.in-Ok-Change.is ∙ ap (λ (p : Plan). Ok p) c.in-Ok-Change.field-0-is in
+    let is : c.args.planned ≡ Ok (Change c.in-Ok-Change.draft c.in-Ok-Change.cost c.in-Ok-Change.nodes) = c.in-Ok-Change.is ∙ ap (λ (p : Plan). Ok p) c.in-Ok-Change.field-0-is in
     let plan = subst (λ (r : Result Plan Refusal). Plans tells cmd r (g.S.Blocks.state start) mid) is plans in
     let kept = c.in-Err-carry_out.ensures.kept in
     let rest = kept_rests tells mid new kept in
-    carried_refusal tells cmd (g.S.Blocks.state start) mid new c.in-Ok-Change.draft c.in-Ok-Change.cost c.in-Ok-Change.first c.in-Err-carry_out.why plan c.in-Err-carry_out.ensures.refused kept c.in-Err-carry_out.ensures.disk
+    carried_refusal tells cmd (g.S.Blocks.state start) mid new c.in-Ok-Change.draft c.in-Ok-Change.cost c.in-Ok-Change.nodes c.in-Err-carry_out.why plan c.in-Err-carry_out.ensures.refused kept c.in-Err-carry_out.ensures.disk
     (λ told. c.calls_compose.ensures.advances start c.args.blocks.now c.carry_out.new.blocks (plan.settles.crash told) (c.calls_compose.ensures.rests told c.args.blocks.now c.carry_out.new.blocks rest.point rest.floor (c.in-Err-carry_out.ensures.disk.crash told)))
 
 pub returns-in-Err-carry_out-clause-between : goal.returns-in-Err-carry_out-clause-between
 returns-in-Err-carry_out-clause-between g c =
-    between_kept g.S.Blocks.tells (g.S.Blocks.state c.args.blocks.now) (g.S.Blocks.state c.carry_out.new.blocks) c.args.first_unused.now c.in-Err-carry_out.ensures.kept c.in-Err-carry_out.ensures.goes_on c.requires.between
+    between_kept g.S.Blocks.tells (g.S.Blocks.state c.args.blocks.now) (g.S.Blocks.state c.carry_out.new.blocks) c.args.unused.now c.in-Err-carry_out.ensures.kept c.in-Err-carry_out.ensures.goes_on c.requires.between

@@ -14,8 +14,8 @@ returns-in-Ok-clause-syncs g c =
     (dsynced_session g.S.Blocks.tells s t c.in-Ok.point c.requires.may.going c.in-Ok.ensures.syncs c.durable_at.ensures.low c.in-Ok.ensures.durable (waits_so g.S.Blocks.tells s t c.in-Ok.ensures.waits) c.in-Ok.ensures.frees c.in-Ok.ensures.written)
 
 pub returns-in-Ok-clause-between : goal.returns-in-Ok-clause-between
-returns-in-Ok-clause-between g c =
-    between_after g.S.Blocks.tells (g.S.Blocks.state c.args.blocks.now) (g.S.Blocks.state c.dsync.new.self) c.args.first_unused c.in-Ok.point c.a_sync_may_follow.ensures.synced c.in-Ok.ensures.syncs c.requires.between
+returns-in-Ok-clause-between g c = λ unused between.
+    between_after g.S.Blocks.tells (g.S.Blocks.state c.args.blocks.now) (g.S.Blocks.state c.dsync.new.self) unused c.in-Ok.point c.a_sync_may_follow.ensures.synced c.in-Ok.ensures.syncs between
 
 pub returns-in-Err-clause-syncs : goal.returns-in-Err-clause-syncs
 returns-in-Err-clause-syncs g c =
@@ -25,5 +25,5 @@ returns-in-Err-clause-syncs g c =
     (refused_session g.S.Blocks.tells false Dsync s t c.in-Err.why c.requires.may.going c.in-Err.ensures.syncs c.in-Err.ensures.idle (waits_so g.S.Blocks.tells s t c.in-Err.ensures.waits))
 
 pub returns-in-Err-clause-between : goal.returns-in-Err-clause-between
-returns-in-Err-clause-between g c =
-    between_refused g.S.Blocks.tells (g.S.Blocks.state c.args.blocks.now) (g.S.Blocks.state c.dsync.new.self) c.args.first_unused c.in-Err.why c.a_sync_may_follow.ensures.synced c.in-Err.ensures.syncs c.requires.between
+returns-in-Err-clause-between g c = λ unused between.
+    between_refused g.S.Blocks.tells (g.S.Blocks.state c.args.blocks.now) (g.S.Blocks.state c.dsync.new.self) unused c.in-Err.why c.a_sync_may_follow.ensures.synced c.in-Err.ensures.syncs between
