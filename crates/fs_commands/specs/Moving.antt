@@ -21,7 +21,8 @@ use Rattle.fs_commands.specs.declared.removing.Named.{Named}
 use Rattle.fs_session.specs.Commands.{places_of}
 use Rattle.fs_commands.specs.Looks.{ComesTo, HasEntry}
 use Rattle.fs_commands.specs.Removing.{IsFound}
-use Rattle.fs_session.specs.Sessions.{AreUsedBelow, inodes}
+use Rattle.fs_session.specs.declared.unused.NodeUse.{NodeUse}
+use Rattle.fs_session.specs.Sessions.{KeepsUsed, inodes}
 use Rattle.fs_session.specs.Space.{ArePlaced}
 
 -- The slot at the entry's place, the first of its name, names the entry's node, in a directory of so many slots.
@@ -50,13 +51,13 @@ pub record MayMoveOnto (s : State) (source target : Named) (name other : List �
   pub not_from : target.entry.node.number ≢ source.dir
   pub not_into : target.entry.node.number ≢ target.dir
 
--- The name moved in a draft, from one directory into another one or the same; each node in use reads as an inode; so many blocks are altered, taken and freed; each node has the first of its own blocks, or all and behind them those taken; and no node below a number is unused that wasn't below `first`.
-pub record MovesName (old now : State) (d : DraftState) (from into node : ℕ) (name other : List ℕ) (most : ℕ) (takes : List ℕ) (frees : ℕ) (first_then : ℕ → ℕ) : Type 0 where
+-- The name moved in a draft, from one directory into another one or the same; each node in use reads as an inode; so many blocks are altered, taken and freed; each node has the first of its own blocks, or all and behind them those taken; and nodes are used so.
+pub record MovesName (old now : State) (d : DraftState) (from into node : ℕ) (name other : List ℕ) (most : ℕ) (takes : List ℕ) (frees : ℕ) (nodes : NodeUse) : Type 0 where
   pub moves : MovesSlot (inodes old) (inodes_in now d) from into node name other
   pub reads : AreInodesOf (files_in now d) (inodes_in now d)
   pub alters : Alters most takes frees nothing_drafted d
   pub placed : ArePlaced (places_of old) (places_in now d) takes
-  pub used : (first : ℕ) → AreUsedBelow (files_in old nothing_drafted) first → AreUsedBelow (files_in now d) (first_then first)
+  pub used : KeepsUsed nodes (files_in old nothing_drafted) (files_in now d)
 
 -- A name may move to a free one of its directory.
 pub record MayRename (s : State) (source : Named) (name other : List ℕ) : Type 0 where

@@ -1,7 +1,8 @@
 -- What a file system shows of itself.
-use Rattle.std.specs.Prelude.{ℕ, Bool, IsTrue}
+use Rattle.std.specs.Prelude.{Bool, IsTrue}
 use Rattle.engine_blocks.specs.State.{State}
 use Rattle.fs_commands.specs.declared.fs.Fs.{Fs}
+use Rattle.fs_session.specs.declared.unused.UnusedNodes.{UnusedNodes}
 use Rattle.fs_session.specs.Sessions.{IsBetween, Stands}
 
 module _ {S : Type 0} where
@@ -9,16 +10,16 @@ module _ {S : Type 0} where
   abbrev pub blocks_in : Fs S → S
   blocks_in fs = fs.blocks
 
-  -- a number from 1 on below which all nodes are in use
-  abbrev pub used_to : Fs S → ℕ
-  used_to fs = fs.first_unused
+  -- the nodes that may be unused, as far as it knows
+  abbrev pub unused_in : Fs S → UnusedNodes
+  unused_in fs = fs.unused
 
   -- A command may follow: what must hold between two commands does, and where the blocks are known, a tree stands in them.
   pub record MayFollow (tells : Bool) (state : S → State) (fs : Fs S) : Type 0 where
-    pub between : IsBetween tells (state (blocks_in fs)) (used_to fs)
+    pub between : IsBetween tells (state (blocks_in fs)) (unused_in fs)
     pub stands : IsTrue tells → Stands (state (blocks_in fs))
 
   -- What must hold between two commands does afterwards, and where a tree stood in known blocks, one stands still.
   pub record StaysOpen (tells : Bool) (state : S → State) (old new : Fs S) : Type 0 where
-    pub between : IsBetween tells (state (blocks_in new)) (used_to new)
+    pub between : IsBetween tells (state (blocks_in new)) (unused_in new)
     pub stands : IsTrue tells → Stands (state (blocks_in old)) → Stands (state (blocks_in new))

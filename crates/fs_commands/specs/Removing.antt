@@ -1,5 +1,5 @@
 -- What a command that takes a name away looks up first, and what it drafts. It is described in docs/FILE-SYSTEM.md.
-use Rattle.std.specs.Prelude.{◌≡◌, ◌≢◌, ℕ, ◌+◌, ◌≤◌, ◌==◌, min, false, if◌then◌else◌, List, [], ◌∷◌, ◌++◌, length, slice_get, Option, None, Some, option_and_then, Result, Ok, Err}
+use Rattle.std.specs.Prelude.{◌≡◌, ◌≢◌, ℕ, ◌+◌, ◌≤◌, ◌==◌, false, if◌then◌else◌, List, [], ◌∷◌, ◌++◌, length, slice_get, Option, None, Some, option_and_then, Result, Ok, Err}
 use Rattle.layout_bytes.specs.declared.slot.Slot.{Slot}
 use Rattle.lang_tree.specs.declared.command.Cmd.{Cmd}
 use Rattle.lang_tree.specs.declared.command.Cmd.TheVariants.{Unlink, Rmdir}
@@ -27,7 +27,9 @@ use Rattle.fs_commands.specs.declared.removing.Named.{Named}
 use Rattle.fs_session.specs.Commands.{places_of}
 use Rattle.fs_commands.specs.Figures.{HasFacts}
 use Rattle.fs_commands.specs.Looks.{ComesTo}
-use Rattle.fs_session.specs.Sessions.{AreUsedBelow, inodes}
+use Rattle.fs_session.specs.declared.unused.NodeUse.{NodeUse}
+use Rattle.fs_session.specs.declared.unused.NodeUse.TheVariants.{Dropped, Stays}
+use Rattle.fs_session.specs.Sessions.{KeepsUsed, inodes}
 use Rattle.fs_session.specs.Space.{ArePlaced}
 
 -- the command that takes the path to a node of this kind away, and why the tree refuses it
@@ -48,9 +50,9 @@ MayLose kind m path found (Err why) = lose_reason kind m path ≡ Some why
 abbrev pub blocks_gone : FileFacts → ℕ
 blocks_gone f = if f.links == 1 then blocks_for f.size else 0
 
--- the first number that may be unused once a link of the node is gone
-abbrev pub first_after : NodeFound → ℕ → ℕ
-first_after node first = if node.facts.links == 1 then min first node.number else first
+-- what the loss of one link of the node makes of the nodes in use: it is dropped, where the link is the last one
+abbrev pub use_after : NodeFound → NodeUse
+use_after node = if node.facts.links == 1 then Dropped node.number else Stays
 
 -- The node is in use with these facts.
 pub record IsFound (files : Files) (node : NodeFound) : Type 0 where
@@ -72,13 +74,13 @@ pub record IsNamed (files : Files) (name : List ℕ) (n : Named) : Type 0 where
   pub node : IsFound files n.entry.node
   pub bare : has_slots (inodes_of files n.entry.node.number) ≡ false
 
--- The name was taken away in a draft: its slot went, and its node has one link less. Each node in use reads as an inode and has the first of its own blocks, so much is altered, and no node below the first one that may be unused is so.
+-- The name was taken away in a draft: its slot went, and its node has one link less. Each node in use reads as an inode and has the first of its own blocks, so much is altered, and the other nodes in use stay so.
 pub record LosesName (old now : State) (d : DraftState) (name : List ℕ) (n : Named) : Type 0 where
   pub takes : TakesSlot (inodes old) (inodes_in now d) n.dir n.entry.node.number name
   pub reads : AreInodesOf (files_in now d) (inodes_in now d)
   pub alters : Alters 4 [] (release n.count + blocks_gone n.entry.node.facts) nothing_drafted d
   pub placed : ArePlaced (places_of old) (places_in now d) []
-  pub used : (first : ℕ) → AreUsedBelow (files_in old nothing_drafted) first → AreUsedBelow (files_in now d) (first_after n.entry.node first)
+  pub used : KeepsUsed (use_after n.entry.node) (files_in old nothing_drafted) (files_in now d)
 
 -- The path leads to what stands under the name, and the tree accepts that the path goes.
 pub record IsLoss (kind : Kind) (files : Files) (path : List (List ℕ)) (n : Named) : Type 0 where

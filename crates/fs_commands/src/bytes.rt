@@ -37,7 +37,7 @@ use fs_files::{
 use fs_inodes::{
     new_bytes_are_mapped, paths_lead_to_inodes, the_map_gives_the_refusal, walks_are_the_same,
 };
-use fs_session::{Plan, blocks_have_the_map_of_their_tree, has_room};
+use fs_session::{NodeUse, Plan, blocks_have_the_map_of_their_tree, has_room};
 use lang_tree::{Path, Refusal, Reply, touched_blocks_are_counted_by_division};
 use std::alloc::Global;
 
@@ -84,17 +84,16 @@ pub(crate) fn plan_write<S: Blocks>(
     path: &Path,
     offset: u32,
     bytes: &[u8],
-    first_unused: u32,
 ) -> Result<Plan, Refusal>
-    requires may { MayPlan S.tells (S.state blocks.old) first_unused }
+    requires may { MayPlan S.tells (S.state blocks.old) }
     ensures plans { Plans S.tells (Write path.now offset bytes.now) result (S.state blocks.old) (S.state blocks.new) }
-    ensures made { OnChange result (λ draft cost first. MayBeMade S.tells draft cost first (S.state blocks.new)) }
+    ensures made { OnChange result (λ draft cost nodes. MayBeMade S.tells draft cost nodes (S.state blocks.new)) }
 {
     calls_compose::<S>();
     the_map_gives_the_refusal();
     blocks_have_the_map_of_their_tree();
     match find_file(alloc, blocks, path) {
-        Ok(Ok(found)) => write_found(alloc, blocks, &found, offset, bytes, first_unused),
+        Ok(Ok(found)) => write_found(alloc, blocks, &found, offset, bytes),
         Ok(Err(why)) => Ok(Plan::Answer(Reply::Refused(why))),
         Err(why) => Err(refusal_of(why)),
     }
@@ -110,15 +109,14 @@ fn write_found<S: Blocks>(
     found: &NodeFound,
     offset: u32,
     bytes: &[u8],
-    first_unused: u32,
 ) -> Result<Plan, Refusal>
-    requires may { MayPlan S.tells (S.state blocks.old) first_unused }
+    requires may { MayPlan S.tells (S.state blocks.old) }
     requires number { IsNumber (S.state blocks.old).books.geom.i found.now.number }
     requires file { IsTrue S.tells → IsFile (files_in (S.state blocks.old) nothing_drafted) found.now }
     ensures plans { (path : List (List ℕ)) → (IsTrue S.tells
         → walk_on (inodes_of (files_in (S.state blocks.old) nothing_drafted)) 1 path ≡ Fine found.now.number)
         → Plans S.tells (Write path offset bytes.now) result (S.state blocks.old) (S.state blocks.new) }
-    ensures made { OnChange result (λ draft cost first. MayBeMade S.tells draft cost first (S.state blocks.new)) }
+    ensures made { OnChange result (λ draft cost nodes. MayBeMade S.tells draft cost nodes (S.state blocks.new)) }
 {
     calls_compose::<S>();
     a_file_is_at_its_path(blocks);
@@ -132,15 +130,7 @@ fn write_found<S: Blocks>(
     let count = bytes.len() as u32;
     let figures = overwrite_figures(blocks.geom().bitmap_blocks(), size_of(found), offset, count);
     match has_room(blocks, &figures) {
-        Ok(()) => plan_bytes(
-            alloc,
-            blocks,
-            found.number,
-            offset,
-            bytes,
-            figures.cost,
-            first_unused,
-        ),
+        Ok(()) => plan_bytes(alloc, blocks, found.number, offset, bytes, figures.cost),
         Err(why) => Err(why),
     }
 }
@@ -157,9 +147,8 @@ pub(crate) fn plan_bytes<S: Blocks>(
     offset: u32,
     bytes: &[u8],
     cost: u32,
-    first_unused: u32,
 ) -> Result<Plan, Refusal>
-    requires may { MayPlan S.tells (S.state blocks.old) first_unused }
+    requires may { MayPlan S.tells (S.state blocks.old) }
     requires number { IsNumber (S.state blocks.old).books.geom.i number }
     requires file { IsTrue S.tells → (x : FileNode) × (files_in (S.state blocks.old) nothing_drafted number ≡ Some x) × (x.kind ≡ File) }
     requires some { 0 < length bytes.now }
@@ -167,7 +156,7 @@ pub(crate) fn plan_bytes<S: Blocks>(
     requires room { (S.state blocks.old).books.running.weight + cost ≤ (S.state blocks.old).books.room }
     ensures plans { (cmd : Cmd) (path : List (List ℕ)) → MayPut S.tells (S.state blocks.old) number cmd path offset bytes.now cost
         → Plans S.tells cmd result (S.state blocks.old) (S.state blocks.new) }
-    ensures made { OnChange result (λ draft cost first. MayBeMade S.tells draft cost first (S.state blocks.new)) }
+    ensures made { OnChange result (λ draft cost nodes. MayBeMade S.tells draft cost nodes (S.state blocks.new)) }
 {
     blocks.geom().lawful();
     a_draft_begins(blocks);
@@ -185,7 +174,7 @@ pub(crate) fn plan_bytes<S: Blocks>(
         Ok(()) => Ok(Plan::Change {
             draft,
             cost,
-            first_unused,
+            nodes: NodeUse::Stays,
         }),
         Err(why) => Err(refusal_of(why)),
     }

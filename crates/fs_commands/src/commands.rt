@@ -1,12 +1,14 @@
 //! A command answered: whether it begins, and which call plans or does it then. What each one plans is decided
 //! elsewhere.
 
-ghost use Rattle.std.specs.Prelude.{◌≡◌, ◌≢◌, true, false, IsTrue};
+ghost use Rattle.std.specs.Prelude.{◌≡◌, ◌≢◌, ◌≤◌, true, false, IsTrue};
 ghost use Rattle.lang_tree.specs.declared.command.Cmd.TheVariants.{Bad as NoCommand};
+ghost use Rattle.fs_files.specs.Calls.{files_in};
+ghost use Rattle.fs_files.specs.Drafts.{nothing_drafted};
 ghost use Rattle.fs_session.specs.Applying.{Applies, Began, Runs, is_spent, reply_for};
 ghost use Rattle.fs_session.specs.Commands.{is_on_tree};
 ghost use Rattle.fs_session.specs.Plans.{MayBeMade, OnChange, Plans};
-ghost use Rattle.fs_session.specs.Sessions.{IsBetween, MayPlan, Stands};
+ghost use Rattle.fs_session.specs.Sessions.{AreUsedBelow, IsBetween, MayPlan, Stands};
 ghost use Rattle.fs_session.specs.Syncs.{MaySyncNow};
 
 use crate::bytes::plan_write;
@@ -18,22 +20,22 @@ use crate::renaming::plan_rename;
 use crate::sizes::plan_truncate;
 use engine_blocks::Blocks;
 use fs_files::a_sync_may_follow;
-use fs_session::{Plan, carry, dsync, osync};
+use fs_session::{Plan, UnusedNodes, carry, dsync, osync};
 use lang_tree::{Cmd, Kind, Refusal, Reply};
 use std::alloc::Global;
 
 /// Answers a command: at once where it is none, where a call of the disk failed before, or where the journal's numbers
-/// are used up; and else as it begins. All nodes of a number below `first_unused` are in use.
+/// are used up; and else as it begins. All nodes are in use but those that may be unused.
 pub(crate) fn answer<S: Blocks>(
     alloc: Global,
     blocks: &mut S,
     cmd: &Cmd,
-    first_unused: &mut u32,
+    unused: &mut UnusedNodes,
 ) -> Reply
-    requires between { IsBetween S.tells (S.state blocks.old) first_unused.old }
+    requires between { IsBetween S.tells (S.state blocks.old) unused.old }
     requires stands { IsTrue S.tells → Stands (S.state blocks.old) }
     ensures applies { Applies S.tells S.state cmd.now result blocks.old blocks.new }
-    ensures between { IsBetween S.tells (S.state blocks.new) first_unused.new }
+    ensures between { IsBetween S.tells (S.state blocks.new) unused.new }
 {
     if let Cmd::Bad = cmd {
         return Reply::Bad;
@@ -45,22 +47,22 @@ pub(crate) fn answer<S: Blocks>(
     if now.spent {
         return Reply::Refused(Refusal::Spent);
     }
-    begin(alloc, blocks, cmd, first_unused)
+    begin(alloc, blocks, cmd, unused)
 }
 
-/// Begins a command with a tick, and carries it out. All nodes of a number below `first_unused` are in use.
-fn begin<S: Blocks>(alloc: Global, blocks: &mut S, cmd: &Cmd, first_unused: &mut u32) -> Reply
+/// Begins a command with a tick, and carries it out.
+fn begin<S: Blocks>(alloc: Global, blocks: &mut S, cmd: &Cmd, unused: &mut UnusedNodes) -> Reply
     requires going { (S.state blocks.old).books.stopped ≡ false }
     requires unspent { is_spent (S.state blocks.old).books ≡ false }
-    requires between { IsBetween S.tells (S.state blocks.old) first_unused.old }
+    requires between { IsBetween S.tells (S.state blocks.old) unused.old }
     requires stands { IsTrue S.tells → Stands (S.state blocks.old) }
     requires some { cmd.now ≢ NoCommand }
     ensures began { Began S.tells S.state cmd.now result blocks.old blocks.new }
-    ensures between { IsBetween S.tells (S.state blocks.new) first_unused.new }
+    ensures between { IsBetween S.tells (S.state blocks.new) unused.new }
 {
     a_sync_may_follow();
     match blocks.tick() {
-        Ok(()) => reply_for(run(alloc, blocks, cmd, first_unused)),
+        Ok(()) => reply_for(run(alloc, blocks, cmd, unused)),
         Err(_) => Reply::Refused(Refusal::DiskFault),
     }
 }
@@ -75,7 +77,7 @@ fn reply_for(ended: Result<Reply, Refusal>) -> Reply
     }
 }
 
-/// Carries a command out. All nodes of a number below `first_unused` are in use.
+/// Carries a command out.
 ///
 /// # Errors
 /// The blocks have no room for it; a read of the disk failed, or another call of it; or out of memory.
@@ -83,22 +85,22 @@ fn run<S: Blocks>(
     alloc: Global,
     blocks: &mut S,
     cmd: &Cmd,
-    first_unused: &mut u32,
+    unused: &mut UnusedNodes,
 ) -> Result<Reply, Refusal>
     requires may { MaySyncNow (S.state blocks.old).books }
-    requires between { IsBetween S.tells (S.state blocks.old) first_unused.old }
+    requires between { IsBetween S.tells (S.state blocks.old) unused.old }
     requires stands { IsTrue S.tells → Stands (S.state blocks.old) }
     requires some { cmd.now ≢ NoCommand }
     ensures runs { Runs S.tells S.state cmd.now result blocks.old blocks.new }
-    ensures between { IsBetween S.tells (S.state blocks.new) first_unused.new }
+    ensures between { IsBetween S.tells (S.state blocks.new) unused.new }
 {
     match cmd {
-        Cmd::Osync => osync(alloc, blocks, *first_unused),
-        Cmd::Dsync => dsync(alloc, blocks, *first_unused),
+        Cmd::Osync => osync(alloc, blocks),
+        Cmd::Dsync => dsync(alloc, blocks),
         Cmd::Durable => Ok(Reply::Known(blocks.durable())),
         Cmd::Poll => Ok(Reply::Ok),
         Cmd::Bad => Ok(Reply::Bad),
-        _ => run_on_tree(alloc, blocks, cmd, first_unused),
+        _ => run_on_tree(alloc, blocks, cmd, unused),
     }
 }
 
@@ -110,18 +112,18 @@ fn run_on_tree<S: Blocks>(
     alloc: Global,
     blocks: &mut S,
     cmd: &Cmd,
-    first_unused: &mut u32,
+    unused: &mut UnusedNodes,
 ) -> Result<Reply, Refusal>
     requires may { MaySyncNow (S.state blocks.old).books }
-    requires between { IsBetween S.tells (S.state blocks.old) first_unused.old }
+    requires between { IsBetween S.tells (S.state blocks.old) unused.old }
     requires stands { IsTrue S.tells → Stands (S.state blocks.old) }
     requires on_tree { is_on_tree cmd.now ≡ true }
     ensures runs { Runs S.tells S.state cmd.now result blocks.old blocks.new }
-    ensures between { IsBetween S.tells (S.state blocks.new) first_unused.new }
+    ensures between { IsBetween S.tells (S.state blocks.new) unused.new }
 {
     a_sync_may_follow();
-    let planned = plan(alloc, blocks, cmd, *first_unused);
-    carry(alloc, blocks, planned, first_unused)
+    let planned = plan(alloc, blocks, cmd, unused.least());
+    carry(alloc, blocks, planned, unused)
 }
 
 /// Plans a command on the tree. All nodes of a number below `first_unused` are in use.
@@ -134,28 +136,30 @@ fn plan<S: Blocks>(
     cmd: &Cmd,
     first_unused: u32,
 ) -> Result<Plan, Refusal>
-    requires may { MayPlan S.tells (S.state blocks.old) first_unused }
+    requires may { MayPlan S.tells (S.state blocks.old) }
+    requires above { 1 ≤ first_unused }
+    requires below { IsTrue S.tells → AreUsedBelow (files_in (S.state blocks.old) nothing_drafted) first_unused }
     requires on_tree { is_on_tree cmd.now ≡ true }
     ensures plans { Plans S.tells cmd.now result (S.state blocks.old) (S.state blocks.new) }
-    ensures made { OnChange result (λ draft cost first. MayBeMade S.tells draft cost first (S.state blocks.new)) }
+    ensures made { OnChange result (λ draft cost nodes. MayBeMade S.tells draft cost nodes (S.state blocks.new)) }
 {
     match cmd {
         Cmd::Mkdir(path) => plan_node(alloc, blocks, Kind::Dir, path, first_unused),
         Cmd::Create(path) => plan_node(alloc, blocks, Kind::File, path, first_unused),
         Cmd::Write(path, offset, bytes) => {
-            plan_write(alloc, blocks, path, *offset, bytes.as_slice(), first_unused)
+            plan_write(alloc, blocks, path, *offset, bytes.as_slice())
         }
         Cmd::Fill(path, offset, count, byte) => {
-            plan_fill(alloc, blocks, path, *offset, *count, *byte, first_unused)
+            plan_fill(alloc, blocks, path, *offset, *count, *byte)
         }
-        Cmd::Truncate(path, size) => plan_truncate(alloc, blocks, path, *size, first_unused),
-        Cmd::Link(path, other) => plan_link(alloc, blocks, path, other, first_unused),
-        Cmd::Unlink(path) => plan_unlink(alloc, blocks, path, first_unused),
-        Cmd::Rmdir(path) => plan_rmdir(alloc, blocks, path, first_unused),
-        Cmd::Read(path, offset, len) => plan_read(alloc, blocks, path, *offset, *len, first_unused),
-        Cmd::Stat(path) => plan_stat(alloc, blocks, path, first_unused),
-        Cmd::List(path) => plan_list(alloc, blocks, path, first_unused),
-        Cmd::Rename(from, to) => plan_rename(alloc, blocks, from, to, first_unused),
+        Cmd::Truncate(path, size) => plan_truncate(alloc, blocks, path, *size),
+        Cmd::Link(path, other) => plan_link(alloc, blocks, path, other),
+        Cmd::Unlink(path) => plan_unlink(alloc, blocks, path),
+        Cmd::Rmdir(path) => plan_rmdir(alloc, blocks, path),
+        Cmd::Read(path, offset, len) => plan_read(alloc, blocks, path, *offset, *len),
+        Cmd::Stat(path) => plan_stat(alloc, blocks, path),
+        Cmd::List(path) => plan_list(alloc, blocks, path),
+        Cmd::Rename(from, to) => plan_rename(alloc, blocks, from, to),
         Cmd::Osync | Cmd::Dsync | Cmd::Durable | Cmd::Poll | Cmd::Bad => unreachable!(),
     }
 }

@@ -35,17 +35,16 @@ pub(crate) fn plan_fill<S: Blocks>(
     offset: u32,
     count: u32,
     byte: u8,
-    first_unused: u32,
 ) -> Result<Plan, Refusal>
-    requires may { MayPlan S.tells (S.state blocks.old) first_unused }
+    requires may { MayPlan S.tells (S.state blocks.old) }
     ensures plans { Plans S.tells (Fill path.now offset count byte) result (S.state blocks.old) (S.state blocks.new) }
-    ensures made { OnChange result (λ draft cost first. MayBeMade S.tells draft cost first (S.state blocks.new)) }
+    ensures made { OnChange result (λ draft cost nodes. MayBeMade S.tells draft cost nodes (S.state blocks.new)) }
 {
     calls_compose::<S>();
     the_map_gives_the_refusal();
     blocks_have_the_map_of_their_tree();
     match find_file(alloc, blocks, path) {
-        Ok(Ok(found)) => fill_found(alloc, blocks, &found, offset, count, byte, first_unused),
+        Ok(Ok(found)) => fill_found(alloc, blocks, &found, offset, count, byte),
         Ok(Err(why)) => Ok(Plan::Answer(Reply::Refused(why))),
         Err(why) => Err(refusal_of(why)),
     }
@@ -62,15 +61,14 @@ fn fill_found<S: Blocks>(
     offset: u32,
     count: u32,
     byte: u8,
-    first_unused: u32,
 ) -> Result<Plan, Refusal>
-    requires may { MayPlan S.tells (S.state blocks.old) first_unused }
+    requires may { MayPlan S.tells (S.state blocks.old) }
     requires number { IsNumber (S.state blocks.old).books.geom.i found.now.number }
     requires file { IsTrue S.tells → IsFile (files_in (S.state blocks.old) nothing_drafted) found.now }
     ensures plans { (path : List (List ℕ)) → (IsTrue S.tells
         → walk_on (inodes_of (files_in (S.state blocks.old) nothing_drafted)) 1 path ≡ Fine found.now.number)
         → Plans S.tells (Fill path offset count byte) result (S.state blocks.old) (S.state blocks.new) }
-    ensures made { OnChange result (λ draft cost first. MayBeMade S.tells draft cost first (S.state blocks.new)) }
+    ensures made { OnChange result (λ draft cost nodes. MayBeMade S.tells draft cost nodes (S.state blocks.new)) }
 {
     calls_compose::<S>();
     a_file_is_at_its_path(blocks);
@@ -94,7 +92,6 @@ fn fill_found<S: Blocks>(
             offset,
             bytes.as_slice(),
             figures.cost,
-            first_unused,
         ),
         Err(_) => Err(Refusal::NoMemory),
     }

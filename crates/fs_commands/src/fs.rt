@@ -22,7 +22,7 @@ use base_io::Sink;
 use engine_blocks::{Blocks, Figures};
 use fs_check::{CheckRefusal, check};
 use fs_files::a_sync_may_follow;
-use fs_session::a_command_answers_its_session;
+use fs_session::{UnusedNodes, a_command_answers_its_session};
 use lang_tree::{Cmd, Reply};
 use std::alloc::Global;
 
@@ -30,12 +30,12 @@ use std::alloc::Global;
 #[derive(Drop)]
 pub struct Fs<S: Blocks> {
     blocks: S,
-    /// All nodes of a number below this one are in use.
-    first_unused: u32,
+    /// Which nodes may be unused.
+    unused: UnusedNodes,
 }
 
 impl<S: Blocks> Fs<S> {
-    ghost use Rattle.fs_commands.specs.Opened.{blocks_in, used_to, StaysOpen};
+    ghost use Rattle.fs_commands.specs.Opened.{blocks_in, unused_in, StaysOpen};
 
     /// Opens the file system of these blocks, if a tree stands in them. All of the node table and the
     /// directories is read, and nothing is written.
@@ -46,7 +46,7 @@ impl<S: Blocks> Fs<S> {
     pub fn open(alloc: Global, mut blocks: S) -> Result<Fs<S>, (S, CheckRefusal)>
         requires begun { IsBegun (S.state blocks) }
         ensures session { IsTrue S.tells → IfOk result (λ fs. (t : Tree) × IsSession (S.state (blocks_in fs)) (session_on (S.state blocks).books.geom.i t)) }
-        ensures between { IfOk result (λ fs. IsBetween S.tells (S.state (blocks_in fs)) (used_to fs)) }
+        ensures between { IfOk result (λ fs. IsBetween S.tells (S.state (blocks_in fs)) (unused_in fs)) }
         ensures stands { IsTrue S.tells → IfOk result (λ fs. Stands (S.state (blocks_in fs))) }
         ensures damage { IsTrue S.tells → IfErr result (λ e. OnDamage e.1 (IsDamaged (S.state blocks).books.geom (S.state blocks).map)) }
         ensures none { IsTrue S.tells → IfErr result (λ e. OnDamage e.1 (λ _. (t : Tree) → IsTreeOf (S.state blocks).books.geom (S.state blocks).map t → ⊥)) }
@@ -57,7 +57,7 @@ impl<S: Blocks> Fs<S> {
         match check(alloc, &mut blocks) {
             Ok(()) => Ok(Fs {
                 blocks,
-                first_unused: 1,
+                unused: UnusedNodes::new(),
             }),
             Err(why) => Err((blocks, why)),
         }
@@ -66,17 +66,17 @@ impl<S: Blocks> Fs<S> {
     /// Answers one command: as the tree answers it, or with the refusal of a file system that has no room, or
     /// whose disk or memory failed it. Each command but one that is refused at once begins with a tick.
     pub fn apply(&mut self, alloc: Global, cmd: &Cmd) -> Reply
-        requires between { IsBetween S.tells (S.state (blocks_in self.old)) (used_to self.old) }
+        requires between { IsBetween S.tells (S.state (blocks_in self.old)) (unused_in self.old) }
         requires stands { IsTrue S.tells → Stands (S.state (blocks_in self.old)) }
         ensures applies { Applies S.tells S.state cmd.now result (blocks_in self.old) (blocks_in self.new) }
         ensures answers { IsTrue S.tells → (f : Session) → IsSession (S.state (blocks_in self.old)) f
             → AnswersSession S.tells S.state f cmd.now result (blocks_in self.new) }
         ensures time { IsTrue S.tells → PassesTime (S.state (blocks_in self.old)) (S.state (blocks_in self.new)) }
-        ensures between { IsBetween S.tells (S.state (blocks_in self.new)) (used_to self.new) }
+        ensures between { IsBetween S.tells (S.state (blocks_in self.new)) (unused_in self.new) }
         ensures stands { IsTrue S.tells → Stands (S.state (blocks_in self.new)) }
     {
         a_command_answers_its_session::<S>();
-        answer(alloc, &mut self.blocks, cmd, &mut self.first_unused)
+        answer(alloc, &mut self.blocks, cmd, &mut self.unused)
     }
 
     /// Writes the listing of the tree to a sink. It takes memory for the names of the directories on one path and
@@ -87,7 +87,7 @@ impl<S: Blocks> Fs<S> {
     /// disk has counted; a push of the sink failed, which the sink has counted; or out of memory. By then the sink
     /// took a prefix of the listing and nothing else.
     pub fn listing<K: Sink>(&mut self, alloc: Global, out: &mut K) -> Result<(), ListRefusal>
-        requires between { IsBetween S.tells (S.state (blocks_in self.old)) (used_to self.old) }
+        requires between { IsBetween S.tells (S.state (blocks_in self.old)) (unused_in self.old) }
         ensures all { IsTrue S.tells → OnOk result ((f : Session) → IsSession (S.state (blocks_in self.old)) f
             → Appends (K.taken out.old) (K.taken out.new) (listing_of f.tree)) }
         ensures front { IsTrue S.tells → OnErr result ((f : Session) → IsSession (S.state (blocks_in self.old)) f
@@ -119,10 +119,7 @@ impl<S: Blocks> Fs<S> {
     pub fn into_blocks(self) -> S
         ensures { result ≡ blocks_in self }
     {
-        let Fs {
-            blocks,
-            first_unused: _,
-        } = self;
+        let Fs { blocks, unused: _ } = self;
         blocks
     }
 }

@@ -136,9 +136,8 @@ pub(crate) fn plan_stat<S: Blocks>(
     alloc: Global,
     blocks: &mut S,
     path: &Path,
-    first_unused: u32,
 ) -> Result<Plan, Refusal>
-    requires may { MayPlan S.tells (S.state blocks.old) first_unused }
+    requires may { MayPlan S.tells (S.state blocks.old) }
     ensures plans { Plans S.tells (StatCmd path.now) result (S.state blocks.old) (S.state blocks.new) }
     ensures answers { IsAnswer result }
 {
@@ -156,9 +155,8 @@ pub(crate) fn plan_read<S: Blocks>(
     path: &Path,
     offset: u32,
     len: u32,
-    first_unused: u32,
 ) -> Result<Plan, Refusal>
-    requires may { MayPlan S.tells (S.state blocks.old) first_unused }
+    requires may { MayPlan S.tells (S.state blocks.old) }
     ensures plans { Plans S.tells (Read path.now offset len) result (S.state blocks.old) (S.state blocks.new) }
     ensures answers { IsAnswer result }
 {
@@ -174,9 +172,8 @@ pub(crate) fn plan_list<S: Blocks>(
     alloc: Global,
     blocks: &mut S,
     path: &Path,
-    first_unused: u32,
 ) -> Result<Plan, Refusal>
-    requires may { MayPlan S.tells (S.state blocks.old) first_unused }
+    requires may { MayPlan S.tells (S.state blocks.old) }
     ensures plans { Plans S.tells (ListNames path.now) result (S.state blocks.old) (S.state blocks.new) }
     ensures answers { IsAnswer result }
 {

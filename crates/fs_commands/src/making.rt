@@ -32,8 +32,9 @@ ghost use Rattle.fs_commands.specs.declared.making.Vacancy.{Vacancy as VacancyVa
 ghost use Rattle.fs_session.specs.Commands.{places_of, IsCalm};
 ghost use Rattle.fs_commands.specs.Looks.{ComesTo, IsWithin, LeadsToFound};
 ghost use Rattle.fs_commands.specs.Making.{AcceptsName, AddsName, MayAppear, MayLink, first_thing, make_cmd, node_kind};
+ghost use Rattle.fs_session.specs.declared.unused.NodeUse.TheVariants.{Taken};
 ghost use Rattle.fs_session.specs.Plans.{MayBeMade, OnChange, Plans};
-ghost use Rattle.fs_session.specs.Sessions.{AreUsedBelow, IsSession, MayBegin, MayPlan, inodes};
+ghost use Rattle.fs_session.specs.Sessions.{AreUsedBelow, IsSession, KeepsUsed, MayBegin, MayPlan, inodes};
 
 use crate::facts::what_a_path_comes_to_gives_the_walk;
 use crate::figures::new_name_figures;
@@ -50,7 +51,7 @@ use fs_inodes::{
     a_file_reads_as_itself, a_new_node_is_mapped, a_new_path_is_mapped, the_map_gives_the_figures,
     the_map_gives_the_refusal, walks_are_the_same,
 };
-use fs_session::{Plan, blocks_have_the_map_of_their_tree, has_room};
+use fs_session::{NodeUse, Plan, blocks_have_the_map_of_their_tree, has_room};
 use lang_tree::{Kind, Path, Refusal, Reply};
 use layout_bytes::{NodeKind, Slot};
 use std::alloc::Global;
@@ -67,9 +68,11 @@ pub(crate) fn plan_node<S: Blocks>(
     path: &Path,
     first_unused: u32,
 ) -> Result<Plan, Refusal>
-    requires may { MayPlan S.tells (S.state blocks.old) first_unused }
+    requires may { MayPlan S.tells (S.state blocks.old) }
+    requires above { 1 ≤ first_unused }
+    requires below { IsTrue S.tells → AreUsedBelow (files_in (S.state blocks.old) nothing_drafted) first_unused }
     ensures plans { Plans S.tells (make_cmd kind path.now) result (S.state blocks.old) (S.state blocks.new) }
-    ensures made { OnChange result (λ draft cost first. MayBeMade S.tells draft cost first (S.state blocks.new)) }
+    ensures made { OnChange result (λ draft cost nodes. MayBeMade S.tells draft cost nodes (S.state blocks.new)) }
 {
     calls_compose::<S>();
     the_tree_makes_nodes::<S>();
@@ -91,11 +94,13 @@ fn make_in<S: Blocks>(
     vacancy: &Vacancy,
     first_unused: u32,
 ) -> Result<Plan, Refusal>
-    requires may { MayPlan S.tells (S.state blocks.old) first_unused }
+    requires may { MayPlan S.tells (S.state blocks.old) }
+    requires above { 1 ≤ first_unused }
+    requires below { IsTrue S.tells → AreUsedBelow (files_in (S.state blocks.old) nothing_drafted) first_unused }
     requires dir { IsNumber (S.state blocks.old).books.geom.i vacancy.now.dir }
     ensures plans { (path : List (List ℕ)) → (IsTrue S.tells → MayAppear (files_in (S.state blocks.old) nothing_drafted) path (Fine vacancy.now))
         → Plans S.tells (make_cmd kind path) result (S.state blocks.old) (S.state blocks.new) }
-    ensures made { OnChange result (λ draft cost first. MayBeMade S.tells draft cost first (S.state blocks.new)) }
+    ensures made { OnChange result (λ draft cost nodes. MayBeMade S.tells draft cost nodes (S.state blocks.new)) }
 {
     calls_compose::<S>();
     the_tree_makes_nodes::<S>();
@@ -117,13 +122,14 @@ fn make_node<S: Blocks>(
     vacancy: &Vacancy,
     node: u32,
 ) -> Result<Plan, Refusal>
-    requires may { MayPlan S.tells (S.state blocks.old) node }
+    requires may { MayPlan S.tells (S.state blocks.old) }
+    requires below { IsTrue S.tells → AreUsedBelow (files_in (S.state blocks.old) nothing_drafted) node }
     requires dir { IsNumber (S.state blocks.old).books.geom.i vacancy.now.dir }
     requires node { IsNumber (S.state blocks.old).books.geom.i node }
     ensures plans { (path : List (List ℕ)) → (IsTrue S.tells → MayAppear (files_in (S.state blocks.old) nothing_drafted) path (Fine vacancy.now))
         → (IsTrue S.tells → least_free (S.state blocks.old).books.geom.i (inodes (S.state blocks.old)) ≡ Some node)
         → Plans S.tells (make_cmd kind path) result (S.state blocks.old) (S.state blocks.new) }
-    ensures made { OnChange result (λ draft cost first. MayBeMade S.tells draft cost first (S.state blocks.new)) }
+    ensures made { OnChange result (λ draft cost nodes. MayBeMade S.tells draft cost nodes (S.state blocks.new)) }
 {
     a_disk_is_small(blocks);
     calls_compose::<S>();
@@ -141,13 +147,13 @@ fn make_node<S: Blocks>(
         Ok(draft) => Ok(Plan::Change {
             draft,
             cost: figures.cost,
-            first_unused: node + 1,
+            nodes: NodeUse::Taken(node),
         }),
         Err(why) => Err(refusal_of(why)),
     }
 }
 
-/// Plans another path, `other`, of the file at a path. All nodes of a number below `first_unused` are in use.
+/// Plans another path, `other`, of the file at a path.
 ///
 /// # Errors
 /// As `plan_node`.
@@ -156,16 +162,15 @@ pub(crate) fn plan_link<S: Blocks>(
     blocks: &mut S,
     path: &Path,
     other: &Path,
-    first_unused: u32,
 ) -> Result<Plan, Refusal>
-    requires may { MayPlan S.tells (S.state blocks.old) first_unused }
+    requires may { MayPlan S.tells (S.state blocks.old) }
     ensures plans { Plans S.tells (Link path.now other.now) result (S.state blocks.old) (S.state blocks.new) }
-    ensures made { OnChange result (λ draft cost first. MayBeMade S.tells draft cost first (S.state blocks.new)) }
+    ensures made { OnChange result (λ draft cost nodes. MayBeMade S.tells draft cost nodes (S.state blocks.new)) }
 {
     calls_compose::<S>();
     the_tree_links_files::<S>();
     match find_node(alloc, blocks, path) {
-        Ok(Ok(found)) => link_to(alloc, blocks, &found, other, first_unused),
+        Ok(Ok(found)) => link_to(alloc, blocks, &found, other),
         Ok(Err(why)) => Ok(Plan::Answer(Reply::Refused(why))),
         Err(why) => Err(refusal_of(why)),
     }
@@ -180,19 +185,18 @@ fn link_to<S: Blocks>(
     blocks: &mut S,
     found: &NodeFound,
     other: &Path,
-    first_unused: u32,
 ) -> Result<Plan, Refusal>
-    requires may { MayPlan S.tells (S.state blocks.old) first_unused }
+    requires may { MayPlan S.tells (S.state blocks.old) }
     requires number { IsNumber (S.state blocks.old).books.geom.i found.now.number }
     requires used { IsTrue S.tells → IsUsed (files_in (S.state blocks.old) nothing_drafted) found.now.number }
     ensures plans { (path : List (List ℕ)) → (IsTrue S.tells → LeadsToFound (files_in (S.state blocks.old) nothing_drafted) path (Fine found.now))
         → Plans S.tells (Link path other.now) result (S.state blocks.old) (S.state blocks.new) }
-    ensures made { OnChange result (λ draft cost first. MayBeMade S.tells draft cost first (S.state blocks.new)) }
+    ensures made { OnChange result (λ draft cost nodes. MayBeMade S.tells draft cost nodes (S.state blocks.new)) }
 {
     calls_compose::<S>();
     the_tree_links_files::<S>();
     match find_vacancy(alloc, blocks, other) {
-        Ok(Ok(vacancy)) => link_in(alloc, blocks, found, &vacancy, first_unused),
+        Ok(Ok(vacancy)) => link_in(alloc, blocks, found, &vacancy),
         Ok(Err(why)) => Ok(Plan::Answer(Reply::Refused(why))),
         Err(why) => Err(refusal_of(why)),
     }
@@ -207,16 +211,15 @@ fn link_in<S: Blocks>(
     blocks: &mut S,
     found: &NodeFound,
     vacancy: &Vacancy,
-    first_unused: u32,
 ) -> Result<Plan, Refusal>
-    requires may { MayPlan S.tells (S.state blocks.old) first_unused }
+    requires may { MayPlan S.tells (S.state blocks.old) }
     requires dir { IsNumber (S.state blocks.old).books.geom.i vacancy.now.dir }
     requires number { IsNumber (S.state blocks.old).books.geom.i found.now.number }
     requires used { IsTrue S.tells → IsUsed (files_in (S.state blocks.old) nothing_drafted) found.now.number }
     ensures plans { (path other : List (List ℕ)) → (IsTrue S.tells → LeadsToFound (files_in (S.state blocks.old) nothing_drafted) path (Fine found.now))
         → (IsTrue S.tells → MayAppear (files_in (S.state blocks.old) nothing_drafted) other (Fine vacancy.now))
         → Plans S.tells (Link path other) result (S.state blocks.old) (S.state blocks.new) }
-    ensures made { OnChange result (λ draft cost first. MayBeMade S.tells draft cost first (S.state blocks.new)) }
+    ensures made { OnChange result (λ draft cost nodes. MayBeMade S.tells draft cost nodes (S.state blocks.new)) }
 {
     calls_compose::<S>();
     the_tree_links_files::<S>();
@@ -231,7 +234,7 @@ fn link_in<S: Blocks>(
         name: vacancy.name.copy(),
     };
     let links = found.facts.links + 1;
-    link_file(alloc, blocks, vacancy, &slot, links, first_unused)
+    link_file(alloc, blocks, vacancy, &slot, links)
 }
 
 /// Plans this slot for a file, which gets so many links by it.
@@ -244,9 +247,8 @@ fn link_file<S: Blocks>(
     vacancy: &Vacancy,
     slot: &Slot,
     links: u32,
-    first_unused: u32,
 ) -> Result<Plan, Refusal>
-    requires may { MayPlan S.tells (S.state blocks.old) first_unused }
+    requires may { MayPlan S.tells (S.state blocks.old) }
     requires dir { IsNumber (S.state blocks.old).books.geom.i vacancy.now.dir }
     requires node { IsNumber (S.state blocks.old).books.geom.i slot.now.node }
     requires used { IsTrue S.tells → IsUsed (files_in (S.state blocks.old) nothing_drafted) slot.now.node }
@@ -255,7 +257,7 @@ fn link_file<S: Blocks>(
     ensures plans { (cmd : Cmd) → (IsTrue S.tells → (f : Session) → IsSession (S.state blocks.old) f
         → MayLink (S.state blocks.old) f cmd vacancy.now.dir vacancy.now.count slot.now links)
         → Plans S.tells cmd result (S.state blocks.old) (S.state blocks.new) }
-    ensures made { OnChange result (λ draft cost first. MayBeMade S.tells draft cost first (S.state blocks.new)) }
+    ensures made { OnChange result (λ draft cost nodes. MayBeMade S.tells draft cost nodes (S.state blocks.new)) }
 {
     a_disk_is_small(blocks);
     calls_compose::<S>();
@@ -268,7 +270,7 @@ fn link_file<S: Blocks>(
         Ok(draft) => Ok(Plan::Change {
             draft,
             cost: figures.cost,
-            first_unused,
+            nodes: NodeUse::Stays,
         }),
         Err(why) => Err(refusal_of(why)),
     }
@@ -407,7 +409,9 @@ fn least_unused<S: Blocks>(
     blocks: &mut S,
     first_unused: u32,
 ) -> Result<Option<u32>, FileRefusal>
-    requires may { MayPlan S.tells (S.state blocks.old) first_unused }
+    requires may { MayPlan S.tells (S.state blocks.old) }
+    requires above { 1 ≤ first_unused }
+    requires below { IsTrue S.tells → AreUsedBelow (files_in (S.state blocks.old) nothing_drafted) first_unused }
     ensures least { IsTrue S.tells → IfOk result (λ found. (t : Tree) → IsTreeOf (S.state blocks.old).books.geom (S.state blocks.old).map t
         → found ≡ least_free (S.state blocks.old).books.geom.i (inodes (S.state blocks.old))) }
     ensures number { IfOk result (λ found. IfSome found (IsNumber (S.state blocks.old).books.geom.i)) }
@@ -434,11 +438,13 @@ fn draft_node<S: Blocks>(
     dir: u32,
     slot: &Slot,
 ) -> Result<Draft, FileRefusal>
-    requires may { MayPlan S.tells (S.state blocks.old) slot.now.node }
+    requires may { MayPlan S.tells (S.state blocks.old) }
+    requires below { IsTrue S.tells → AreUsedBelow (files_in (S.state blocks.old) nothing_drafted) slot.now.node }
     requires dir { IsNumber (S.state blocks.old).books.geom.i dir }
     requires node { IsNumber (S.state blocks.old).books.geom.i slot.now.node }
     ensures draft { IfOk result (λ draft. IsDraftOf S.tells (S.state blocks.new) draft) }
-    ensures used { IsTrue S.tells → IfOk result (λ draft. AreUsedBelow (files_in (S.state blocks.new) draft) (slot.now.node + 1)) }
+    ensures used { IsTrue S.tells → IfOk result (λ draft. KeepsUsed (Taken slot.now.node) (files_in (S.state blocks.old) nothing_drafted)
+        (files_in (S.state blocks.new) draft)) }
     ensures names { IsTrue S.tells → IfOk result (λ draft. (t : Tree) (slots : List SlotValue)
         → IsTreeOf (S.state blocks.old).books.geom (S.state blocks.old).map t → inodes (S.state blocks.old) slot.now.node ≡ None
         → inodes (S.state blocks.old) dir ≡ Some (ADir slots)

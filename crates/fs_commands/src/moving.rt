@@ -18,15 +18,16 @@ ghost use Rattle.fs_dirs.specs.Directories.{IsNumber};
 ghost use Rattle.fs_commands.specs.Looks.{MayBeEntry};
 ghost use Rattle.fs_session.specs.Commands.{GrowsInRuns, places_of, IsCalm};
 ghost use Rattle.fs_commands.specs.Moving.{IsMove, KnowsMove, MayMoveAway, MayMoveOnto, MayRename, MovesName};
+ghost use Rattle.fs_session.specs.declared.unused.NodeUse.TheVariants.{Stays};
 ghost use Rattle.fs_session.specs.Plans.{MayBeMade, OnChange, Plans};
-ghost use Rattle.fs_commands.specs.Removing.{blocks_gone, first_after};
+ghost use Rattle.fs_commands.specs.Removing.{blocks_gone, use_after};
 ghost use Rattle.fs_session.specs.Sessions.{MayBegin, MayPlan, Stands, inodes};
 
 use crate::facts::{the_node_at_a_path_gives_the_inode, what_a_path_comes_to_gives_the_walk};
 use crate::making::a_disk_is_small;
 use crate::paths::{Entry, NodeFound};
 use crate::refusals::refusal_of;
-use crate::removing::{Named, first_after, lose_link};
+use crate::removing::{Named, lose_link, use_after};
 use base_types::Name;
 use base_types::limits::LARGEST_FILE;
 use crash_stands::{blocks_have_a_map, files_have_one_map};
@@ -39,7 +40,7 @@ use fs_inodes::{
     a_move_is_mapped, a_name_stands_at_its_place, paths_lead_to_inodes, the_map_gives_the_figures,
     the_map_gives_the_refusal, the_map_gives_the_reply, walks_are_the_same,
 };
-use fs_session::{Plan, blocks_have_the_map_of_their_tree, has_room};
+use fs_session::{NodeUse, Plan, blocks_have_the_map_of_their_tree, has_room};
 use lang_tree::{Refusal, blocks_for, growth, moving, release};
 use layout_bytes::Slot;
 use std::alloc::Global;
@@ -74,7 +75,7 @@ fn draft_onto<S: Blocks>(
     ensures draft { IfOk result (λ draft. IsDraftOf S.tells (S.state blocks.new) draft) }
     ensures moves { IsTrue S.tells → IfOk result (λ draft. (name : List ℕ) → MayMoveOnto (S.state blocks.old) source.now target.now name other.now
         → MovesName (S.state blocks.old) (S.state blocks.new) draft source.now.dir target.now.dir source.now.entry.node.number name other.now 5 []
-        (release source.now.count + blocks_gone target.now.entry.node.facts) (first_after target.now.entry.node)) }
+        (release source.now.count + blocks_gone target.now.entry.node.facts) (use_after target.now.entry.node)) }
     ensures refused { IfErr result LookRefused }
     ensures looks { LooksOnly S.tells (fails_reading result) (S.state blocks.old) (S.state blocks.new) }
 {
@@ -127,7 +128,7 @@ fn draft_within<S: Blocks>(
     ensures draft { IfOk result (λ draft. IsDraftOf S.tells (S.state blocks.new) draft) }
     ensures moves { IsTrue S.tells → IfOk result (λ draft. (name : List ℕ) → MayRename (S.state blocks.old) source.now name other.now
         → MovesName (S.state blocks.old) (S.state blocks.new) draft source.now.dir source.now.dir source.now.entry.node.number name other.now 1 [] 0
-        (λ first. first)) }
+        Stays) }
     ensures refused { IfErr result LookRefused }
     ensures looks { LooksOnly S.tells (fails_reading result) (S.state blocks.old) (S.state blocks.new) }
 {
@@ -177,7 +178,7 @@ fn draft_across<S: Blocks>(
     ensures draft { IfOk result (λ draft. IsDraftOf S.tells (S.state blocks.new) draft) }
     ensures moves { IsTrue S.tells → IfOk result (λ draft. (count : ℕ) (name : List ℕ) → MayMoveAway (S.state blocks.old) source.now into count name other.now
         → MovesName (S.state blocks.old) (S.state blocks.new) draft source.now.dir into source.now.entry.node.number name other.now 5
-        (take (growth count) (reusable_blocks (S.state blocks.new).books)) (release source.now.count) (λ first. first)) }
+        (take (growth count) (reusable_blocks (S.state blocks.new).books)) (release source.now.count) Stays) }
     ensures rests { IsTrue S.tells → IfOk result (λ draft. (count : ℕ) (name : List ℕ) → MayMoveAway (S.state blocks.old) source.now into count name other.now
         → growth count ≤ length (reusable_blocks (S.state blocks.old).books) → (S.state blocks.new).books ≡ (S.state blocks.old).books) }
     ensures grows { IsTrue S.tells → IfOk result (λ draft. (count : ℕ) (name : List ℕ)
@@ -222,9 +223,8 @@ pub(crate) fn plan_move<S: Blocks>(
     source: &Named,
     spot: &Goal,
     other: &Name,
-    first_unused: u32,
 ) -> Result<Plan, Refusal>
-    requires may { MayPlan S.tells (S.state blocks.old) first_unused }
+    requires may { MayPlan S.tells (S.state blocks.old) }
     requires dir { IsNumber (S.state blocks.old).books.geom.i source.now.dir }
     requires entry { MayBeEntry (S.state blocks.old).books.geom.i source.now.entry }
     requires into { IsNumber (S.state blocks.old).books.geom.i spot.now.dir }
@@ -234,7 +234,7 @@ pub(crate) fn plan_move<S: Blocks>(
     ensures plans { (from to : List (List ℕ))
         → (IsTrue S.tells → IsMove (files_in (S.state blocks.old) nothing_drafted) from to source.now spot.now.dir spot.now.count spot.now.found
         other.now) → Plans S.tells (Rename from to) result (S.state blocks.old) (S.state blocks.new) }
-    ensures made { OnChange result (λ draft cost first. MayBeMade S.tells draft cost first (S.state blocks.new)) }
+    ensures made { OnChange result (λ draft cost nodes. MayBeMade S.tells draft cost nodes (S.state blocks.new)) }
 {
     match spot.found {
         Some(entry) => {
@@ -243,21 +243,13 @@ pub(crate) fn plan_move<S: Blocks>(
                 count: spot.count,
                 entry,
             };
-            plan_onto(alloc, blocks, source, &target, other, first_unused)
+            plan_onto(alloc, blocks, source, &target, other)
         }
         None => {
             if source.dir == spot.dir {
-                return plan_within(alloc, blocks, source, other, first_unused);
+                return plan_within(alloc, blocks, source, other);
             }
-            plan_across(
-                alloc,
-                blocks,
-                source,
-                spot.dir,
-                spot.count,
-                other,
-                first_unused,
-            )
+            plan_across(alloc, blocks, source, spot.dir, spot.count, other)
         }
     }
 }
@@ -272,9 +264,8 @@ fn plan_onto<S: Blocks>(
     source: &Named,
     target: &Named,
     other: &Name,
-    first_unused: u32,
 ) -> Result<Plan, Refusal>
-    requires may { MayPlan S.tells (S.state blocks.old) first_unused }
+    requires may { MayPlan S.tells (S.state blocks.old) }
     requires from_dir { IsNumber (S.state blocks.old).books.geom.i source.now.dir }
     requires from_entry { MayBeEntry (S.state blocks.old).books.geom.i source.now.entry }
     requires onto_dir { IsNumber (S.state blocks.old).books.geom.i target.now.dir }
@@ -285,7 +276,7 @@ fn plan_onto<S: Blocks>(
     ensures plans { (from to : List (List ℕ))
         → (IsTrue S.tells → IsMove (files_in (S.state blocks.old) nothing_drafted) from to source.now target.now.dir target.now.count
         (Some target.now.entry) other.now) → Plans S.tells (Rename from to) result (S.state blocks.old) (S.state blocks.new) }
-    ensures made { OnChange result (λ draft cost first. MayBeMade S.tells draft cost first (S.state blocks.new)) }
+    ensures made { OnChange result (λ draft cost nodes. MayBeMade S.tells draft cost nodes (S.state blocks.new)) }
 {
     calls_compose::<S>();
     a_move_is_known(blocks);
@@ -306,7 +297,7 @@ fn plan_onto<S: Blocks>(
         Ok(draft) => Ok(Plan::Change {
             draft,
             cost: figures.cost,
-            first_unused: first_after(&target.entry.node, first_unused),
+            nodes: use_after(&target.entry.node),
         }),
         Err(why) => Err(refusal_of(why)),
     }
@@ -333,9 +324,8 @@ fn plan_within<S: Blocks>(
     blocks: &mut S,
     source: &Named,
     other: &Name,
-    first_unused: u32,
 ) -> Result<Plan, Refusal>
-    requires may { MayPlan S.tells (S.state blocks.old) first_unused }
+    requires may { MayPlan S.tells (S.state blocks.old) }
     requires dir { IsNumber (S.state blocks.old).books.geom.i source.now.dir }
     requires entry { MayBeEntry (S.state blocks.old).books.geom.i source.now.entry }
     requires known { IsTrue S.tells → (from : List (List ℕ)) × (to : List (List ℕ))
@@ -343,7 +333,7 @@ fn plan_within<S: Blocks>(
     ensures plans { (from to : List (List ℕ))
         → (IsTrue S.tells → IsMove (files_in (S.state blocks.old) nothing_drafted) from to source.now source.now.dir source.now.count None other.now)
         → Plans S.tells (Rename from to) result (S.state blocks.old) (S.state blocks.new) }
-    ensures made { OnChange result (λ draft cost first. MayBeMade S.tells draft cost first (S.state blocks.new)) }
+    ensures made { OnChange result (λ draft cost nodes. MayBeMade S.tells draft cost nodes (S.state blocks.new)) }
 {
     calls_compose::<S>();
     a_move_is_known(blocks);
@@ -363,7 +353,7 @@ fn plan_within<S: Blocks>(
         Ok(draft) => Ok(Plan::Change {
             draft,
             cost: figures.cost,
-            first_unused,
+            nodes: NodeUse::Stays,
         }),
         Err(why) => Err(refusal_of(why)),
     }
@@ -381,9 +371,8 @@ fn plan_across<S: Blocks>(
     into: u32,
     count: u32,
     other: &Name,
-    first_unused: u32,
 ) -> Result<Plan, Refusal>
-    requires may { MayPlan S.tells (S.state blocks.old) first_unused }
+    requires may { MayPlan S.tells (S.state blocks.old) }
     requires dir { IsNumber (S.state blocks.old).books.geom.i source.now.dir }
     requires entry { MayBeEntry (S.state blocks.old).books.geom.i source.now.entry }
     requires into { IsNumber (S.state blocks.old).books.geom.i into }
@@ -393,7 +382,7 @@ fn plan_across<S: Blocks>(
     ensures plans { (from to : List (List ℕ))
         → (IsTrue S.tells → IsMove (files_in (S.state blocks.old) nothing_drafted) from to source.now into count None other.now)
         → Plans S.tells (Rename from to) result (S.state blocks.old) (S.state blocks.new) }
-    ensures made { OnChange result (λ draft cost first. MayBeMade S.tells draft cost first (S.state blocks.new)) }
+    ensures made { OnChange result (λ draft cost nodes. MayBeMade S.tells draft cost nodes (S.state blocks.new)) }
 {
     calls_compose::<S>();
     a_disk_is_small(blocks);
@@ -419,7 +408,7 @@ fn plan_across<S: Blocks>(
         Ok(draft) => Ok(Plan::Change {
             draft,
             cost: figures.cost,
-            first_unused,
+            nodes: NodeUse::Stays,
         }),
         Err(why) => Err(refusal_of(why)),
     }

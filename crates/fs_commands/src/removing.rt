@@ -22,7 +22,7 @@ ghost use Rattle.fs_commands.specs.declared.paths.Spot.TheVariants.{Inside};
 ghost use Rattle.fs_commands.specs.Figures.{AreFiguresOf, HasFacts};
 ghost use Rattle.fs_commands.specs.Looks.{ComesTo, IsWithin, MayBeEntry, ShowsFacts, entry_number};
 ghost use Rattle.fs_session.specs.Plans.{IsAnswer, MayBeMade, OnChange, Plans};
-ghost use Rattle.fs_commands.specs.Removing.{IsFound, IsLoss, IsNamed, KnowsLoss, LosesLink, LosesName, MayLose, blocks_gone, first_after, lose_cmd};
+ghost use Rattle.fs_commands.specs.Removing.{IsFound, IsLoss, IsNamed, KnowsLoss, LosesLink, LosesName, MayLose, blocks_gone, lose_cmd, use_after};
 ghost use Rattle.fs_commands.specs.Removing.{lose_reason};
 ghost use Rattle.fs_session.specs.Sessions.{MayBegin, MayPlan, Stands, inodes};
 ghost use Rattle.fs_session.specs.Space.{ArePlaced};
@@ -45,7 +45,9 @@ use fs_inodes::{
     a_lost_path_is_mapped, a_name_stands_at_its_place, the_map_gives_the_figures,
     the_map_gives_the_refusal, walks_are_the_same,
 };
-use fs_session::{Plan, a_node_in_use_has_links, blocks_have_the_map_of_their_tree, has_room};
+use fs_session::{
+    NodeUse, Plan, a_node_in_use_has_links, blocks_have_the_map_of_their_tree, has_room,
+};
 use lang_tree::{Figures, Kind, Path, Refusal, Reply};
 use std::alloc::Global;
 
@@ -65,13 +67,12 @@ pub(crate) fn plan_unlink<S: Blocks>(
     alloc: Global,
     blocks: &mut S,
     path: &Path,
-    first_unused: u32,
 ) -> Result<Plan, Refusal>
-    requires may { MayPlan S.tells (S.state blocks.old) first_unused }
+    requires may { MayPlan S.tells (S.state blocks.old) }
     ensures plans { Plans S.tells (Unlink path.now) result (S.state blocks.old) (S.state blocks.new) }
-    ensures made { OnChange result (λ draft cost first. MayBeMade S.tells draft cost first (S.state blocks.new)) }
+    ensures made { OnChange result (λ draft cost nodes. MayBeMade S.tells draft cost nodes (S.state blocks.new)) }
 {
-    plan_loss(alloc, blocks, Kind::File, path, first_unused)
+    plan_loss(alloc, blocks, Kind::File, path)
 }
 
 /// Plans an rmdir.
@@ -82,13 +83,12 @@ pub(crate) fn plan_rmdir<S: Blocks>(
     alloc: Global,
     blocks: &mut S,
     path: &Path,
-    first_unused: u32,
 ) -> Result<Plan, Refusal>
-    requires may { MayPlan S.tells (S.state blocks.old) first_unused }
+    requires may { MayPlan S.tells (S.state blocks.old) }
     ensures plans { Plans S.tells (Rmdir path.now) result (S.state blocks.old) (S.state blocks.new) }
-    ensures made { OnChange result (λ draft cost first. MayBeMade S.tells draft cost first (S.state blocks.new)) }
+    ensures made { OnChange result (λ draft cost nodes. MayBeMade S.tells draft cost nodes (S.state blocks.new)) }
 {
-    plan_loss(alloc, blocks, Kind::Dir, path, first_unused)
+    plan_loss(alloc, blocks, Kind::Dir, path)
 }
 
 /// Plans that a path to a node of this kind goes.
@@ -100,11 +100,10 @@ fn plan_loss<S: Blocks>(
     blocks: &mut S,
     kind: Kind,
     path: &Path,
-    first_unused: u32,
 ) -> Result<Plan, Refusal>
-    requires may { MayPlan S.tells (S.state blocks.old) first_unused }
+    requires may { MayPlan S.tells (S.state blocks.old) }
     ensures plans { Plans S.tells (lose_cmd kind path.now) result (S.state blocks.old) (S.state blocks.new) }
-    ensures made { OnChange result (λ draft cost first. MayBeMade S.tells draft cost first (S.state blocks.new)) }
+    ensures made { OnChange result (λ draft cost nodes. MayBeMade S.tells draft cost nodes (S.state blocks.new)) }
 {
     calls_compose::<S>();
     blocks_have_the_map_of_their_tree();
@@ -115,7 +114,7 @@ fn plan_loss<S: Blocks>(
         Err(why) => return Err(refusal_of(why)),
     };
     match spot {
-        Ok(spot) => plan_loss_at(alloc, blocks, kind, path, &spot, first_unused),
+        Ok(spot) => plan_loss_at(alloc, blocks, kind, path, &spot),
         Err(why) => Ok(Plan::Answer(Reply::Refused(why))),
     }
 }
@@ -130,26 +129,25 @@ fn plan_loss_at<S: Blocks>(
     kind: Kind,
     path: &Path,
     spot: &Spot,
-    first_unused: u32,
 ) -> Result<Plan, Refusal>
-    requires may { MayPlan S.tells (S.state blocks.old) first_unused }
+    requires may { MayPlan S.tells (S.state blocks.old) }
     requires comes { IsTrue S.tells → ComesTo (files_in (S.state blocks.old) nothing_drafted) path.now (Fine spot.now) }
     requires within { IsWithin (S.state blocks.old).books.geom.i spot.now }
     ensures plans { Plans S.tells (lose_cmd kind path.now) result (S.state blocks.old) (S.state blocks.new) }
-    ensures made { OnChange result (λ draft cost first. MayBeMade S.tells draft cost first (S.state blocks.new)) }
+    ensures made { OnChange result (λ draft cost nodes. MayBeMade S.tells draft cost nodes (S.state blocks.new)) }
 {
     calls_compose::<S>();
     blocks_have_the_map_of_their_tree();
     the_map_gives_the_refusal();
     what_a_path_comes_to_gives_the_walk();
     match *spot {
-        Spot::Root => plan_root_loss(alloc, blocks, kind, first_unused),
+        Spot::Root => plan_root_loss(alloc, blocks, kind),
         Spot::Inside { dir, count, entry } => {
             what_stands_there_is_shown(blocks);
             match entry_to_lose(kind, &entry) {
                 Ok(entry) => {
                     let named = Named { dir, count, entry };
-                    plan_name_loss(alloc, blocks, kind, &named, first_unused)
+                    plan_name_loss(alloc, blocks, kind, &named)
                 }
                 Err(why) => Ok(Plan::Answer(Reply::Refused(why))),
             }
@@ -161,13 +159,8 @@ fn plan_loss_at<S: Blocks>(
 ///
 /// # Errors
 /// A read of the disk failed; or out of memory.
-fn plan_root_loss<S: Blocks>(
-    alloc: Global,
-    blocks: &mut S,
-    kind: Kind,
-    first_unused: u32,
-) -> Result<Plan, Refusal>
-    requires may { MayPlan S.tells (S.state blocks.old) first_unused }
+fn plan_root_loss<S: Blocks>(alloc: Global, blocks: &mut S, kind: Kind) -> Result<Plan, Refusal>
+    requires may { MayPlan S.tells (S.state blocks.old) }
     ensures plans { Plans S.tells (lose_cmd kind []) result (S.state blocks.old) (S.state blocks.new) }
     ensures answers { IsAnswer result }
 {
@@ -378,14 +371,14 @@ fn loss_figures(kind: Kind, bitmap: u32, count: u32, facts: &FileFacts) -> Figur
     }
 }
 
-/// The first number that may be unused once a link of this node is gone. It was `first` before.
-pub(crate) fn first_after(node: &NodeFound, first: u32) -> u32
-    ensures { result ≡ first_after node.now first }
+/// What the loss of one link of this node makes of the nodes in use.
+pub(crate) fn use_after(node: &NodeFound) -> NodeUse
+    ensures { result ≡ use_after node.now }
 {
     if node.facts.links == 1 {
-        return first.min(node.number);
+        return NodeUse::Dropped(node.number);
     }
-    first
+    NodeUse::Stays
 }
 
 /// Plans that a name goes which the tree accepts to go.
@@ -397,15 +390,14 @@ fn plan_name_loss<S: Blocks>(
     blocks: &mut S,
     kind: Kind,
     named: &Named,
-    first_unused: u32,
 ) -> Result<Plan, Refusal>
-    requires may { MayPlan S.tells (S.state blocks.old) first_unused }
+    requires may { MayPlan S.tells (S.state blocks.old) }
     requires dir { IsNumber (S.state blocks.old).books.geom.i named.now.dir }
     requires entry { MayBeEntry (S.state blocks.old).books.geom.i named.now.entry }
     requires loss { IsTrue S.tells → (path : List (List ℕ)) × IsLoss kind (files_in (S.state blocks.old) nothing_drafted) path named.now }
     ensures plans { (path : List (List ℕ)) → (IsTrue S.tells → IsLoss kind (files_in (S.state blocks.old) nothing_drafted) path named.now)
         → Plans S.tells (lose_cmd kind path) result (S.state blocks.old) (S.state blocks.new) }
-    ensures made { OnChange result (λ draft cost first. MayBeMade S.tells draft cost first (S.state blocks.new)) }
+    ensures made { OnChange result (λ draft cost nodes. MayBeMade S.tells draft cost nodes (S.state blocks.new)) }
 {
     calls_compose::<S>();
     what_goes_is_known(blocks);
@@ -424,7 +416,7 @@ fn plan_name_loss<S: Blocks>(
         Ok(draft) => Ok(Plan::Change {
             draft,
             cost: figures.cost,
-            first_unused: first_after(&named.entry.node, first_unused),
+            nodes: use_after(&named.entry.node),
         }),
         Err(why) => Err(refusal_of(why)),
     }

@@ -58,11 +58,10 @@ pub(crate) fn plan_rename<S: Blocks>(
     blocks: &mut S,
     from: &Path,
     to: &Path,
-    first_unused: u32,
 ) -> Result<Plan, Refusal>
-    requires may { MayPlan S.tells (S.state blocks.old) first_unused }
+    requires may { MayPlan S.tells (S.state blocks.old) }
     ensures plans { Plans S.tells (Rename from.now to.now) result (S.state blocks.old) (S.state blocks.new) }
-    ensures made { OnChange result (λ draft cost first. MayBeMade S.tells draft cost first (S.state blocks.new)) }
+    ensures made { OnChange result (λ draft cost nodes. MayBeMade S.tells draft cost nodes (S.state blocks.new)) }
 {
     calls_compose::<S>();
     blocks_have_the_map_of_their_tree();
@@ -73,7 +72,7 @@ pub(crate) fn plan_rename<S: Blocks>(
         Err(why) => return Err(refusal_of(why)),
     };
     match spot {
-        Ok(spot) => plan_rename_of(alloc, blocks, from, &spot, to, first_unused),
+        Ok(spot) => plan_rename_of(alloc, blocks, from, &spot, to),
         Err(why) => Ok(Plan::Answer(Reply::Refused(why))),
     }
 }
@@ -88,25 +87,24 @@ fn plan_rename_of<S: Blocks>(
     from: &Path,
     spot: &Spot,
     to: &Path,
-    first_unused: u32,
 ) -> Result<Plan, Refusal>
-    requires may { MayPlan S.tells (S.state blocks.old) first_unused }
+    requires may { MayPlan S.tells (S.state blocks.old) }
     requires comes { IsTrue S.tells → ComesTo (files_in (S.state blocks.old) nothing_drafted) from.now (Fine spot.now) }
     requires within { IsWithin (S.state blocks.old).books.geom.i spot.now }
     ensures plans { Plans S.tells (Rename from.now to.now) result (S.state blocks.old) (S.state blocks.new) }
-    ensures made { OnChange result (λ draft cost first. MayBeMade S.tells draft cost first (S.state blocks.new)) }
+    ensures made { OnChange result (λ draft cost nodes. MayBeMade S.tells draft cost nodes (S.state blocks.new)) }
 {
     calls_compose::<S>();
     blocks_have_the_map_of_their_tree();
     the_map_gives_the_refusal();
     what_a_path_comes_to_gives_the_walk();
     match *spot {
-        Spot::Root => plan_root_rename(alloc, blocks, to, first_unused),
+        Spot::Root => plan_root_rename(alloc, blocks, to),
         Spot::Inside { dir, count, entry } => {
             match entry {
                 Some(entry) => {
                     let source = Named { dir, count, entry };
-                    plan_entry_rename(alloc, blocks, from, &source, to, first_unused)
+                    plan_entry_rename(alloc, blocks, from, &source, to)
                 }
                 None => Ok(Plan::Answer(Reply::Refused(Refusal::NotFound))),
             }
@@ -118,13 +116,8 @@ fn plan_rename_of<S: Blocks>(
 ///
 /// # Errors
 /// A read of the disk failed; or out of memory.
-fn plan_root_rename<S: Blocks>(
-    alloc: Global,
-    blocks: &mut S,
-    to: &Path,
-    first_unused: u32,
-) -> Result<Plan, Refusal>
-    requires may { MayPlan S.tells (S.state blocks.old) first_unused }
+fn plan_root_rename<S: Blocks>(alloc: Global, blocks: &mut S, to: &Path) -> Result<Plan, Refusal>
+    requires may { MayPlan S.tells (S.state blocks.old) }
     ensures plans { Plans S.tells (Rename [] to.now) result (S.state blocks.old) (S.state blocks.new) }
     ensures answers { IsAnswer result }
 {
@@ -160,15 +153,14 @@ fn plan_entry_rename<S: Blocks>(
     from: &Path,
     source: &Named,
     to: &Path,
-    first_unused: u32,
 ) -> Result<Plan, Refusal>
-    requires may { MayPlan S.tells (S.state blocks.old) first_unused }
+    requires may { MayPlan S.tells (S.state blocks.old) }
     requires dir { IsNumber (S.state blocks.old).books.geom.i source.now.dir }
     requires entry { MayBeEntry (S.state blocks.old).books.geom.i source.now.entry }
     requires comes { IsTrue S.tells → ComesTo (files_in (S.state blocks.old) nothing_drafted) from.now
         (Fine (Inside source.now.dir source.now.count (Some source.now.entry))) }
     ensures plans { Plans S.tells (Rename from.now to.now) result (S.state blocks.old) (S.state blocks.new) }
-    ensures made { OnChange result (λ draft cost first. MayBeMade S.tells draft cost first (S.state blocks.new)) }
+    ensures made { OnChange result (λ draft cost nodes. MayBeMade S.tells draft cost nodes (S.state blocks.new)) }
 {
     calls_compose::<S>();
     blocks_have_the_map_of_their_tree();
@@ -200,7 +192,7 @@ fn plan_entry_rename<S: Blocks>(
                 source: *source,
                 goal,
             };
-            plan_entry_move(alloc, blocks, from, to, &ends, name, first_unused)
+            plan_entry_move(alloc, blocks, from, to, &ends, name)
         }
     }
 }
@@ -216,9 +208,8 @@ fn plan_entry_move<S: Blocks>(
     to: &Path,
     ends: &Ends,
     name: &Name,
-    first_unused: u32,
 ) -> Result<Plan, Refusal>
-    requires may { MayPlan S.tells (S.state blocks.old) first_unused }
+    requires may { MayPlan S.tells (S.state blocks.old) }
     requires dir { IsNumber (S.state blocks.old).books.geom.i ends.now.source.dir }
     requires entry { MayBeEntry (S.state blocks.old).books.geom.i ends.now.source.entry }
     requires into { IsNumber (S.state blocks.old).books.geom.i ends.now.goal.dir }
@@ -229,7 +220,7 @@ fn plan_entry_move<S: Blocks>(
     requires target { IsTrue S.tells → ComesTo (files_in (S.state blocks.old) nothing_drafted) to.now
         (Fine (Inside ends.now.goal.dir ends.now.goal.count ends.now.goal.found)) }
     ensures plans { Plans S.tells (Rename from.now to.now) result (S.state blocks.old) (S.state blocks.new) }
-    ensures made { OnChange result (λ draft cost first. MayBeMade S.tells draft cost first (S.state blocks.new)) }
+    ensures made { OnChange result (λ draft cost nodes. MayBeMade S.tells draft cost nodes (S.state blocks.new)) }
 {
     calls_compose::<S>();
     blocks_have_the_map_of_their_tree();
@@ -248,7 +239,7 @@ fn plan_entry_move<S: Blocks>(
         to.is_below(from),
     ) {
         Some(why) => Ok(Plan::Answer(Reply::Refused(why))),
-        None => plan_move(alloc, blocks, &ends.source, &ends.goal, name, first_unused),
+        None => plan_move(alloc, blocks, &ends.source, &ends.goal, name),
     }
 }
 

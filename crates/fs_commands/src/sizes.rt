@@ -29,7 +29,7 @@ use fs_files::{Draft, a_draft_begins, a_file_fits_the_disk, a_file_has_its_block
 use fs_inodes::{
     new_bytes_are_mapped, paths_lead_to_inodes, the_map_gives_the_refusal, walks_are_the_same,
 };
-use fs_session::{Plan, blocks_have_the_map_of_their_tree, has_room};
+use fs_session::{NodeUse, Plan, blocks_have_the_map_of_their_tree, has_room};
 use lang_tree::{Path, Refusal, Reply, touched_blocks_are_counted_by_division};
 use std::alloc::Global;
 
@@ -43,17 +43,16 @@ pub(crate) fn plan_truncate<S: Blocks>(
     blocks: &mut S,
     path: &Path,
     size: u32,
-    first_unused: u32,
 ) -> Result<Plan, Refusal>
-    requires may { MayPlan S.tells (S.state blocks.old) first_unused }
+    requires may { MayPlan S.tells (S.state blocks.old) }
     ensures plans { Plans S.tells (Truncate path.now size) result (S.state blocks.old) (S.state blocks.new) }
-    ensures made { OnChange result (λ draft cost first. MayBeMade S.tells draft cost first (S.state blocks.new)) }
+    ensures made { OnChange result (λ draft cost nodes. MayBeMade S.tells draft cost nodes (S.state blocks.new)) }
 {
     calls_compose::<S>();
     the_map_gives_the_refusal();
     blocks_have_the_map_of_their_tree();
     match find_file(alloc, blocks, path) {
-        Ok(Ok(found)) => truncate_found(alloc, blocks, &found, size, first_unused),
+        Ok(Ok(found)) => truncate_found(alloc, blocks, &found, size),
         Ok(Err(why)) => Ok(Plan::Answer(Reply::Refused(why))),
         Err(why) => Err(refusal_of(why)),
     }
@@ -68,15 +67,14 @@ fn truncate_found<S: Blocks>(
     blocks: &mut S,
     found: &NodeFound,
     size: u32,
-    first_unused: u32,
 ) -> Result<Plan, Refusal>
-    requires may { MayPlan S.tells (S.state blocks.old) first_unused }
+    requires may { MayPlan S.tells (S.state blocks.old) }
     requires number { IsNumber (S.state blocks.old).books.geom.i found.now.number }
     requires file { IsTrue S.tells → IsFile (files_in (S.state blocks.old) nothing_drafted) found.now }
     ensures plans { (path : List (List ℕ)) → (IsTrue S.tells
         → walk_on (inodes_of (files_in (S.state blocks.old) nothing_drafted)) 1 path ≡ Fine found.now.number)
         → Plans S.tells (Truncate path size) result (S.state blocks.old) (S.state blocks.new) }
-    ensures made { OnChange result (λ draft cost first. MayBeMade S.tells draft cost first (S.state blocks.new)) }
+    ensures made { OnChange result (λ draft cost nodes. MayBeMade S.tells draft cost nodes (S.state blocks.new)) }
 {
     calls_compose::<S>();
     a_file_is_at_its_path(blocks);
@@ -89,14 +87,7 @@ fn truncate_found<S: Blocks>(
     }
     let figures = resize_figures(blocks.geom().bitmap_blocks(), size_of(found), size);
     match has_room(blocks, &figures) {
-        Ok(()) => plan_size(
-            alloc,
-            blocks,
-            found.number,
-            size,
-            figures.cost,
-            first_unused,
-        ),
+        Ok(()) => plan_size(alloc, blocks, found.number, size, figures.cost),
         Err(why) => Err(why),
     }
 }
@@ -112,16 +103,15 @@ fn plan_size<S: Blocks>(
     number: u32,
     size: u32,
     cost: u32,
-    first_unused: u32,
 ) -> Result<Plan, Refusal>
-    requires may { MayPlan S.tells (S.state blocks.old) first_unused }
+    requires may { MayPlan S.tells (S.state blocks.old) }
     requires number { IsNumber (S.state blocks.old).books.geom.i number }
     requires file { IsTrue S.tells → (x : FileNode) × (files_in (S.state blocks.old) nothing_drafted number ≡ Some x) × (x.kind ≡ File) }
     requires fits { size ≤ 1073741824 }
     requires room { (S.state blocks.old).books.running.weight + cost ≤ (S.state blocks.old).books.room }
     ensures plans { (path : List (List ℕ)) → MayResize S.tells (S.state blocks.old) number path size cost
         → Plans S.tells (Truncate path size) result (S.state blocks.old) (S.state blocks.new) }
-    ensures made { OnChange result (λ draft cost first. MayBeMade S.tells draft cost first (S.state blocks.new)) }
+    ensures made { OnChange result (λ draft cost nodes. MayBeMade S.tells draft cost nodes (S.state blocks.new)) }
 {
     a_draft_begins(blocks);
     a_file_has_its_blocks::<S>();
@@ -139,7 +129,7 @@ fn plan_size<S: Blocks>(
         Ok(()) => Ok(Plan::Change {
             draft,
             cost,
-            first_unused,
+            nodes: NodeUse::Stays,
         }),
         Err(why) => Err(refusal_of(why)),
     }

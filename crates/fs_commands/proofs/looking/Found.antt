@@ -4,6 +4,7 @@ use Rattle.std.proofs.lemmas.Option.{none-some}
 use mathlib.Core.Logic.Iff.{trans}
 use Rattle.base_types.specs.Counts.{after_call}
 use Rattle.base_types.specs.Seal.{Blocks}
+use Rattle.layout_geometry.specs.Geometry.{Geometry}
 use Rattle.engine_blocks.specs.State.{Bookkeeping, State}
 use Rattle.lang_tree.specs.declared.command.Refusal.{Refusal}
 use Rattle.lang_tree.specs.Tree.{Tree}
@@ -15,11 +16,12 @@ use Rattle.fs_inodes.specs.Lookups.{walk_on}
 use Rattle.fs_files.specs.declared.look.FileFacts.{FileFacts}
 use Rattle.fs_files.specs.Calls.{facts_of, files_in}
 use Rattle.fs_files.specs.Drafts.{DraftState, nothing_drafted, drafted}
-use Rattle.fs_files.specs.Effects.{LooksOnly}
+use Rattle.fs_files.specs.Effects.{LooksAndSettles, LooksOnly}
 use Rattle.fs_files.specs.Sound.{FitsBooks, IsSoundDraft, IsDraftOf}
 use Rattle.fs_dirs.specs.Directories.{inodes_in, IsNumber}
 use Rattle.engine_blocks.specs.Running.{HasNoBare}
-use Rattle.fs_session.specs.Sessions.{MayBegin}
+use Rattle.fs_session.specs.declared.unused.NodeUse.{NodeUse}
+use Rattle.fs_session.specs.Sessions.{KeepsUsed, MayBegin}
 use Rattle.fs_files.specs.Asks.{MayLook}
 use Rattle.crash_stands.specs.Stands.{AreSound}
 
@@ -59,6 +61,14 @@ module _ (tells failed : Bool) (s t : State) (d : DraftState) (k : LooksOnly tel
     sound = λ told. subst (λ b. IsSoundDraft b t.map d) (sym k.books) (subst (λ m. IsSoundDraft s.books m d) (sym (k.map told)) (h.sound told));
     content = h.content;
   }
+
+-- so they are where the pipeline may have settled
+pub settled_files : (tells read_failed failed : Bool) (s t : State) → LooksAndSettles tells read_failed failed s t → IsTrue tells → files_in t nothing_drafted ≡ files_in s nothing_drafted
+settled_files tells read_failed failed s t h told = ap₂ (λ (g : Geometry) (m : Blocks). files_of g (drafted nothing_drafted m)) h.pipeline.geom (h.map told)
+
+-- what a draft makes of the nodes in use, it makes of those of other blocks with the same files
+pub uses_of : (nodes : NodeUse) (s t : State) (d : DraftState) → files_in t nothing_drafted ≡ files_in s nothing_drafted → KeepsUsed nodes (files_in s nothing_drafted) (files_in t d) → KeepsUsed nodes (files_of t.books.geom t.map) (files_in t d)
+uses_of nodes s t d same h = subst (λ (files : Files). KeepsUsed nodes files (files_in t d)) (sym same) h
 
 -- what a walk in an empty draft comes to
 pub walked_as : (s : State) (d : DraftState) (path : List (List ℕ)) (end r : Result ℕ Refusal) → d ≡ nothing_drafted → end ≡ r

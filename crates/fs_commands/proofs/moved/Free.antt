@@ -9,7 +9,8 @@ use Rattle.fs_inodes.specs.Changes.{slot_of, with_slot, MovesSlot}
 use Rattle.fs_dirs.specs.Changing.{IsWithSlots}
 use Rattle.fs_commands.specs.declared.removing.Named.{Named}
 use Rattle.fs_commands.specs.Moving.{HasNamed, LacksName}
-use Rattle.fs_session.specs.Sessions.{AreUsedBelow}
+use Rattle.fs_session.specs.declared.unused.NodeUse.TheVariants.{Stays}
+use Rattle.fs_session.specs.Sessions.{KeepsUsed}
 use Rattle.fs_commands.proofs.moved.Onto.{place_within}
 use Rattle.fs_commands.proofs.moved.Slots.{within, across, slots_same}
 use Rattle.fs_commands.proofs.removed.Slots.{slots_used}
@@ -24,8 +25,8 @@ module _ (f0 f1 : Files) (source : Named) (name other : List ℕ) (hs : HasNamed
       within (inodes_of f0) (inodes_of f1) source.dir source.entry.node.number source.entry.place name other hs.slots law hs.dir hs.slot (place_within (inodes_of f0) name source hs)
       (subst (λ (xs : List Slot). place_of other xs ≡ None) same free.none) (subst (λ (xs : List Slot). node_in xs other ≡ None) same free.nothing) one.inodes
 
-  pub used_within : (first : ℕ) → AreUsedBelow f0 first → AreUsedBelow f1 first
-  used_within first used l above below = slots_used f0 f1 source.dir (set hs.slots source.entry.place (slot_of source.entry.node.number other)) one l (used l above below)
+  pub used_within : KeepsUsed Stays f0 f1
+  used_within = slots_used f0 f1 source.dir (set hs.slots source.entry.place (slot_of source.entry.node.number other)) one
 
 -- across two directories
 module _ (f0 f1 f2 : Files) (source : Named) (into count : ℕ) (name other : List ℕ) (hs : HasNamed (inodes_of f0) name source) (free : LacksName (inodes_of f0) other into count) (apart : source.dir ≢ into)
@@ -33,6 +34,6 @@ module _ (f0 f1 f2 : Files) (source : Named) (into count : ℕ) (name other : Li
   pub moves_across : MovesSlot (inodes_of f0) (inodes_of f2) source.dir into source.entry.node.number name other
   moves_across = across (inodes_of f0) (inodes_of f1) (inodes_of f2) source.dir into source.entry.node.number source.entry.place name other hs.slots free.slots apart hs.dir free.dir_is hs.slot free.none free.nothing one.inodes two.inodes
 
-  pub used_across : (first : ℕ) → AreUsedBelow f0 first → AreUsedBelow f2 first
-  used_across first used l above below =
-      slots_used f1 f2 source.dir (without_at source.entry.place hs.slots) two l (slots_used f0 f1 into (free.slots ++ slot_of source.entry.node.number other ∷ []) one l (used l above below))
+  pub used_across : KeepsUsed Stays f0 f2
+  used_across = λ l u.
+      slots_used f1 f2 source.dir (without_at source.entry.place hs.slots) two l (slots_used f0 f1 into (free.slots ++ slot_of source.entry.node.number other ∷ []) one l u)

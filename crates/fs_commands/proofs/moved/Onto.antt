@@ -11,10 +11,10 @@ use Rattle.fs_inodes.specs.Changes.{slot_of, MovesSlot}
 use Rattle.fs_dirs.specs.Changing.{IsWithSlots}
 use Rattle.fs_commands.specs.declared.removing.Named.{Named}
 use Rattle.fs_commands.specs.Moving.{HasNamed}
-use Rattle.fs_commands.specs.Removing.{IsFound, LosesLink, first_after}
-use Rattle.fs_session.specs.Sessions.{AreUsedBelow}
+use Rattle.fs_commands.specs.Removing.{IsFound, LosesLink, use_after}
+use Rattle.fs_session.specs.Sessions.{KeepsUsed}
 use Rattle.fs_commands.proofs.moved.Slots.{onto, slots_same}
-use Rattle.fs_commands.proofs.removed.Slots.{found_still, lost_inode, lost_others, lost_reads, lost_used, slots_used, used_inode}
+use Rattle.fs_commands.proofs.removed.Slots.{found_still, lost_inode, lost_others, lost_reads, lost_used, slots_used, used_inode, uses_then}
 use Rattle.fs_commands.proofs.Given.{SlotsReadLaw}
 
 -- the place of a name is one of the directory's
@@ -64,7 +64,8 @@ module _ (f0 f1 f2 f3 : Files) (source target : Named) (name other : List ℕ) (
     pub reads3 : AreInodesOf f3 (inodes_of f3)
     reads3 = lost_reads f2 f3 target.entry.node.number three reads2
 
-    pub used3 : (first : ℕ) → AreUsedBelow f0 first → AreUsedBelow f3 (first_after target.entry.node first)
-    used3 first used = lost_used f2 f3 target.entry.node three found2 reads2 first
-        (λ l above below. slots_used f1 f2 source.dir (without_at source.entry.place mid.slots) two l
-        (slots_used f0 f1 target.dir (set ht.slots target.entry.place (slot_of source.entry.node.number other)) one l (used l above below)))
+    pub used3 : KeepsUsed (use_after target.entry.node) f0 f3
+    used3 = uses_then (use_after target.entry.node) f0 f2 f3
+        (λ l u. slots_used f1 f2 source.dir (without_at source.entry.place mid.slots) two l
+        (slots_used f0 f1 target.dir (set ht.slots target.entry.place (slot_of source.entry.node.number other)) one l u))
+        (lost_used f2 f3 target.entry.node three found2 reads2)

@@ -32,7 +32,10 @@ use Rattle.fs_commands.specs.declared.removing.Named.{Named}
 use Rattle.fs_commands.specs.Moving.{KnowsMove, KnowsPaths, MayMoveAway, MayRename, MovesName}
 use Rattle.fs_session.specs.Plans.{MakesTree, MayBeMade}
 use Rattle.fs_commands.specs.Removing.{blocks_gone}
-use Rattle.fs_session.specs.Sessions.{AreUsedBelow, inodes}
+use Rattle.fs_session.specs.declared.unused.NodeUse.{NodeUse}
+use Rattle.fs_session.specs.declared.unused.NodeUse.TheVariants.{Stays}
+use Rattle.fs_session.specs.Sessions.{KeepsUsed, inodes}
+use Rattle.fs_commands.proofs.looking.Found.{uses_of}
 use Rattle.fs_session.specs.Space.{ArePlaced, HasRoom}
 use Rattle.fs_commands.proofs.looking.Spots.{above}
 use Rattle.fs_commands.proofs.moved.Known.{entry_lacks}
@@ -66,9 +69,9 @@ module _ (bitmap : ℕ) (f : Session) (m : Inodes) (from to : List (List ℕ)) (
       ∙ cond-false (are_in_one from to) (moving bitmap 0 0) (moving bitmap (growth (slots_above m to)) (release (slots_above m from))) two
 
 -- the blocks that a rename uses are those taken
-move_uses : (s t : State) (source into node most frees grown : ℕ) (takes : List ℕ) (name other : List ℕ) (d : DraftState) (then : ℕ → ℕ) → MovesName s t d source into node name other most takes frees then
+move_uses : (s t : State) (source into node most frees grown : ℕ) (takes : List ℕ) (name other : List ℕ) (d : DraftState) (nodes : NodeUse) → MovesName s t d source into node name other most takes frees nodes
     → takes ≡ take grown (reusable_blocks t.books) → Uses grown frees (reusable_blocks t.books) (places_of s) (places_in t d) d
-move_uses s t source into node most frees grown takes name other d then made are = record {
+move_uses s t source into node most frees grown takes name other d nodes made are = record {
   taken = made.alters.taken ∙ are;
   freed_are = omega (arith, made.alters.freed);
   placed = subst (λ (bs : List ℕ). ArePlaced (places_of s) (places_in t d) bs) are made.placed;
@@ -90,15 +93,15 @@ move_is s f from to source into count found other grown freed fs known map none 
     record { known = known; map = map; reason = none; accepted = law f.limit (inodes s) f.tree (Rename from to) map ∙ none; counted = counted; figures = counted ∙ sym same }
 
 -- the tree of a rename
-pub planned_move : (s t : State) (f : Session) (from to : List (List ℕ)) (source : Named) (into count : ℕ) (found : Option Entry) (other : List ℕ) (most frees grown : ℕ) (fs : Figures) (takes : List ℕ) (d : DraftState) (then : ℕ → ℕ)
-    → (a : MoveIs s f from to source into count found other grown frees fs) → MovesName s t d source.dir into source.entry.node.number a.known.name other most takes frees then → HasRoom s.books fs
+pub planned_move : (s t : State) (f : Session) (from to : List (List ℕ)) (source : Named) (into count : ℕ) (found : Option Entry) (other : List ℕ) (most frees grown : ℕ) (fs : Figures) (takes : List ℕ) (d : DraftState) (nodes : NodeUse)
+    → (a : MoveIs s f from to source into count found other grown frees fs) → MovesName s t d source.dir into source.entry.node.number a.known.name other most takes frees nodes → HasRoom s.books fs
     → most ≤ 6 → takes ≡ take grown (reusable_blocks t.books) → grown ≤ length (reusable_blocks t.books) → (grown ≤ length (reusable_blocks s.books) → t.books ≡ s.books) → t.books.geom ≡ s.books.geom
     → FindsRuns s t.books f (Rename from to)
     → ((s : Session) (m new : Inodes) (up to : List (List ℕ)) (name other : List ℕ) (from into node : ℕ) → IsMapOf s.limit m s.tree → refusal s.limit s.tree (Rename (up ++ name ∷ []) (to ++ other ∷ [])) ≡ None
     → LeadsTo m up from → LeadsTo m to into → MovesSlot m new from into node name other → IsMapOf s.limit new (step s (Rename (up ++ name ∷ []) (to ++ other ∷ []))).0.tree)
     → ReplyLaw → PriceLaw
     → MakesTree (Rename from to) d fs.cost s t f
-planned_move s t f from to source into count found other most frees grown fs takes d then a made room few are enough rests geom runs moved replies prices =
+planned_move s t f from to source into count found other most frees grown fs takes d nodes a made room few are enough rests geom runs moved replies prices =
     let paths = a.known.paths in
     let costs = ap (λ (n : Figures). n.cost) a.figures in
     let same : Rename (paths.up ++ a.known.name ∷ []) (paths.above ++ other ∷ []) ≡ Rename from to = ap₂ (λ a b. Rename a b) (sym paths.from_is) (sym paths.to_is) in
@@ -113,7 +116,7 @@ planned_move s t f from to source into count found other most frees grown fs tak
           (moved f (inodes s) (inodes_in t d) paths.up paths.above a.known.name other source.dir into source.entry.node.number a.map (subst (λ (cmd : Cmd). refusal f.limit f.tree cmd ≡ None) (sym same) a.accepted) paths.source_leads paths.into_leads made.moves);
       within = subst (λ n. IsWithinCost t.books.geom d n) (sym (ap (λ (n : Figures). n.cost) a.counted) ∙ costs)
           (subst (λ (g : Geometry). IsWithinCost t.books.geom d (moving (bitmap_blocks g) grown frees).cost) geom (within_move t.books.geom d most frees grown takes prices made.alters few (omega (arith, ap (λ (bs : List ℕ). length bs) are, length-take grown (reusable_blocks t.books)))));
-      uses = subst (λ (n : Figures). Uses n.need n.freed (reusable_blocks t.books) (places_of s) (places_in t d) d) (sym a.counted) (move_uses s t source.dir into source.entry.node.number most frees grown takes a.known.name other d then made are);
+      uses = subst (λ (n : Figures). Uses n.need n.freed (reusable_blocks t.books) (places_of s) (places_in t d) d) (sym a.counted) (move_uses s t source.dir into source.entry.node.number most frees grown takes a.known.name other d nodes made are);
       enough = subst (λ (n : Figures). n.need ≤ length (reusable_blocks t.books)) (sym a.counted) enough;
       rests = λ enough. rests (subst (λ (n : Figures). n.need ≤ length (reusable_blocks s.books)) a.counted enough);
     }
@@ -149,9 +152,9 @@ pub counted_as : (bitmap grown freed b g n : ℕ) (fs : Figures) → fs ≡ movi
 counted_as bitmap grown freed b g n fs is x y z = is ∙ ap (λ i. moving i grown freed) x ∙ ap₂ (λ i j. moving b i j) y z
 
 -- the draft may be made, where no node goes
-pub move_made : (tells : Bool) (s now : State) (d : DraftState) (fs : Figures) (first : ℕ) → IsDraftOf tells now d → now.books.running.weight ≡ s.books.running.weight → now.books.room ≡ s.books.room → HasRoom s.books fs → 1 ≤ first
-    → (IsTrue tells → AreUsedBelow (files_in now d) first) → MayBeMade tells d fs.cost first now
-move_made tells s now d fs first draft weight room has above used = record { draft = draft; weight = omega (arith, weight, room, has.weight); above = above; used = used }
+pub move_made : (tells : Bool) (s now : State) (d : DraftState) (fs : Figures) → IsDraftOf tells now d → now.books.running.weight ≡ s.books.running.weight → now.books.room ≡ s.books.room → HasRoom s.books fs
+    → (IsTrue tells → files_in now nothing_drafted ≡ files_in s nothing_drafted) → (IsTrue tells → KeepsUsed Stays (files_in s nothing_drafted) (files_in now d)) → MayBeMade tells d fs.cost Stays now
+move_made tells s now d fs draft weight room has same used = record { draft = draft; weight = omega (arith, weight, room, has.weight); used = λ told. uses_of Stays s now d (same told) (used told) }
 
 -- what moves to a free name of its directory, and of another one
 pub may_rename : (s : State) (from to : List (List ℕ)) (source : Named) (other : List ℕ) → (k : KnowsMove (files_in s nothing_drafted) from to source source.dir source.count None other) → MayRename s source k.name other

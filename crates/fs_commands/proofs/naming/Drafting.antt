@@ -30,6 +30,7 @@ use Rattle.fs_session.specs.Sessions.{AreUsedBelow, inodes}
 use Rattle.fs_session.specs.Space.{ArePlaced}
 use Rattle.fs_commands.proofs.Placing.{placed_grown, placed_then}
 use Rattle.fs_commands.proofs.Given.{PriceLaw, SumLaw}
+use Rattle.fs_commands.proofs.looking.InUse.{still_used}
 
 -- once the least node that wasn't in use is so, all up to the number from which it was sought are
 pub used_upto : (limit n : ℕ) (old new : Files) (x : FileNode) (E : Type 0) (found : Option ℕ) → n ≤ limit → AreUsedBelow old n → (E → (l : ℕ) → new l ≡ old l)
@@ -44,6 +45,12 @@ used_upto limit n old new x E (Some k) upto before same some none l above below 
     by : (l ≡ k) ⊎ (l ≢ k) → IsUsed new l
     by (inl e) = (x, ap new e ∙ some.1.own)
     by (inr ne) = let u = some.0.below l above (omega (arith, below, ne, later (cases_lt k n))) in (u.0, some.1.others l ne ∙ u.1)
+
+-- all that were in use stay so
+pub used_with : (limit : ℕ) (old new : Files) (x : FileNode) (E : Type 0) (found : Option ℕ) → (E → (l : ℕ) → new l ≡ old l)
+    → IfSome found (λ k. IsLeastUnused limit old k × IsWithFile old new k (Some x)) → IfNone found (((l : ℕ) → 1 ≤ l → l ≤ limit → IsUsed old l) × E) → (l : ℕ) → IsUsed old l → IsUsed new l
+used_with limit old new x E None same some none l u = (u.0, same none.1 l ∙ u.1)
+used_with limit old new x E (Some k) same some none l u = still_used old new k x some.1 l u
 
 -- the number from which it was sought is the one that was found, where that wasn't in use
 pub found_is : (limit n : ℕ) (old : Files) (P : ℕ → Type 0) (Q : Type 0) (found : Option ℕ) → 1 ≤ n → n ≤ limit → old n ≡ None → AreUsedBelow old n → IfSome found (λ k. IsLeastUnused limit old k × P k)

@@ -16,6 +16,7 @@ use Rattle.fs_files.specs.Drafts.{DraftState}
 use Rattle.fs_files.specs.Effects.{LooksAndSettles}
 use Rattle.fs_dirs.specs.Directories.{inodes_in}
 use Rattle.fs_session.specs.declared.plan.Plan.TheVariants.{Change}
+use Rattle.fs_session.specs.declared.unused.NodeUse.{NodeUse}
 use Rattle.fs_session.specs.Changes.{IsWithinCost, Uses}
 use Rattle.fs_session.specs.Commands.{figures_on, places_of, GrowsInRuns, IsCalm, IsRefusedFor}
 use Rattle.fs_commands.specs.Making.{AcceptsName, AddsName}
@@ -76,8 +77,8 @@ module _ (tells : Bool) (cmd : Cmd) (s t : State) (dir count : ℕ) (v : Figures
   quiet_is : IsTrue tells → (f : Session) → IsSession s f → IsCalm (figures_on s f cmd).need s t
   quiet_is told f h = let a = accepts told f h in quiet_so s t f cmd dir count a v value room (quiet told a.slots a.is_dir)
 
-  pub named_plan : (d : DraftState) (first : ℕ) → LooksAndSettles tells false false s t → ((told : IsTrue tells) (f : Session) (h : IsSession s f) → Names s t f cmd d dir (accepts told f h).slots) → Plans tells cmd (Ok (Change d v.cost first)) s t
-  named_plan d first settles names = record {
+  pub named_plan : (d : DraftState) (nodes : NodeUse) → LooksAndSettles tells false false s t → ((told : IsTrue tells) (f : Session) (h : IsSession s f) → Names s t f cmd d dir (accepts told f h).slots) → Plans tells cmd (Ok (Change d v.cost nodes)) s t
+  named_plan d nodes settles names = record {
     is = λ told f h. let n = names told f h in made_so s t f cmd dir count (accepts told f h) v value room d n.node n.name n.inode n.adds n.map;
     going = going;
     quiet = quiet_is;

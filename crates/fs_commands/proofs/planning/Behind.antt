@@ -15,9 +15,9 @@ use Rattle.fs_commands.specs.declared.paths.NodeFound.{NodeFound}
 use Rattle.fs_commands.specs.declared.paths.Spot.{Spot}
 use Rattle.fs_commands.specs.Looks.{ComesTo, LeadsToFile, LeadsToFound}
 use Rattle.fs_commands.specs.Making.{MayAppear}
-use Rattle.fs_session.specs.Sessions.{MayBegin, MayPlan, inodes}
+use Rattle.fs_session.specs.Sessions.{AreUsedBelow, MayBegin, MayPlan, inodes}
 use Rattle.fs_commands.specs.Writing.{IsFile}
-use Rattle.fs_session.specs.Staying.{below_stays, sound_stays, stands_still}
+use Rattle.fs_session.specs.Staying.{sound_stays, stands_still}
 use Rattle.fs_commands.proofs.looking.Found.{same_files}
 
 module _ (tells : Bool) (s t : State) (looks : LooksOnly tells false s t) where
@@ -29,13 +29,11 @@ module _ (tells : Bool) (s t : State) (looks : LooksOnly tells false s t) where
   }
 
   -- a command that may be planned still may
-  pub may_plan_still : (first : ℕ) → MayPlan tells s first → MayPlan tells t first
-  may_plan_still first may = record {
+  pub may_plan_still : MayPlan tells s → MayPlan tells t
+  may_plan_still may = record {
     begin = may_begin_still may.begin;
     stands = λ told. stands_still s t (ap (λ (b : Bookkeeping). b.geom) looks.books) (looks.map told) (may.stands told);
     turns = subst HasTurns (sym looks.books) may.turns;
-    above = may.above;
-    used = λ told. below_stays s t first (ap (λ (b : Bookkeeping). b.geom) looks.books) (looks.map told) (may.used told);
   }
 
   -- What was looked up is there still.
@@ -54,6 +52,9 @@ module _ (tells : Bool) (s t : State) (looks : LooksOnly tells false s t) where
 
     pub used_still : (k : ℕ) → IsUsed (files_in s nothing_drafted) k → IsUsed (files_in t nothing_drafted) k
     used_still k used = subst (λ (files : Files). IsUsed files k) (sym files_still) used
+
+    pub below_still : (first : ℕ) → AreUsedBelow (files_in s nothing_drafted) first → AreUsedBelow (files_in t nothing_drafted) first
+    below_still first used = subst (λ (files : Files). AreUsedBelow files first) (sym files_still) used
 
     pub least_still : (node : ℕ) → least_free s.books.geom.i (inodes s) ≡ Some node → least_free t.books.geom.i (inodes t) ≡ Some node
     least_still node least = ap₂ (λ (b : Bookkeeping) (files : Files). least_free b.geom.i (inodes_of files)) looks.books files_still ∙ least

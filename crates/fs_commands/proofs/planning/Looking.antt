@@ -20,6 +20,7 @@ use Rattle.fs_files.specs.Drafts.{DraftState}
 use Rattle.fs_files.specs.Effects.{LooksOnly, LooksAndSettles, ServesAllOrNone}
 use Rattle.fs_session.specs.declared.plan.Plan.{Plan}
 use Rattle.fs_session.specs.declared.plan.Plan.TheVariants.{Answer, Change}
+use Rattle.fs_session.specs.declared.unused.NodeUse.{NodeUse}
 use Rattle.fs_session.specs.Commands.{figures_on, IsCalm, IsCutShort, IsRefusedFor, is_read_fault, is_disk_fault}
 use Rattle.fs_session.specs.Plans.{PlanIs, Plans, MakesTree, plan_fails_reading, plan_fails_settling}
 use Rattle.fs_commands.specs.Refusals.{refusal_of}
@@ -171,9 +172,9 @@ module _ {S : Type 0} (tells : Bool) (state : S → State) (rests : Rests tells 
   }
 
   -- of a draft
-  pub looked_change : (cmd : Cmd) (old new : S) (d : DraftState) (cost first : ℕ) → (state old).books.stopped ≡ false → (IsTrue tells → (f : Session) → IsSession (state old) f → MakesTree cmd d cost (state old) (state new) f)
-      → LooksOnly tells false (state old) (state new) → Plans tells cmd (Ok (Change d cost first)) (state old) (state new)
-  looked_change cmd old new d cost first going makes looks = looked_plan cmd (Ok (Change d cost first)) old new going refl refl makes looks
+  pub looked_change : (cmd : Cmd) (old new : S) (d : DraftState) (cost : ℕ) (nodes : NodeUse) → (state old).books.stopped ≡ false → (IsTrue tells → (f : Session) → IsSession (state old) f → MakesTree cmd d cost (state old) (state new) f)
+      → LooksOnly tells false (state old) (state new) → Plans tells cmd (Ok (Change d cost nodes)) (state old) (state new)
+  looked_change cmd old new d cost nodes going makes looks = looked_plan cmd (Ok (Change d cost nodes)) old new going refl refl makes looks
 
   -- of a refusal for another reason
   pub room_plan : (cmd : Cmd) (old new : S) (why : Refusal) → (state old).books.stopped ≡ false → is_read_fault (Err why) ≡ false → is_disk_fault (Err why) ≡ false

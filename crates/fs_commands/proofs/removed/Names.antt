@@ -12,11 +12,11 @@ use Rattle.fs_dirs.specs.Changing.{Alters, IsWithSlots, HasPlace}
 use Rattle.fs_dirs.specs.Directories.{inodes_in}
 use Rattle.fs_commands.specs.declared.removing.Named.{Named}
 use Rattle.fs_session.specs.Commands.{places_of}
-use Rattle.fs_commands.specs.Removing.{IsFound, IsNamed, LosesLink, LosesName, blocks_gone}
+use Rattle.fs_commands.specs.Removing.{IsFound, IsNamed, LosesLink, LosesName, blocks_gone, use_after}
 use Rattle.fs_session.specs.Sessions.{inodes}
 use Rattle.fs_session.specs.Space.{ArePlaced}
 use Rattle.fs_commands.proofs.Placing.{placed_cut, placed_then}
-use Rattle.fs_commands.proofs.removed.Slots.{apart, used_inode, slots_used, found_still, lost_inode, lost_others, lost_reads, lost_used}
+use Rattle.fs_commands.proofs.removed.Slots.{apart, used_inode, slots_used, found_still, lost_inode, lost_others, lost_reads, lost_used, uses_then}
 use Rattle.fs_commands.proofs.Given.{SlotsReadLaw, SumLaw}
 
 -- the slot has its place
@@ -63,6 +63,6 @@ module _ (old mid : State) (d : DraftState) (name : List ℕ) (n : Named) (named
           alters = subst (λ count. Alters 4 [] (release count + blocks_gone n.entry.node.facts) nothing_drafted e) (sym named.count)
               (both 3 1 (release (length named.slots)) (blocks_gone n.entry.node.facts) [] [] nothing_drafted d e first second);
           placed = placed_then (places_of old) (places_in mid d) (places_in now e) [] (placed_cut (places_of old) (places_in mid d) n.dir blocks [] cut) left;
-          used = λ first used. lost_used (files_in mid d) (files_in now e) n.entry.node lost node_still still first
-              (λ l above below. slots_used (files_in old nothing_drafted) (files_in mid d) n.dir (without_at n.entry.place named.slots) taken l (used l above below));
+          used = uses_then (use_after n.entry.node) (files_in old nothing_drafted) (files_in mid d) (files_in now e)
+              (slots_used (files_in old nothing_drafted) (files_in mid d) n.dir (without_at n.entry.place named.slots) taken) (lost_used (files_in mid d) (files_in now e) n.entry.node lost node_still still);
         }

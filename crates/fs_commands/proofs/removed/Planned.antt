@@ -1,5 +1,5 @@
 -- The plan of a command by which a name goes makes the tree of the command.
-use Rattle.std.proofs.Common.{◌≡◌, ℕ, ◌+◌, ◌≤◌, ◌==◌, min, IsTrue, if◌then◌else◌, Bool, true, false, List, [], None, sym, subst, ap, ◌∙◌, arith}
+use Rattle.std.proofs.Common.{◌≡◌, ℕ, ◌+◌, ◌≤◌, IsTrue, Bool, false, List, [], None, sym, subst, ap, ◌∙◌, arith}
 use Rattle.layout_geometry.specs.Geometry.{Geometry, bitmap_blocks}
 use Rattle.lang_tree.specs.declared.command.Kind.{Kind}
 use Rattle.lang_tree.specs.Conditions.{refusal}
@@ -19,8 +19,10 @@ use Rattle.fs_session.specs.Changes.{ChangesAtMost, IsWithinCost, Uses}
 use Rattle.fs_session.specs.Commands.{figures_on, places_of}
 use Rattle.fs_commands.specs.Figures.{AreFiguresOf}
 use Rattle.fs_session.specs.Plans.{MakesTree, MayBeMade}
-use Rattle.fs_commands.specs.Removing.{KnowsLoss, LosesName, blocks_gone, first_after, lose_cmd}
-use Rattle.fs_session.specs.Sessions.{AreUsedBelow, inodes}
+use Rattle.fs_commands.specs.Removing.{KnowsLoss, LosesName, blocks_gone, lose_cmd, use_after}
+use Rattle.fs_session.specs.declared.unused.NodeUse.{NodeUse}
+use Rattle.fs_session.specs.Sessions.{KeepsUsed, inodes}
+use Rattle.fs_commands.proofs.looking.Found.{same_files, uses_of}
 use Rattle.fs_session.specs.Space.{HasRoom}
 use Rattle.fs_commands.proofs.AtMost.{altered_few}
 use Rattle.fs_commands.proofs.removed.Accepted.{LossLaw, accepted_removes, loss_done, loss_mapped, reason_is}
@@ -69,15 +71,10 @@ makes_loss kind s path n f fs a now d room loses law priced books = record {
 }
 
 -- The draft may be made.
-pub loss_made : (tells : Bool) (s now : State) (d : DraftState) (n : Named) (fs : Figures) (first after : ℕ) → IsDraftOf tells now d → LooksOnly tells false s now → HasRoom s.books fs → 1 ≤ first → 1 ≤ n.entry.node.number
-    → after ≡ first_after n.entry.node first → (IsTrue tells → AreUsedBelow (files_in now d) (first_after n.entry.node first)) → MayBeMade tells d fs.cost after now
-loss_made tells s now d n fs first after draft looks room above number is used = record {
+pub loss_made : (tells : Bool) (s now : State) (d : DraftState) (n : Named) (fs : Figures) (nodes : NodeUse) → IsDraftOf tells now d → LooksOnly tells false s now → HasRoom s.books fs
+    → nodes ≡ use_after n.entry.node → (IsTrue tells → KeepsUsed (use_after n.entry.node) (files_in s nothing_drafted) (files_in now d)) → MayBeMade tells d fs.cost nodes now
+loss_made tells s now d n fs nodes draft looks room is used = record {
   draft = draft;
   weight = subst (λ (k : Bookkeeping). k.running.weight + fs.cost ≤ k.room) (sym looks.books) room.weight;
-  above = subst (λ k. 1 ≤ k) (sym is) (least (n.entry.node.facts.links == 1));
-  used = λ told. subst (λ k. AreUsedBelow (files_in now d) k) (sym is) (used told);
+  used = λ told. uses_of nodes s now d (same_files tells false s now nothing_drafted looks told) (subst (λ (k : NodeUse). KeepsUsed k (files_in s nothing_drafted) (files_in now d)) (sym is) (used told));
 }
-  where
-    least : (b : Bool) → 1 ≤ (if b then min first n.entry.node.number else first)
-    least true = omega (arith, above, number)
-    least false = above

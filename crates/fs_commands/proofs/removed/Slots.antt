@@ -1,5 +1,5 @@
 -- What becomes of files and their inodes where a directory has other slots, and where a node loses a link.
-use Rattle.std.proofs.Common.{⊎_elim, ◌≡◌, ◌≢◌, ◌⊎◌, inl, inr, ℕ, ◌-◌, ◌<◌, ◌==◌, min, Bool, true, false, List, [], ◌∷◌, slice_get, if◌then◌else◌, Option, Some, None, option_and_then, refl, sym, ap, subst, ◌∙◌, arith}
+use Rattle.std.proofs.Common.{⊎_elim, ◌≡◌, ◌≢◌, ◌⊎◌, inl, inr, ℕ, ◌-◌, ◌==◌, Bool, true, false, List, [], ◌∷◌, slice_get, if◌then◌else◌, Option, Some, None, option_and_then, refl, sym, ap, subst, ◌∙◌}
 use Rattle.std.proofs.lemmas.Bool.{cases_eq, true≢false, eqb-true, eq-eqb}
 use Rattle.std.proofs.lemmas.Option.{none-some}
 use Rattle.layout_bytes.specs.declared.node.NodeKind.{NodeKind}
@@ -13,8 +13,10 @@ use Rattle.fs_files.specs.declared.look.FileFacts.{FileFacts}
 use Rattle.fs_files.specs.Calls.{IsUsed}
 use Rattle.fs_dirs.specs.Changing.{IsWithSlots}
 use Rattle.fs_commands.specs.declared.paths.NodeFound.{NodeFound}
-use Rattle.fs_commands.specs.Removing.{IsFound, LosesLink, first_after}
-use Rattle.fs_session.specs.Sessions.{AreUsedBelow}
+use Rattle.fs_commands.specs.Removing.{IsFound, LosesLink, use_after}
+use Rattle.fs_session.specs.declared.unused.NodeUse.{NodeUse}
+use Rattle.fs_session.specs.declared.unused.NodeUse.TheVariants.{Dropped, Stays, Taken}
+use Rattle.fs_session.specs.Sessions.{KeepsUsed}
 use Rattle.fs_commands.proofs.removed.Links.{dir_links}
 use Rattle.fs_commands.proofs.looking.InUse.{node_there, own_inode, read_still}
 
@@ -85,15 +87,23 @@ module _ (old new : Files) (node : NodeFound) (lost : LosesLink old new node.num
       let there = node_there (new node.number) left.0 (lost_inode old new node.number lost ∙ ap (option_and_then one_link_less) inode.1 ∙ left.1) in
       (there.0, there.1)
 
-  -- no number below the first one that may be unused is so
-  pub lost_used : (first : ℕ) → AreUsedBelow old first → AreUsedBelow new (first_after node first)
-  lost_used first used l above below = by (node.facts.links == 1) refl (cases_eq l node.number)
+  -- the other nodes in use stay so, and the node itself where it had more links
+  pub lost_used : KeepsUsed (use_after node) old new
+  lost_used = by (node.facts.links == 1) refl
     where
-      other : l ≢ node.number → l < first → IsUsed new l
-      other n low = let u = used l above low in (u.0, lost.others l n ∙ u.1)
+      other : (l : ℕ) → l ≢ node.number → IsUsed old l → IsUsed new l
+      other l n u = (u.0, lost.others l n ∙ u.1)
 
-      by : (t : Bool) → (node.facts.links == 1) ≡ t → (l ≡ node.number) ⊎ (l ≢ node.number) → IsUsed new l
-      by true last (inl e) = absurd (omega (arith, e, subst (λ (n : ℕ). l < n) (ap (λ t. if t then min first node.number else first) last) below))
-      by true last (inr n) = other n (omega (arith, subst (λ (n : ℕ). l < n) (ap (λ t. if t then min first node.number else first) last) below))
-      by false more (inl e) = subst (λ (n : ℕ). IsUsed new n) (sym e) (stays_used (λ is. true≢false (sym (eq-eqb node.facts.links 1 is) ∙ more)))
-      by false more (inr n) = other n (subst (λ (n : ℕ). l < n) (ap (λ t. if t then min first node.number else first) more) below)
+      any : (node.facts.links == 1) ≡ false → (l : ℕ) → (l ≡ node.number) ⊎ (l ≢ node.number) → IsUsed old l → IsUsed new l
+      any more l (inl e) u = subst (λ (n : ℕ). IsUsed new n) (sym e) (stays_used (λ is. true≢false (sym (eq-eqb node.facts.links 1 is) ∙ more)))
+      any more l (inr n) u = other l n u
+
+      by : (t : Bool) → (node.facts.links == 1) ≡ t → KeepsUsed (if t then Dropped node.number else Stays) old new
+      by true last = other
+      by false more = λ l u. any more l (cases_eq l node.number) u
+
+-- nodes in use that stay so before a change
+pub uses_then : (nodes : NodeUse) (a b c : Files) → ((l : ℕ) → IsUsed a l → IsUsed b l) → KeepsUsed nodes b c → KeepsUsed nodes a c
+uses_then Stays a b c kept uses = λ l u. uses l (kept l u)
+uses_then (Taken number) a b c kept uses = (λ l u. uses.0 l (kept l u), uses.1)
+uses_then (Dropped number) a b c kept uses = λ l n u. uses l n (kept l u)

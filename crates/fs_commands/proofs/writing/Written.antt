@@ -28,7 +28,8 @@ use Rattle.fs_dirs.specs.Directories.{inodes_in}
 use Rattle.fs_session.specs.Changes.{ChangesAtMost, IsWithinCost, Uses}
 use Rattle.fs_session.specs.Commands.{GrowsInRuns, figures_on, places_of}
 use Rattle.fs_session.specs.Plans.{MakesTree}
-use Rattle.fs_session.specs.Sessions.{IsSession, AreUsedBelow, inodes}
+use Rattle.fs_session.specs.declared.unused.NodeUse.TheVariants.{Stays}
+use Rattle.fs_session.specs.Sessions.{IsSession, KeepsUsed, inodes}
 use Rattle.fs_commands.specs.Writing.{IsWeighed}
 use Rattle.fs_commands.proofs.AtMost.{only_these}
 use Rattle.fs_commands.proofs.Placing.{placed_grown}
@@ -84,8 +85,8 @@ module _ (g : Geometry) (number : ℕ) (x : FileNode) (places new_places : List 
   }
 
 -- nodes in use stay so where one has other bytes
-pub used_stays : (old new : Files) (k first : ℕ) (y : FileNode) → IsWithFile old new k (Some y) → AreUsedBelow old first → AreUsedBelow new first
-used_stays old new k first y h used l from below = still_used old new k y h l (used l from below)
+pub used_stays : (old new : Files) (k : ℕ) (y : FileNode) → IsWithFile old new k (Some y) → KeepsUsed Stays old new
+used_stays old new k y h = still_used old new k y h
 
 -- what holds of a draft and an offset holds of those that are the same
 pub moved_to : (P : DraftState → ℕ → Type 0) (d e : DraftState) (m n : ℕ) → d ≡ e → m ≡ n → P d m → P e n

@@ -10,6 +10,7 @@ use Rattle.fs_files.specs.Content.{fails_reading}
 use Rattle.fs_files.specs.Drafts.{nothing_drafted}
 use Rattle.fs_files.specs.Effects.{LooksOnly}
 use Rattle.fs_session.specs.Commands.{places_of}
+use Rattle.fs_session.specs.declared.unused.NodeUse.TheVariants.{Stays}
 use Rattle.fs_session.specs.Plans.{Plans}
 use Rattle.fs_session.specs.declared.plan.Plan.{Plan}
 use Rattle.fs_commands.proofs.growing.Refused.{growth_refused}
@@ -17,7 +18,7 @@ use Rattle.fs_commands.proofs.planning.Looking.{growth_plan, looked_calmly}
 use Rattle.fs_commands.proofs.writing.Puts.{puts_so}
 use Rattle.fs_commands.proofs.writing.Written.{moved_to, need_is, puts_tree, used_stays, AtFile, at_file, Wrote}
 use Rattle.fs_commands.proofs.looking.InUse.{all_read}
-use Rattle.fs_commands.proofs.looking.Found.{look_begins}
+use Rattle.fs_commands.proofs.looking.Found.{look_begins, settled_files, uses_of}
 use Rattle.fs_commands.proofs.bytes.plan_bytes.Given as given
 use Rattle.lang_tree.specs.Step.{Session}
 use Rattle.fs_session.specs.Sessions.{IsSession, inodes}
@@ -49,8 +50,8 @@ returns-in-Ok-clause-made g c =
     record {
       draft = c.in-Ok.ensures.draft;
       weight = omega (arith, c.requires.room, ap (λ (r : Running). r.weight) pipeline.running, pipeline.room);
-      above = c.requires.may.above;
-      used = λ told. used_stays _ _ c.args.number c.args.first_unused _ (wrote g (goal.at.returns-in-Ok-clause-made g c).In-Ok told).file (c.requires.may.used told);
+      used = λ told. uses_of Stays (g.S.Blocks.state c.args.blocks.now) (g.S.Blocks.state c.write_at.new.blocks) c.write_at.new.self (settled_files g.S.Blocks.tells false false _ _ c.in-Ok.ensures.settles told)
+          (used_stays _ _ c.args.number _ (wrote g (goal.at.returns-in-Ok-clause-made g c).In-Ok told).file);
     }
 
 pub returns-in-Ok-clause-plans : goal.returns-in-Ok-clause-plans

@@ -11,7 +11,7 @@ use Rattle.fs_files.specs.Drafts.{nothing_drafted}
 use Rattle.fs_commands.proofs.bytes.plan_write.Goals as goal
 
 pub write_found-requires-clause-may : goal.write_found-requires-clause-may
-write_found-requires-clause-may g c = may_plan_still g.S.Blocks.tells _ _ c.in-Ok-Ok.ensures.looks c.args.first_unused c.requires.may
+write_found-requires-clause-may g c = may_plan_still g.S.Blocks.tells _ _ c.in-Ok-Ok.ensures.looks c.requires.may
 
 pub write_found-requires-clause-file : goal.write_found-requires-clause-file
 write_found-requires-clause-file g c = λ told.

@@ -6,7 +6,7 @@ use Rattle.fs_commands.proofs.commands.begin.Goals as goal
 
 pub run-requires-clause-between : goal.run-requires-clause-between
 run-requires-clause-between g c =
-    between_ticks g.S.Blocks.tells false (g.S.Blocks.state c.args.blocks.now) (g.S.Blocks.state c.tick.new.self) (record { moves = c.in-Ok.ensures.moves; waits = c.in-Ok.ensures.waits; ticks = c.in-Ok.ensures.ticks; writes = c.in-Ok.ensures.writes; serves = λ told alone well. c.in-Ok.ensures.serves told alone; ring = λ told alone well. c.in-Ok.ensures.ring told alone }) c.args.first_unused.now
+    between_ticks g.S.Blocks.tells false (g.S.Blocks.state c.args.blocks.now) (g.S.Blocks.state c.tick.new.self) (record { moves = c.in-Ok.ensures.moves; waits = c.in-Ok.ensures.waits; ticks = c.in-Ok.ensures.ticks; writes = c.in-Ok.ensures.writes; serves = λ told alone well. c.in-Ok.ensures.serves told alone; ring = λ told alone well. c.in-Ok.ensures.ring told alone }) c.args.unused.now
     (λ new. c.a_sync_may_follow.ensures.rests (g.S.Blocks.state c.args.blocks.now).books new) c.requires.between
 
 pub returns-in-Ok-clause-began : goal.returns-in-Ok-clause-began
@@ -27,7 +27,7 @@ returns-in-Err-clause-began g c = record {
 
 pub returns-in-Err-clause-between : goal.returns-in-Err-clause-between
 returns-in-Err-clause-between g c =
-    between_ticks g.S.Blocks.tells true (g.S.Blocks.state c.args.blocks.now) (g.S.Blocks.state c.tick.new.self) (record { moves = c.in-Err.ensures.moves; waits = c.in-Err.ensures.waits; ticks = c.in-Err.ensures.ticks; writes = c.in-Err.ensures.writes; serves = λ told alone well. absurd (false≢true (sym well)); ring = λ told alone well. absurd (false≢true (sym well)) }) c.args.first_unused.now
+    between_ticks g.S.Blocks.tells true (g.S.Blocks.state c.args.blocks.now) (g.S.Blocks.state c.tick.new.self) (record { moves = c.in-Err.ensures.moves; waits = c.in-Err.ensures.waits; ticks = c.in-Err.ensures.ticks; writes = c.in-Err.ensures.writes; serves = λ told alone well. absurd (false≢true (sym well)); ring = λ told alone well. absurd (false≢true (sym well)) }) c.args.unused.now
     (λ new. c.a_sync_may_follow.ensures.rests (g.S.Blocks.state c.args.blocks.now).books new) c.requires.between
 
 pub run-requires-clause-stands : goal.run-requires-clause-stands

@@ -11,7 +11,7 @@ use Rattle.fs_files.specs.Drafts.{nothing_drafted}
 use Rattle.fs_commands.proofs.fills.plan_fill.Goals as goal
 
 pub fill_found-requires-clause-may : goal.fill_found-requires-clause-may
-fill_found-requires-clause-may g c = may_plan_still g.S.Blocks.tells _ _ c.in-Ok-Ok.ensures.looks c.args.first_unused c.requires.may
+fill_found-requires-clause-may g c = may_plan_still g.S.Blocks.tells _ _ c.in-Ok-Ok.ensures.looks c.requires.may
 
 pub fill_found-requires-clause-file : goal.fill_found-requires-clause-file
 fill_found-requires-clause-file g c = λ told.

@@ -15,7 +15,7 @@ use Rattle.fs_commands.specs.Making.{first_thing}
 use Rattle.fs_session.specs.Sessions.{inodes}
 use Rattle.fs_commands.proofs.Placing.{placed_by}
 use Rattle.fs_commands.proofs.looking.Found.{same_files, look_begins}
-use Rattle.fs_commands.proofs.naming.Drafting.{used_upto, found_is, no_node, first_read, name_added}
+use Rattle.fs_commands.proofs.naming.Drafting.{used_upto, used_with, found_is, no_node, first_read, name_added}
 use Rattle.fs_commands.proofs.planning.Looking.{settled_then, settled_cut, calm_on, looked_calmly}
 use Rattle.fs_commands.proofs.making.draft_node.Goals as goal
 
@@ -28,18 +28,20 @@ returns-in-Err-clause-refused g c = λ told slots at.
 pub new_node-requires-clause-below : goal.new_node-requires-clause-below
 new_node-requires-clause-below g c = λ told l above below.
     let s = g.S.Blocks.state c.args.blocks.now in
-    c.in-Ok.ensures.used told l (subst (λ d. IsUsed (files_in s d) l) (sym c.new-draft.ensures) (c.requires.may.used told l above below))
+    c.in-Ok.ensures.used told l (subst (λ d. IsUsed (files_in s d) l) (sym c.new-draft.ensures) (c.requires.below told l above below))
 
 pub returns-in-Ok-new_node-clause-used : goal.returns-in-Ok-new_node-clause-used
 returns-in-Ok-new_node-clause-used g c = λ told.
     let s = g.S.Blocks.state c.args.blocks.now in
     let mid = g.S.Blocks.state c.add_slot.new.blocks in
     let new = g.S.Blocks.state c.new_node.new.blocks in
-    used_upto mid.books.geom.i c.args.slot.now.node (files_in mid c.add_slot.new.draft) (files_in new c.new_node.new.self) _ _ c.in-Ok-new_node.field-0
-    (omega (arith, c.requires.node.upto, ap (λ (h : Geometry). h.i) c.in-Ok.ensures.settles.pipeline.geom))
-    (λ l above below. c.in-Ok.ensures.used told l (subst (λ d. IsUsed (files_in s d) l) (sym c.new-draft.ensures) (c.requires.may.used told l above below)))
-    (λ e l. ap (λ d. files_in new d l) e ∙ ap (λ f. f l) (same_files g.S.Blocks.tells false mid new c.add_slot.new.draft c.in-Ok-new_node.ensures.looks told))
-    (c.in-Ok-new_node.ensures.node told) (c.in-Ok-new_node.ensures.none told)
+    let same : c.new_node.new.self ≡ c.add_slot.new.draft → (l : ℕ) → files_in new c.new_node.new.self l ≡ files_in mid c.add_slot.new.draft l = λ e l. ap (λ d. files_in new d l) e ∙ ap (λ f. f l) (same_files g.S.Blocks.tells false mid new c.add_slot.new.draft c.in-Ok-new_node.ensures.looks told) in
+    let slotted : (l : ℕ) → IsUsed (files_in s nothing_drafted) l → IsUsed (files_in mid c.add_slot.new.draft) l = λ l u. c.in-Ok.ensures.used told l (subst (λ d. IsUsed (files_in s d) l) (sym c.new-draft.ensures) u) in (
+      λ l u. used_with mid.books.geom.i (files_in mid c.add_slot.new.draft) (files_in new c.new_node.new.self) _ _ c.in-Ok-new_node.field-0 same (c.in-Ok-new_node.ensures.node told) (c.in-Ok-new_node.ensures.none told) l (slotted l u),
+      used_upto mid.books.geom.i c.args.slot.now.node (files_in mid c.add_slot.new.draft) (files_in new c.new_node.new.self) _ _ c.in-Ok-new_node.field-0
+          (omega (arith, c.requires.node.upto, ap (λ (h : Geometry). h.i) c.in-Ok.ensures.settles.pipeline.geom))
+          (λ l above below. slotted l (c.requires.below told l above below)) same (c.in-Ok-new_node.ensures.node told) (c.in-Ok-new_node.ensures.none told),
+    )
 
 pub returns-in-Ok-new_node-clause-names : goal.returns-in-Ok-new_node-clause-names
 returns-in-Ok-new_node-clause-names g c = λ told t slots h unused at.
@@ -57,7 +59,7 @@ returns-in-Ok-new_node-clause-names g c = λ told t slots h unused at.
     let at_first = subst (λ b. inodes_in s b c.args.dir ≡ Some (ADir slots)) (sym c.new-draft.ensures) at in
     let found = found_is mid.books.geom.i node (files_in mid d) _ _ c.in-Ok-new_node.field-0 c.requires.node.from (omega (arith, c.requires.node.upto, ap (λ (h : Geometry). h.i) c.in-Ok.ensures.settles.pipeline.geom))
     (slotted.others node (λ same. apart (sym same)) ∙ no_node (files_in s nothing_drafted) reads node unused)
-    (λ l above below. c.in-Ok.ensures.used told l (subst (λ b. IsUsed (files_in s b) l) (sym c.new-draft.ensures) (c.requires.may.used told l above below)))
+    (λ l above below. c.in-Ok.ensures.used told l (subst (λ b. IsUsed (files_in s b) l) (sym c.new-draft.ensures) (c.requires.below told l above below)))
     (c.in-Ok-new_node.ensures.node told) (c.in-Ok-new_node.ensures.none told) in
     name_added g.S.Blocks.tells s mid new d e c.args.dir node c.args.slot.now.name slots (new_inode (first_thing c.args.kind)) (record { kind = c.node_kind.result; links = 1; bytes = [] }) at apart reads slotted found.1
     (subst (λ q. inode_of (record { kind = q; links = 1; bytes = [] }) ≡ Some (new_inode (first_thing c.args.kind))) (sym c.node_kind.ensures.value) (first_read c.a_file_reads_as_itself.ensures.directory c.a_file_reads_as_itself.ensures.file c.args.kind))

@@ -12,7 +12,7 @@ use Rattle.fs_commands.proofs.making.least_unused.Goals as goal
 pub new_node-requires-clause-below : goal.new_node-requires-clause-below
 new_node-requires-clause-below g c = λ told.
     let s = g.S.Blocks.state c.args.blocks.now in
-    subst (λ d. AreUsedBelow (files_in s d) c.args.first_unused) (sym c.new-draft.ensures) (c.requires.may.used told)
+    subst (λ d. AreUsedBelow (files_in s d) c.args.first_unused) (sym c.new-draft.ensures) (c.requires.below told)
 
 pub returns-clause-least : goal.returns-clause-least
 returns-clause-least g c = λ told.

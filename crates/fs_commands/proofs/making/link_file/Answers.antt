@@ -1,10 +1,12 @@
-use Rattle.std.proofs.Common.{Err, sym, subst, ap, ◌∙◌, arith}
+use Rattle.std.proofs.Common.{false, Err, sym, subst, ap, ◌∙◌, arith}
 use Rattle.lang_tree.specs.Figures.{adding, growth}
 use Rattle.lang_tree.specs.Values.{value_of}
 use Rattle.crash_stands.specs.Inodes.{AFile}
 use Rattle.engine_blocks.specs.Running.{Running}
 use Rattle.fs_dirs.specs.Directories.{inodes_in}
+use Rattle.fs_session.specs.declared.unused.NodeUse.TheVariants.{Stays}
 use Rattle.fs_session.specs.Plans.{Plans}
+use Rattle.fs_commands.proofs.looking.Found.{settled_files, uses_of}
 use Rattle.fs_commands.proofs.naming.Planning.{named_plan, name_refused}
 use Rattle.fs_commands.proofs.planning.Looking.{full_plan}
 use Rattle.fs_commands.proofs.making.link_file.Goals as goal
@@ -22,7 +24,7 @@ returns-in-Ok-draft_link-clause-plans g c = λ cmd may.
     let slot = c.args.slot.now in
     let d = c.in-Ok-draft_link.draft in
     named_plan g.S.Blocks.tells cmd s new v.dir v.count (value_of c.new_name_figures-figures.result) c.requires.may.begin.going (c.new_name_figures-figures.ensures.value ∙ ap (λ n. adding (growth n)) c.from.ensures)
-    c.in-Ok.ensures.room (λ told f h. (may told f h).accepts) c.in-Ok-draft_link.ensures.quiet d c.args.first_unused c.in-Ok-draft_link.ensures.settles
+    c.in-Ok.ensures.room (λ told f h. (may told f h).accepts) c.in-Ok-draft_link.ensures.quiet d Stays c.in-Ok-draft_link.ensures.settles
     (λ told f h.
     let m = may told f h in
     let adds = c.in-Ok-draft_link.ensures.names told f.tree m.accepts.slots m.before m.bytes h.tree m.file m.accepts.is_dir in
@@ -34,8 +36,7 @@ returns-in-Ok-draft_link-clause-made g c =
     record {
       draft = c.in-Ok-draft_link.ensures.draft;
       weight = omega (arith, c.in-Ok.ensures.room.weight, ap (λ (r : Running). r.weight) settles.pipeline.running, settles.pipeline.room);
-      above = c.requires.may.above;
-      used = λ told l above below. c.in-Ok-draft_link.ensures.used told l (c.requires.may.used told l above below);
+      used = λ told. uses_of Stays (g.S.Blocks.state c.args.blocks.now) (g.S.Blocks.state c.draft_link.new.blocks) c.in-Ok-draft_link.draft (settled_files g.S.Blocks.tells false false _ _ settles told) (c.in-Ok-draft_link.ensures.used told);
     }
 
 pub returns-in-Err-draft_link-clause-plans : goal.returns-in-Err-draft_link-clause-plans

@@ -9,7 +9,7 @@ use Rattle.fs_files.specs.Drafts.{nothing_drafted}
 use Rattle.fs_commands.proofs.making.link_to.Goals as goal
 
 pub link_in-requires-clause-may : goal.link_in-requires-clause-may
-link_in-requires-clause-may g c = may_plan_still g.S.Blocks.tells _ _ c.in-Ok-Ok.ensures.looks c.args.first_unused c.requires.may
+link_in-requires-clause-may g c = may_plan_still g.S.Blocks.tells _ _ c.in-Ok-Ok.ensures.looks c.requires.may
 
 pub link_in-requires-clause-used : goal.link_in-requires-clause-used
 link_in-requires-clause-used g c = λ told. used_still g.S.Blocks.tells _ _ c.in-Ok-Ok.ensures.looks told c.args.found.now.number (c.requires.used told)

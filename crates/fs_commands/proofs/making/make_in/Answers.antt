@@ -2,20 +2,20 @@ use Rattle.std.proofs.Common.{IfSome, Ok, sym, subst, ◌∙◌}
 use Rattle.lang_tree.specs.declared.command.Refusal.TheVariants.{NoNode}
 use Rattle.fs_files.specs.Calls.{files_in}
 use Rattle.fs_files.specs.Drafts.{nothing_drafted}
-use Rattle.fs_dirs.specs.Directories.{IsNumber}
 use Rattle.fs_commands.specs.Making.{make_cmd}
 use Rattle.fs_session.specs.Sessions.{AreUsedBelow}
-use Rattle.fs_commands.proofs.planning.Behind.{may_plan_still, may_appear_still, least_still}
+use Rattle.fs_commands.proofs.planning.Behind.{below_still, may_plan_still, may_appear_still, least_still}
 use Rattle.fs_commands.proofs.planning.Before.{looked_first}
 use Rattle.fs_commands.proofs.planning.Looking.{refusal_plan, cut_short}
 use Rattle.fs_commands.proofs.making.make_in.Goals as goal
 
 pub make_node-requires-clause-may : goal.make_node-requires-clause-may
-make_node-requires-clause-may g c =
-    let s = g.S.Blocks.state c.args.blocks.now in
-    let number = subst (λ o. IfSome o (IsNumber s.books.geom.i)) c.in-Ok-Some.field-0-is c.in-Ok-Some.ensures.number in
-    may_plan_still g.S.Blocks.tells _ _ c.in-Ok-Some.ensures.looks c.in-Ok-Some.node
-    (record { begin = c.requires.may.begin; stands = c.requires.may.stands; turns = c.requires.may.turns; above = number.from; used = λ told. subst (λ o. IfSome o (AreUsedBelow (files_in s nothing_drafted))) c.in-Ok-Some.field-0-is (c.in-Ok-Some.ensures.used told) })
+make_node-requires-clause-may g c = may_plan_still g.S.Blocks.tells _ _ c.in-Ok-Some.ensures.looks c.requires.may
+
+pub make_node-requires-clause-below : goal.make_node-requires-clause-below
+make_node-requires-clause-below g c = λ told.
+    below_still g.S.Blocks.tells _ _ c.in-Ok-Some.ensures.looks told c.in-Ok-Some.node
+    (subst (λ o. IfSome o (AreUsedBelow (files_in (g.S.Blocks.state c.args.blocks.now) nothing_drafted))) c.in-Ok-Some.field-0-is (c.in-Ok-Some.ensures.used told))
 
 pub returns-in-Ok-Some-clause-plans : goal.returns-in-Ok-Some-clause-plans
 returns-in-Ok-Some-clause-plans g c = λ path appears.

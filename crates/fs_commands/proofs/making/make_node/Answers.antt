@@ -1,4 +1,4 @@
-use Rattle.std.proofs.Common.{◌+◌, IsTrue, Err, sym, subst, ap, ◌∙◌, arith}
+use Rattle.std.proofs.Common.{false, IsTrue, Err, sym, subst, ap, ◌∙◌, arith}
 use Rattle.lang_tree.specs.Figures.{adding, growth}
 use Rattle.lang_tree.specs.Step.{Session}
 use Rattle.lang_tree.specs.Values.{value_of}
@@ -6,8 +6,10 @@ use Rattle.fs_inodes.specs.Changes.{new_inode}
 use Rattle.engine_blocks.specs.Running.{Running}
 use Rattle.fs_dirs.specs.Directories.{inodes_in}
 use Rattle.fs_commands.specs.Making.{AcceptsName, AddsName, first_thing, make_cmd}
+use Rattle.fs_session.specs.declared.unused.NodeUse.TheVariants.{Taken}
 use Rattle.fs_session.specs.Plans.{Plans}
 use Rattle.fs_session.specs.Sessions.{IsSession, inodes}
+use Rattle.fs_commands.proofs.looking.Found.{settled_files, uses_of}
 use Rattle.fs_commands.proofs.naming.Least.{least_unused}
 use Rattle.fs_commands.proofs.naming.Planning.{named_plan, name_refused}
 use Rattle.fs_commands.proofs.planning.Looking.{full_plan}
@@ -19,9 +21,6 @@ returns-in-Err-clause-plans g c = λ path appears least.
     (λ told f h. let a = c.the_tree_makes_nodes.ensures.accepted c.args.blocks.now f c.args.kind path c.args.vacancy.now c.args.node h (appears told) (least told) in
     (a.accepted, a.figures ∙ sym (c.new_name_figures-figures.ensures.value ∙ ap (λ n. adding (growth n)) c.from.ensures)))
 
-pub overflow_add-result : goal.overflow_add-result
-overflow_add-result g c = omega (arith, c.requires.node.upto, c.a_disk_is_small.ensures.table)
-
 pub returns-in-Ok-draft_node-clause-plans : goal.returns-in-Ok-draft_node-clause-plans
 returns-in-Ok-draft_node-clause-plans g c = λ path appears least.
     let s = g.S.Blocks.state c.args.blocks.now in
@@ -32,7 +31,7 @@ returns-in-Ok-draft_node-clause-plans g c = λ path appears least.
     let accepts : IsTrue g.S.Blocks.tells → (f : Session) → IsSession s f → AcceptsName s f (make_cmd c.args.kind path) v.dir v.count =
     λ told f h. c.the_tree_makes_nodes.ensures.accepted c.args.blocks.now f c.args.kind path v node h (appears told) (least told) in
     named_plan g.S.Blocks.tells (make_cmd c.args.kind path) s new v.dir v.count (value_of c.new_name_figures-figures.result) c.requires.may.begin.going (c.new_name_figures-figures.ensures.value ∙ ap (λ n. adding (growth n)) c.from.ensures)
-    c.in-Ok.ensures.room accepts c.in-Ok-draft_node.ensures.quiet d (node + 1) c.in-Ok-draft_node.ensures.settles
+    c.in-Ok.ensures.room accepts c.in-Ok-draft_node.ensures.quiet d (Taken node) c.in-Ok-draft_node.ensures.settles
     (λ told f h.
     let slots = (accepts told f h).slots in
     let adds : AddsName s new d v.dir node v.name (new_inode (first_thing c.args.kind)) slots = subst (λ name. AddsName s new d v.dir node name (new_inode (first_thing c.args.kind)) slots) c.copy.ensures
@@ -51,8 +50,7 @@ returns-in-Ok-draft_node-clause-made g c =
     record {
       draft = c.in-Ok-draft_node.ensures.draft;
       weight = omega (arith, c.in-Ok.ensures.room.weight, ap (λ (r : Running). r.weight) settles.pipeline.running, settles.pipeline.room);
-      above = omega arith;
-      used = c.in-Ok-draft_node.ensures.used;
+      used = λ told. uses_of (Taken c.args.node) (g.S.Blocks.state c.args.blocks.now) (g.S.Blocks.state c.draft_node.new.blocks) c.in-Ok-draft_node.draft (settled_files g.S.Blocks.tells false false _ _ settles told) (c.in-Ok-draft_node.ensures.used told);
     }
 
 pub returns-in-Err-draft_node-clause-plans : goal.returns-in-Err-draft_node-clause-plans

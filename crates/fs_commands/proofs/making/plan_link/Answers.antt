@@ -9,7 +9,7 @@ use Rattle.fs_files.specs.Drafts.{nothing_drafted}
 use Rattle.fs_commands.proofs.making.plan_link.Goals as goal
 
 pub link_to-requires-clause-may : goal.link_to-requires-clause-may
-link_to-requires-clause-may g c = may_plan_still g.S.Blocks.tells _ _ c.in-Ok-Ok.ensures.looks c.args.first_unused c.requires.may
+link_to-requires-clause-may g c = may_plan_still g.S.Blocks.tells _ _ c.in-Ok-Ok.ensures.looks c.requires.may
 
 pub returns-in-Ok-Ok-clause-plans : goal.returns-in-Ok-Ok-clause-plans
 returns-in-Ok-Ok-clause-plans g c =

@@ -1,14 +1,17 @@
 use Rattle.std.proofs.Common.{Ok, subst}
 use Rattle.fs_commands.specs.Making.{MayAppear, make_cmd}
-use Rattle.fs_commands.proofs.planning.Behind.{may_plan_still, may_appear_still}
+use Rattle.fs_commands.proofs.planning.Behind.{below_still, may_plan_still, may_appear_still}
 use Rattle.fs_commands.proofs.planning.Before.{looked_first}
 use Rattle.fs_commands.proofs.planning.Looking.{refusal_plan, cut_short}
 use Rattle.fs_files.specs.Calls.{files_in}
 use Rattle.fs_files.specs.Drafts.{nothing_drafted}
 use Rattle.fs_commands.proofs.making.plan_node.Goals as goal
 
+pub make_in-requires-clause-below : goal.make_in-requires-clause-below
+make_in-requires-clause-below g c = λ told. below_still g.S.Blocks.tells _ _ c.in-Ok-Ok.ensures.looks told c.args.first_unused (c.requires.below told)
+
 pub make_in-requires-clause-may : goal.make_in-requires-clause-may
-make_in-requires-clause-may g c = may_plan_still g.S.Blocks.tells _ _ c.in-Ok-Ok.ensures.looks c.args.first_unused c.requires.may
+make_in-requires-clause-may g c = may_plan_still g.S.Blocks.tells _ _ c.in-Ok-Ok.ensures.looks c.requires.may
 
 pub returns-in-Ok-Ok-clause-plans : goal.returns-in-Ok-Ok-clause-plans
 returns-in-Ok-Ok-clause-plans g c =

@@ -1,4 +1,4 @@
-use Rattle.std.proofs.Common.{take, None, Err, refl, sym, subst, ap, ◌∙◌, arith, IsTrue, ℕ, List}
+use Rattle.std.proofs.Common.{false, take, None, Err, refl, sym, subst, ap, ◌∙◌, arith, IsTrue, ℕ, List}
 use Rattle.std.proofs.lemmas.Option.{same_Some}
 use Rattle.layout_geometry.specs.Geometry.{Geometry, bitmap_blocks}
 use Rattle.lang_tree.specs.declared.command.Cmd.TheVariants.{Rename}
@@ -13,6 +13,8 @@ use Rattle.fs_session.specs.Plans.{Plans}
 use Rattle.fs_session.specs.Sessions.{inodes, IsSession}
 use Rattle.fs_commands.proofs.growing.Refused.{growth_refused}
 use Rattle.fs_commands.proofs.moved.Planned.{across_counted, counted_as, grown_into, may_move_away, move_made, planned_move, MoveIs, move_is}
+use Rattle.fs_session.specs.declared.unused.NodeUse.TheVariants.{Stays}
+use Rattle.fs_commands.proofs.looking.Found.{settled_files}
 use Rattle.fs_commands.proofs.planning.Looking.{growth_plan, full_plan}
 use Rattle.fs_commands.proofs.moving.plan_across.Given as given
 use Rattle.fs_commands.proofs.Given.{session_map}
@@ -59,7 +61,7 @@ returns-in-Ok-draft_across-clause-plans g c = λ from to move.
           let a = weighs told f h in
           let may = may_move_away s from to source c.args.into c.args.count c.args.other.now c.requires.apart a.known in
           let grows = c.in-Ok-draft_across.ensures.grows told c.args.count a.known.name may in
-          planned_move s now f from to source c.args.into c.args.count None c.args.other.now 5 (release source.count) (growth c.args.count) fs (take (growth c.args.count) (reusable_blocks now.books)) c.in-Ok-draft_across.draft (λ first. first) a
+          planned_move s now f from to source c.args.into c.args.count None c.args.other.now 5 (release source.count) (growth c.args.count) fs (take (growth c.args.count) (reusable_blocks now.books)) c.in-Ok-draft_across.draft Stays a
           (c.in-Ok-draft_across.ensures.moves told c.args.count a.known.name may) c.in-Ok.ensures.room
           (omega arith) refl grows.enough (c.in-Ok-draft_across.ensures.rests told c.args.count a.known.name may) settles.pipeline.geom
           (λ k some grown. subst (λ n. GrowsInRuns s now.books k n) (sym (ap (λ (n : Figures). n.need) a.counted))
@@ -77,12 +79,12 @@ returns-in-Ok-draft_across-clause-made g c =
     let s = g.S.Blocks.state c.args.blocks.now in
     let source = c.args.source.now in
     let pipeline = c.in-Ok-draft_across.ensures.settles.pipeline in
-    move_made g.S.Blocks.tells s (g.S.Blocks.state c.draft_across.new.blocks) c.in-Ok-draft_across.draft (value_of c.moving-figures.result) c.args.first_unused c.in-Ok-draft_across.ensures.draft
-    (ap (λ (r : Running). r.weight) pipeline.running) pipeline.room c.in-Ok.ensures.room c.requires.may.above
+    move_made g.S.Blocks.tells s (g.S.Blocks.state c.draft_across.new.blocks) c.in-Ok-draft_across.draft (value_of c.moving-figures.result) c.in-Ok-draft_across.ensures.draft
+    (ap (λ (r : Running). r.weight) pipeline.running) pipeline.room c.in-Ok.ensures.room (settled_files g.S.Blocks.tells false false _ _ c.in-Ok-draft_across.ensures.settles)
     (λ told.
     let m = c.requires.known told in
     let known = c.a_move_is_known.ensures.knows told m.0 m.1 source c.args.into c.args.count None c.args.other.now m.2 in
-    (c.in-Ok-draft_across.ensures.moves told c.args.count known.name (may_move_away s m.0 m.1 source c.args.into c.args.count c.args.other.now c.requires.apart known)).used c.args.first_unused (c.requires.may.used told))
+    (c.in-Ok-draft_across.ensures.moves told c.args.count known.name (may_move_away s m.0 m.1 source c.args.into c.args.count c.args.other.now c.requires.apart known)).used)
 
 pub returns-in-Err-draft_across-clause-plans : goal.returns-in-Err-draft_across-clause-plans
 returns-in-Err-draft_across-clause-plans g c = λ from to move.

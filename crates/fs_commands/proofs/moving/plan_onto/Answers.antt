@@ -4,7 +4,7 @@ use Rattle.lang_tree.specs.declared.command.Cmd.TheVariants.{Rename}
 use Rattle.lang_tree.specs.Figures.{release}
 use Rattle.lang_tree.specs.Values.{value_of}
 use Rattle.engine_blocks.specs.State.{Bookkeeping}
-use Rattle.fs_commands.specs.Removing.{blocks_gone, first_after}
+use Rattle.fs_commands.specs.Removing.{blocks_gone, use_after}
 use Rattle.fs_session.specs.Sessions.{IsSession}
 use Rattle.fs_commands.proofs.moved.Planned.{counted_as, no_growth, onto_counted, planned_move, MoveIs, move_is}
 use Rattle.fs_commands.proofs.planning.Looking.{full_plan, looked_change, cut_short}
@@ -52,10 +52,10 @@ returns-in-Ok-draft_onto-clause-plans g c = λ from to move.
     let freed = release source.count + blocks_gone target.entry.node.facts in
     let fs = value_of c.moving-figures.result in
     let looks = c.in-Ok-draft_onto.ensures.looks in
-    looked_change g.S.Blocks.tells g.S.Blocks.state c.calls_compose.ensures.rests (Rename from to) c.args.blocks.now c.draft_onto.new.blocks c.in-Ok-draft_onto.draft fs.cost c.first_after.result c.requires.may.begin.going
+    looked_change g.S.Blocks.tells g.S.Blocks.state c.calls_compose.ensures.rests (Rename from to) c.args.blocks.now c.draft_onto.new.blocks c.in-Ok-draft_onto.draft fs.cost c.use_after.result c.requires.may.begin.going
     (λ told f h.
     let a = weighed g (goal.at.returns-in-Ok-draft_onto-clause-plans g c).After-moving-figures from to told (move told) f h in
-    planned_move s now f from to source target.dir target.count (Some target.entry) c.args.other.now 5 freed 0 fs [] c.in-Ok-draft_onto.draft (first_after target.entry.node) a
+    planned_move s now f from to source target.dir target.count (Some target.entry) c.args.other.now 5 freed 0 fs [] c.in-Ok-draft_onto.draft (use_after target.entry.node) a
     (c.in-Ok-draft_onto.ensures.moves told a.known.name (c.a_move_is_known.ensures.onto told f.tree from to source target c.args.other.now h.tree (move told) a.known).0) c.in-Ok.ensures.room
     (omega arith) refl (omega arith) (λ enough. looks.books) (ap (λ (k : Bookkeeping). k.geom) looks.books) (no_growth s now.books f (Rename from to) (bitmap_blocks s.books.geom) freed a.counted)
     c.a_move_is_mapped.ensures.rename c.the_map_gives_the_reply.ensures.reply c.alterations_add_up.ensures.price)
@@ -64,14 +64,14 @@ returns-in-Ok-draft_onto-clause-plans g c = λ from to move.
 pub returns-in-Ok-draft_onto-clause-made : goal.returns-in-Ok-draft_onto-clause-made
 returns-in-Ok-draft_onto-clause-made g c =
     let target = c.args.target.now in
-    loss_made g.S.Blocks.tells (g.S.Blocks.state c.args.blocks.now) (g.S.Blocks.state c.draft_onto.new.blocks) c.in-Ok-draft_onto.draft target (value_of c.moving-figures.result) c.args.first_unused c.first_after.result c.in-Ok-draft_onto.ensures.draft c.in-Ok-draft_onto.ensures.looks c.in-Ok.ensures.room
-    c.requires.may.above c.requires.onto_entry.number.from c.first_after.ensures
+    loss_made g.S.Blocks.tells (g.S.Blocks.state c.args.blocks.now) (g.S.Blocks.state c.draft_onto.new.blocks) c.in-Ok-draft_onto.draft target (value_of c.moving-figures.result) c.use_after.result c.in-Ok-draft_onto.ensures.draft c.in-Ok-draft_onto.ensures.looks c.in-Ok.ensures.room
+    c.use_after.ensures
     (λ told.
     let t = c.requires.may.stands told in
     let m = c.requires.known told in
     let known = c.a_move_is_known.ensures.knows told m.0 m.1 c.args.source.now target.dir target.count (Some target.entry) c.args.other.now m.2 in
     let onto = c.a_move_is_known.ensures.onto told t.0 m.0 m.1 c.args.source.now target c.args.other.now t.1 m.2 known in
-    (c.in-Ok-draft_onto.ensures.moves told known.name onto.0).used c.args.first_unused (c.requires.may.used told))
+    (c.in-Ok-draft_onto.ensures.moves told known.name onto.0).used)
 
 pub returns-in-Err-draft_onto-clause-plans : goal.returns-in-Err-draft_onto-clause-plans
 returns-in-Err-draft_onto-clause-plans g c = λ from to move.

@@ -1,10 +1,12 @@
-use Rattle.std.proofs.Common.{[], None, refl, ap, ◌∙◌, arith, IsTrue, ℕ, List}
+use Rattle.std.proofs.Common.{false, [], None, refl, ap, ◌∙◌, arith, IsTrue, ℕ, List}
 use Rattle.layout_geometry.specs.Geometry.{Geometry, bitmap_blocks}
 use Rattle.lang_tree.specs.declared.command.Cmd.TheVariants.{Rename}
 use Rattle.lang_tree.specs.Values.{value_of}
 use Rattle.engine_blocks.specs.State.{Bookkeeping}
 use Rattle.fs_session.specs.Sessions.{IsSession}
 use Rattle.fs_commands.proofs.moved.Planned.{counted_as, may_rename, move_made, no_growth, planned_move, within_counted, MoveIs, move_is}
+use Rattle.fs_session.specs.declared.unused.NodeUse.TheVariants.{Stays}
+use Rattle.fs_commands.proofs.looking.Found.{same_files}
 use Rattle.fs_commands.proofs.planning.Looking.{full_plan, looked_change, cut_short}
 use Rattle.fs_commands.proofs.moving.plan_within.Given as given
 use Rattle.fs_commands.proofs.Given.{session_map}
@@ -45,10 +47,10 @@ returns-in-Ok-draft_within-clause-plans g c = λ from to move.
     let source = c.args.source.now in
     let fs = value_of c.moving-figures.result in
     let looks = c.in-Ok-draft_within.ensures.looks in
-    looked_change g.S.Blocks.tells g.S.Blocks.state c.calls_compose.ensures.rests (Rename from to) c.args.blocks.now c.draft_within.new.blocks c.in-Ok-draft_within.draft fs.cost c.args.first_unused c.requires.may.begin.going
+    looked_change g.S.Blocks.tells g.S.Blocks.state c.calls_compose.ensures.rests (Rename from to) c.args.blocks.now c.draft_within.new.blocks c.in-Ok-draft_within.draft fs.cost Stays c.requires.may.begin.going
     (λ told f h.
     let a = weighed g (goal.at.returns-in-Ok-draft_within-clause-plans g c).After-moving-figures from to told (move told) f h in
-    planned_move s now f from to source source.dir source.count None c.args.other.now 1 0 0 fs [] c.in-Ok-draft_within.draft (λ first. first) a (c.in-Ok-draft_within.ensures.moves told a.known.name (may_rename s from to source c.args.other.now a.known)) c.in-Ok.ensures.room
+    planned_move s now f from to source source.dir source.count None c.args.other.now 1 0 0 fs [] c.in-Ok-draft_within.draft Stays a (c.in-Ok-draft_within.ensures.moves told a.known.name (may_rename s from to source c.args.other.now a.known)) c.in-Ok.ensures.room
     (omega arith) refl (omega arith) (λ enough. looks.books) (ap (λ (k : Bookkeeping). k.geom) looks.books) (no_growth s now.books f (Rename from to) (bitmap_blocks s.books.geom) 0 a.counted)
     c.a_move_is_mapped.ensures.rename c.the_map_gives_the_reply.ensures.reply c.alterations_add_up.ensures.price)
     looks
@@ -58,12 +60,12 @@ returns-in-Ok-draft_within-clause-made g c =
     let s = g.S.Blocks.state c.args.blocks.now in
     let source = c.args.source.now in
     let looks = c.in-Ok-draft_within.ensures.looks in
-    move_made g.S.Blocks.tells s (g.S.Blocks.state c.draft_within.new.blocks) c.in-Ok-draft_within.draft (value_of c.moving-figures.result) c.args.first_unused c.in-Ok-draft_within.ensures.draft
-    (ap (λ (b : Bookkeeping). b.running.weight) looks.books) (ap (λ (b : Bookkeeping). b.room) looks.books) c.in-Ok.ensures.room c.requires.may.above
+    move_made g.S.Blocks.tells s (g.S.Blocks.state c.draft_within.new.blocks) c.in-Ok-draft_within.draft (value_of c.moving-figures.result) c.in-Ok-draft_within.ensures.draft
+    (ap (λ (b : Bookkeeping). b.running.weight) looks.books) (ap (λ (b : Bookkeeping). b.room) looks.books) c.in-Ok.ensures.room (same_files g.S.Blocks.tells false _ _ nothing_drafted looks)
     (λ told.
     let m = c.requires.known told in
     let known = c.a_move_is_known.ensures.knows told m.0 m.1 source source.dir source.count None c.args.other.now m.2 in
-    (c.in-Ok-draft_within.ensures.moves told known.name (may_rename s m.0 m.1 source c.args.other.now known)).used c.args.first_unused (c.requires.may.used told))
+    (c.in-Ok-draft_within.ensures.moves told known.name (may_rename s m.0 m.1 source c.args.other.now known)).used)
 
 pub returns-in-Err-draft_within-clause-plans : goal.returns-in-Err-draft_within-clause-plans
 returns-in-Err-draft_within-clause-plans g c = λ from to move.

@@ -16,7 +16,7 @@ returns-in-Err-clause-plans g c =
     cut_short g.S.Blocks.tells g.S.Blocks.state c.calls_compose.ensures.rests (lose_cmd c.args.kind c.args.path.now) c.args.blocks.now c.look_up.new.blocks c.in-Err.why c.refusal_of.result c.refusal_of.ensures c.requires.may.begin.going c.in-Err.ensures.refused c.in-Err.ensures.looks
 
 pub plan_loss_at-requires-clause-may : goal.plan_loss_at-requires-clause-may
-plan_loss_at-requires-clause-may g c = may_plan_still g.S.Blocks.tells _ _ c.in-Ok.ensures.looks c.args.first_unused c.requires.may
+plan_loss_at-requires-clause-may g c = may_plan_still g.S.Blocks.tells _ _ c.in-Ok.ensures.looks c.requires.may
 
 pub plan_loss_at-requires-clause-comes : goal.plan_loss_at-requires-clause-comes
 plan_loss_at-requires-clause-comes g c = λ told.

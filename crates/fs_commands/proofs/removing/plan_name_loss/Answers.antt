@@ -38,7 +38,7 @@ returns-in-Err-clause-plans g c = λ path loss.
 pub returns-in-Ok-draft_loss-clause-plans : goal.returns-in-Ok-draft_loss-clause-plans
 returns-in-Ok-draft_loss-clause-plans g c = λ path loss.
     let looks = c.in-Ok-draft_loss.ensures.looks in
-    looked_change g.S.Blocks.tells g.S.Blocks.state c.calls_compose.ensures.rests (lose_cmd c.args.kind path) c.args.blocks.now c.draft_loss.new.blocks c.in-Ok-draft_loss.draft (value_of c.loss_figures-figures.result).cost c.first_after.result c.requires.may.begin.going
+    looked_change g.S.Blocks.tells g.S.Blocks.state c.calls_compose.ensures.rests (lose_cmd c.args.kind path) c.args.blocks.now c.draft_loss.new.blocks c.in-Ok-draft_loss.draft (value_of c.loss_figures-figures.result).cost c.use_after.result c.requires.may.begin.going
     (λ told f h.
     let a = weighed g (goal.at.returns-in-Ok-draft_loss-clause-plans g c).After-loss_figures-figures path told (loss told) f h in
     makes_loss c.args.kind (g.S.Blocks.state c.args.blocks.now) path c.args.named.now f _ a (g.S.Blocks.state c.draft_loss.new.blocks) c.in-Ok-draft_loss.draft c.in-Ok.ensures.room (c.in-Ok-draft_loss.ensures.loses told a.known.name a.known.named)
@@ -50,13 +50,13 @@ returns-in-Ok-draft_loss-clause-made g c =
     let s = g.S.Blocks.state c.args.blocks.now in
     let now = g.S.Blocks.state c.draft_loss.new.blocks in
     let n = c.args.named.now in
-    loss_made g.S.Blocks.tells s now c.in-Ok-draft_loss.draft n (value_of c.loss_figures-figures.result) c.args.first_unused c.first_after.result c.in-Ok-draft_loss.ensures.draft c.in-Ok-draft_loss.ensures.looks c.in-Ok.ensures.room
-    c.requires.may.above c.requires.entry.number.from c.first_after.ensures
+    loss_made g.S.Blocks.tells s now c.in-Ok-draft_loss.draft n (value_of c.loss_figures-figures.result) c.use_after.result c.in-Ok-draft_loss.ensures.draft c.in-Ok-draft_loss.ensures.looks c.in-Ok.ensures.room
+    c.use_after.ensures
     (λ told.
     let t = c.requires.may.stands told in
     let loss = c.requires.loss told in
     let known = c.what_goes_is_known.ensures told t.0 c.args.kind loss.0 n t.1 loss.1 in
-    (c.in-Ok-draft_loss.ensures.loses told known.name known.named).used c.args.first_unused (c.requires.may.used told))
+    (c.in-Ok-draft_loss.ensures.loses told known.name known.named).used)
 
 pub returns-in-Err-draft_loss-clause-plans : goal.returns-in-Err-draft_loss-clause-plans
 returns-in-Err-draft_loss-clause-plans g c = λ path loss.

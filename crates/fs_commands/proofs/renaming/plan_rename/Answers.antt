@@ -16,7 +16,7 @@ returns-in-Err-clause-plans g c =
     cut_short g.S.Blocks.tells g.S.Blocks.state c.calls_compose.ensures.rests (Rename c.args.from.now c.args.to.now) c.args.blocks.now c.look_up.new.blocks c.in-Err.why c.refusal_of.result c.refusal_of.ensures c.requires.may.begin.going c.in-Err.ensures.refused c.in-Err.ensures.looks
 
 pub plan_rename_of-requires-clause-may : goal.plan_rename_of-requires-clause-may
-plan_rename_of-requires-clause-may g c = may_plan_still g.S.Blocks.tells _ _ c.in-Ok.ensures.looks c.args.first_unused c.requires.may
+plan_rename_of-requires-clause-may g c = may_plan_still g.S.Blocks.tells _ _ c.in-Ok.ensures.looks c.requires.may
 
 pub plan_rename_of-requires-clause-comes : goal.plan_rename_of-requires-clause-comes
 plan_rename_of-requires-clause-comes g c = λ told.

@@ -12,7 +12,7 @@ use Rattle.fs_files.specs.Drafts.{nothing_drafted}
 use Rattle.fs_commands.proofs.sizes.plan_truncate.Goals as goal
 
 pub truncate_found-requires-clause-may : goal.truncate_found-requires-clause-may
-truncate_found-requires-clause-may g c = may_plan_still g.S.Blocks.tells _ _ c.in-Ok-Ok.ensures.looks c.args.first_unused c.requires.may
+truncate_found-requires-clause-may g c = may_plan_still g.S.Blocks.tells _ _ c.in-Ok-Ok.ensures.looks c.requires.may
 
 pub truncate_found-requires-clause-file : goal.truncate_found-requires-clause-file
 truncate_found-requires-clause-file g c = λ told.

@@ -10,6 +10,6 @@ returns-clause-stays g c =
     let t = g.S.Blocks.state c.listing.new.blocks in
     let looks = c.listing.ensures.looks in
     record {
-      between = between_stays g.S.Blocks.tells s t c.args.self.now.first_unused (ap (λ (b : Bookkeeping). b.geom) looks.books) looks.map (subst MayGoOn (sym looks.books) c.requires.between.goes_on) c.requires.between;
+      between = between_stays g.S.Blocks.tells s t c.args.self.now.unused (ap (λ (b : Bookkeeping). b.geom) looks.books) looks.map (subst MayGoOn (sym looks.books) c.requires.between.goes_on) c.requires.between;
       stands = λ told. stands_still s t (ap (λ (b : Bookkeeping). b.geom) looks.books) (looks.map told);
     }
