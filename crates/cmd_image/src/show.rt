@@ -13,7 +13,7 @@ ghost use Rattle.engine_blocks.specs.Crashes.{IsBegun};
 ghost use Rattle.fs_files.specs.Effects.{LooksOnly};
 ghost use Rattle.engine_store.specs.StoreOf.{state_of};
 ghost use Rattle.fs_commands.specs.Listing.{CountsPushes};
-ghost use Rattle.fs_commands.specs.Opened.{blocks_in, used_to};
+ghost use Rattle.fs_commands.specs.Opened.{blocks_in, unused_in};
 ghost use Rattle.fs_session.specs.Sessions.{IsBetween, IsSession};
 ghost use Rattle.cmd_image.specs.declared.show_refusal.ShowRefusal.TheVariants.{Fault};
 ghost use Rattle.cmd_image.specs.Mounted.{IsFresh, IsMarkOf, IsMountedOn, HasSession, ShowsDisk, answer_of, is_fault, of_bay};
@@ -134,7 +134,7 @@ fn list_shown<D: Disk + Drop, K: Sink>(
     out: &mut K,
 ) -> Left<D>
     requires going { (state_of D.state (blocks_in fs)).books.stopped ≡ false }
-    requires between { IsBetween D.tells (state_of D.state (blocks_in fs)) (used_to fs) }
+    requires between { IsBetween D.tells (state_of D.state (blocks_in fs)) (unused_in fs) }
     requires empty { marks.items ≡ [] }
     requires room { vec_len marks < vec_capacity marks }
     ensures shows { (first : State) → IsMountedOn D.tells false first (state_of D.state (blocks_in fs))
@@ -165,7 +165,7 @@ fn write_listing<D: Disk + Drop, K: Sink>(
     out: &mut K,
 ) -> Result<(), ShowRefusal>
     requires going { (state_of D.state (blocks_in fs.old)).books.stopped ≡ false }
-    requires between { IsBetween D.tells (state_of D.state (blocks_in fs.old)) (used_to fs.old) }
+    requires between { IsBetween D.tells (state_of D.state (blocks_in fs.old)) (unused_in fs.old) }
     ensures all { IsTrue D.tells → OnOk result ((f : Session) → IsSession (state_of D.state (blocks_in fs.old)) f
         → Appends (K.taken out.old) (K.taken out.new) (listing f.tree)) }
     ensures front { IsTrue D.tells → OnErr result ((f : Session) → IsSession (state_of D.state (blocks_in fs.old)) f

@@ -3,7 +3,7 @@
 ghost use Rattle.std.specs.Prelude.{◌≡◌, ◌≤◌, true, IfOk};
 ghost use Rattle.disk_memory.specs.MemDisk.{state_of as disk_state};
 ghost use Rattle.engine_store.specs.StoreOf.{state_of};
-ghost use Rattle.fs_commands.specs.Opened.{blocks_in, used_to};
+ghost use Rattle.fs_commands.specs.Opened.{blocks_in, unused_in};
 ghost use Rattle.fs_session.specs.Sessions.{IsBetween, Stands};
 ghost use Rattle.lang_load.specs.Load.{load_commands};
 ghost use Rattle.cmd_load.specs.Serving.{Serves};
@@ -22,11 +22,11 @@ use std::alloc::Global;
 pub(crate) fn serve(alloc: Global, fs: &mut System, seed: u32, count: u32) -> Result<u32, NoMemory>
     requires most { count ≤ 2000 }
     requires begun { Serves at_first 0 (state_of disk_state (blocks_in fs.old)) }
-    requires between { IsBetween true (state_of disk_state (blocks_in fs.old)) (used_to fs.old) }
+    requires between { IsBetween true (state_of disk_state (blocks_in fs.old)) (unused_in fs.old) }
     requires stands { Stands (state_of disk_state (blocks_in fs.old)) }
     ensures serves { IfOk result (λ refused. Serves (after_all at_first (load_commands count seed)) count (state_of disk_state (blocks_in fs.new))
         × (refused ≡ (after_all at_first (load_commands count seed)).refused)) }
-    ensures between { IfOk result (λ _. IsBetween true (state_of disk_state (blocks_in fs.new)) (used_to fs.new)) }
+    ensures between { IfOk result (λ _. IsBetween true (state_of disk_state (blocks_in fs.new)) (unused_in fs.new)) }
 {
     let mut load = Load::new(seed);
     let mut refused = 0;
