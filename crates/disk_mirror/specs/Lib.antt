@@ -1,0 +1,9 @@
+pub mod Behind
+pub mod Half
+pub mod Mirror
+pub mod Order
+pub mod Ripe
+pub mod Rows
+pub mod Times
+pub mod Turns
+pub mod Twin

@@ -1,0 +1,539 @@
+//! The mirror: a disk over two, which has tickets of its own.
+
+ghost use Rattle.std.specs.Prelude.{◌≡◌, List, ◌⊎◌, ◌<◌, ◌≤◌, ◌+◌, ◌&&◌, ◌||◌, ℕ, Bool, true, false, not, [], length, map, take, nat_eq, IsTrue, OnOk, OnErr, IfOk, IfErr, IfSome, Some, None, Ok, is_err};
+ghost use Rattle.base_types.specs.Counts.{next_count, after_call};
+ghost use Rattle.base_types.specs.Seal.{Blocks};
+ghost use Rattle.disk_contract.specs.Cell.{IsAccepted, IsNoticed};
+ghost use Rattle.disk_contract.specs.Crash.{IsHonest};
+ghost use Rattle.disk_contract.specs.Disk.{HasFailed, Reads, AddsWrite, AddsPoll, AddsNotices, HearsAlone, OnlyReads, OnlyWrites, OnlyPolls, OnlyWaits, SameDisk};
+ghost use Rattle.disk_contract.specs.Manner.{AnswersBy};
+ghost use Rattle.disk_mirror.specs.declared.entry.Side.TheVariants.{First, Second};
+ghost use Rattle.disk_mirror.specs.declared.mirror.MirrorRefusal.TheVariants.{Unlike, NoMemory as OutOfMemory};
+ghost use Rattle.disk_mirror.specs.Mirror.{mirror_state, counts_of, IsMirror, AreGiven, HasCauses, NoneLive, IsUngiven};
+ghost use Rattle.disk_mirror.specs.Half.{HasFailedOnce};
+ghost use Rattle.disk_mirror.specs.Order.{log_of, has_failed};
+ghost use Rattle.disk_mirror.specs.Twin.{heard_of, heard_on};
+ghost use Rattle.disk_mirror.specs.Rows.{after_report, first_ready, HearsPoll, HearsBoth};
+ghost use Rattle.disk_mirror.specs.declared.entry.Heard.{Heard};
+ghost use Rattle.disk_mirror.specs.Times.{times_on, life_of, mark_on, LeavesAtMoments};
+ghost use Rattle.disk_mirror.specs.Turns.{after_none};
+
+use crate::entry::{Came, Side, Written};
+use crate::half::Half;
+use crate::order::Order;
+use base_types::{Block, NoMemory};
+use disk_contract::{Disk, DiskFault, Mark, a_block_has_its_bytes};
+use std::alloc::Global;
+use std::fmt;
+
+/// Why two disks don't make a mirror.
+#[derive(Clone, Copy, Debug, PartialEq, Eq)]
+pub enum MirrorRefusal {
+    /// They have different numbers of blocks.
+    Unlike,
+    /// Out of memory for all of the room.
+    NoMemory,
+}
+
+impl fmt::Display for MirrorRefusal {
+    fn fmt<W: fmt::Write>(&self, f: &mut fmt::Formatter<W>) -> fmt::Result {
+        match self {
+            MirrorRefusal::Unlike => write!(f, "the disks have different numbers of blocks"),
+            MirrorRefusal::NoMemory => write!(f, "out of memory"),
+        }
+    }
+}
+
+/// A disk over two disks. Each of them is live until a call on it fails, and isn't used again then.
+#[derive(Drop)]
+pub struct Mirror<A: Disk, B: Disk> {
+    a: Half<A>,
+    b: Half<B>,
+    order: Order,
+    faults: u64,
+    read_faults: u64,
+    waits: u64,
+    polls: u64,
+    /// Whether a wait named a ticket that was never given.
+    misasked: bool,
+    ghost size: { (A.state a.disk).blocks ≡ (B.state b.disk).blocks },
+    ghost counted: { faults ≡ 0 → has_failed order.events ≡ false },
+    ghost causes: { HasCauses faults read_faults a.live b.live order.room (length order.pairs) misasked },
+    ghost given: { AreGiven order.pairs a.live b.live },
+    ghost told: { IsTrue (A.tells && B.tells) → ∥ IsMirror (A.state a.disk) (B.state b.disk) a.live b.live a.end b.end order ∥₁ },
+}
+
+impl<A: Disk, B: Disk> Mirror<A, B> {
+    /// A mirror of two disks on which nothing happened yet, and which began with the same blocks where they have as many.
+    /// It has room for so many writes.
+    ///
+    /// # Errors
+    /// `Unlike` exactly where the numbers of blocks differ. Out of memory. The disks are given back.
+    pub fn new(alloc: Global, a: A, b: B, room: u32) -> Result<Mirror<A, B>, (A, B, MirrorRefusal)>
+        requires alike { IsTrue (A.tells && B.tells) → (A.state a).blocks ≡ (B.state b).blocks → (n : ℕ) → n < (A.state a).blocks → (B.state b).base n ≡ (A.state a).base n }
+        requires first { IsTrue (A.tells && B.tells) → (A.state a).log ≡ [] }
+        requires second { IsTrue (A.tells && B.tells) → (B.state b).log ≡ [] }
+        ensures disks { IfOk result (λ m. (m.a.disk ≡ a) × (m.b.disk ≡ b)) }
+        ensures empty { IfOk result (λ m. m.order ≡ record { events = []; times = []; pairs = []; heard = []; room = room }) }
+        ensures live { IfOk result (λ m. (m.a.live ≡ true) × (m.b.live ≡ true)) }
+        ensures back { IfErr result (λ e. (e.0 ≡ a) × (e.1 ≡ b)) }
+        ensures unlike { IfErr result (λ e. e.2 ≡ Unlike → (A.state a).blocks ≡ (B.state b).blocks → ⊥) }
+        ensures memory { IfErr result (λ e. e.2 ≡ OutOfMemory → (A.state a).blocks ≡ (B.state b).blocks) }
+        ensures alike { IfOk result (λ m. (A.state a).blocks ≡ (B.state b).blocks) }
+    {
+        if a.blocks() != b.blocks() {
+            return Err((a, b, MirrorRefusal::Unlike));
+        }
+        let order = match Order::new(alloc, room) {
+            Err(_) => return Err((a, b, MirrorRefusal::NoMemory)),
+            Ok(order) => order,
+        };
+        Ok(Mirror {
+            a: Half::new(a),
+            b: Half::new(b),
+            order,
+            faults: 0,
+            read_faults: 0,
+            waits: 0,
+            polls: 0,
+            misasked: false,
+        })
+    }
+
+    /// Does nothing. A proof learns from the call what a crash may leave of the two disks: of a live one nothing
+    /// that it may not leave of the mirror now; of one that is down nothing that it might not have left of the
+    /// mirror at the moment when it went down.
+    pub fn leaves(&self)
+        ensures first { IsTrue (A.tells && B.tells) → self.now.a.live ≡ true → (img : Blocks)
+            → IsHonest (A.state self.now.a.disk).blocks (A.state self.now.a.disk).base (A.state self.now.a.disk).log img
+            → ∥ IsHonest (A.state self.now.a.disk).blocks (A.state self.now.a.disk).base (log_of (A.state self.now.a.disk).log (B.state self.now.b.disk).log self.now.order.events) img ∥₁ }
+        ensures second { IsTrue (A.tells && B.tells) → self.now.b.live ≡ true → (img : Blocks)
+            → IsHonest (A.state self.now.a.disk).blocks (B.state self.now.b.disk).base (B.state self.now.b.disk).log img
+            → ∥ IsHonest (A.state self.now.a.disk).blocks (A.state self.now.a.disk).base (log_of (A.state self.now.a.disk).log (B.state self.now.b.disk).log self.now.order.events) img ∥₁ }
+        ensures first_down { IsTrue (A.tells && B.tells) → self.now.a.live ≡ false → (img : Blocks)
+            → IsHonest (A.state self.now.a.disk).blocks (A.state self.now.a.disk).base (A.state self.now.a.disk).log img
+            → ∥ IsHonest (A.state self.now.a.disk).blocks (A.state self.now.a.disk).base (take self.now.a.end (log_of (A.state self.now.a.disk).log (B.state self.now.b.disk).log self.now.order.events)) img ∥₁ }
+        ensures second_down { IsTrue (A.tells && B.tells) → self.now.b.live ≡ false → (img : Blocks)
+            → IsHonest (A.state self.now.a.disk).blocks (B.state self.now.b.disk).base (B.state self.now.b.disk).log img
+            → ∥ IsHonest (A.state self.now.a.disk).blocks (A.state self.now.a.disk).base (take self.now.b.end (log_of (A.state self.now.a.disk).log (B.state self.now.b.disk).log self.now.order.events)) img ∥₁ }
+    {
+        // calls for their clauses alone: that the disks' logs are lawful
+        self.a.lawful();
+        self.b.lawful();
+    }
+
+    /// Does nothing. A proof learns from the call what a crash may leave of the two disks at each of their moments, those
+    /// inside calls among them: nothing that it may not leave of the mirror at the moment that stands for it. And the
+    /// events that each disk had when the events of the mirror had come, one number for each, ascend to those of now.
+    pub fn moments(&self)
+        ensures first { IsTrue (A.tells && B.tells) → LeavesAtMoments (A.state self.now.a.disk).blocks (A.state self.now.a.disk).base
+            (log_of (A.state self.now.a.disk).log (B.state self.now.b.disk).log self.now.order.events) (times_on First self.now.order.times) self.now.a.live self.now.a.end (A.state self.now.a.disk).base (A.state self.now.a.disk).log }
+        ensures second { IsTrue (A.tells && B.tells) → LeavesAtMoments (A.state self.now.a.disk).blocks (A.state self.now.a.disk).base
+            (log_of (A.state self.now.a.disk).log (B.state self.now.b.disk).log self.now.order.events) (times_on Second self.now.order.times) self.now.b.live self.now.b.end (B.state self.now.b.disk).base (B.state self.now.b.disk).log }
+    {
+        let _ = &self.order;
+    }
+
+    /// Does nothing. A proof learns from the call why calls have failed: of the mirror's own counts, that a read failed only
+    /// where no disk is live, and another call also where there is no room for another write, or where a wait named a
+    /// ticket that was never given; and of a disk that is down, that it has counted a fault.
+    pub fn causes(&self)
+        ensures own { HasCauses self.now.faults self.now.read_faults self.now.a.live self.now.b.live self.now.order.room (length self.now.order.pairs) self.now.misasked }
+        ensures first { HasFailedOnce self.now.a.live (A.state self.now.a.disk) }
+        ensures second { HasFailedOnce self.now.b.live (B.state self.now.b.disk) }
+    {
+        let _ = &self.order;
+    }
+
+    /// Of marks of the mirror those of each disk, which begin with its own moments at them. A disk counts no fault up
+    /// to the moment of the mirror at which it went down, and behind it all that it has counted by now.
+    ///
+    /// # Errors
+    /// Out of memory.
+    pub fn marks(&self, alloc: Global, marks: &[Mark]) -> Result<(Vec<Mark>, Vec<Mark>), NoMemory>
+        ensures first { IfOk result (λ both. both.0.items ≡ map (mark_on (times_on First self.now.order.times) (life_of self.now.a.live self.now.a.end (A.state self.now.a.disk))) marks.now) }
+        ensures second { IfOk result (λ both. both.1.items ≡ map (mark_on (times_on Second self.now.order.times) (life_of self.now.b.live self.now.b.end (B.state self.now.b.disk))) marks.now) }
+    {
+        let first = self.order.marks(alloc, Side::First, self.a.life(), marks)?;
+        let second = self.order.marks(alloc, Side::Second, self.b.life(), marks)?;
+        Ok((first, second))
+    }
+
+    /// The two disks.
+    pub fn disks(&self) -> (&A, &B) {
+        (self.a.disk(), self.b.disk())
+    }
+
+    /// Gives the two disks back.
+    pub fn into_disks(self) -> (A, B)
+        ensures { (result.0 ≡ self.a.disk) × (result.1 ≡ self.b.disk) }
+    {
+        let Mirror { a, b, .. } = self;
+        (a.into_disk(), b.into_disk())
+    }
+
+    /// Which of the two disks are live.
+    pub fn live(&self) -> (bool, bool)
+        ensures { result ≡ (self.now.a.live, self.now.b.live) }
+    {
+        (self.a.is_live(), self.b.is_live())
+    }
+
+    /// The moments of the mirror at which the disks that are down went down.
+    pub fn ends(&self) -> (u64, u64)
+        ensures { result ≡ (self.now.a.end, self.now.b.end) }
+    {
+        (self.a.end(), self.b.end())
+    }
+
+    // Whether a disk is live.
+    fn is_live(&self) -> bool
+        ensures { result ≡ (self.now.a.live || self.now.b.live) }
+    {
+        self.a.is_live() || self.b.is_live()
+    }
+
+    // Reads on the first disk, and says whether that was done.
+    fn read_first(&mut self, b: u32, into: &mut Block) -> bool
+        requires { b < (A.state self.old.a.disk).blocks }
+        ensures counts { counts_of self.new.faults self.new.read_faults self.new.waits self.new.polls ≡ counts_of self.old.faults self.old.read_faults self.old.waits self.old.polls }
+        ensures size { (A.state self.new.a.disk).blocks ≡ (A.state self.old.a.disk).blocks }
+        ensures base { (A.state self.new.a.disk).base ≡ (A.state self.old.a.disk).base }
+        ensures live { (result ≡ false → self.new.a.live ≡ false) × (self.new.b.live ≡ self.old.b.live) }
+        ensures reads { IsTrue (A.tells && B.tells) → result ≡ true → Reads (mirror_state (A.state self.old.a.disk) (B.state self.old.b.disk) self.old.order (counts_of self.old.faults self.old.read_faults self.old.waits self.old.polls)) b into.new }
+        ensures log { IsTrue (A.tells && B.tells) → log_of (A.state self.new.a.disk).log (B.state self.new.b.disk).log self.new.order.events ≡ log_of (A.state self.old.a.disk).log (B.state self.old.b.disk).log self.old.order.events }
+    {
+        // calls for their clauses alone: that the disks' logs are lawful
+        self.a.lawful();
+        self.b.lawful();
+        let moment = self.order.len();
+        self.a.read(b, into, moment)
+    }
+
+    // Reads on the second disk, and says whether that was done.
+    fn read_second(&mut self, b: u32, into: &mut Block) -> bool
+        requires { b < (A.state self.old.a.disk).blocks }
+        ensures counts { counts_of self.new.faults self.new.read_faults self.new.waits self.new.polls ≡ counts_of self.old.faults self.old.read_faults self.old.waits self.old.polls }
+        ensures size { (A.state self.new.a.disk).blocks ≡ (A.state self.old.a.disk).blocks }
+        ensures base { (A.state self.new.a.disk).base ≡ (A.state self.old.a.disk).base }
+        ensures live { (result ≡ false → self.new.b.live ≡ false) × (self.new.a.live ≡ self.old.a.live) }
+        ensures reads { IsTrue (A.tells && B.tells) → result ≡ true → Reads (mirror_state (A.state self.old.a.disk) (B.state self.old.b.disk) self.old.order (counts_of self.old.faults self.old.read_faults self.old.waits self.old.polls)) b into.new }
+        ensures log { IsTrue (A.tells && B.tells) → log_of (A.state self.new.a.disk).log (B.state self.new.b.disk).log self.new.order.events ≡ log_of (A.state self.old.a.disk).log (B.state self.old.b.disk).log self.old.order.events }
+    {
+        // calls for their clauses alone: that the disks' logs are lawful
+        self.a.lawful();
+        self.b.lawful();
+        let moment = self.order.len();
+        self.b.read(b, into, moment)
+    }
+
+    // Writes to each live disk. Where none is left behind it, it failed, which is counted.
+    fn write_both(&mut self, b: u32, from: &Block) -> Result<u64, DiskFault>
+        requires there { b < (A.state self.old.a.disk).blocks }
+        requires room { length self.old.order.pairs < self.old.order.room }
+        requires live { (self.old.a.live || self.old.b.live) ≡ true }
+        ensures counts { counts_of self.new.faults self.new.read_faults self.new.waits self.new.polls ≡ counts_of (after_call (is_err result) self.old.faults) self.old.read_faults self.old.waits self.old.polls }
+        ensures size { (A.state self.new.a.disk).blocks ≡ (A.state self.old.a.disk).blocks }
+        ensures base { (A.state self.new.a.disk).base ≡ (A.state self.old.a.disk).base }
+        ensures down { OnErr result (NoneLive self.new.a.live self.new.b.live) }
+        ensures log { IsTrue (A.tells && B.tells) → AddsWrite b from.now result (log_of (A.state self.old.a.disk).log (B.state self.old.b.disk).log self.old.order.events) (log_of (A.state self.new.a.disk).log (B.state self.new.b.disk).log self.new.order.events) }
+    {
+        // calls for their clauses alone: that the disks' logs are lawful, how much room there is, and what a block is
+        self.a.lawful();
+        self.b.lawful();
+        self.order.few();
+        a_block_has_its_bytes(from);
+        let moment = self.order.len();
+        let first = self.a.write(b, from, moment);
+        let second = self.b.write(b, from, moment);
+        let came = came(&self.a, &self.b);
+        if is_one_live(self.a.is_live(), self.b.is_live()) {
+            return Ok(self.order.accept(first.ticket(), second.ticket(), came));
+        }
+        self.faults = self.faults.saturating_add(1);
+        note_lost(&mut self.order, first, second, came);
+        Err(DiskFault)
+    }
+
+    // Polls the first disk, and notes what it answers.
+    fn poll_first(&mut self)
+        ensures counts { counts_of self.new.faults self.new.read_faults self.new.waits self.new.polls ≡ counts_of self.old.faults self.old.read_faults self.old.waits self.old.polls }
+        ensures size { (A.state self.new.a.disk).blocks ≡ (A.state self.old.a.disk).blocks }
+        ensures base { (A.state self.new.a.disk).base ≡ (A.state self.old.a.disk).base }
+        ensures log { IsTrue (A.tells && B.tells) → log_of (A.state self.new.a.disk).log (B.state self.new.b.disk).log self.new.order.events ≡ log_of (A.state self.old.a.disk).log (B.state self.old.b.disk).log self.old.order.events }
+        ensures pairs { self.new.order.pairs ≡ self.old.order.pairs }
+        ensures other { (B.state self.new.b.disk).log ≡ (B.state self.old.b.disk).log }
+        ensures hears { IsTrue (A.tells && B.tells) → HearsPoll First self.old.order.pairs (A.state self.old.a.disk).log (A.state self.new.a.disk).log self.old.order.heard self.new.order.heard }
+    {
+        // calls for their clauses alone: that the disks' logs are lawful, and how much room there is
+        self.a.lawful();
+        self.b.lawful();
+        self.order.few();
+        let moment = self.order.len();
+        let ticket = match self.a.poll(moment) {
+            None => return,
+            Some(ticket) => ticket,
+        };
+        let own = match self.order.ticket_with(Side::First, ticket) {
+            None => return,
+            Some(own) => own,
+        };
+        self.order.hear(Side::First, own);
+    }
+
+    // Polls the second disk, and notes what it answers.
+    fn poll_second(&mut self)
+        ensures counts { counts_of self.new.faults self.new.read_faults self.new.waits self.new.polls ≡ counts_of self.old.faults self.old.read_faults self.old.waits self.old.polls }
+        ensures size { (A.state self.new.a.disk).blocks ≡ (A.state self.old.a.disk).blocks }
+        ensures base { (A.state self.new.a.disk).base ≡ (A.state self.old.a.disk).base }
+        ensures log { IsTrue (A.tells && B.tells) → log_of (A.state self.new.a.disk).log (B.state self.new.b.disk).log self.new.order.events ≡ log_of (A.state self.old.a.disk).log (B.state self.old.b.disk).log self.old.order.events }
+        ensures pairs { self.new.order.pairs ≡ self.old.order.pairs }
+        ensures other { (A.state self.new.a.disk).log ≡ (A.state self.old.a.disk).log }
+        ensures hears { IsTrue (A.tells && B.tells) → HearsPoll Second self.old.order.pairs (B.state self.old.b.disk).log (B.state self.new.b.disk).log self.old.order.heard self.new.order.heard }
+    {
+        // calls for their clauses alone: that the disks' logs are lawful, and how much room there is
+        self.a.lawful();
+        self.b.lawful();
+        self.order.few();
+        let moment = self.order.len();
+        let ticket = match self.b.poll(moment) {
+            None => return,
+            Some(ticket) => ticket,
+        };
+        let own = match self.order.ticket_with(Side::Second, ticket) {
+            None => return,
+            Some(own) => own,
+        };
+        self.order.hear(Side::Second, own);
+    }
+
+    // Waits on the first disk for a write of this ticket, which was given.
+    fn wait_first(&mut self, ticket: u64)
+        requires positive { 0 < ticket }
+        requires given { ticket ≤ length self.old.order.pairs }
+        ensures counts { counts_of self.new.faults self.new.read_faults self.new.waits self.new.polls ≡ counts_of self.old.faults self.old.read_faults self.old.waits self.old.polls }
+        ensures size { (A.state self.new.a.disk).blocks ≡ (A.state self.old.a.disk).blocks }
+        ensures base { (A.state self.new.a.disk).base ≡ (A.state self.old.a.disk).base }
+        ensures pairs { length self.new.order.pairs ≡ length self.old.order.pairs }
+        ensures heard { self.new.a.live ≡ true → heard_on First (heard_of self.new.order.heard ticket) ≡ true }
+        ensures log { IsTrue (A.tells && B.tells) → log_of (A.state self.new.a.disk).log (B.state self.new.b.disk).log self.new.order.events ≡ log_of (A.state self.old.a.disk).log (B.state self.old.b.disk).log self.old.order.events }
+    {
+        // calls for their clauses alone: that the disks' logs are lawful, and how much room there is
+        self.a.lawful();
+        self.b.lawful();
+        self.order.few();
+        let moment = self.order.len();
+        let own = match self.order.ticket_on(Side::First, ticket) {
+            None => return,
+            Some(own) => own,
+        };
+        if !self.a.wait(own, moment) {
+            return;
+        }
+        self.order.hear(Side::First, ticket);
+    }
+
+    // Waits on the second disk for a write of this ticket, which was given.
+    fn wait_second(&mut self, ticket: u64)
+        requires positive { 0 < ticket }
+        requires given { ticket ≤ length self.old.order.pairs }
+        ensures counts { counts_of self.new.faults self.new.read_faults self.new.waits self.new.polls ≡ counts_of self.old.faults self.old.read_faults self.old.waits self.old.polls }
+        ensures size { (A.state self.new.a.disk).blocks ≡ (A.state self.old.a.disk).blocks }
+        ensures base { (A.state self.new.a.disk).base ≡ (A.state self.old.a.disk).base }
+        ensures pairs { length self.new.order.pairs ≡ length self.old.order.pairs }
+        ensures first { (self.new.a.live ≡ self.old.a.live) × (heard_on First (heard_of self.new.order.heard ticket) ≡ heard_on First (heard_of self.old.order.heard ticket)) }
+        ensures heard { self.new.b.live ≡ true → heard_on Second (heard_of self.new.order.heard ticket) ≡ true }
+        ensures log { IsTrue (A.tells && B.tells) → log_of (A.state self.new.a.disk).log (B.state self.new.b.disk).log self.new.order.events ≡ log_of (A.state self.old.a.disk).log (B.state self.old.b.disk).log self.old.order.events }
+    {
+        // calls for their clauses alone: that the disks' logs are lawful, and how much room there is
+        self.a.lawful();
+        self.b.lawful();
+        self.order.few();
+        let moment = self.order.len();
+        let own = match self.order.ticket_on(Side::Second, ticket) {
+            None => return,
+            Some(own) => own,
+        };
+        if !self.b.wait(own, moment) {
+            return;
+        }
+        self.order.hear(Side::Second, ticket);
+    }
+
+    // Reports the least ticket whose notice came from each live disk, of which there must be one.
+    fn report_next(&mut self) -> Option<u64>
+        requires { (self.old.a.live || self.old.b.live) ≡ true }
+        ensures counts { counts_of self.new.faults self.new.read_faults self.new.waits self.new.polls ≡ counts_of self.old.faults self.old.read_faults self.old.waits self.old.polls }
+        ensures size { (A.state self.new.a.disk).blocks ≡ (A.state self.old.a.disk).blocks }
+        ensures base { (A.state self.new.a.disk).base ≡ (A.state self.old.a.disk).base }
+        ensures least { result ≡ first_ready self.old.a.live self.old.b.live self.old.order.heard }
+        ensures logs { ((A.state self.new.a.disk).log ≡ (A.state self.old.a.disk).log) × ((B.state self.new.b.disk).log ≡ (B.state self.old.b.disk).log) }
+        ensures rows { self.new.order.heard ≡ after_report result self.old.order.heard }
+        ensures live { (self.new.a.live ≡ self.old.a.live) × (self.new.b.live ≡ self.old.b.live) }
+        ensures log { IsTrue (A.tells && B.tells) → AddsPoll {E = ℕ} (Ok result) (log_of (A.state self.old.a.disk).log (B.state self.old.b.disk).log self.old.order.events) (log_of (A.state self.new.a.disk).log (B.state self.new.b.disk).log self.new.order.events) }
+    {
+        // calls for their clauses alone: that the disks' logs are lawful, and how much room there is
+        self.a.lawful();
+        self.b.lawful();
+        self.order.few();
+        let ticket = match self.order.first_ready(self.a.is_live(), self.b.is_live()) {
+            None => return None,
+            Some(ticket) => ticket,
+        };
+        let came = came(&self.a, &self.b);
+        self.order.report(ticket, came);
+        Some(ticket)
+    }
+
+    // Reports this ticket, whose notice came from each live disk, where it isn't reported yet.
+    fn report(&mut self, ticket: u64)
+        requires positive { 0 < ticket }
+        requires given { ticket ≤ length self.old.order.pairs }
+        requires first { self.old.a.live ≡ true → heard_on First (heard_of self.old.order.heard ticket) ≡ true }
+        requires second { self.old.b.live ≡ true → heard_on Second (heard_of self.old.order.heard ticket) ≡ true }
+        ensures counts { counts_of self.new.faults self.new.read_faults self.new.waits self.new.polls ≡ counts_of self.old.faults self.old.read_faults self.old.waits self.old.polls }
+        ensures size { (A.state self.new.a.disk).blocks ≡ (A.state self.old.a.disk).blocks }
+        ensures base { (A.state self.new.a.disk).base ≡ (A.state self.old.a.disk).base }
+        ensures log { IsTrue (A.tells && B.tells) → HearsAlone ticket (log_of (A.state self.old.a.disk).log (B.state self.old.b.disk).log self.old.order.events) (log_of (A.state self.new.a.disk).log (B.state self.new.b.disk).log self.new.order.events) }
+        ensures fresh { IsTrue (A.tells && B.tells) → AddsNotices (log_of (A.state self.old.a.disk).log (B.state self.old.b.disk).log self.old.order.events) (log_of (A.state self.new.a.disk).log (B.state self.new.b.disk).log self.new.order.events) }
+        ensures noticed { IsTrue (A.tells && B.tells) → IsNoticed ticket (log_of (A.state self.new.a.disk).log (B.state self.new.b.disk).log self.new.order.events) }
+    {
+        // calls for their clauses alone: that the disks' logs are lawful, and how much room there is
+        self.a.lawful();
+        self.b.lawful();
+        self.order.few();
+        if self.order.is_reported(ticket) {
+            return;
+        }
+        let came = came(&self.a, &self.b);
+        self.order.report(ticket, came);
+    }
+}
+
+// How many events the two disks have.
+fn came<A: Disk, B: Disk>(a: &Half<A>, b: &Half<B>) -> Came
+    ensures first { IsTrue A.tells → result.first ≡ length (A.state a.now.disk).log }
+    ensures second { IsTrue B.tells → result.second ≡ length (B.state b.now.disk).log }
+{
+    Came {
+        first: a.moment(),
+        second: b.moment(),
+    }
+}
+
+// Whether one of the two is live.
+fn is_one_live(first: bool, second: bool) -> bool
+    ensures { result ≡ (first || second) }
+{
+    first || second
+}
+
+// Notes what came of a write on two disks of which none is live.
+fn note_lost(order: &mut Order, first: Written, second: Written, came: Came)
+    requires { length order.old.pairs < order.old.room }
+    ensures { order.new ≡ after_none order.old first second came }
+{
+    if first == Written::Missed {
+        order.fail(Side::First, came);
+    } else if second == Written::Missed {
+        order.fail(Side::Second, came);
+    }
+}
+
+impl<A: Disk, B: Disk> Disk for Mirror<A, B> {
+    ghost tells = { A.tells && B.tells };
+
+    ghost state = { λ m. mirror_state (A.state m.a.disk) (B.state m.b.disk) m.order (counts_of m.faults m.read_faults m.waits m.polls) };
+
+    fn lawful(&self) {
+        // a call for its clause alone: what the first disk's blocks are
+        self.a.lawful();
+    }
+
+    fn blocks(&self) -> u32 {
+        self.a.disk().blocks()
+    }
+
+    fn moment(&self) -> u64 {
+        self.order.len()
+    }
+
+    fn counts(&self) -> (u64, u64) {
+        (self.read_faults, self.faults)
+    }
+
+    fn read(&mut self, b: u32, into: &mut Block) -> Result<(), DiskFault>
+        requires { b < (A.state self.old.a.disk).blocks }
+        ensures reads { IsTrue (A.tells && B.tells) → OnOk result (Reads (mirror_state (A.state self.old.a.disk) (B.state self.old.b.disk) self.old.order (counts_of self.old.faults self.old.read_faults self.old.waits self.old.polls)) b into.new) }
+        ensures log { IsTrue (A.tells && B.tells) → ((mirror_state (A.state self.new.a.disk) (B.state self.new.b.disk) self.new.order (counts_of self.new.faults self.new.read_faults self.new.waits self.new.polls))).log ≡ ((mirror_state (A.state self.old.a.disk) (B.state self.old.b.disk) self.old.order (counts_of self.old.faults self.old.read_faults self.old.waits self.old.polls))).log }
+        ensures spends { OnlyReads (is_err result) (mirror_state (A.state self.old.a.disk) (B.state self.old.b.disk) self.old.order (counts_of self.old.faults self.old.read_faults self.old.waits self.old.polls)) (mirror_state (A.state self.new.a.disk) (B.state self.new.b.disk) self.new.order (counts_of self.new.faults self.new.read_faults self.new.waits self.new.polls)) }
+        ensures down { OnErr result (NoneLive self.new.a.live self.new.b.live) }
+    {
+        if self.read_first(b, into) {
+            return Ok(());
+        }
+        if self.read_second(b, into) {
+            return Ok(());
+        }
+        self.read_faults = self.read_faults.saturating_add(1);
+        Err(DiskFault)
+    }
+
+    fn write(&mut self, b: u32, from: &Block) -> Result<u64, DiskFault>
+        requires { b < (A.state self.old.a.disk).blocks }
+        ensures log { IsTrue (A.tells && B.tells) → AddsWrite b from.now result ((mirror_state (A.state self.old.a.disk) (B.state self.old.b.disk) self.old.order (counts_of self.old.faults self.old.read_faults self.old.waits self.old.polls))).log ((mirror_state (A.state self.new.a.disk) (B.state self.new.b.disk) self.new.order (counts_of self.new.faults self.new.read_faults self.new.waits self.new.polls))).log }
+        ensures spends { OnlyWrites (is_err result) (mirror_state (A.state self.old.a.disk) (B.state self.old.b.disk) self.old.order (counts_of self.old.faults self.old.read_faults self.old.waits self.old.polls)) (mirror_state (A.state self.new.a.disk) (B.state self.new.b.disk) self.new.order (counts_of self.new.faults self.new.read_faults self.new.waits self.new.polls)) }
+        ensures down { OnErr result (NoneLive self.new.a.live self.new.b.live ⊎ (self.old.order.room ≤ length self.old.order.pairs)) }
+    {
+        if self.order.is_full() {
+            self.faults = self.faults.saturating_add(1);
+            return Err(DiskFault);
+        }
+        if !self.is_live() {
+            self.faults = self.faults.saturating_add(1);
+            return Err(DiskFault);
+        }
+        self.write_both(b, from)
+    }
+
+    fn poll(&mut self) -> Result<Option<u64>, DiskFault>
+        ensures log { IsTrue (A.tells && B.tells) → AddsPoll result ((mirror_state (A.state self.old.a.disk) (B.state self.old.b.disk) self.old.order (counts_of self.old.faults self.old.read_faults self.old.waits self.old.polls))).log ((mirror_state (A.state self.new.a.disk) (B.state self.new.b.disk) self.new.order (counts_of self.new.faults self.new.read_faults self.new.waits self.new.polls))).log }
+        ensures spends { OnlyPolls (is_err result) (mirror_state (A.state self.old.a.disk) (B.state self.old.b.disk) self.old.order (counts_of self.old.faults self.old.read_faults self.old.waits self.old.polls)) (mirror_state (A.state self.new.a.disk) (B.state self.new.b.disk) self.new.order (counts_of self.new.faults self.new.read_faults self.new.waits self.new.polls)) }
+        ensures down { OnErr result (NoneLive self.new.a.live self.new.b.live) }
+        ensures least { (rows : List Heard)
+            × (IsTrue (A.tells && B.tells) → HearsBoth self.old.order.pairs (A.state self.old.a.disk).log (A.state self.new.a.disk).log (B.state self.old.b.disk).log (B.state self.new.b.disk).log self.old.order.heard rows)
+            × IfOk result (λ ticket. (ticket ≡ first_ready self.new.a.live self.new.b.live rows) × (self.new.order.heard ≡ after_report ticket rows)) }
+    {
+        self.polls = self.polls.saturating_add(1);
+        self.poll_first();
+        self.poll_second();
+        if !self.is_live() {
+            self.faults = self.faults.saturating_add(1);
+            return Err(DiskFault);
+        }
+        Ok(self.report_next())
+    }
+
+    fn wait(&mut self, ticket: u64) -> Result<(), DiskFault>
+        ensures log { IsTrue (A.tells && B.tells) → AddsNotices ((mirror_state (A.state self.old.a.disk) (B.state self.old.b.disk) self.old.order (counts_of self.old.faults self.old.read_faults self.old.waits self.old.polls))).log ((mirror_state (A.state self.new.a.disk) (B.state self.new.b.disk) self.new.order (counts_of self.new.faults self.new.read_faults self.new.waits self.new.polls))).log }
+        ensures noticed { IsTrue (A.tells && B.tells) → OnOk result (IsNoticed ticket ((mirror_state (A.state self.new.a.disk) (B.state self.new.b.disk) self.new.order (counts_of self.new.faults self.new.read_faults self.new.waits self.new.polls))).log) }
+        ensures spends { OnlyWaits (is_err result) (mirror_state (A.state self.old.a.disk) (B.state self.old.b.disk) self.old.order (counts_of self.old.faults self.old.read_faults self.old.waits self.old.polls)) (mirror_state (A.state self.new.a.disk) (B.state self.new.b.disk) self.new.order (counts_of self.new.faults self.new.read_faults self.new.waits self.new.polls)) }
+        ensures alone { IsTrue (A.tells && B.tells) → HearsAlone ticket ((mirror_state (A.state self.old.a.disk) (B.state self.old.b.disk) self.old.order (counts_of self.old.faults self.old.read_faults self.old.waits self.old.polls))).log ((mirror_state (A.state self.new.a.disk) (B.state self.new.b.disk) self.new.order (counts_of self.new.faults self.new.read_faults self.new.waits self.new.polls))).log }
+        ensures down { OnErr result (NoneLive self.new.a.live self.new.b.live ⊎ IsUngiven ticket (length self.old.order.pairs)) }
+    {
+        self.waits = self.waits.saturating_add(1);
+        if !self.order.has(ticket) {
+            self.misasked = true;
+            self.faults = self.faults.saturating_add(1);
+            return Err(DiskFault);
+        }
+        self.wait_first(ticket);
+        self.wait_second(ticket);
+        if !self.is_live() {
+            self.faults = self.faults.saturating_add(1);
+            return Err(DiskFault);
+        }
+        self.report(ticket);
+        Ok(())
+    }
+}
