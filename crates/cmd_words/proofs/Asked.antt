@@ -1,6 +1,6 @@
 -- The request of texts with their names: how it is read from what `clap` keeps, which texts ask for nothing, and the ranges.
 use mathlib.Core.Path.{fun_ext}
-use Rattle.std.proofs.Common.{◌≡◌, ◌≢◌, arith, inl, inr, ◌≤◌, ◌&&◌, ◌||◌, ℕ, Bool, true, false, cond, List, [], ◌∷◌, Option, Some, None, refl, sym, ap, ◌∙◌, codes, bytes_eq}
+use Rattle.std.proofs.Common.{◌≡◌, ◌≢◌, arith, inl, inr, ◌≤◌, ◌||◌, ℕ, Bool, true, false, cond, List, [], ◌∷◌, Option, Some, None, refl, sym, ap, ◌∙◌, codes, bytes_eq}
 use Rattle.std.specs.Prelude.{IfSome, find, if◌then◌else◌, option_and_then, option_map, slice_get, unwrap_or}
 use Rattle.std.proofs.lemmas.Bool.{false≢true}
 use Rattle.std.proofs.lemmas.Slice.Eq.{bytes_eq-Decides}
@@ -57,12 +57,6 @@ copy_lacks_other : (a : Option Text) → copy_with a None ≡ None
 copy_lacks_other a = grind arith
 
 -- the texts in their places
-abbrev blocks_in : Option Text → Option ℕ
-blocks_in = option_and_then (number_in 64 1048576)
-
-abbrev count_in : Option Text → Option ℕ
-count_in = option_and_then (number_in 16 65536)
-
 abbrev notices_in : Option Text → Option Notices
 notices_in = value_or Silent notices_of
 
