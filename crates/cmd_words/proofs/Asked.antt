@@ -1,16 +1,17 @@
 -- The request of texts with their names: how it is read from what `clap` keeps, which texts ask for nothing, and the ranges.
 use mathlib.Core.Path.{fun_ext}
-use Rattle.std.proofs.Common.{◌≡◌, arith, inl, inr, ◌≤◌, ◌&&◌, ◌||◌, ℕ, Bool, true, false, cond, List, [], ◌∷◌, Option, Some, None, refl, sym, ap, ◌∙◌, codes, bytes_eq}
+use Rattle.std.proofs.Common.{◌≡◌, ◌≢◌, arith, inl, inr, ◌≤◌, ◌||◌, ℕ, Bool, true, false, cond, List, [], ◌∷◌, Option, Some, None, refl, sym, ap, ◌∙◌, codes, bytes_eq}
 use Rattle.std.specs.Prelude.{IfSome, find, if◌then◌else◌, option_and_then, option_map, slice_get, unwrap_or}
 use Rattle.std.proofs.lemmas.Bool.{false≢true}
+use Rattle.std.proofs.lemmas.Slice.Eq.{bytes_eq-Decides}
 use Rattle.clap.specs.Walk.{Row, Text, first_of}
 use Rattle.disk_memory.specs.Choice.{ChoiceState}
 use Rattle.cmd_words.specs.ChoiceTexts.{choice_of}
-use Rattle.cmd_words.specs.declared.request.Request.TheVariants.{Run, Tree}
+use Rattle.cmd_words.specs.declared.request.Request.TheVariants.{Copy, RunMirrored, Tree}
 use Rattle.cmd_words.specs.declared.request.Notices.{Notices}
 use Rattle.cmd_words.specs.declared.request.Notices.TheVariants.{Silent, Fifo, Seed}
 use Rattle.cmd_words.specs.Program.{kept}
-use Rattle.cmd_words.specs.Words.{Command, to_record, to_replay, to_show, to_make, to_run, to_load, words_of, options_of, command_of, HasSeedInRange, IsInRange, Named, are_apart, has_name, load_of, load_with, make_of, make_with, named, notices_of, number_in, record_of, recording_of, replay_at, asked, asked_apart, asked_with, request_of_texts, seed_of, text_of, value_or}
+use Rattle.cmd_words.specs.Words.{Command, to_record, to_replay, to_show, to_make, to_run, to_load, to_copy, words_of, options_of, command_of, HasSeedInRange, IsInRange, Named, are_apart, copy_of, copy_with, has_name, load_of, load_with, make_of, make_with, named, notices_of, number_in, record_of, recording_of, replay_at, run_with, asked, asked_apart, asked_with, request_of_texts, seed_of, text_of, value_or}
 use Rattle.cmd_words.proofs.Apart.{rows}
 use Rattle.cmd_words.proofs.Steps.{AsksNothing, Refused, has_needed}
 use Rattle.cmd_words.proofs.Texts.{number_range, seed_range}
@@ -39,7 +40,7 @@ lacks_journal a c d e f = grind arith
 lacks_nodes : (a b : Option ℕ) (d : Option Notices) (e : Option ℕ) (f : Option (Option ℕ)) → record_of a b None d e f ≡ None
 lacks_nodes a b d e f = grind arith
 
--- and neither is a making, or a load
+-- and neither is a making, a load, or a copying
 made_lacks_blocks : (a : Option Text) (c d : Option ℕ) → make_with a None c d ≡ None
 made_lacks_blocks a c d = grind arith
 
@@ -52,13 +53,10 @@ made_lacks_nodes a b c = grind arith
 load_lacks_count : (a : Option ℕ) → load_with a None ≡ None
 load_lacks_count a = grind arith
 
+copy_lacks_other : (a : Option Text) → copy_with a None ≡ None
+copy_lacks_other a = grind arith
+
 -- the texts in their places
-abbrev blocks_in : Option Text → Option ℕ
-blocks_in = option_and_then (number_in 64 1048576)
-
-abbrev count_in : Option Text → Option ℕ
-count_in = option_and_then (number_in 16 65536)
-
 abbrev notices_in : Option Text → Option Notices
 notices_in = value_or Silent notices_of
 
@@ -88,11 +86,15 @@ made_missing texts h =
 load_missing : (texts : List Named) → has_needed to_load texts ≡ false → load_of (text_of texts) ≡ None
 load_missing texts h = grind (arith, no_name texts (codes "seed"), no_name texts (codes "count"), load_lacks_count)
 
+copy_missing : (texts : List Named) → has_needed to_copy texts ≡ false → copy_of (text_of texts) ≡ None
+copy_missing texts h = grind (arith, no_name texts (codes "image"), no_name texts (codes "other"), copy_lacks_other)
+
 needed_missing : (k : Command) (texts : List Named) → has_needed k texts ≡ false → asked k (text_of texts) ≡ None
 needed_missing to_record texts h = numbers_missing texts h
 needed_missing to_replay texts h = rw (no_name texts (codes "at") h) refl
 needed_missing to_make texts h = made_missing texts h
 needed_missing to_load texts h = load_missing texts h
+needed_missing to_copy texts h = copy_missing texts h
 needed_missing other texts h = rw (no_name texts (codes "image") h) refl
 
 pub refused_none : (k : Command) (want : Option (List Named)) → Refused k want → option_and_then (asked_apart k) want ≡ None
@@ -153,6 +155,25 @@ load_range : (a b : Option ℕ) → IfSome a (λ n. (0 ≤ n) × (n ≤ 42949672
 load_range (Some a) (Some b) ha hb = (ha.1, hb.1)
 load_range other b ha hb = tt
 
+-- two names that a test tells apart
+differ : (image other : Text) → bytes_eq image other ≡ false → image ≢ other
+differ image other apart same = false≢true (sym apart ∙ (bytes_eq-Decides image other).1 same)
+
+run_range : (image other : Option Text) → IsInRange (run_with image other)
+run_range None other = tt
+run_range (Some image) None = tt
+run_range (Some image) (Some other) = elim (bytes_eq image other) as (λ b. bytes_eq image other ≡ b → IsInRange (if b then None else Some (RunMirrored image other))) [
+  | true ↦ λ e. tt
+  | false ↦ λ e. differ image other e
+] refl
+
+copy_range : (image other : Option Text) → IsInRange (copy_with image other)
+copy_range (Some image) (Some other) = elim (bytes_eq image other) as (λ b. bytes_eq image other ≡ b → IsInRange (if b then None else Some (Copy image other))) [
+  | true ↦ λ e. tt
+  | false ↦ λ e. differ image other e
+] refl
+copy_range image other = tt
+
 pub asked_range : (words : List Text) → IsInRange (request_of_texts words)
 asked_range [] = tt
 asked_range (name ∷ words) = elim (command_of name) as (λ o. IsInRange (option_and_then (asked_with words) o)) [ None ↦ tt | Some k ↦ by_texts k (named (options_of k) words None (words_of k)) ]
@@ -164,9 +185,10 @@ asked_range (name ∷ words) = elim (command_of name) as (λ o. IsInRange (optio
     text_range to_show text = elim (text (codes "image")) as (λ o. IsInRange (option_map (λ image. Tree image) o)) [ None ↦ tt | Some image ↦ tt ]
     text_range to_make text = make_range (text (codes "image")) _ _ _ (given_range 64 1048576 (text (codes "blocks")))
         (given_range 16 65536 (text (codes "journal"))) (given_range 16 65536 (text (codes "nodes")))
-    text_range to_run text = elim (text (codes "image")) as (λ o. IsInRange (option_map (λ image. Run image) o)) [ None ↦ tt | Some image ↦ tt ]
+    text_range to_run text = run_range (text (codes "image")) (text (codes "mirror"))
     text_range to_load text = load_range (option_and_then (number_in 0 4294967295) (text (codes "seed"))) (option_and_then (number_in 0 2000) (text (codes "count")))
         (given_range 0 4294967295 (text (codes "seed"))) (given_range 0 2000 (text (codes "count")))
+    text_range to_copy text = copy_range (text (codes "image")) (text (codes "other"))
 
     apart_range : (k : Command) (b : Bool) (texts : List Named) → IsInRange (if b then asked k (text_of texts) else None)
     apart_range k true texts = text_range k (text_of texts)

@@ -16,8 +16,8 @@ use Rattle.clap.specs.Takes.{is_given}
 use Rattle.clap.specs.declared.builder.value_parser.Reading.TheVariants.{AsWritten}
 use Rattle.clap.specs.declared.error.kind.ErrorKind.TheVariants.{ArgumentConflict}
 use Rattle.clap.specs.declared.parser.matches.ValueSource.TheVariants.{CommandLine}
-use Rattle.cmd_words.specs.Program.{loading, making, recording, replaying, running, showing, kept, word as word_rule, option as option_rule}
-use Rattle.cmd_words.specs.Words.{Command, to_record, to_replay, to_show, to_make, to_run, to_load, name_of, Named, has_name, are_apart}
+use Rattle.cmd_words.specs.Program.{copying, loading, making, recording, replaying, running, showing, kept, word as word_rule, option as option_rule}
+use Rattle.cmd_words.specs.Words.{Command, to_record, to_replay, to_show, to_make, to_run, to_load, to_copy, name_of, Named, has_name, are_apart}
 use Rattle.cmd_words.proofs.Apart.{rows, has_row_is, without_fresh, with_fresh, apart_repeat, apart_more}
 
 -- ---- lists of kinds
@@ -55,6 +55,7 @@ made to_show = showing
 made to_make = making
 made to_run = running
 made to_load = loading
+made to_copy = copying
 
 abbrev pub rules : Command → List Rule
 rules k = filled_from 1 (made k).top.rules
@@ -214,6 +215,11 @@ check_one : (a : Bool) → is_clean (check_kinds false false (not a || false)) �
 check_one true = refl
 check_one false = refl
 
+-- and where two must
+check_two : (a b : Bool) → is_clean (check_kinds false false (not a || (not b || false))) ≡ (a && b)
+check_two true true = refl
+check_two other b = refl
+
 pub no_defaults_in : (k : Command) → no_defaults (rules k) ≡ true
 no_defaults_in to_record = refl
 no_defaults_in other = refl
@@ -226,6 +232,7 @@ has_needed to_show texts = has_name (codes "image") texts
 has_needed to_make texts = has_name (codes "image") texts && (has_name (codes "blocks") texts && (has_name (codes "journal") texts && has_name (codes "nodes") texts))
 has_needed to_run texts = has_name (codes "image") texts
 has_needed to_load texts = has_name (codes "seed") texts && has_name (codes "count") texts
+has_needed to_copy texts = has_name (codes "image") texts && has_name (codes "other") texts
 
 check_is : (k : Command) (texts : List Named) → is_clean (check_fault (shape k) (rows texts) false) ≡ has_needed k texts
 check_is to_record texts =
@@ -246,12 +253,11 @@ check_is to_make texts =
     go other b c d = refl
 check_is to_run texts = check_one (is_given (codes "image") (rows texts)) ∙ given_is (codes "image") texts
 check_is to_load texts =
-    go (is_given (codes "seed") (rows texts)) (is_given (codes "count") (rows texts))
+    check_two (is_given (codes "seed") (rows texts)) (is_given (codes "count") (rows texts))
     ∙ rw (given_is (codes "seed") texts, given_is (codes "count") texts) refl
-  where
-    go : (a b : Bool) → is_clean (check_kinds false false (not a || (not b || false))) ≡ (a && b)
-    go true true = refl
-    go other b = refl
+check_is to_copy texts =
+    check_two (is_given (codes "image") (rows texts)) (is_given (codes "other") (rows texts))
+    ∙ rw (given_is (codes "image") texts, given_is (codes "other") texts) refl
 
 -- the faults of the end
 abbrev pub end_faults : Command → Held → Kinds

@@ -13,7 +13,7 @@ use Rattle.clap.specs.Walk.{Held, Row, Rule, Step, Text, Waiting, Walk, bundle_m
 use Rattle.clap.specs.declared.builder.value_parser.Reading.TheVariants.{AsWritten}
 use Rattle.clap.specs.declared.error.kind.ErrorKind.TheVariants.{TooManyValues}
 use Rattle.clap.specs.declared.parser.matches.ValueSource.TheVariants.{CommandLine}
-use Rattle.cmd_words.specs.Words.{Command, to_record, to_replay, to_show, to_make, to_run, to_load, words_of, options_of, Named, is_flag, before, with_next, with_option, with_word, placed, named, are_apart}
+use Rattle.cmd_words.specs.Words.{Command, to_record, to_replay, to_show, to_make, to_run, to_load, to_copy, words_of, options_of, Named, is_flag, before, with_next, with_option, with_word, placed, named, are_apart}
 use Rattle.cmd_words.proofs.Apart.{rows}
 use Rattle.cmd_words.proofs.Steps.{is_clean, unclean_first, unclean_second, clean_first, or_else_nil, or_else_assoc, shape, rules, held_at, at, pends, listed, IsArg, is_arg, at_place, by_name, rule_as, IsKept, IsRepeated, settles, end_faults, Refused, Fate, behind, ends}
 
@@ -87,6 +87,7 @@ names_from to_record third = codes "nodes" ∷ []
 names_from to_make second = codes "blocks" ∷ codes "journal" ∷ codes "nodes" ∷ []
 names_from to_make third = codes "journal" ∷ codes "nodes" ∷ []
 names_from to_make fourth = codes "nodes" ∷ []
+names_from to_copy second = codes "other" ∷ []
 names_from k place = []
 
 -- the walk over these words finds what `rest` says of them, wherever it stands
@@ -118,6 +119,8 @@ at_each to_make second = inr record { name = codes "blocks"; next = third; is = 
 at_each to_make third = inr record { name = codes "journal"; next = fourth; is = is_arg to_make (codes "journal") (at_place 3) refl; there = refl; names = refl; leads = refl }
 at_each to_make fourth = inr record { name = codes "nodes"; next = past; is = is_arg to_make (codes "nodes") (at_place 4) refl; there = refl; names = refl; leads = refl }
 at_each to_run first = inr record { name = codes "image"; next = second; is = is_arg to_run (codes "image") (at_place 1) refl; there = refl; names = refl; leads = refl }
+at_each to_copy first = inr record { name = codes "image"; next = second; is = is_arg to_copy (codes "image") (at_place 1) refl; there = refl; names = refl; leads = refl }
+at_each to_copy second = inr record { name = codes "other"; next = third; is = is_arg to_copy (codes "other") (at_place 2) refl; there = refl; names = refl; leads = refl }
 at_each other place = inl record { there = refl; names = refl }
 
 -- the faults of such a word, by the test whether the last word was this one's too, and where it leads
@@ -412,6 +415,10 @@ replay_option false true c = (false, is_arg to_replay (codes "stand") (by_name f
 replay_option false false true = (false, is_arg to_replay (codes "tear") (by_name false) refl, refl)
 replay_option false false false = tt
 
+run_option : (a : Bool) → IsOption to_run (cond (a || false) (Some (rule_as (by_name false) (codes "mirror"))) None) (cond a (Some (codes "mirror")) None)
+run_option true = (false, is_arg to_run (codes "mirror") (by_name false) refl, refl)
+run_option false = tt
+
 load_option : (a b : Bool) → IsOption to_load
     (cond (a || false) (Some (rule_as (by_name true) (codes "seed"))) (cond (b || false) (Some (rule_as (by_name true) (codes "count"))) None))
     (cond a (Some (codes "seed")) (cond b (Some (codes "count")) None))
@@ -422,6 +429,7 @@ load_option false false = tt
 is_option : (k : Command) (name : Text) → IsOption k (arg_by_long (rules k) name) (find (λ known. bytes_eq known name) (options_of k))
 is_option to_record name = record_option (bytes_eq (codes "notices") name) (bytes_eq (codes "room") name) (bytes_eq (codes "fail") name)
 is_option to_replay name = replay_option (bytes_eq (codes "at") name) (bytes_eq (codes "stand") name) (bytes_eq (codes "tear") name)
+is_option to_run name = run_option (bytes_eq (codes "mirror") name)
 is_option to_load name = load_option (bytes_eq (codes "seed") name) (bytes_eq (codes "count") name)
 is_option other name = tt
 

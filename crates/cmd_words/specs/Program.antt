@@ -38,13 +38,17 @@ abbrev pub making : App
 making = with_rule (with_rule (with_rule (with_rule (new_app (codes "mkfs"))
     (word (codes "image"))) (word (codes "blocks"))) (word (codes "journal"))) (word (codes "nodes"))
 
--- `run` with its word
+-- `run` with its word and its option
 abbrev pub running : App
-running = with_rule (new_app (codes "run")) (word (codes "image"))
+running = with_rule (with_rule (new_app (codes "run")) (word (codes "image"))) (option (codes "mirror"))
 
 -- `load` with its options
 abbrev pub loading : App
 loading = with_rule (with_rule (new_app (codes "load")) (needed (codes "seed"))) (needed (codes "count"))
+
+-- `copy` with its two words
+abbrev pub copying : App
+copying = with_rule (with_rule (new_app (codes "copy")) (word (codes "image"))) (word (codes "other"))
 
 -- words behind the program's name, of which the first is a subcommand; and no help
 abbrev pub bare : Shape
@@ -57,8 +61,8 @@ bare = record (new_app (codes "optfs")).top {
 
 -- the whole command line
 abbrev pub program : App
-program = with_subcommand (with_subcommand (with_subcommand (with_subcommand (with_subcommand (with_subcommand (record { top = bare; subs = [] })
-    recording.top) replaying.top) showing.top) making.top) running.top) loading.top
+program = with_subcommand (with_subcommand (with_subcommand (with_subcommand (with_subcommand (with_subcommand (with_subcommand (record { top = bare; subs = [] })
+    recording.top) replaying.top) showing.top) making.top) running.top) loading.top) copying.top
 
 -- what `clap` keeps of a text with a name
 abbrev pub kept : Named → Row

@@ -1,5 +1,5 @@
 -- What the words of the command line ask for. The rules are described in docs/WORDS.md.
-use Rattle.std.specs.Prelude.{◌≤◌, ⊤, ℕ, ◌==◌, ◌&&◌, Bool, true, false, not, List, [], ◌∷◌, Option, Some, None, IfSome, is_some, find, map, length, nat_lt, nat_le, if◌then◌else◌, codes, decimal, option_map, option_and_then, slice_get, string_bytes, unwrap_or}
+use Rattle.std.specs.Prelude.{◌≤◌, ◌≢◌, ⊤, ℕ, ◌==◌, ◌&&◌, Bool, true, false, not, List, [], ◌∷◌, Option, Some, None, IfSome, is_some, find, map, length, nat_lt, nat_le, if◌then◌else◌, codes, decimal, option_map, option_and_then, slice_get, string_bytes, unwrap_or}
 use Rattle.std.specs.List.{list_any}
 use Rattle.std.specs.Str.{bytes_eq, all_ascii_digits, chars}
 use Rattle.std.specs.Str.Parse.{digits_value, without_leading_plus}
@@ -9,7 +9,7 @@ use Rattle.clap.specs.Lexer.{long_of}
 use Rattle.disk_memory.specs.Choice.{ChoiceState}
 use Rattle.cmd_words.specs.ChoiceTexts.{choice_of}
 use Rattle.cmd_words.specs.declared.request.Request.{Request}
-use Rattle.cmd_words.specs.declared.request.Request.TheVariants.{Record, Replay, Tree, Make, Run, Load}
+use Rattle.cmd_words.specs.declared.request.Request.TheVariants.{Record, Replay, Tree, Make, Run, RunMirrored, Copy, Load}
 use Rattle.cmd_words.specs.declared.request.Notices.{Notices}
 use Rattle.cmd_words.specs.declared.request.Notices.TheVariants.{Silent, Fifo, Seed}
 
@@ -38,7 +38,7 @@ notices_of text =
 
 -- ---- the commands
 
--- what a run is asked for: to record a script, to replay a trace, to show the tree of an image, to make an image, to run a script on one, or a load
+-- what a run is asked for: to record a script, to replay a trace, to show the tree of an image, to make an image, to run a script on one or two, a load, or to copy an image
 pub data Command : Type 0 where
   to_record : Command
   to_replay : Command
@@ -46,6 +46,7 @@ pub data Command : Type 0 where
   to_make : Command
   to_run : Command
   to_load : Command
+  to_copy : Command
 
 -- the word that names the command
 abbrev pub name_of : Command → List ℕ
@@ -55,6 +56,7 @@ name_of to_show = codes "tree"
 name_of to_make = codes "mkfs"
 name_of to_run = codes "run"
 name_of to_load = codes "load"
+name_of to_copy = codes "copy"
 
 -- the words that must stand behind it, in their order
 abbrev pub words_of : Command → List (List ℕ)
@@ -64,6 +66,7 @@ words_of to_show = codes "image" ∷ []
 words_of to_make = codes "image" ∷ codes "blocks" ∷ codes "journal" ∷ codes "nodes" ∷ []
 words_of to_run = codes "image" ∷ []
 words_of to_load = []
+words_of to_copy = codes "image" ∷ codes "other" ∷ []
 
 -- its options
 abbrev pub options_of : Command → List (List ℕ)
@@ -71,8 +74,9 @@ options_of to_record = codes "notices" ∷ codes "room" ∷ codes "fail" ∷ []
 options_of to_replay = codes "at" ∷ codes "stand" ∷ codes "tear" ∷ []
 options_of to_show = []
 options_of to_make = []
-options_of to_run = []
+options_of to_run = codes "mirror" ∷ []
 options_of to_load = codes "seed" ∷ codes "count" ∷ []
+options_of to_copy = []
 
 -- the command that a word names
 abbrev pub command_of : List ℕ → Option Command
@@ -82,7 +86,8 @@ command_of word =
     else if bytes_eq (codes "tree") word then Some to_show
     else if bytes_eq (codes "mkfs") word then Some to_make
     else if bytes_eq (codes "run") word then Some to_run
-    else if bytes_eq (codes "load") word then Some to_load else None
+    else if bytes_eq (codes "load") word then Some to_load
+    else if bytes_eq (codes "copy") word then Some to_copy else None
 
 -- ---- which texts stand behind the command
 
@@ -194,9 +199,24 @@ make_of text = make_with
     (option_and_then (number_in 16 65536) (text (codes "journal")))
     (option_and_then (number_in 16 65536) (text (codes "nodes")))
 
--- the run on the image with this name
+-- the run on the image with this name; or on it and another one with that name, where the names differ
+abbrev pub run_with : Option (List ℕ) → Option (List ℕ) → Option Request
+run_with None other = None
+run_with (Some image) None = Some (Run image)
+run_with (Some image) (Some other) = if bytes_eq image other then None else Some (RunMirrored image other)
+
+-- the run whose word and option have these texts: the name of the image; and that of the one that is kept alike, or none is
 abbrev pub run_of : (List ℕ → Option (List ℕ)) → Option Request
-run_of text = option_map (λ image. Run image) (text (codes "image"))
+run_of text = run_with (text (codes "image")) (text (codes "mirror"))
+
+-- the copying of the image with this name to the one with that name, where the names differ
+abbrev pub copy_with : Option (List ℕ) → Option (List ℕ) → Option Request
+copy_with (Some image) (Some other) = if bytes_eq image other then None else Some (Copy image other)
+copy_with _ _ = None
+
+-- the copying whose words have these texts
+abbrev pub copy_of : (List ℕ → Option (List ℕ)) → Option Request
+copy_of text = copy_with (text (codes "image")) (text (codes "other"))
 
 -- the load of this seed with so many commands, where both are there
 abbrev pub load_with : Option ℕ → Option ℕ → Option Request
@@ -217,6 +237,7 @@ asked to_show = tree_of
 asked to_make = make_of
 asked to_run = run_of
 asked to_load = load_of
+asked to_copy = copy_of
 
 -- the same of the command that a word names
 abbrev pub asked_by : List ℕ → (List ℕ → Option (List ℕ)) → Option Request
@@ -244,7 +265,7 @@ abbrev pub HasSeedInRange : Notices → Type 0
 HasSeedInRange (Seed seed) = (1 ≤ seed) × (seed ≤ 4294967295)
 HasSeedInRange _ = ⊤
 
--- each number of a request is in its range; which numbers a choice has is said where it is read
+-- each number of a request is in its range, and two images have two names; which numbers a choice has is said where it is read
 abbrev pub IsInRange : Option Request → Type 0
 IsInRange None = ⊤
 IsInRange (Some (Record blocks journal nodes notices room fail)) =
@@ -255,4 +276,6 @@ IsInRange (Some (Tree image)) = ⊤
 IsInRange (Some (Make image blocks journal nodes)) =
     (64 ≤ blocks) × (blocks ≤ 1048576) × (16 ≤ journal) × (journal ≤ 65536) × (16 ≤ nodes) × (nodes ≤ 65536)
 IsInRange (Some (Run image)) = ⊤
+IsInRange (Some (RunMirrored image other)) = image ≢ other
+IsInRange (Some (Copy image other)) = image ≢ other
 IsInRange (Some (Load seed count)) = (seed ≤ 4294967295) × (count ≤ 2000)

@@ -4,7 +4,7 @@
 ghost use Rattle.std.specs.Prelude.{◌≡◌, IfOk, false};
 ghost use Rattle.clap.specs.Words.{app_of, rule_of, with_rule, with_subcommand};
 ghost use Rattle.clap.specs.declared.builder.command.Command.TheViews.{out-Command as fields_of};
-ghost use Rattle.cmd_words.specs.Program.{loading, making, needed, option, program, recording, replaying, running, showing, word};
+ghost use Rattle.cmd_words.specs.Program.{copying, loading, making, needed, option, program, recording, replaying, running, showing, word};
 
 use base_types::NoMemory;
 use clap::{Arg, ArgAction, Command};
@@ -55,6 +55,15 @@ pub const MKFS: &str = "mkfs";
 /// The name of the command that runs a script on an image.
 pub const RUN: &str = "run";
 
+/// The name of the image that is kept alike in a run.
+pub const MIRROR: &str = "mirror";
+
+/// The name of the command that copies an image.
+pub const COPY: &str = "copy";
+
+/// The name of the image that it makes.
+pub const OTHER: &str = "other";
+
 /// The name of the command that asks for a load.
 pub const LOAD: &str = "load";
 
@@ -82,6 +91,7 @@ pub fn program<'a>(alloc: Global) -> Result<Command<'a>, NoMemory>
     let line = with_mkfs(alloc, line)?;
     let line = with_run(alloc, line)?;
     let line = with_load(alloc, line)?;
+    let line = with_copy(alloc, line)?;
     Ok(line)
 }
 
@@ -136,6 +146,15 @@ fn with_load<'a>(alloc: Global, line: Command<'a>) -> Result<Command<'a>, NoMemo
 {
     let loading = load_command(alloc)?;
     let command = line.subcommand(loading)?;
+    Ok(command)
+}
+
+/// This command line with `copy`.
+fn with_copy<'a>(alloc: Global, line: Command<'a>) -> Result<Command<'a>, NoMemory>
+    ensures { IfOk result (λ command. app_of command ≡ with_subcommand (app_of line.entry) copying.top) }
+{
+    let copying = copy_command(alloc)?;
+    let command = line.subcommand(copying)?;
     Ok(command)
 }
 
@@ -196,6 +215,7 @@ fn run_command<'a>(alloc: Global) -> Result<Command<'a>, NoMemory>
 {
     let command = Command::new(alloc, RUN);
     let command = with_word(alloc, command, IMAGE)?;
+    let command = with_option(alloc, command, MIRROR)?;
     Ok(command)
 }
 
@@ -207,6 +227,17 @@ fn load_command<'a>(alloc: Global) -> Result<Command<'a>, NoMemory>
     let command = Command::new(alloc, LOAD);
     let command = with_needed(alloc, command, SEED)?;
     let command = with_needed(alloc, command, COUNT)?;
+    Ok(command)
+}
+
+/// The command `copy`.
+fn copy_command<'a>(alloc: Global) -> Result<Command<'a>, NoMemory>
+    ensures app { IfOk result (λ command. app_of command ≡ copying) }
+    ensures local { IfOk result (λ command. (fields_of command).has_globals ≡ false) }
+{
+    let command = Command::new(alloc, COPY);
+    let command = with_word(alloc, command, IMAGE)?;
+    let command = with_word(alloc, command, OTHER)?;
     Ok(command)
 }
 

@@ -4,7 +4,8 @@
 use crate::choice_parse::parse_choice;
 use crate::choice_refusal::ChoiceRefusal;
 use crate::command::{
-    AT, BLOCKS, COUNT, FAIL, JOURNAL, NODES, NOTICES, ROOM, SEED, STAND, TEAR, program,
+    AT, BLOCKS, COUNT, FAIL, IMAGE, JOURNAL, MIRROR, NODES, NOTICES, OTHER, ROOM, SEED, STAND,
+    TEAR, program,
 };
 use crate::request::{MOST_COUNT, MOST_ROOM};
 use crate::values::{notices_of, number_in};
@@ -61,6 +62,12 @@ fn of_texts(alloc: Global, found: &ArgMatches) -> Result<String, NoMemory> {
             return Ok(format!(in alloc;
                 "'{text}' is none of none, fifo and a seed from 1 to 4294967295"
             )?);
+        }
+    }
+    let other = found.get_str(MIRROR).or(found.get_str(OTHER));
+    if let (Some(image), Some(other)) = (found.get_str(IMAGE), other) {
+        if image == other {
+            return Ok(format!(in alloc; "'{other}' is the name of both images")?);
         }
     }
     of_lists(alloc, found)

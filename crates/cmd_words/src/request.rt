@@ -1,15 +1,15 @@
 //! The request that words ask for: its type, and how it is read from them. How `clap` is known of the
 //! command line is in the module of the command, and what one text says in that of the values.
 
-ghost use Rattle.std.specs.Prelude.{◌≡◌, IfOk, codes, option_and_then};
+ghost use Rattle.std.specs.Prelude.{◌≡◌, IfOk, bytes_eq, option_and_then};
 ghost use Rattle.clap.specs.Words.{first_value, found_of};
-ghost use Rattle.cmd_words.specs.Words.{IsInRange, asked_by, load_of, make_of, number_in, recording_of, replay_of, request_of, run_of, tree_of};
+ghost use Rattle.cmd_words.specs.Words.{IsInRange, asked_by, copy_of, load_of, make_of, number_in, recording_of, replay_of, request_of, run_of, tree_of};
 
 use crate::choice_parse::parse_choice;
 use crate::choice_refusal::ChoiceRefusal;
 use crate::command::{
-    AT, BLOCKS, COUNT, FAIL, IMAGE, JOURNAL, LOAD, MKFS, NODES, NOTICES, RECORD, REPLAY, ROOM, RUN,
-    SEED, STAND, TEAR, TREE, program,
+    AT, BLOCKS, COPY, COUNT, FAIL, IMAGE, JOURNAL, LOAD, MIRROR, MKFS, NODES, NOTICES, OTHER,
+    RECORD, REPLAY, ROOM, RUN, SEED, STAND, TEAR, TREE, program,
 };
 use crate::values::{notices_of, number_in};
 use crate::word::Word;
@@ -69,6 +69,16 @@ pub enum Request {
     /// Run a script on the image with this name.
     Run {
         image: Word,
+    },
+    /// Run a script on the images with these two names, which are kept alike. The names differ.
+    RunMirrored {
+        image: Word,
+        other: Word,
+    },
+    /// Copy the image with the first name to the one with the second. The names differ.
+    Copy {
+        image: Word,
+        other: Word,
     },
     /// The load of this seed: the commands that it decides (docs/LOADS.md).
     Load {
@@ -140,6 +150,10 @@ fn requested(alloc: Global, name: &str, found: &ArgMatches) -> Result<Option<Req
     if LOAD == name {
         return Ok(loading(found));
     }
+    if COPY == name {
+        let request = copying(alloc, found)?;
+        return Ok(request);
+    }
     Ok(None)
 }
 
@@ -201,7 +215,7 @@ fn replaying(alloc: Global, found: &ArgMatches) -> Result<Option<Request>, NoMem
 fn showing(alloc: Global, found: &ArgMatches) -> Result<Option<Request>, NoMemory>
     ensures { IfOk result (λ request. request ≡ tree_of (first_value (found_of found.now))) }
 {
-    match image_in(alloc, found)? {
+    match word_in(alloc, found, IMAGE)? {
         Some(image) => Ok(Some(Request::Tree { image })),
         None => Ok(None),
     }
@@ -211,7 +225,7 @@ fn showing(alloc: Global, found: &ArgMatches) -> Result<Option<Request>, NoMemor
 fn making(alloc: Global, found: &ArgMatches) -> Result<Option<Request>, NoMemory>
     ensures { IfOk result (λ request. request ≡ make_of (first_value (found_of found.now))) }
 {
-    let Some(image) = image_in(alloc, found)? else {
+    let Some(image) = word_in(alloc, found, IMAGE)? else {
         return Ok(None);
     };
     let Some(blocks) = number(found, BLOCKS, LEAST_BLOCKS, MOST_BLOCKS) else {
@@ -231,25 +245,54 @@ fn making(alloc: Global, found: &ArgMatches) -> Result<Option<Request>, NoMemory
     }))
 }
 
-/// The run whose image was found.
+/// The run whose image was found, or its two images.
 fn running(alloc: Global, found: &ArgMatches) -> Result<Option<Request>, NoMemory>
     ensures { IfOk result (λ request. request ≡ run_of (first_value (found_of found.now))) }
 {
-    match image_in(alloc, found)? {
-        Some(image) => Ok(Some(Request::Run { image })),
-        None => Ok(None),
-    }
-}
-
-/// The name of an image that was found.
-fn image_in(alloc: Global, found: &ArgMatches) -> Result<Option<Word>, NoMemory>
-    ensures { IfOk result (λ image. image ≡ first_value (found_of found.now) (codes "image")) }
-{
-    let Some(word) = found.get_str(IMAGE) else {
+    let Some(image) = word_in(alloc, found, IMAGE)? else {
         return Ok(None);
     };
-    let image = Word::from_str(alloc, word)?;
-    Ok(Some(image))
+    let Some(other) = word_in(alloc, found, MIRROR)? else {
+        return Ok(Some(Request::Run { image }));
+    };
+    if are_one(&image, &other) {
+        return Ok(None);
+    }
+    Ok(Some(Request::RunMirrored { image, other }))
+}
+
+/// The copying whose two images were found.
+fn copying(alloc: Global, found: &ArgMatches) -> Result<Option<Request>, NoMemory>
+    ensures { IfOk result (λ request. request ≡ copy_of (first_value (found_of found.now))) }
+{
+    let Some(image) = word_in(alloc, found, IMAGE)? else {
+        return Ok(None);
+    };
+    let Some(other) = word_in(alloc, found, OTHER)? else {
+        return Ok(None);
+    };
+    if are_one(&image, &other) {
+        return Ok(None);
+    }
+    Ok(Some(Request::Copy { image, other }))
+}
+
+/// Whether two images have one name.
+fn are_one(image: &Word, other: &Word) -> bool
+    ensures { result ≡ bytes_eq image.now other.now }
+{
+    image.as_str() == other.as_str()
+}
+
+/// The word that was found under this name.
+fn word_in(alloc: Global, found: &ArgMatches, id: &str) -> Result<Option<Word>, NoMemory>
+    ensures { IfOk result (λ word. word ≡ first_value (found_of found.now) id.now) }
+{
+    let Some(text) = found.get_str(id) else {
+        return Ok(None);
+    };
+    let word = Word::from_str(alloc, text)?;
+    Ok(Some(word))
 }
 
 /// The load whose numbers were found.

@@ -3,8 +3,8 @@
 
 use crate::bytes::BLOCK;
 use crate::device_lock::DeviceLocks;
+use crate::device_number::{number_of, numbers_of};
 use crate::opening::{Access, LockedFile, busy, check_same, lock, open};
-use std::alloc::Global;
 use std::fs::{self, File, Metadata, OpenOptions};
 use std::io::{self, ErrorKind, Seek, SeekFrom};
 use std::os::unix::fs::{FileTypeExt, MetadataExt};
@@ -64,7 +64,8 @@ pub(crate) fn check_free(rt: &HostRuntime, there: &Metadata) -> io::Result<()> {
     let numbers = numbers_of(rt, there.rdev())?;
     for number in numbers.iter() {
         let holders = format!(in rt.alloc(); "/sys/dev/block/{number}/holders")?;
-        if fs::read_dir(rt, holders.as_str())?.next().is_some() {
+        if let Some(holder) = fs::read_dir(rt, holders.as_str())?.next() {
+            holder?;
             return Err(busy("Another device stands on it"));
         }
     }
@@ -75,29 +76,6 @@ pub(crate) fn check_free(rt: &HostRuntime, there: &Metadata) -> io::Result<()> {
         }
     }
     check_swaps(rt, numbers.as_slice())
-}
-
-// The numbers of a device and of its parts, as the system writes them.
-fn numbers_of(rt: &HostRuntime, device: u64) -> io::Result<Vec<String>> {
-    let mut numbers = Vec::new(rt.alloc());
-    let own = number_of(rt.alloc(), device)?;
-    let folder = format!(in rt.alloc(); "/sys/dev/block/{own}")?;
-    for entry in fs::read_dir(rt, folder.as_str())? {
-        let entry = entry?;
-        let part = format!(in rt.alloc(); "{folder}/{}/dev", entry.file_name())?;
-        if let Ok(text) = fs::read_to_string(rt, part.as_str()) {
-            numbers.push(String::from_str(rt.alloc(), text.trim())?)?;
-        }
-    }
-    numbers.push(own)?;
-    Ok(numbers)
-}
-
-/// The number of a device, as the system writes it.
-pub(crate) fn number_of(alloc: Global, device: u64) -> io::Result<String> {
-    let major = (device >> 8) & 0xfff | (device >> 32) & 0xffff_f000;
-    let minor = device & 0xff | (device >> 12) & 0xffff_ff00;
-    Ok(format!(in alloc; "{major}:{minor}")?)
 }
 
 // Whether a line of the mounts is of one of these devices, by its number or by what it names as its source.

@@ -1,10 +1,10 @@
 //! The locks of a block device, which may have several nodes, and parts that are devices too. Nothing here is in a contract.
 //! That no program but those of this repository uses a device is looked for in the module of devices.
 
-use crate::device::number_of;
+use crate::device_number::{is_part, number_of};
 use crate::opening::{Access, lock, open};
-use std::fs::{self, File, Metadata, OpenOptions};
-use std::io::{self, ErrorKind};
+use std::fs::{File, Metadata, OpenOptions};
+use std::io;
 use std::os::unix::fs::MetadataExt;
 use std::rt::HostRuntime;
 
@@ -28,14 +28,12 @@ impl DeviceLocks {
     ) -> io::Result<DeviceLocks> {
         let number = number_of(rt.alloc(), there.rdev())?;
         let folder = format!(in rt.alloc(); "/sys/dev/block/{number}")?;
-        let part = format!(in rt.alloc(); "{folder}/partition")?;
-        let whole = match fs::metadata(rt, part.as_str()) {
-            Ok(_) => {
+        let whole = match is_part(rt, folder.as_str())? {
+            true => {
                 let above = format!(in rt.alloc(); "{folder}/../dev")?;
                 Some(locked(rt, above.as_str(), Access::Read)?)
             }
-            Err(why) if why.kind() == ErrorKind::NotFound => None,
-            Err(why) => return Err(why),
+            false => None,
         };
         let own = format!(in rt.alloc(); "{folder}/dev")?;
         Ok(DeviceLocks {

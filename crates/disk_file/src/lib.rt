@@ -8,6 +8,7 @@ mod bytes;
 mod copy;
 mod device;
 mod device_lock;
+mod device_number;
 mod disk;
 mod fault;
 mod making;
