@@ -4,6 +4,11 @@
 //! The rules are described in docs/MIRROR.md.
 #![tactic(auto)]
 
+mod comparing;
+mod mirrored;
+mod refusal;
 mod side_laws;
 
+pub use mirrored::run_mirrored;
+pub use refusal::MirroredRefusal;
 pub use side_laws::{a_disk_of_a_mirror_goes_back, crashes_of_a_mirror_are_of_its_disks};
