@@ -49,6 +49,7 @@ module _ (n : ℕ) (base began : Blocks) (a b : List Event) (first second : Bool
   -- at each of a disk's moments
   pub moments_first : LeavesAtMoments n base (log_of a b o.events) (times_on First o.times) first ea base a
   moments_first = record {
+    alike = λ k low. ∥∥₁_elim told (search props) (λ m. m.on_first.alike k low);
     full = ∥∥₁_elim told (search props) (λ m. m.timed_first.full);
     low = ∥∥₁_elim told (upto_prop (length a) (times_on First o.times)) (λ m. m.timed_first.low);
     ascend = ∥∥₁_elim told (ascend_prop (times_on First o.times)) (λ m. m.timed_first.ascend);
@@ -57,6 +58,7 @@ module _ (n : ℕ) (base began : Blocks) (a b : List Event) (first second : Bool
 
   pub moments_second : LeavesAtMoments n base (log_of a b o.events) (times_on Second o.times) second eb began b
   moments_second = record {
+    alike = λ k low. ∥∥₁_elim told (search props) (λ m. m.on_second.alike k low);
     full = ∥∥₁_elim told (search props) (λ m. m.timed_second.full);
     low = ∥∥₁_elim told (upto_prop (length b) (times_on Second o.times)) (λ m. m.timed_second.low);
     ascend = ∥∥₁_elim told (ascend_prop (times_on Second o.times)) (λ m. m.timed_second.ascend);
@@ -86,3 +88,7 @@ module _ (n : ℕ) (base began : Blocks) (a b : List Event) (first second : Bool
       none_of : (p : Option Put) → is_some p ≡ false → p ≡ None
       none_of None e = refl
       none_of (Some p) e = absurd (false≢true (sym e))
+
+  -- the second disk began as the mirror did
+  pub alike_second : (k : ℕ) → k < n → began k ≡ base k
+  alike_second k low = ∥∥₁_elim told (search props) (λ m. m.on_second.alike k low)

@@ -1,6 +1,7 @@
 pub mod Behind
 pub mod Half
 pub mod Mirror
+pub mod MirrorOf
 pub mod Order
 pub mod Ripe
 pub mod Rows

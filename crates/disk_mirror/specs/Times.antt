@@ -1,5 +1,5 @@
 -- Which moment of a mirror stands for a moment of one of its disks. It is told by how many events the disk had when each event of the mirror had come.
-use Rattle.std.specs.Prelude.{◌≡◌, ℕ, ◌+◌, ◌≤◌, min, nat_le, Bool, true, if◌then◌else◌, List, [], ◌∷◌, length, map, take, get_or}
+use Rattle.std.specs.Prelude.{◌≡◌, ℕ, ◌+◌, ◌<◌, ◌≤◌, min, nat_le, Bool, true, if◌then◌else◌, List, [], ◌∷◌, length, map, take, get_or}
 use Rattle.base_types.specs.Seal.{Blocks}
 use Rattle.disk_contract.specs.declared.bay.Mark.{Mark}
 use Rattle.disk_contract.specs.declared.event.Event.{Event}
@@ -55,8 +55,9 @@ pub record IsTimed (n : ℕ) (base : Blocks) (log : List Event) (times : List �
   pub ascend : Ascend times
   pub images : (k : ℕ) → k ≤ length events → LagsBehind n base (take (moment_of live end k times) log) began (take k events)
 
--- each honest image of each moment of a disk, those inside a call among them, is one of the mirror's log at the moment that stands for it
+-- a disk began as the mirror did; each honest image of each of its moments, those inside a call among them, is one of the mirror's log at the moment that stands for it
 pub record LeavesAtMoments (n : ℕ) (base : Blocks) (log : List Event) (times : List ℕ) (live : Bool) (end : ℕ) (began : Blocks) (events : List Event) : Type 0 where
+  pub alike : (b : ℕ) → b < n → began b ≡ base b
   pub full : length times ≡ length log
   pub low : AreUpTo (length events) times
   pub ascend : Ascend times

@@ -28,6 +28,7 @@ impl<D: Disk> Half<D> {
     pub(crate) fn new(disk: D) -> Half<D>
         ensures disk { result.disk ≡ disk }
         ensures live { result.live ≡ true }
+        ensures end { result.end ≡ 0 }
     {
         Half {
             disk,

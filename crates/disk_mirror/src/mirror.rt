@@ -9,7 +9,7 @@ ghost use Rattle.disk_contract.specs.Disk.{HasFailed, Reads, AddsWrite, AddsPoll
 ghost use Rattle.disk_contract.specs.Manner.{AnswersBy};
 ghost use Rattle.disk_mirror.specs.declared.entry.Side.TheVariants.{First, Second};
 ghost use Rattle.disk_mirror.specs.declared.mirror.MirrorRefusal.TheVariants.{Unlike, NoMemory as OutOfMemory};
-ghost use Rattle.disk_mirror.specs.Mirror.{mirror_state, counts_of, IsMirror, AreGiven, HasCauses, NoneLive, IsUngiven};
+ghost use Rattle.disk_mirror.specs.Mirror.{counts_of, IsMirror, AreGiven, HasCauses, NoneLive, IsUngiven};
 ghost use Rattle.disk_mirror.specs.Half.{HasFailedOnce};
 ghost use Rattle.disk_mirror.specs.Order.{log_of, has_failed};
 ghost use Rattle.disk_mirror.specs.Twin.{heard_of, heard_on};
@@ -64,6 +64,8 @@ pub struct Mirror<A: Disk, B: Disk> {
 }
 
 impl<A: Disk, B: Disk> Mirror<A, B> {
+    ghost use Rattle.disk_mirror.specs.MirrorOf.{IsNew, counts_in, first_end, first_in, first_is_live, order_in, second_end, second_in, second_is_live, state_of};
+
     /// A mirror of two disks on which nothing happened yet, and which began with the same blocks where they have as many.
     /// It has room for so many writes.
     ///
@@ -73,9 +75,11 @@ impl<A: Disk, B: Disk> Mirror<A, B> {
         requires alike { IsTrue (A.tells && B.tells) → (A.state a).blocks ≡ (B.state b).blocks → (n : ℕ) → n < (A.state a).blocks → (B.state b).base n ≡ (A.state a).base n }
         requires first { IsTrue (A.tells && B.tells) → (A.state a).log ≡ [] }
         requires second { IsTrue (A.tells && B.tells) → (B.state b).log ≡ [] }
-        ensures disks { IfOk result (λ m. (m.a.disk ≡ a) × (m.b.disk ≡ b)) }
-        ensures empty { IfOk result (λ m. m.order ≡ record { events = []; times = []; pairs = []; heard = []; room = room }) }
-        ensures live { IfOk result (λ m. (m.a.live ≡ true) × (m.b.live ≡ true)) }
+        ensures disks { IfOk result (λ m. (first_in m ≡ a) × (second_in m ≡ b)) }
+        ensures empty { IfOk result (λ m. order_in m ≡ record { events = []; times = []; pairs = []; heard = []; room = room }) }
+        ensures live { IfOk result (λ m. (first_is_live m ≡ true) × (second_is_live m ≡ true)) }
+        ensures ends { IfOk result (λ m. (first_end m ≡ 0) × (second_end m ≡ 0)) }
+        ensures counts { IfOk result (λ m. IsNew (state_of A.state B.state m)) }
         ensures back { IfErr result (λ e. (e.0 ≡ a) × (e.1 ≡ b)) }
         ensures unlike { IfErr result (λ e. e.2 ≡ Unlike → (A.state a).blocks ≡ (B.state b).blocks → ⊥) }
         ensures memory { IfErr result (λ e. e.2 ≡ OutOfMemory → (A.state a).blocks ≡ (B.state b).blocks) }
@@ -104,18 +108,18 @@ impl<A: Disk, B: Disk> Mirror<A, B> {
     /// that it may not leave of the mirror now; of one that is down nothing that it might not have left of the
     /// mirror at the moment when it went down.
     pub fn leaves(&self)
-        ensures first { IsTrue (A.tells && B.tells) → self.now.a.live ≡ true → (img : Blocks)
-            → IsHonest (A.state self.now.a.disk).blocks (A.state self.now.a.disk).base (A.state self.now.a.disk).log img
-            → ∥ IsHonest (A.state self.now.a.disk).blocks (A.state self.now.a.disk).base (log_of (A.state self.now.a.disk).log (B.state self.now.b.disk).log self.now.order.events) img ∥₁ }
-        ensures second { IsTrue (A.tells && B.tells) → self.now.b.live ≡ true → (img : Blocks)
-            → IsHonest (A.state self.now.a.disk).blocks (B.state self.now.b.disk).base (B.state self.now.b.disk).log img
-            → ∥ IsHonest (A.state self.now.a.disk).blocks (A.state self.now.a.disk).base (log_of (A.state self.now.a.disk).log (B.state self.now.b.disk).log self.now.order.events) img ∥₁ }
-        ensures first_down { IsTrue (A.tells && B.tells) → self.now.a.live ≡ false → (img : Blocks)
-            → IsHonest (A.state self.now.a.disk).blocks (A.state self.now.a.disk).base (A.state self.now.a.disk).log img
-            → ∥ IsHonest (A.state self.now.a.disk).blocks (A.state self.now.a.disk).base (take self.now.a.end (log_of (A.state self.now.a.disk).log (B.state self.now.b.disk).log self.now.order.events)) img ∥₁ }
-        ensures second_down { IsTrue (A.tells && B.tells) → self.now.b.live ≡ false → (img : Blocks)
-            → IsHonest (A.state self.now.a.disk).blocks (B.state self.now.b.disk).base (B.state self.now.b.disk).log img
-            → ∥ IsHonest (A.state self.now.a.disk).blocks (A.state self.now.a.disk).base (take self.now.b.end (log_of (A.state self.now.a.disk).log (B.state self.now.b.disk).log self.now.order.events)) img ∥₁ }
+        ensures first { IsTrue (A.tells && B.tells) → first_is_live self.now ≡ true → (img : Blocks)
+            → IsHonest (A.state (first_in self.now)).blocks (A.state (first_in self.now)).base (A.state (first_in self.now)).log img
+            → ∥ IsHonest (A.state (first_in self.now)).blocks (A.state (first_in self.now)).base (state_of A.state B.state self.now).log img ∥₁ }
+        ensures second { IsTrue (A.tells && B.tells) → second_is_live self.now ≡ true → (img : Blocks)
+            → IsHonest (A.state (first_in self.now)).blocks (B.state (second_in self.now)).base (B.state (second_in self.now)).log img
+            → ∥ IsHonest (A.state (first_in self.now)).blocks (A.state (first_in self.now)).base (state_of A.state B.state self.now).log img ∥₁ }
+        ensures first_down { IsTrue (A.tells && B.tells) → first_is_live self.now ≡ false → (img : Blocks)
+            → IsHonest (A.state (first_in self.now)).blocks (A.state (first_in self.now)).base (A.state (first_in self.now)).log img
+            → ∥ IsHonest (A.state (first_in self.now)).blocks (A.state (first_in self.now)).base (take (first_end self.now) (state_of A.state B.state self.now).log) img ∥₁ }
+        ensures second_down { IsTrue (A.tells && B.tells) → second_is_live self.now ≡ false → (img : Blocks)
+            → IsHonest (A.state (first_in self.now)).blocks (B.state (second_in self.now)).base (B.state (second_in self.now)).log img
+            → ∥ IsHonest (A.state (first_in self.now)).blocks (A.state (first_in self.now)).base (take (second_end self.now) (state_of A.state B.state self.now).log) img ∥₁ }
     {
         // calls for their clauses alone: that the disks' logs are lawful
         self.a.lawful();
@@ -126,10 +130,10 @@ impl<A: Disk, B: Disk> Mirror<A, B> {
     /// inside calls among them: nothing that it may not leave of the mirror at the moment that stands for it. And the
     /// events that each disk had when the events of the mirror had come, one number for each, ascend to those of now.
     pub fn moments(&self)
-        ensures first { IsTrue (A.tells && B.tells) → LeavesAtMoments (A.state self.now.a.disk).blocks (A.state self.now.a.disk).base
-            (log_of (A.state self.now.a.disk).log (B.state self.now.b.disk).log self.now.order.events) (times_on First self.now.order.times) self.now.a.live self.now.a.end (A.state self.now.a.disk).base (A.state self.now.a.disk).log }
-        ensures second { IsTrue (A.tells && B.tells) → LeavesAtMoments (A.state self.now.a.disk).blocks (A.state self.now.a.disk).base
-            (log_of (A.state self.now.a.disk).log (B.state self.now.b.disk).log self.now.order.events) (times_on Second self.now.order.times) self.now.b.live self.now.b.end (B.state self.now.b.disk).base (B.state self.now.b.disk).log }
+        ensures first { IsTrue (A.tells && B.tells) → LeavesAtMoments (A.state (first_in self.now)).blocks (A.state (first_in self.now)).base
+            (state_of A.state B.state self.now).log (times_on First (order_in self.now).times) (first_is_live self.now) (first_end self.now) (A.state (first_in self.now)).base (A.state (first_in self.now)).log }
+        ensures second { IsTrue (A.tells && B.tells) → LeavesAtMoments (A.state (first_in self.now)).blocks (A.state (first_in self.now)).base
+            (state_of A.state B.state self.now).log (times_on Second (order_in self.now).times) (second_is_live self.now) (second_end self.now) (B.state (second_in self.now)).base (B.state (second_in self.now)).log }
     {
         let _ = &self.order;
     }
@@ -138,9 +142,19 @@ impl<A: Disk, B: Disk> Mirror<A, B> {
     /// where no disk is live, and another call also where there is no room for another write, or where a wait named a
     /// ticket that was never given; and of a disk that is down, that it has counted a fault.
     pub fn causes(&self)
-        ensures own { HasCauses self.now.faults self.now.read_faults self.now.a.live self.now.b.live self.now.order.room (length self.now.order.pairs) self.now.misasked }
-        ensures first { HasFailedOnce self.now.a.live (A.state self.now.a.disk) }
-        ensures second { HasFailedOnce self.now.b.live (B.state self.now.b.disk) }
+        ensures own { HasCauses (state_of A.state B.state self.now).faults (state_of A.state B.state self.now).read_faults (first_is_live self.now) (second_is_live self.now) (order_in self.now).room (length (order_in self.now).pairs) self.now.misasked }
+        ensures first { HasFailedOnce (first_is_live self.now) (A.state (first_in self.now)) }
+        ensures second { HasFailedOnce (second_is_live self.now) (B.state (second_in self.now)) }
+    {
+        let _ = &self.order;
+    }
+
+    /// Does nothing. A proof learns from the call that the two disks are alike: they have as many blocks, which the
+    /// mirror has too, and began with the same ones.
+    pub fn alike(&self)
+        ensures size { (B.state (second_in self.now)).blocks ≡ (A.state (first_in self.now)).blocks }
+        ensures first { ((state_of A.state B.state self.now).blocks ≡ (A.state (first_in self.now)).blocks) × ((state_of A.state B.state self.now).base ≡ (A.state (first_in self.now)).base) }
+        ensures second { IsTrue (A.tells && B.tells) → (n : ℕ) → n < (A.state (first_in self.now)).blocks → (B.state (second_in self.now)).base n ≡ (A.state (first_in self.now)).base n }
     {
         let _ = &self.order;
     }
@@ -151,8 +165,8 @@ impl<A: Disk, B: Disk> Mirror<A, B> {
     /// # Errors
     /// Out of memory.
     pub fn marks(&self, alloc: Global, marks: &[Mark]) -> Result<(Vec<Mark>, Vec<Mark>), NoMemory>
-        ensures first { IfOk result (λ both. both.0.items ≡ map (mark_on (times_on First self.now.order.times) (life_of self.now.a.live self.now.a.end (A.state self.now.a.disk))) marks.now) }
-        ensures second { IfOk result (λ both. both.1.items ≡ map (mark_on (times_on Second self.now.order.times) (life_of self.now.b.live self.now.b.end (B.state self.now.b.disk))) marks.now) }
+        ensures first { IfOk result (λ both. both.0.items ≡ map (mark_on (times_on First (order_in self.now).times) (life_of (first_is_live self.now) (first_end self.now) (A.state (first_in self.now)))) marks.now) }
+        ensures second { IfOk result (λ both. both.1.items ≡ map (mark_on (times_on Second (order_in self.now).times) (life_of (second_is_live self.now) (second_end self.now) (B.state (second_in self.now)))) marks.now) }
     {
         let first = self.order.marks(alloc, Side::First, self.a.life(), marks)?;
         let second = self.order.marks(alloc, Side::Second, self.b.life(), marks)?;
@@ -160,13 +174,15 @@ impl<A: Disk, B: Disk> Mirror<A, B> {
     }
 
     /// The two disks.
-    pub fn disks(&self) -> (&A, &B) {
+    pub fn disks(&self) -> (&A, &B)
+        ensures { (result.0.now ≡ first_in self.now) × (result.1.now ≡ second_in self.now) }
+    {
         (self.a.disk(), self.b.disk())
     }
 
     /// Gives the two disks back.
     pub fn into_disks(self) -> (A, B)
-        ensures { (result.0 ≡ self.a.disk) × (result.1 ≡ self.b.disk) }
+        ensures { (result.0 ≡ first_in self) × (result.1 ≡ second_in self) }
     {
         let Mirror { a, b, .. } = self;
         (a.into_disk(), b.into_disk())
@@ -174,34 +190,34 @@ impl<A: Disk, B: Disk> Mirror<A, B> {
 
     /// Which of the two disks are live.
     pub fn live(&self) -> (bool, bool)
-        ensures { result ≡ (self.now.a.live, self.now.b.live) }
+        ensures { result ≡ (first_is_live self.now, second_is_live self.now) }
     {
         (self.a.is_live(), self.b.is_live())
     }
 
     /// The moments of the mirror at which the disks that are down went down.
     pub fn ends(&self) -> (u64, u64)
-        ensures { result ≡ (self.now.a.end, self.now.b.end) }
+        ensures { result ≡ (first_end self.now, second_end self.now) }
     {
         (self.a.end(), self.b.end())
     }
 
     // Whether a disk is live.
     fn is_live(&self) -> bool
-        ensures { result ≡ (self.now.a.live || self.now.b.live) }
+        ensures { result ≡ (first_is_live self.now || second_is_live self.now) }
     {
         self.a.is_live() || self.b.is_live()
     }
 
     // Reads on the first disk, and says whether that was done.
     fn read_first(&mut self, b: u32, into: &mut Block) -> bool
-        requires { b < (A.state self.old.a.disk).blocks }
-        ensures counts { counts_of self.new.faults self.new.read_faults self.new.waits self.new.polls ≡ counts_of self.old.faults self.old.read_faults self.old.waits self.old.polls }
-        ensures size { (A.state self.new.a.disk).blocks ≡ (A.state self.old.a.disk).blocks }
-        ensures base { (A.state self.new.a.disk).base ≡ (A.state self.old.a.disk).base }
-        ensures live { (result ≡ false → self.new.a.live ≡ false) × (self.new.b.live ≡ self.old.b.live) }
-        ensures reads { IsTrue (A.tells && B.tells) → result ≡ true → Reads (mirror_state (A.state self.old.a.disk) (B.state self.old.b.disk) self.old.order (counts_of self.old.faults self.old.read_faults self.old.waits self.old.polls)) b into.new }
-        ensures log { IsTrue (A.tells && B.tells) → log_of (A.state self.new.a.disk).log (B.state self.new.b.disk).log self.new.order.events ≡ log_of (A.state self.old.a.disk).log (B.state self.old.b.disk).log self.old.order.events }
+        requires { b < (A.state (first_in self.old)).blocks }
+        ensures counts { counts_in self.new ≡ counts_in self.old }
+        ensures size { (A.state (first_in self.new)).blocks ≡ (A.state (first_in self.old)).blocks }
+        ensures base { (A.state (first_in self.new)).base ≡ (A.state (first_in self.old)).base }
+        ensures live { (result ≡ false → first_is_live self.new ≡ false) × (second_is_live self.new ≡ second_is_live self.old) }
+        ensures reads { IsTrue (A.tells && B.tells) → result ≡ true → Reads (state_of A.state B.state self.old) b into.new }
+        ensures log { IsTrue (A.tells && B.tells) → (state_of A.state B.state self.new).log ≡ (state_of A.state B.state self.old).log }
     {
         // calls for their clauses alone: that the disks' logs are lawful
         self.a.lawful();
@@ -212,13 +228,13 @@ impl<A: Disk, B: Disk> Mirror<A, B> {
 
     // Reads on the second disk, and says whether that was done.
     fn read_second(&mut self, b: u32, into: &mut Block) -> bool
-        requires { b < (A.state self.old.a.disk).blocks }
-        ensures counts { counts_of self.new.faults self.new.read_faults self.new.waits self.new.polls ≡ counts_of self.old.faults self.old.read_faults self.old.waits self.old.polls }
-        ensures size { (A.state self.new.a.disk).blocks ≡ (A.state self.old.a.disk).blocks }
-        ensures base { (A.state self.new.a.disk).base ≡ (A.state self.old.a.disk).base }
-        ensures live { (result ≡ false → self.new.b.live ≡ false) × (self.new.a.live ≡ self.old.a.live) }
-        ensures reads { IsTrue (A.tells && B.tells) → result ≡ true → Reads (mirror_state (A.state self.old.a.disk) (B.state self.old.b.disk) self.old.order (counts_of self.old.faults self.old.read_faults self.old.waits self.old.polls)) b into.new }
-        ensures log { IsTrue (A.tells && B.tells) → log_of (A.state self.new.a.disk).log (B.state self.new.b.disk).log self.new.order.events ≡ log_of (A.state self.old.a.disk).log (B.state self.old.b.disk).log self.old.order.events }
+        requires { b < (A.state (first_in self.old)).blocks }
+        ensures counts { counts_in self.new ≡ counts_in self.old }
+        ensures size { (A.state (first_in self.new)).blocks ≡ (A.state (first_in self.old)).blocks }
+        ensures base { (A.state (first_in self.new)).base ≡ (A.state (first_in self.old)).base }
+        ensures live { (result ≡ false → second_is_live self.new ≡ false) × (first_is_live self.new ≡ first_is_live self.old) }
+        ensures reads { IsTrue (A.tells && B.tells) → result ≡ true → Reads (state_of A.state B.state self.old) b into.new }
+        ensures log { IsTrue (A.tells && B.tells) → (state_of A.state B.state self.new).log ≡ (state_of A.state B.state self.old).log }
     {
         // calls for their clauses alone: that the disks' logs are lawful
         self.a.lawful();
@@ -229,14 +245,14 @@ impl<A: Disk, B: Disk> Mirror<A, B> {
 
     // Writes to each live disk. Where none is left behind it, it failed, which is counted.
     fn write_both(&mut self, b: u32, from: &Block) -> Result<u64, DiskFault>
-        requires there { b < (A.state self.old.a.disk).blocks }
-        requires room { length self.old.order.pairs < self.old.order.room }
-        requires live { (self.old.a.live || self.old.b.live) ≡ true }
-        ensures counts { counts_of self.new.faults self.new.read_faults self.new.waits self.new.polls ≡ counts_of (after_call (is_err result) self.old.faults) self.old.read_faults self.old.waits self.old.polls }
-        ensures size { (A.state self.new.a.disk).blocks ≡ (A.state self.old.a.disk).blocks }
-        ensures base { (A.state self.new.a.disk).base ≡ (A.state self.old.a.disk).base }
-        ensures down { OnErr result (NoneLive self.new.a.live self.new.b.live) }
-        ensures log { IsTrue (A.tells && B.tells) → AddsWrite b from.now result (log_of (A.state self.old.a.disk).log (B.state self.old.b.disk).log self.old.order.events) (log_of (A.state self.new.a.disk).log (B.state self.new.b.disk).log self.new.order.events) }
+        requires there { b < (A.state (first_in self.old)).blocks }
+        requires room { length (order_in self.old).pairs < (order_in self.old).room }
+        requires live { (first_is_live self.old || second_is_live self.old) ≡ true }
+        ensures counts { counts_in self.new ≡ counts_of (after_call (is_err result) self.old.faults) self.old.read_faults self.old.waits self.old.polls }
+        ensures size { (A.state (first_in self.new)).blocks ≡ (A.state (first_in self.old)).blocks }
+        ensures base { (A.state (first_in self.new)).base ≡ (A.state (first_in self.old)).base }
+        ensures down { OnErr result (NoneLive (first_is_live self.new) (second_is_live self.new)) }
+        ensures log { IsTrue (A.tells && B.tells) → AddsWrite b from.now result (state_of A.state B.state self.old).log (state_of A.state B.state self.new).log }
     {
         // calls for their clauses alone: that the disks' logs are lawful, how much room there is, and what a block is
         self.a.lawful();
@@ -257,13 +273,13 @@ impl<A: Disk, B: Disk> Mirror<A, B> {
 
     // Polls the first disk, and notes what it answers.
     fn poll_first(&mut self)
-        ensures counts { counts_of self.new.faults self.new.read_faults self.new.waits self.new.polls ≡ counts_of self.old.faults self.old.read_faults self.old.waits self.old.polls }
-        ensures size { (A.state self.new.a.disk).blocks ≡ (A.state self.old.a.disk).blocks }
-        ensures base { (A.state self.new.a.disk).base ≡ (A.state self.old.a.disk).base }
-        ensures log { IsTrue (A.tells && B.tells) → log_of (A.state self.new.a.disk).log (B.state self.new.b.disk).log self.new.order.events ≡ log_of (A.state self.old.a.disk).log (B.state self.old.b.disk).log self.old.order.events }
-        ensures pairs { self.new.order.pairs ≡ self.old.order.pairs }
-        ensures other { (B.state self.new.b.disk).log ≡ (B.state self.old.b.disk).log }
-        ensures hears { IsTrue (A.tells && B.tells) → HearsPoll First self.old.order.pairs (A.state self.old.a.disk).log (A.state self.new.a.disk).log self.old.order.heard self.new.order.heard }
+        ensures counts { counts_in self.new ≡ counts_in self.old }
+        ensures size { (A.state (first_in self.new)).blocks ≡ (A.state (first_in self.old)).blocks }
+        ensures base { (A.state (first_in self.new)).base ≡ (A.state (first_in self.old)).base }
+        ensures log { IsTrue (A.tells && B.tells) → (state_of A.state B.state self.new).log ≡ (state_of A.state B.state self.old).log }
+        ensures pairs { (order_in self.new).pairs ≡ (order_in self.old).pairs }
+        ensures other { (B.state (second_in self.new)).log ≡ (B.state (second_in self.old)).log }
+        ensures hears { IsTrue (A.tells && B.tells) → HearsPoll First (order_in self.old).pairs (A.state (first_in self.old)).log (A.state (first_in self.new)).log (order_in self.old).heard (order_in self.new).heard }
     {
         // calls for their clauses alone: that the disks' logs are lawful, and how much room there is
         self.a.lawful();
@@ -283,13 +299,13 @@ impl<A: Disk, B: Disk> Mirror<A, B> {
 
     // Polls the second disk, and notes what it answers.
     fn poll_second(&mut self)
-        ensures counts { counts_of self.new.faults self.new.read_faults self.new.waits self.new.polls ≡ counts_of self.old.faults self.old.read_faults self.old.waits self.old.polls }
-        ensures size { (A.state self.new.a.disk).blocks ≡ (A.state self.old.a.disk).blocks }
-        ensures base { (A.state self.new.a.disk).base ≡ (A.state self.old.a.disk).base }
-        ensures log { IsTrue (A.tells && B.tells) → log_of (A.state self.new.a.disk).log (B.state self.new.b.disk).log self.new.order.events ≡ log_of (A.state self.old.a.disk).log (B.state self.old.b.disk).log self.old.order.events }
-        ensures pairs { self.new.order.pairs ≡ self.old.order.pairs }
-        ensures other { (A.state self.new.a.disk).log ≡ (A.state self.old.a.disk).log }
-        ensures hears { IsTrue (A.tells && B.tells) → HearsPoll Second self.old.order.pairs (B.state self.old.b.disk).log (B.state self.new.b.disk).log self.old.order.heard self.new.order.heard }
+        ensures counts { counts_in self.new ≡ counts_in self.old }
+        ensures size { (A.state (first_in self.new)).blocks ≡ (A.state (first_in self.old)).blocks }
+        ensures base { (A.state (first_in self.new)).base ≡ (A.state (first_in self.old)).base }
+        ensures log { IsTrue (A.tells && B.tells) → (state_of A.state B.state self.new).log ≡ (state_of A.state B.state self.old).log }
+        ensures pairs { (order_in self.new).pairs ≡ (order_in self.old).pairs }
+        ensures other { (A.state (first_in self.new)).log ≡ (A.state (first_in self.old)).log }
+        ensures hears { IsTrue (A.tells && B.tells) → HearsPoll Second (order_in self.old).pairs (B.state (second_in self.old)).log (B.state (second_in self.new)).log (order_in self.old).heard (order_in self.new).heard }
     {
         // calls for their clauses alone: that the disks' logs are lawful, and how much room there is
         self.a.lawful();
@@ -310,13 +326,13 @@ impl<A: Disk, B: Disk> Mirror<A, B> {
     // Waits on the first disk for a write of this ticket, which was given.
     fn wait_first(&mut self, ticket: u64)
         requires positive { 0 < ticket }
-        requires given { ticket ≤ length self.old.order.pairs }
-        ensures counts { counts_of self.new.faults self.new.read_faults self.new.waits self.new.polls ≡ counts_of self.old.faults self.old.read_faults self.old.waits self.old.polls }
-        ensures size { (A.state self.new.a.disk).blocks ≡ (A.state self.old.a.disk).blocks }
-        ensures base { (A.state self.new.a.disk).base ≡ (A.state self.old.a.disk).base }
-        ensures pairs { length self.new.order.pairs ≡ length self.old.order.pairs }
-        ensures heard { self.new.a.live ≡ true → heard_on First (heard_of self.new.order.heard ticket) ≡ true }
-        ensures log { IsTrue (A.tells && B.tells) → log_of (A.state self.new.a.disk).log (B.state self.new.b.disk).log self.new.order.events ≡ log_of (A.state self.old.a.disk).log (B.state self.old.b.disk).log self.old.order.events }
+        requires given { ticket ≤ length (order_in self.old).pairs }
+        ensures counts { counts_in self.new ≡ counts_in self.old }
+        ensures size { (A.state (first_in self.new)).blocks ≡ (A.state (first_in self.old)).blocks }
+        ensures base { (A.state (first_in self.new)).base ≡ (A.state (first_in self.old)).base }
+        ensures pairs { length (order_in self.new).pairs ≡ length (order_in self.old).pairs }
+        ensures heard { first_is_live self.new ≡ true → heard_on First (heard_of (order_in self.new).heard ticket) ≡ true }
+        ensures log { IsTrue (A.tells && B.tells) → (state_of A.state B.state self.new).log ≡ (state_of A.state B.state self.old).log }
     {
         // calls for their clauses alone: that the disks' logs are lawful, and how much room there is
         self.a.lawful();
@@ -336,14 +352,14 @@ impl<A: Disk, B: Disk> Mirror<A, B> {
     // Waits on the second disk for a write of this ticket, which was given.
     fn wait_second(&mut self, ticket: u64)
         requires positive { 0 < ticket }
-        requires given { ticket ≤ length self.old.order.pairs }
-        ensures counts { counts_of self.new.faults self.new.read_faults self.new.waits self.new.polls ≡ counts_of self.old.faults self.old.read_faults self.old.waits self.old.polls }
-        ensures size { (A.state self.new.a.disk).blocks ≡ (A.state self.old.a.disk).blocks }
-        ensures base { (A.state self.new.a.disk).base ≡ (A.state self.old.a.disk).base }
-        ensures pairs { length self.new.order.pairs ≡ length self.old.order.pairs }
-        ensures first { (self.new.a.live ≡ self.old.a.live) × (heard_on First (heard_of self.new.order.heard ticket) ≡ heard_on First (heard_of self.old.order.heard ticket)) }
-        ensures heard { self.new.b.live ≡ true → heard_on Second (heard_of self.new.order.heard ticket) ≡ true }
-        ensures log { IsTrue (A.tells && B.tells) → log_of (A.state self.new.a.disk).log (B.state self.new.b.disk).log self.new.order.events ≡ log_of (A.state self.old.a.disk).log (B.state self.old.b.disk).log self.old.order.events }
+        requires given { ticket ≤ length (order_in self.old).pairs }
+        ensures counts { counts_in self.new ≡ counts_in self.old }
+        ensures size { (A.state (first_in self.new)).blocks ≡ (A.state (first_in self.old)).blocks }
+        ensures base { (A.state (first_in self.new)).base ≡ (A.state (first_in self.old)).base }
+        ensures pairs { length (order_in self.new).pairs ≡ length (order_in self.old).pairs }
+        ensures first { (first_is_live self.new ≡ first_is_live self.old) × (heard_on First (heard_of (order_in self.new).heard ticket) ≡ heard_on First (heard_of (order_in self.old).heard ticket)) }
+        ensures heard { second_is_live self.new ≡ true → heard_on Second (heard_of (order_in self.new).heard ticket) ≡ true }
+        ensures log { IsTrue (A.tells && B.tells) → (state_of A.state B.state self.new).log ≡ (state_of A.state B.state self.old).log }
     {
         // calls for their clauses alone: that the disks' logs are lawful, and how much room there is
         self.a.lawful();
@@ -362,15 +378,15 @@ impl<A: Disk, B: Disk> Mirror<A, B> {
 
     // Reports the least ticket whose notice came from each live disk, of which there must be one.
     fn report_next(&mut self) -> Option<u64>
-        requires { (self.old.a.live || self.old.b.live) ≡ true }
-        ensures counts { counts_of self.new.faults self.new.read_faults self.new.waits self.new.polls ≡ counts_of self.old.faults self.old.read_faults self.old.waits self.old.polls }
-        ensures size { (A.state self.new.a.disk).blocks ≡ (A.state self.old.a.disk).blocks }
-        ensures base { (A.state self.new.a.disk).base ≡ (A.state self.old.a.disk).base }
-        ensures least { result ≡ first_ready self.old.a.live self.old.b.live self.old.order.heard }
-        ensures logs { ((A.state self.new.a.disk).log ≡ (A.state self.old.a.disk).log) × ((B.state self.new.b.disk).log ≡ (B.state self.old.b.disk).log) }
-        ensures rows { self.new.order.heard ≡ after_report result self.old.order.heard }
-        ensures live { (self.new.a.live ≡ self.old.a.live) × (self.new.b.live ≡ self.old.b.live) }
-        ensures log { IsTrue (A.tells && B.tells) → AddsPoll {E = ℕ} (Ok result) (log_of (A.state self.old.a.disk).log (B.state self.old.b.disk).log self.old.order.events) (log_of (A.state self.new.a.disk).log (B.state self.new.b.disk).log self.new.order.events) }
+        requires { (first_is_live self.old || second_is_live self.old) ≡ true }
+        ensures counts { counts_in self.new ≡ counts_in self.old }
+        ensures size { (A.state (first_in self.new)).blocks ≡ (A.state (first_in self.old)).blocks }
+        ensures base { (A.state (first_in self.new)).base ≡ (A.state (first_in self.old)).base }
+        ensures least { result ≡ first_ready (first_is_live self.old) (second_is_live self.old) (order_in self.old).heard }
+        ensures logs { ((A.state (first_in self.new)).log ≡ (A.state (first_in self.old)).log) × ((B.state (second_in self.new)).log ≡ (B.state (second_in self.old)).log) }
+        ensures rows { (order_in self.new).heard ≡ after_report result (order_in self.old).heard }
+        ensures live { (first_is_live self.new ≡ first_is_live self.old) × (second_is_live self.new ≡ second_is_live self.old) }
+        ensures log { IsTrue (A.tells && B.tells) → AddsPoll {E = ℕ} (Ok result) (state_of A.state B.state self.old).log (state_of A.state B.state self.new).log }
     {
         // calls for their clauses alone: that the disks' logs are lawful, and how much room there is
         self.a.lawful();
@@ -388,15 +404,15 @@ impl<A: Disk, B: Disk> Mirror<A, B> {
     // Reports this ticket, whose notice came from each live disk, where it isn't reported yet.
     fn report(&mut self, ticket: u64)
         requires positive { 0 < ticket }
-        requires given { ticket ≤ length self.old.order.pairs }
-        requires first { self.old.a.live ≡ true → heard_on First (heard_of self.old.order.heard ticket) ≡ true }
-        requires second { self.old.b.live ≡ true → heard_on Second (heard_of self.old.order.heard ticket) ≡ true }
-        ensures counts { counts_of self.new.faults self.new.read_faults self.new.waits self.new.polls ≡ counts_of self.old.faults self.old.read_faults self.old.waits self.old.polls }
-        ensures size { (A.state self.new.a.disk).blocks ≡ (A.state self.old.a.disk).blocks }
-        ensures base { (A.state self.new.a.disk).base ≡ (A.state self.old.a.disk).base }
-        ensures log { IsTrue (A.tells && B.tells) → HearsAlone ticket (log_of (A.state self.old.a.disk).log (B.state self.old.b.disk).log self.old.order.events) (log_of (A.state self.new.a.disk).log (B.state self.new.b.disk).log self.new.order.events) }
-        ensures fresh { IsTrue (A.tells && B.tells) → AddsNotices (log_of (A.state self.old.a.disk).log (B.state self.old.b.disk).log self.old.order.events) (log_of (A.state self.new.a.disk).log (B.state self.new.b.disk).log self.new.order.events) }
-        ensures noticed { IsTrue (A.tells && B.tells) → IsNoticed ticket (log_of (A.state self.new.a.disk).log (B.state self.new.b.disk).log self.new.order.events) }
+        requires given { ticket ≤ length (order_in self.old).pairs }
+        requires first { first_is_live self.old ≡ true → heard_on First (heard_of (order_in self.old).heard ticket) ≡ true }
+        requires second { second_is_live self.old ≡ true → heard_on Second (heard_of (order_in self.old).heard ticket) ≡ true }
+        ensures counts { counts_in self.new ≡ counts_in self.old }
+        ensures size { (A.state (first_in self.new)).blocks ≡ (A.state (first_in self.old)).blocks }
+        ensures base { (A.state (first_in self.new)).base ≡ (A.state (first_in self.old)).base }
+        ensures log { IsTrue (A.tells && B.tells) → HearsAlone ticket (state_of A.state B.state self.old).log (state_of A.state B.state self.new).log }
+        ensures fresh { IsTrue (A.tells && B.tells) → AddsNotices (state_of A.state B.state self.old).log (state_of A.state B.state self.new).log }
+        ensures noticed { IsTrue (A.tells && B.tells) → IsNoticed ticket (state_of A.state B.state self.new).log }
     {
         // calls for their clauses alone: that the disks' logs are lawful, and how much room there is
         self.a.lawful();
@@ -441,9 +457,11 @@ fn note_lost(order: &mut Order, first: Written, second: Written, came: Came)
 }
 
 impl<A: Disk, B: Disk> Disk for Mirror<A, B> {
+    ghost use Rattle.disk_mirror.specs.MirrorOf.{first_in, first_is_live, order_in, second_in, second_is_live, state_of};
+
     ghost tells = { A.tells && B.tells };
 
-    ghost state = { λ m. mirror_state (A.state m.a.disk) (B.state m.b.disk) m.order (counts_of m.faults m.read_faults m.waits m.polls) };
+    ghost state = { λ m. state_of A.state B.state m };
 
     fn lawful(&self) {
         // a call for its clause alone: what the first disk's blocks are
@@ -463,11 +481,11 @@ impl<A: Disk, B: Disk> Disk for Mirror<A, B> {
     }
 
     fn read(&mut self, b: u32, into: &mut Block) -> Result<(), DiskFault>
-        requires { b < (A.state self.old.a.disk).blocks }
-        ensures reads { IsTrue (A.tells && B.tells) → OnOk result (Reads (mirror_state (A.state self.old.a.disk) (B.state self.old.b.disk) self.old.order (counts_of self.old.faults self.old.read_faults self.old.waits self.old.polls)) b into.new) }
-        ensures log { IsTrue (A.tells && B.tells) → ((mirror_state (A.state self.new.a.disk) (B.state self.new.b.disk) self.new.order (counts_of self.new.faults self.new.read_faults self.new.waits self.new.polls))).log ≡ ((mirror_state (A.state self.old.a.disk) (B.state self.old.b.disk) self.old.order (counts_of self.old.faults self.old.read_faults self.old.waits self.old.polls))).log }
-        ensures spends { OnlyReads (is_err result) (mirror_state (A.state self.old.a.disk) (B.state self.old.b.disk) self.old.order (counts_of self.old.faults self.old.read_faults self.old.waits self.old.polls)) (mirror_state (A.state self.new.a.disk) (B.state self.new.b.disk) self.new.order (counts_of self.new.faults self.new.read_faults self.new.waits self.new.polls)) }
-        ensures down { OnErr result (NoneLive self.new.a.live self.new.b.live) }
+        requires { b < (A.state (first_in self.old)).blocks }
+        ensures reads { IsTrue (A.tells && B.tells) → OnOk result (Reads (state_of A.state B.state self.old) b into.new) }
+        ensures log { IsTrue (A.tells && B.tells) → (state_of A.state B.state self.new).log ≡ (state_of A.state B.state self.old).log }
+        ensures spends { OnlyReads (is_err result) (state_of A.state B.state self.old) (state_of A.state B.state self.new) }
+        ensures down { OnErr result (NoneLive (first_is_live self.new) (second_is_live self.new)) }
     {
         if self.read_first(b, into) {
             return Ok(());
@@ -480,10 +498,10 @@ impl<A: Disk, B: Disk> Disk for Mirror<A, B> {
     }
 
     fn write(&mut self, b: u32, from: &Block) -> Result<u64, DiskFault>
-        requires { b < (A.state self.old.a.disk).blocks }
-        ensures log { IsTrue (A.tells && B.tells) → AddsWrite b from.now result ((mirror_state (A.state self.old.a.disk) (B.state self.old.b.disk) self.old.order (counts_of self.old.faults self.old.read_faults self.old.waits self.old.polls))).log ((mirror_state (A.state self.new.a.disk) (B.state self.new.b.disk) self.new.order (counts_of self.new.faults self.new.read_faults self.new.waits self.new.polls))).log }
-        ensures spends { OnlyWrites (is_err result) (mirror_state (A.state self.old.a.disk) (B.state self.old.b.disk) self.old.order (counts_of self.old.faults self.old.read_faults self.old.waits self.old.polls)) (mirror_state (A.state self.new.a.disk) (B.state self.new.b.disk) self.new.order (counts_of self.new.faults self.new.read_faults self.new.waits self.new.polls)) }
-        ensures down { OnErr result (NoneLive self.new.a.live self.new.b.live ⊎ (self.old.order.room ≤ length self.old.order.pairs)) }
+        requires { b < (A.state (first_in self.old)).blocks }
+        ensures log { IsTrue (A.tells && B.tells) → AddsWrite b from.now result (state_of A.state B.state self.old).log (state_of A.state B.state self.new).log }
+        ensures spends { OnlyWrites (is_err result) (state_of A.state B.state self.old) (state_of A.state B.state self.new) }
+        ensures down { OnErr result (NoneLive (first_is_live self.new) (second_is_live self.new) ⊎ ((order_in self.old).room ≤ length (order_in self.old).pairs)) }
     {
         if self.order.is_full() {
             self.faults = self.faults.saturating_add(1);
@@ -497,12 +515,12 @@ impl<A: Disk, B: Disk> Disk for Mirror<A, B> {
     }
 
     fn poll(&mut self) -> Result<Option<u64>, DiskFault>
-        ensures log { IsTrue (A.tells && B.tells) → AddsPoll result ((mirror_state (A.state self.old.a.disk) (B.state self.old.b.disk) self.old.order (counts_of self.old.faults self.old.read_faults self.old.waits self.old.polls))).log ((mirror_state (A.state self.new.a.disk) (B.state self.new.b.disk) self.new.order (counts_of self.new.faults self.new.read_faults self.new.waits self.new.polls))).log }
-        ensures spends { OnlyPolls (is_err result) (mirror_state (A.state self.old.a.disk) (B.state self.old.b.disk) self.old.order (counts_of self.old.faults self.old.read_faults self.old.waits self.old.polls)) (mirror_state (A.state self.new.a.disk) (B.state self.new.b.disk) self.new.order (counts_of self.new.faults self.new.read_faults self.new.waits self.new.polls)) }
-        ensures down { OnErr result (NoneLive self.new.a.live self.new.b.live) }
+        ensures log { IsTrue (A.tells && B.tells) → AddsPoll result (state_of A.state B.state self.old).log (state_of A.state B.state self.new).log }
+        ensures spends { OnlyPolls (is_err result) (state_of A.state B.state self.old) (state_of A.state B.state self.new) }
+        ensures down { OnErr result (NoneLive (first_is_live self.new) (second_is_live self.new)) }
         ensures least { (rows : List Heard)
-            × (IsTrue (A.tells && B.tells) → HearsBoth self.old.order.pairs (A.state self.old.a.disk).log (A.state self.new.a.disk).log (B.state self.old.b.disk).log (B.state self.new.b.disk).log self.old.order.heard rows)
-            × IfOk result (λ ticket. (ticket ≡ first_ready self.new.a.live self.new.b.live rows) × (self.new.order.heard ≡ after_report ticket rows)) }
+            × (IsTrue (A.tells && B.tells) → HearsBoth (order_in self.old).pairs (A.state (first_in self.old)).log (A.state (first_in self.new)).log (B.state (second_in self.old)).log (B.state (second_in self.new)).log (order_in self.old).heard rows)
+            × IfOk result (λ ticket. (ticket ≡ first_ready (first_is_live self.new) (second_is_live self.new) rows) × ((order_in self.new).heard ≡ after_report ticket rows)) }
     {
         self.polls = self.polls.saturating_add(1);
         self.poll_first();
@@ -515,11 +533,11 @@ impl<A: Disk, B: Disk> Disk for Mirror<A, B> {
     }
 
     fn wait(&mut self, ticket: u64) -> Result<(), DiskFault>
-        ensures log { IsTrue (A.tells && B.tells) → AddsNotices ((mirror_state (A.state self.old.a.disk) (B.state self.old.b.disk) self.old.order (counts_of self.old.faults self.old.read_faults self.old.waits self.old.polls))).log ((mirror_state (A.state self.new.a.disk) (B.state self.new.b.disk) self.new.order (counts_of self.new.faults self.new.read_faults self.new.waits self.new.polls))).log }
-        ensures noticed { IsTrue (A.tells && B.tells) → OnOk result (IsNoticed ticket ((mirror_state (A.state self.new.a.disk) (B.state self.new.b.disk) self.new.order (counts_of self.new.faults self.new.read_faults self.new.waits self.new.polls))).log) }
-        ensures spends { OnlyWaits (is_err result) (mirror_state (A.state self.old.a.disk) (B.state self.old.b.disk) self.old.order (counts_of self.old.faults self.old.read_faults self.old.waits self.old.polls)) (mirror_state (A.state self.new.a.disk) (B.state self.new.b.disk) self.new.order (counts_of self.new.faults self.new.read_faults self.new.waits self.new.polls)) }
-        ensures alone { IsTrue (A.tells && B.tells) → HearsAlone ticket ((mirror_state (A.state self.old.a.disk) (B.state self.old.b.disk) self.old.order (counts_of self.old.faults self.old.read_faults self.old.waits self.old.polls))).log ((mirror_state (A.state self.new.a.disk) (B.state self.new.b.disk) self.new.order (counts_of self.new.faults self.new.read_faults self.new.waits self.new.polls))).log }
-        ensures down { OnErr result (NoneLive self.new.a.live self.new.b.live ⊎ IsUngiven ticket (length self.old.order.pairs)) }
+        ensures log { IsTrue (A.tells && B.tells) → AddsNotices (state_of A.state B.state self.old).log (state_of A.state B.state self.new).log }
+        ensures noticed { IsTrue (A.tells && B.tells) → OnOk result (IsNoticed ticket (state_of A.state B.state self.new).log) }
+        ensures spends { OnlyWaits (is_err result) (state_of A.state B.state self.old) (state_of A.state B.state self.new) }
+        ensures alone { IsTrue (A.tells && B.tells) → HearsAlone ticket (state_of A.state B.state self.old).log (state_of A.state B.state self.new).log }
+        ensures down { OnErr result (NoneLive (first_is_live self.new) (second_is_live self.new) ⊎ IsUngiven ticket (length (order_in self.old).pairs)) }
     {
         self.waits = self.waits.saturating_add(1);
         if !self.order.has(ticket) {
