@@ -1,6 +1,6 @@
 //! The comparison of two disks on which nothing has happened yet, block by block. It writes nothing.
 
-ghost use Rattle.std.specs.Prelude.{◌≡◌, ◌<◌, [], Bool, true, false, IsTrue};
+ghost use Rattle.std.specs.Prelude.{◌≡◌, ◌≢◌, ◌<◌, [], true, false, IsTrue};
 ghost use Rattle.cmd_mirror.specs.Comparing.{Compares, ComparesBlock};
 
 use base_types::Block;
@@ -33,14 +33,10 @@ fn compare_blocks<D: Disk>(first: &mut D, second: &mut D) -> Result<bool, DiskFa
     requires second { IsTrue D.tells → (D.state second.old).log ≡ [] }
     ensures { Compares D.tells result (D.state first.old) (D.state first.new) (D.state second.old) (D.state second.new) }
 {
-    let blocks = first.blocks();
     let mut alike = true;
-    let mut b = 0;
-    while b < blocks {
-        if !is_same_block(first, second, b)? {
-            alike = false;
-        }
-        b += 1;
+    for b in 0..first.blocks() {
+        let same = is_same_block(first, second, b)?;
+        alike = alike && same;
     }
     Ok(alike)
 }
@@ -60,5 +56,13 @@ fn is_same_block<D: Disk>(first: &mut D, second: &mut D, b: u32) -> Result<bool,
     first.read(b, &mut one)?;
     let mut two: Block = [0; 1024];
     second.read(b, &mut two)?;
-    Ok(one == two)
+    Ok(are_same(&one, &two))
+}
+
+/// Whether two blocks have the same bytes.
+fn are_same(one: &Block, two: &Block) -> bool
+    ensures same { result ≡ true → two.now ≡ one.now }
+    ensures differs { result ≡ false → two.now ≢ one.now }
+{
+    one == two
 }
