@@ -44,21 +44,21 @@ pub given : (s : State) (b : ℕ) (x : List ℕ) → s.log ≡ [] → Reads s b 
 given s b x empty reads = reads.calm (ap (λ (log : List Event). is_lost b log) empty) ∙ ap (λ (log : List Event). accepted s.base log b) empty
 
 -- so two such disks are the same in a block where they give the same
-pub says_block : {E : Type 0} (tells : Bool) (b : ℕ) (same : Bool) (a x : State) (one two : List ℕ) → (IsTrue tells → one ≡ a.base b) → (IsTrue tells → two ≡ x.base b)
-    → (same ≡ true → two ≡ one) → (same ≡ false → two ≢ one) → SaysOfBlock {E} tells b (Ok same) false false a x
-says_block tells b true a x one two first second same differs = (refl, refl, λ t. sym (second t) ∙ same refl ∙ first t)
-says_block tells b false a x one two first second same differs = (refl, refl, λ t is. differs refl (second t ∙ is ∙ sym (first t)))
+pub says_block : (E : Type 0) (tells : Bool) (b : ℕ) (same : Bool) (a x : State) (one two : List ℕ) → (IsTrue tells → one ≡ a.base b) → (IsTrue tells → two ≡ x.base b)
+    → (same ≡ true → two ≡ one) → (same ≡ false → two ≢ one) → SaysOfBlock {E = E} tells b (Ok same) false false a x
+says_block E tells b true a x one two first second same differs = ((refl, refl), λ t. sym (second t) ∙ same refl ∙ first t)
+says_block E tells b false a x one two first second same differs = ((refl, refl), λ t is. differs refl (second t ∙ is ∙ sym (first t)))
 
 -- One block.
 
-pub block_by : {E : Type 0} (tells : Bool) (b : ℕ) (same : Bool) (a a_now x x_now : State) (one two : List ℕ) → OnlyReads false a a_now → (IsTrue tells → a_now.log ≡ a.log) → OnlyReads false x x_now → (IsTrue tells → x_now.log ≡ x.log)
+pub block_by : (E : Type 0) (tells : Bool) (b : ℕ) (same : Bool) (a a_now x x_now : State) (one two : List ℕ) → OnlyReads false a a_now → (IsTrue tells → a_now.log ≡ a.log) → OnlyReads false x x_now → (IsTrue tells → x_now.log ≡ x.log)
     → (IsTrue tells → a.log ≡ []) → (IsTrue tells → x.log ≡ []) → (IsTrue tells → Reads a b one) → (IsTrue tells → Reads x b two)
-    → (same ≡ true → two ≡ one) → (same ≡ false → two ≢ one) → ComparesBlock {E} tells b (Ok same) a a_now x x_now
-block_by tells b same a a_now x x_now one two only_a log_a only_x log_x empty_a empty_x reads_a reads_x is differs = record {
+    → (same ≡ true → two ≡ one) → (same ≡ false → two ≢ one) → ComparesBlock {E = E} tells b (Ok same) a a_now x x_now
+block_by E tells b same a a_now x x_now one two only_a log_a only_x log_x empty_a empty_x reads_a reads_x is differs = record {
   first_unread = false;
   second_unread = false;
   reads = record { reads_first = only_a; reads_second = only_x; log_first = log_a; log_second = log_x };
-  says = says_block tells b same a x one two (λ t. given a b one (empty_a t) (reads_a t)) (λ t. given x b two (empty_x t) (reads_x t)) is differs;
+  says = says_block E tells b same a x one two (λ t. given a b one (empty_a t) (reads_a t)) (λ t. given x b two (empty_x t) (reads_x t)) is differs;
 }
 
 pub unread_block : {E : Type 0} (tells : Bool) (b : ℕ) (r : Result Bool E) (fu su : Bool) (a a_now x x_now : State) → IsErr r → OneIsUnread fu su → AreOnlyRead tells fu su a a_now x x_now → ComparesBlock tells b r a a_now x x_now
@@ -91,29 +91,29 @@ module _ (tells : Bool) (b : ℕ) (a now c x y z : State) where
       by (inr other) = below.same refl t i (omega (arith, low, other))
 
   -- one block more
-  step : {E : Type 0} (alike same : Bool) → b < a.blocks → ComparedBelow tells b alike a now x y → ComparesBlock {E} tells b (Ok same) now c y z → ComparedBelow tells (b + 1) (alike && same) a c x z
+  step : {E : Type 0} (alike same : Bool) → b < a.blocks → ComparedBelow tells b alike a now x y → ComparesBlock {E = E} tells b (Ok same) now c y z → ComparedBelow tells (b + 1) (alike && same) a c x z
   step true true there below one = record {
-    reads = calm true one.first_unread one.second_unread one.says.0 one.says.1 below one.reads;
-    same = λ is t. all below t (one.says.2 t);
+    reads = calm true one.first_unread one.second_unread one.says.0.0 one.says.0.1 below one.reads;
+    same = λ is t. all below t (one.says.1 t);
     differs = λ is. absurd (false≢true (sym is));
   }
   step true false there below one = record {
-    reads = calm true one.first_unread one.second_unread one.says.0 one.says.1 below one.reads;
+    reads = calm true one.first_unread one.second_unread one.says.0.0 one.says.0.1 below one.reads;
     same = λ is. absurd (false≢true is);
-    differs = λ is t. record { block = b; there = there; differs = λ back. one.says.2 t (second_is true below ∙ back ∙ sym (first_is true below)) };
+    differs = λ is t. record { block = b; there = there; differs = λ back. one.says.1 t (second_is true below ∙ back ∙ sym (first_is true below)) };
   }
   step false true there below one = record {
-    reads = calm false one.first_unread one.second_unread one.says.0 one.says.1 below one.reads;
+    reads = calm false one.first_unread one.second_unread one.says.0.0 one.says.0.1 below one.reads;
     same = λ is. absurd (false≢true is);
     differs = below.differs;
   }
   step false false there below one = record {
-    reads = calm false one.first_unread one.second_unread one.says.0 one.says.1 below one.reads;
+    reads = calm false one.first_unread one.second_unread one.says.0.0 one.says.0.1 below one.reads;
     same = λ is. absurd (false≢true is);
     differs = below.differs;
   }
 
-pub one_more : {E : Type 0} (tells : Bool) (b : ℕ) (alike same both : Bool) (a now c x y z : State) → both ≡ (alike && same) → b < a.blocks → ComparedBelow tells b alike a now x y → ComparesBlock {E} tells b (Ok same) now c y z → ComparedBelow tells (b + 1) both a c x z
+pub one_more : {E : Type 0} (tells : Bool) (b : ℕ) (alike same both : Bool) (a now c x y z : State) → both ≡ (alike && same) → b < a.blocks → ComparedBelow tells b alike a now x y → ComparesBlock {E = E} tells b (Ok same) now c y z → ComparedBelow tells (b + 1) both a c x z
 one_more tells b alike same both a now c x y z is there below one = subst (λ (t : Bool). ComparedBelow tells (b + 1) t a c x z) (sym is) (step tells b a now c x y z alike same there below one)
 
 -- no block yet
@@ -125,7 +125,7 @@ none_yet tells a x = record {
 }
 
 -- a read failed
-pub unread : {E F : Type 0} (tells : Bool) (b : ℕ) (alike : Bool) (r : Result Bool F) (e : E) (a now c x y z : State) → x.blocks ≡ a.blocks → IsErr r → ComparedBelow tells b alike a now x y → ComparesBlock {E} tells b (Err e) now c y z → Compares tells r a c x z
+pub unread : {E F : Type 0} (tells : Bool) (b : ℕ) (alike : Bool) (r : Result Bool F) (e : E) (a now c x y z : State) → x.blocks ≡ a.blocks → IsErr r → ComparedBelow tells b alike a now x y → ComparesBlock {E = E} tells b (Err e) now c y z → Compares tells r a c x z
 unread tells b alike (Ok same) e a now c x y z size failed below one = absurd (false≢true failed)
 unread tells b alike (Err f) e a now c x y z size failed below one = record {
   first_unread = one.first_unread;
@@ -135,20 +135,20 @@ unread tells b alike (Err f) e a now c x y z size failed below one = record {
 }
 
 -- all blocks were compared
-pub compared : {E : Type 0} (tells : Bool) (n : ℕ) (alike : Bool) (a now x y : State) → x.blocks ≡ a.blocks → n ≡ a.blocks → ComparedBelow tells n alike a now x y → Compares {E} tells (Ok alike) a now x y
-compared tells n true a now x y size all below = record {
+pub compared : {E : Type 0} (tells : Bool) (n : ℕ) (alike : Bool) (a now x y : State) → x.blocks ≡ a.blocks → n ≡ a.blocks → ComparedBelow tells n alike a now x y → Compares {E = E} tells (Ok alike) a now x y
+compared tells n true a now x y size whole below = record {
   first_unread = false;
   second_unread = false;
   reads = below.reads;
-  says = (refl, refl, record { size = size; same = λ t b low. below.same refl t b (omega (arith, low, all)) });
+  says = ((refl, refl), record { size = size; same = λ t b low. below.same refl t b (omega (arith, low, whole)) });
 }
-compared tells n false a now x y size all below = record {
+compared tells n false a now x y size whole below = record {
   first_unread = false;
   second_unread = false;
   reads = below.reads;
-  says = (refl, refl, inr (size, below.differs refl));
+  says = ((refl, refl), inr (size, below.differs refl));
 }
 
 -- the numbers differ
-pub unlike_sizes : {E : Type 0} (tells : Bool) (a x : State) → x.blocks ≢ a.blocks → Compares {E} tells (Ok false) a a x x
-unlike_sizes tells a x other = record { first_unread = false; second_unread = false; reads = neither tells a x; says = (refl, refl, inl other) }
+pub unlike_sizes : {E : Type 0} (tells : Bool) (a x : State) → x.blocks ≢ a.blocks → Compares {E = E} tells (Ok false) a a x x
+unlike_sizes tells a x other = record { first_unread = false; second_unread = false; reads = neither tells a x; says = ((refl, refl), inl other) }

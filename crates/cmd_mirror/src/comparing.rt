@@ -36,7 +36,7 @@ fn compare_blocks<D: Disk>(first: &mut D, second: &mut D) -> Result<bool, DiskFa
     let mut alike = true;
     for b in 0..first.blocks() {
         let same = is_same_block(first, second, b)?;
-        alike = alike && same;
+        alike &= same;
     }
     Ok(alike)
 }
