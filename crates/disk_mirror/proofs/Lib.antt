@@ -13,6 +13,8 @@ pub mod Leaves
 pub mod Logs
 pub mod Calls
 pub mod Causes
+pub mod Made
+pub mod Unnoticed
 pub mod Begun
 pub mod Sound
 pub mod Timed

@@ -1,5 +1,5 @@
 -- A mirror is a sound disk.
-use Rattle.std.proofs.Common.{◌≡◌, ℕ, ◌++◌, Bool, false, List, [], ◌∷◌, Option, refl, ◌∙◌}
+use Rattle.std.proofs.Common.{◌≡◌, ℕ, ◌≤◌, ◌++◌, Bool, false, List, [], ◌∷◌, length, Option, refl, ◌∙◌, arith}
 use Rattle.std.proofs.Props.{props}
 use Rattle.std.proofs.Math.Logic.{∥∥₁_elim}
 use Rattle.std.specs.Coded.{×_prop, Unit-prop}
@@ -7,12 +7,12 @@ use Rattle.disk_contract.specs.declared.event.Event.{Event}
 use Rattle.disk_contract.specs.declared.event.Event.TheVariants.{Wrote, Lost, Noticed}
 use Rattle.disk_contract.specs.Disk.{State}
 use Rattle.disk_contract.specs.Lawful.{MayCome, AreLawfulAfter, IsEventOf, AreEventsOf, IsSoundDisk}
-use Rattle.disk_contract.specs.Manner.{MayAllComeBy}
 use Rattle.disk_contract.specs.Cell.{has_lost}
 use Rattle.disk_mirror.specs.declared.entry.Entry.{Entry}
 use Rattle.disk_mirror.specs.declared.entry.Entry.TheVariants.{Accepted, Failed, Reported}
 use Rattle.disk_mirror.specs.Order.{OrderState, log_of, has_failed}
-use Rattle.disk_mirror.specs.Mirror.{Counts, IsMirror, mirror_manner, mirror_state}
+use Rattle.disk_mirror.specs.Mirror.{Counts, IsMirror, KeepsRoom, mirror_state}
+use Rattle.disk_mirror.proofs.Made.{goes_within, made_log}
 
 may_prop : (before : List Event) (e : Event) → IsProp (MayCome before e)
 may_prop before (Wrote t b x) = hlevel props
@@ -31,13 +31,6 @@ event_prop n (Noticed t) = hlevel props
 events_prop : (n : ℕ) (es : List Event) → IsProp (AreEventsOf n es)
 events_prop n [] = Unit-prop
 events_prop n (e ∷ es) = ×_prop (event_prop n e) (events_prop n es)
-
--- any log goes by the mirror's manner
-goes_any : (before es : List Event) → MayAllComeBy mirror_manner before es
-goes_any before [] = tt
-goes_any before (Wrote t b x ∷ es) = (refl, goes_any (before ++ Wrote t b x ∷ []) es)
-goes_any before (Lost b x ∷ es) = (refl, goes_any (before ++ Lost b x ∷ []) es)
-goes_any before (Noticed t ∷ es) = (tt, goes_any (before ++ Noticed t ∷ []) es)
 
 -- the mirror's log has a lost write only where one failed on its last live disk
 lost_failed : (a b : List Event) (es : List Entry) → has_lost (log_of a b es) ≡ has_failed es
@@ -59,14 +52,14 @@ failed_report (Accepted u f s ∷ es) t = failed_report es t
 failed_report (Failed side ∷ es) t = refl
 failed_report (Reported u ∷ es) t = failed_report es t
 
-pub sound : (a b : State) (f s : Bool) (ea eb : ℕ) (o : OrderState) (c : Counts) → IsSoundDisk a → ∥ IsMirror a b f s ea eb o ∥₁ → (c.faults ≡ 0 → has_failed o.events ≡ false) → IsSoundDisk (mirror_state a b o c)
-sound a b f s ea eb o c d told counted = record {
+pub sound : (a b : State) (f s : Bool) (ea eb : ℕ) (o : OrderState) (c : Counts) → IsSoundDisk a → ∥ IsMirror a b f s ea eb o ∥₁ → KeepsRoom c.most o → length o.pairs ≤ o.room → (c.faults ≡ 0 → has_failed o.events ≡ false) → IsSoundDisk (mirror_state a b o c)
+sound a b f s ea eb o c d told keeps few counted = record {
   blocks = d.blocks;
   log = record {
     lawful = ∥∥₁_elim told (after_prop [] (log_of a.log b.log o.events)) (λ (is : IsMirror a b f s ea eb o). is.log.lawful);
     events = ∥∥₁_elim told (events_prop a.blocks (log_of a.log b.log o.events)) (λ (is : IsMirror a b f s ea eb o). is.log.events);
   };
-  manner = goes_any [] (log_of a.log b.log o.events);
+  manner = goes_within c.most [] (log_of a.log b.log o.events) (omega (arith, made_log a.log b.log o.events, keeps, few));
   reads = λ _. refl;
   counted = λ _ none. lost_failed a.log b.log o.events ∙ counted none;
 }

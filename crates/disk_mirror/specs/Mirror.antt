@@ -1,9 +1,9 @@
 -- A mirror of two disks: its log, what holds of it between two calls, and why a call of it fails.
-use Rattle.std.specs.Prelude.{◌≡◌, ◌⊎◌, ℕ, ◌<◌, ◌≤◌, ◌||◌, Bool, true, false, is_some, List, length, take, Some}
+use Rattle.std.specs.Prelude.{◌≡◌, ◌⊎◌, ℕ, ◌+◌, ◌<◌, ◌≤◌, nat_lt, ◌||◌, Bool, true, false, is_some, List, length, take, Some}
 use Rattle.base_types.specs.Seal.{Blocks}
 use Rattle.disk_contract.specs.declared.event.Event.{Event}
 use Rattle.disk_contract.specs.Cell.{greatest_ticket, is_accepted, is_noticed}
-use Rattle.disk_contract.specs.Disk.{State}
+use Rattle.disk_contract.specs.Disk.{State, writes_in}
 use Rattle.disk_contract.specs.Lawful.{IsLogOf}
 use Rattle.disk_contract.specs.Manner.{Manner, any_manner}
 use Rattle.disk_mirror.specs.declared.entry.Pair.{Pair}
@@ -11,27 +11,32 @@ use Rattle.disk_mirror.specs.declared.entry.Heard.{Heard}
 use Rattle.disk_mirror.specs.declared.entry.Side.{Side}
 use Rattle.disk_mirror.specs.declared.entry.Side.TheVariants.{First, Second}
 use Rattle.disk_mirror.specs.Behind.{LagsBehind}
-use Rattle.disk_mirror.specs.Order.{OrderState, log_of, are_found}
+use Rattle.disk_mirror.specs.Order.{OrderState, log_of, are_found, writes_made}
 use Rattle.disk_mirror.specs.Times.{times_on, IsTimed}
 use Rattle.disk_mirror.specs.Twin.{ticket_on, heard_of, IsTwin}
 
--- a mirror's own counts: of failed calls but reads, of failed reads, of waits and of polls
+-- a mirror's own numbers: of failed calls but reads, of failed reads, of waits and of polls; and how many writes it has room for in all
 pub record Counts : Type 0 where
   pub faults : ℕ
   pub read_faults : ℕ
   pub waits : ℕ
   pub polls : ℕ
+  pub most : ℕ
 
-abbrev pub counts_of : ℕ → ℕ → ℕ → ℕ → Counts
-counts_of faults read_faults waits polls = record { faults = faults; read_faults = read_faults; waits = waits; polls = polls }
+abbrev pub counts_of : ℕ → ℕ → ℕ → ℕ → ℕ → Counts
+counts_of faults read_faults waits polls most = record { faults = faults; read_faults = read_faults; waits = waits; polls = polls; most = most }
 
--- any call may fail, as both disks may; a wait brings no notice but its own
-abbrev pub mirror_manner : Manner
-mirror_manner = record any_manner { waits_alone = true }
+-- whether fewer writes than there is room for were made, accepted or lost
+abbrev pub has_room : ℕ → List Event → Bool
+has_room most log = nat_lt (writes_in log) most
+
+-- the manner of a mirror with room for so many writes: a write is accepted or lost only where there is room for it; any call may fail, as both disks may; a wait brings no notice but its own
+abbrev pub mirror_manner : ℕ → Manner
+mirror_manner most = record any_manner { waits_alone = true; accepts = has_room most; loses = has_room most }
 
 -- what is known of a mirror, as of any disk: it begins as its first disk does, and its log follows from its order and from the logs of the two disks
 abbrev pub mirror_state : State → State → OrderState → Counts → State
-mirror_state a b o c = record { blocks = a.blocks; base = a.base; log = log_of a.log b.log o.events; faults = c.faults; read_faults = c.read_faults; waits = c.waits; polls = c.polls; manner = mirror_manner }
+mirror_state a b o c = record { blocks = a.blocks; base = a.base; log = log_of a.log b.log o.events; faults = c.faults; read_faults = c.read_faults; waits = c.waits; polls = c.polls; manner = mirror_manner c.most }
 
 -- one disk of a mirror, which began with the mirror's blocks: while it is live, it has the mirror's writes; where it is down, it lags behind the mirror's log at the moment when it went down
 pub record IsOnSide (side : Side) (n : ℕ) (base : Blocks) (log : List Event) (pairs : List Pair) (rows : List Heard) (live : Bool) (end : ℕ) (began : Blocks) (events : List Event) : Type 0 where
@@ -63,11 +68,16 @@ pub record AreGiven (pairs : List Pair) (first second : Bool) : Type 0 where
 abbrev pub NoneLive : Bool → Bool → Type 0
 NoneLive first second = (first ≡ false) × (second ≡ false)
 
--- why calls of a mirror have failed: a read only where no disk is live; and so another call, unless there is no room for another write, or a wait named a ticket that was never given
-pub record HasCauses (faults read_faults : ℕ) (first second : Bool) (room count : ℕ) (misasked : Bool) : Type 0 where
+-- of a mirror's failed calls, where its room isn't used up: a read, or another call, failed only where no disk is live
+pub record AreCaused (faults read_faults : ℕ) (first second : Bool) (room count : ℕ) : Type 0 where
   pub reads : 0 < read_faults → NoneLive first second
-  pub others : 0 < faults → count < room → misasked ≡ false → NoneLive first second
+  pub others : 0 < faults → count < room → NoneLive first second
 
--- a ticket that was never given, where so many were
-abbrev pub IsUngiven : ℕ → ℕ → Type 0
-IsUngiven ticket count = (ticket ≡ 0) ⊎ (count < ticket)
+-- why calls of a mirror have failed: a read only where no disk is live; another call also where by its manner and its log no other write is accepted, since the room is used up
+pub record HasCauses (s : State) (first second : Bool) : Type 0 where
+  pub reads : 0 < s.read_faults → NoneLive first second
+  pub others : 0 < s.faults → NoneLive first second ⊎ (s.manner.accepts s.log ≡ false)
+
+-- the writes that were made, and those that there is room for, are all of which there was room at first
+abbrev pub KeepsRoom : ℕ → OrderState → Type 0
+KeepsRoom most o = writes_made o.events + o.room ≡ most + length o.pairs

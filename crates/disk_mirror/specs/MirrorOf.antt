@@ -16,9 +16,13 @@ second_in m = m.b.disk
 abbrev pub order_in : {A : Type 0} {k : Ghosts A} {B : Type 0} {l : Ghosts B} → Mirror A B k l → OrderState
 order_in m = m.order
 
--- its own counts
+-- its own numbers
 abbrev pub counts_in : {A : Type 0} {k : Ghosts A} {B : Type 0} {l : Ghosts B} → Mirror A B k l → Counts
-counts_in m = counts_of m.faults m.read_faults m.waits m.polls
+counts_in m = counts_of m.faults m.read_faults m.waits m.polls m.most
+
+-- how many writes it has room for in all
+abbrev pub room_in : {A : Type 0} {k : Ghosts A} {B : Type 0} {l : Ghosts B} → Mirror A B k l → ℕ
+room_in m = m.most
 
 -- whether no call on the first disk has failed
 abbrev pub first_is_live : {A : Type 0} {k : Ghosts A} {B : Type 0} {l : Ghosts B} → Mirror A B k l → Bool

@@ -1,5 +1,5 @@
 -- The log of a mirror, which follows from the order of its events and from the logs of the two disks.
-use Rattle.std.specs.Prelude.{ℕ, ◌==◌, Bool, true, false, if◌then◌else◌, is_some, List, [], ◌∷◌, map, Option, None, Some}
+use Rattle.std.specs.Prelude.{ℕ, ◌+◌, ◌==◌, Bool, true, false, if◌then◌else◌, is_some, List, [], ◌∷◌, map, Option, None, Some}
 use Rattle.std.specs.List.{list_all}
 use Rattle.disk_contract.specs.declared.event.Event.{Event}
 use Rattle.disk_contract.specs.declared.event.Event.TheVariants.{Wrote, Lost, Noticed}
@@ -82,6 +82,13 @@ has_failed [] = false
 has_failed (Accepted ticket first second ∷ es) = has_failed es
 has_failed (Failed side ∷ es) = true
 has_failed (Reported ticket ∷ es) = has_failed es
+
+-- how many of these events are writes, accepted or lost
+abbrev pub writes_made : List Entry → ℕ
+writes_made [] = 0
+writes_made (Accepted ticket first second ∷ es) = 1 + writes_made es
+writes_made (Failed side ∷ es) = 1 + writes_made es
+writes_made (Reported ticket ∷ es) = writes_made es
 
 -- whether the logs tell what this event wrote, and go on telling it as they grow
 abbrev pub is_found : List Event → List Event → Entry → Bool

@@ -5,11 +5,11 @@ ghost use Rattle.base_types.specs.Counts.{next_count, after_call};
 ghost use Rattle.base_types.specs.Seal.{Blocks};
 ghost use Rattle.disk_contract.specs.Cell.{IsAccepted, IsNoticed};
 ghost use Rattle.disk_contract.specs.Crash.{IsHonest};
-ghost use Rattle.disk_contract.specs.Disk.{HasFailed, Reads, AddsWrite, AddsPoll, AddsNotices, HearsAlone, OnlyReads, OnlyWrites, OnlyPolls, OnlyWaits, SameDisk};
+ghost use Rattle.disk_contract.specs.Disk.{HasFailed, writes_in, Reads, AddsWrite, AddsPoll, AddsNotices, HearsAlone, OnlyReads, OnlyWrites, OnlyPolls, OnlyWaits, SameDisk};
 ghost use Rattle.disk_contract.specs.Manner.{AnswersBy};
 ghost use Rattle.disk_mirror.specs.declared.entry.Side.TheVariants.{First, Second};
 ghost use Rattle.disk_mirror.specs.declared.mirror.MirrorRefusal.TheVariants.{Unlike, NoMemory as OutOfMemory};
-ghost use Rattle.disk_mirror.specs.Mirror.{counts_of, IsMirror, AreGiven, HasCauses, NoneLive, IsUngiven};
+ghost use Rattle.disk_mirror.specs.Mirror.{counts_of, IsMirror, AreCaused, AreGiven, HasCauses, KeepsRoom, NoneLive, mirror_manner};
 ghost use Rattle.disk_mirror.specs.Half.{HasFailedOnce};
 ghost use Rattle.disk_mirror.specs.Order.{log_of, has_failed};
 ghost use Rattle.disk_mirror.specs.Twin.{heard_of, heard_on};
@@ -54,17 +54,18 @@ pub struct Mirror<A: Disk, B: Disk> {
     read_faults: u64,
     waits: u64,
     polls: u64,
-    /// Whether a wait named a ticket that was never given.
-    misasked: bool,
+    /// How many writes there is room for in all.
+    most: u32,
     ghost size: { (A.state a.disk).blocks ≡ (B.state b.disk).blocks },
     ghost counted: { faults ≡ 0 → has_failed order.events ≡ false },
-    ghost causes: { HasCauses faults read_faults a.live b.live order.room (length order.pairs) misasked },
+    ghost causes: { AreCaused faults read_faults a.live b.live order.room (length order.pairs) },
+    ghost roomed: { KeepsRoom most order },
     ghost given: { AreGiven order.pairs a.live b.live },
     ghost told: { IsTrue (A.tells && B.tells) → ∥ IsMirror (A.state a.disk) (B.state b.disk) a.live b.live a.end b.end order ∥₁ },
 }
 
 impl<A: Disk, B: Disk> Mirror<A, B> {
-    ghost use Rattle.disk_mirror.specs.MirrorOf.{IsNew, counts_in, first_end, first_in, first_is_live, order_in, second_end, second_in, second_is_live, state_of};
+    ghost use Rattle.disk_mirror.specs.MirrorOf.{IsNew, counts_in, first_end, first_in, first_is_live, order_in, room_in, second_end, second_in, second_is_live, state_of};
 
     /// A mirror of two disks on which nothing happened yet, and which began with the same blocks where they have as many.
     /// It has room for so many writes.
@@ -80,6 +81,7 @@ impl<A: Disk, B: Disk> Mirror<A, B> {
         ensures live { IfOk result (λ m. (first_is_live m ≡ true) × (second_is_live m ≡ true)) }
         ensures ends { IfOk result (λ m. (first_end m ≡ 0) × (second_end m ≡ 0)) }
         ensures counts { IfOk result (λ m. IsNew (state_of A.state B.state m)) }
+        ensures manner { IfOk result (λ m. (state_of A.state B.state m).manner ≡ mirror_manner room) }
         ensures back { IfErr result (λ e. (e.0 ≡ a) × (e.1 ≡ b)) }
         ensures unlike { IfErr result (λ e. e.2 ≡ Unlike → (A.state a).blocks ≡ (B.state b).blocks → ⊥) }
         ensures memory { IfErr result (λ e. e.2 ≡ OutOfMemory → (A.state a).blocks ≡ (B.state b).blocks) }
@@ -100,7 +102,7 @@ impl<A: Disk, B: Disk> Mirror<A, B> {
             read_faults: 0,
             waits: 0,
             polls: 0,
-            misasked: false,
+            most: room,
         })
     }
 
@@ -139,10 +141,12 @@ impl<A: Disk, B: Disk> Mirror<A, B> {
     }
 
     /// Does nothing. A proof learns from the call why calls have failed: of the mirror's own counts, that a read failed only
-    /// where no disk is live, and another call also where there is no room for another write, or where a wait named a
-    /// ticket that was never given; and of a disk that is down, that it has counted a fault.
+    /// where no disk is live, and another call also where there is no room for another write; that the log tells how many
+    /// writes were made of those that there is room for in all; and of a disk that is down, that it has counted a fault.
     pub fn causes(&self)
-        ensures own { HasCauses (state_of A.state B.state self.now).faults (state_of A.state B.state self.now).read_faults (first_is_live self.now) (second_is_live self.now) (order_in self.now).room (length (order_in self.now).pairs) self.now.misasked }
+        ensures own { HasCauses (state_of A.state B.state self.now) (first_is_live self.now) (second_is_live self.now) }
+        ensures count { writes_in (state_of A.state B.state self.now).log + (order_in self.now).room ≡ room_in self.now + length (order_in self.now).pairs }
+        ensures manner { (state_of A.state B.state self.now).manner ≡ mirror_manner (room_in self.now) }
         ensures first { HasFailedOnce (first_is_live self.now) (A.state (first_in self.now)) }
         ensures second { HasFailedOnce (second_is_live self.now) (B.state (second_in self.now)) }
     {
@@ -248,7 +252,7 @@ impl<A: Disk, B: Disk> Mirror<A, B> {
         requires there { b < (A.state (first_in self.old)).blocks }
         requires room { length (order_in self.old).pairs < (order_in self.old).room }
         requires live { (first_is_live self.old || second_is_live self.old) ≡ true }
-        ensures counts { counts_in self.new ≡ counts_of (after_call (is_err result) self.old.faults) self.old.read_faults self.old.waits self.old.polls }
+        ensures counts { counts_in self.new ≡ counts_of (after_call (is_err result) self.old.faults) self.old.read_faults self.old.waits self.old.polls self.old.most }
         ensures size { (A.state (first_in self.new)).blocks ≡ (A.state (first_in self.old)).blocks }
         ensures base { (A.state (first_in self.new)).base ≡ (A.state (first_in self.old)).base }
         ensures down { OnErr result (NoneLive (first_is_live self.new) (second_is_live self.new)) }
@@ -376,6 +380,57 @@ impl<A: Disk, B: Disk> Mirror<A, B> {
         self.order.hear(Side::Second, ticket);
     }
 
+    // Waits on the first disk for ticket 0, which no disk gives.
+    fn wait_for_none_first(&mut self)
+        ensures counts { counts_in self.new ≡ counts_in self.old }
+        ensures size { (A.state (first_in self.new)).blocks ≡ (A.state (first_in self.old)).blocks }
+        ensures base { (A.state (first_in self.new)).base ≡ (A.state (first_in self.old)).base }
+        ensures down { IsTrue (A.tells && B.tells) → first_is_live self.new ≡ false }
+        ensures log { IsTrue (A.tells && B.tells) → (state_of A.state B.state self.new).log ≡ (state_of A.state B.state self.old).log }
+    {
+        // calls for their clauses alone: that the disks' logs are lawful, that of the first one also behind the wait
+        self.a.lawful();
+        self.b.lawful();
+        let moment = self.order.len();
+        self.a.wait(0, moment);
+        self.a.lawful();
+    }
+
+    // Waits on the second disk for ticket 0, which no disk gives.
+    fn wait_for_none_second(&mut self)
+        ensures counts { counts_in self.new ≡ counts_in self.old }
+        ensures size { (A.state (first_in self.new)).blocks ≡ (A.state (first_in self.old)).blocks }
+        ensures base { (A.state (first_in self.new)).base ≡ (A.state (first_in self.old)).base }
+        ensures first { first_is_live self.new ≡ first_is_live self.old }
+        ensures down { IsTrue (A.tells && B.tells) → second_is_live self.new ≡ false }
+        ensures log { IsTrue (A.tells && B.tells) → (state_of A.state B.state self.new).log ≡ (state_of A.state B.state self.old).log }
+    {
+        // calls for their clauses alone: that the disks' logs are lawful, that of the second one also behind the wait
+        self.a.lawful();
+        self.b.lawful();
+        let moment = self.order.len();
+        self.b.wait(0, moment);
+        self.b.lawful();
+    }
+
+    // Waits on each live disk for ticket 0, which no disk gives. It failed where none is left behind it, which is counted.
+    fn wait_for_none(&mut self) -> Result<(), DiskFault>
+        ensures counts { counts_in self.new ≡ counts_of (after_call (is_err result) self.old.faults) self.old.read_faults self.old.waits self.old.polls self.old.most }
+        ensures size { (A.state (first_in self.new)).blocks ≡ (A.state (first_in self.old)).blocks }
+        ensures base { (A.state (first_in self.new)).base ≡ (A.state (first_in self.old)).base }
+        ensures down { OnErr result (NoneLive (first_is_live self.new) (second_is_live self.new)) }
+        ensures fails { IsTrue (A.tells && B.tells) → is_err result ≡ true }
+        ensures log { IsTrue (A.tells && B.tells) → (state_of A.state B.state self.new).log ≡ (state_of A.state B.state self.old).log }
+    {
+        self.wait_for_none_first();
+        self.wait_for_none_second();
+        if !self.is_live() {
+            self.faults = self.faults.saturating_add(1);
+            return Err(DiskFault);
+        }
+        Ok(())
+    }
+
     // Reports the least ticket whose notice came from each live disk, of which there must be one.
     fn report_next(&mut self) -> Option<u64>
         requires { (first_is_live self.old || second_is_live self.old) ≡ true }
@@ -464,8 +519,9 @@ impl<A: Disk, B: Disk> Disk for Mirror<A, B> {
     ghost state = { λ m. state_of A.state B.state m };
 
     fn lawful(&self) {
-        // a call for its clause alone: what the first disk's blocks are
+        // calls for their clauses alone: what the first disk's blocks are, and how much room there is
         self.a.lawful();
+        self.order.few();
     }
 
     fn blocks(&self) -> u32 {
@@ -537,13 +593,11 @@ impl<A: Disk, B: Disk> Disk for Mirror<A, B> {
         ensures noticed { IsTrue (A.tells && B.tells) → OnOk result (IsNoticed ticket (state_of A.state B.state self.new).log) }
         ensures spends { OnlyWaits (is_err result) (state_of A.state B.state self.old) (state_of A.state B.state self.new) }
         ensures alone { IsTrue (A.tells && B.tells) → HearsAlone ticket (state_of A.state B.state self.old).log (state_of A.state B.state self.new).log }
-        ensures down { OnErr result (NoneLive (first_is_live self.new) (second_is_live self.new) ⊎ IsUngiven ticket (length (order_in self.old).pairs)) }
+        ensures down { OnErr result (NoneLive (first_is_live self.new) (second_is_live self.new)) }
     {
         self.waits = self.waits.saturating_add(1);
         if !self.order.has(ticket) {
-            self.misasked = true;
-            self.faults = self.faults.saturating_add(1);
-            return Err(DiskFault);
+            return self.wait_for_none();
         }
         self.wait_first(ticket);
         self.wait_second(ticket);

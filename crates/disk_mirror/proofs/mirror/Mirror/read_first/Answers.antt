@@ -10,8 +10,9 @@ invariant_of-self g c =
     let step = c.read.ensures.step in
     record {
       size = c.read.ensures.same.blocks ∙ m.size;
+      roomed = m.roomed;
       counted = m.counted;
-      causes = causes_stay _ _ _ _ _ _ _ _ _ _ _ (λ on_it. ((of_read _ _ _ _ _ _ [] [] step refl).stays on_it).0) (λ on_it. on_it) (λ more. more) m.causes;
+      causes = causes_stay _ _ _ _ _ _ _ _ _ _ (λ on_it. ((of_read _ _ _ _ _ _ [] [] step refl).stays on_it).0) (λ on_it. on_it) (λ more. more) m.causes;
       given = still_given m.order.pairs m.a.live m.b.live c.read.new.self.live m.b.live (λ on_it. ((of_read _ _ _ _ _ _ [] [] step refl).stays on_it).0) (λ on_it. on_it) m.given;
       told = λ tells.
           let t = and_parts g.A.Disk.tells g.B.Disk.tells tells in

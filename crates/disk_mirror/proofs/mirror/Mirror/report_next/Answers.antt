@@ -1,8 +1,9 @@
 use Rattle.std.proofs.Common.{◌<◌, length, ◌∙◌, sym, ap, subst, arith}
 use Rattle.std.proofs.lemmas.Bool.{and_parts}
 use Rattle.disk_mirror.specs.Order.{OrderState, log_of, has_failed}
-use Rattle.disk_mirror.specs.Mirror.{AreGiven, IsMirror}
+use Rattle.disk_mirror.specs.Mirror.{AreGiven, IsMirror, KeepsRoom}
 use Rattle.disk_mirror.proofs.Sound.{failed_report}
+use Rattle.disk_mirror.proofs.Made.{keeps_report}
 use Rattle.disk_mirror.proofs.Causes.{causes_stay}
 use Rattle.disk_mirror.proofs.Calls.{ready_found, ready_parts, reports, report_open, report_log}
 use Rattle.disk_mirror.proofs.mirror.Mirror.report_next.Goals as goal
@@ -20,7 +21,8 @@ invariant_of-self-2 g c =
     let parts = ready_parts c.is_live.result c.is_live-2.result _ found.2 in
     record {
       size = m.size;
-      causes = causes_stay _ _ _ _ _ _ _ _ _ _ _ (λ on_it. on_it) (λ on_it. on_it) (subst (λ (o : OrderState). length o.pairs < o.room) c.report.ensures) m.causes;
+      causes = causes_stay _ _ _ _ _ _ _ _ _ _ (λ on_it. on_it) (λ on_it. on_it) (subst (λ (o : OrderState). length o.pairs < o.room) c.report.ensures) m.causes;
+      roomed = subst (KeepsRoom m.most) (sym c.report.ensures) (keeps_report m.most m.order _ c.came-came.result m.roomed);
       counted = λ none. ap (λ (o : OrderState). has_failed o.events) c.report.ensures ∙ failed_report m.order.events c.in-Some.ticket ∙ m.counted none;
       given = subst (λ (o : OrderState). AreGiven o.pairs m.a.live m.b.live) (sym c.report.ensures) m.given;
       told = λ tells. let t = and_parts g.A.Disk.tells g.B.Disk.tells tells in subst (λ (o : OrderState). ∥ IsMirror (g.A.Disk.state m.a.disk) (g.B.Disk.state m.b.disk) m.a.live m.b.live m.a.end m.b.end o ∥₁) (sym c.report.ensures)

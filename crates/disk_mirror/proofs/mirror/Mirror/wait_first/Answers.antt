@@ -2,7 +2,7 @@ use Rattle.std.proofs.Common.{◌≡◌, ◌<◌, length, ◌∙◌, sym, ap, su
 use Rattle.std.proofs.lemmas.Bool.{and_parts}
 use Rattle.disk_mirror.specs.Half.{HalfWaits}
 use Rattle.disk_mirror.specs.Order.{OrderState, log_of, has_failed}
-use Rattle.disk_mirror.specs.Mirror.{AreGiven, IsMirror}
+use Rattle.disk_mirror.specs.Mirror.{AreGiven, IsMirror, KeepsRoom}
 use Rattle.disk_mirror.proofs.Causes.{causes_stay}
 use Rattle.disk_mirror.proofs.Calls.{of_wait, wait_stays, wait_noticed, hears_first, first_told, first_log, still_given}
 use Rattle.disk_mirror.proofs.mirror.Mirror.wait_first.Goals as goal
@@ -15,8 +15,9 @@ invariant_of-self g c =
     let m = c.args.self.now in
     record {
       size = c.wait.ensures.same.blocks ∙ m.size;
+      roomed = m.roomed;
       counted = m.counted;
-      causes = causes_stay _ _ _ _ _ _ _ _ _ _ _ (wait_stays g.A.Disk.tells _ _ _ _ _ _ _ _ _ c.wait.ensures.step) (λ on_it. on_it) (λ more. more) m.causes;
+      causes = causes_stay _ _ _ _ _ _ _ _ _ _ (wait_stays g.A.Disk.tells _ _ _ _ _ _ _ _ _ c.wait.ensures.step) (λ on_it. on_it) (λ more. more) m.causes;
       given = still_given m.order.pairs m.a.live m.b.live c.wait.new.self.live m.b.live (wait_stays g.A.Disk.tells _ _ _ _ _ _ _ _ _ c.wait.ensures.step) (λ on_it. on_it) m.given;
       told = λ tells. let t = and_parts g.A.Disk.tells g.B.Disk.tells tells in
           (first_told (g.A.Disk.state m.a.disk) (g.B.Disk.state m.b.disk) (g.A.Disk.state c.wait.new.self.disk) m.a.live m.b.live c.wait.new.self.live m.a.end m.b.end c.wait.new.self.end c.len-moment.result m.order c.wait.ensures.same c.len-moment.ensures (c.lawful.ensures t.0).log.lawful (of_wait _ _ _ _ _ _ _ _ _ (subst (λ v. HalfWaits v c.len-moment.result c.in-Some.own c.wait.result m.a.live c.wait.new.self.live m.a.end c.wait.new.self.end (g.A.Disk.state m.a.disk).log (g.A.Disk.state c.wait.new.self.disk).log) t.0 c.wait.ensures.step)) (m.told tells));
@@ -33,7 +34,8 @@ invariant_of-self-2 g c =
     let m = c.args.self.now in
     record {
       size = c.wait.ensures.same.blocks ∙ m.size;
-      causes = causes_stay _ _ _ _ _ _ _ _ _ _ _ (wait_stays g.A.Disk.tells _ _ _ _ _ _ _ _ _ c.wait.ensures.step) (λ on_it. on_it) (subst (λ (o : OrderState). length o.pairs < o.room) c.hear.ensures) m.causes;
+      causes = causes_stay _ _ _ _ _ _ _ _ _ _ (wait_stays g.A.Disk.tells _ _ _ _ _ _ _ _ _ c.wait.ensures.step) (λ on_it. on_it) (subst (λ (o : OrderState). length o.pairs < o.room) c.hear.ensures) m.causes;
+      roomed = subst (KeepsRoom m.most) (sym c.hear.ensures) m.roomed;
       counted = subst (λ (o : OrderState). m.faults ≡ 0 → has_failed o.events ≡ false) (sym c.hear.ensures) m.counted;
       given = subst (λ (o : OrderState). AreGiven o.pairs c.wait.new.self.live m.b.live) (sym c.hear.ensures) (still_given m.order.pairs m.a.live m.b.live c.wait.new.self.live m.b.live (wait_stays g.A.Disk.tells _ _ _ _ _ _ _ _ _ c.wait.ensures.step) (λ on_it. on_it) m.given);
       told = λ tells. let t = and_parts g.A.Disk.tells g.B.Disk.tells tells in

@@ -5,11 +5,12 @@ use Rattle.disk_contract.specs.Cell.{greatest_ticket, IsNoticed}
 use Rattle.disk_contract.specs.Disk.{AddsWrite}
 use Rattle.disk_mirror.specs.Half.{HalfWrites}
 use Rattle.disk_mirror.specs.Order.{OrderState, log_of, has_failed}
-use Rattle.disk_mirror.specs.Mirror.{AreGiven, IsMirror}
+use Rattle.disk_mirror.specs.Mirror.{AreGiven, IsMirror, KeepsRoom}
 use Rattle.disk_mirror.specs.Turns.{accepted_in}
 use Rattle.disk_mirror.proofs.Sound.{failed_accept}
 use Rattle.disk_mirror.proofs.Mirrors.{accepted_log}
 use Rattle.disk_mirror.proofs.Leaves.{found_now, next_above, next_unnoticed}
+use Rattle.disk_mirror.proofs.Made.{keeps_accept, keeps_none}
 use Rattle.disk_mirror.proofs.Causes.{causes_stay, causes_down}
 use Rattle.disk_mirror.proofs.Calls.{accepts, falls, given_accept, given_live, given_none, none_log, none_first, none_second}
 use Rattle.disk_mirror.proofs.mirror.Mirror.write_both.Goals as goal
@@ -20,7 +21,8 @@ invariant_of-self g c =
     let is = c.accept.ensures.state ∙ ap₂ (λ p q. accepted_in m.order p q c.came-came.result) c.ticket.ensures c.ticket-then-is_one_live.ensures in
     record {
       size = c.write-first.ensures.same.blocks ∙ m.size ∙ sym c.write-second.ensures.same.blocks;
-      causes = causes_stay _ _ _ _ _ _ _ _ _ _ _ (λ on_it. (given_live g.A.Disk.tells _ _ _ _ _ _ _ _ _ _ c.write-first.ensures.step on_it).0) (λ on_it. (given_live g.B.Disk.tells _ _ _ _ _ _ _ _ _ _ c.write-second.ensures.step on_it).0) (λ _. c.requires.room) m.causes;
+      causes = causes_stay _ _ _ _ _ _ _ _ _ _ (λ on_it. (given_live g.A.Disk.tells _ _ _ _ _ _ _ _ _ _ c.write-first.ensures.step on_it).0) (λ on_it. (given_live g.B.Disk.tells _ _ _ _ _ _ _ _ _ _ c.write-second.ensures.step on_it).0) (λ _. c.requires.room) m.causes;
+      roomed = subst (KeepsRoom m.most) (sym is) (keeps_accept m.most m.order _ _ c.came-came.result m.roomed);
       counted = λ none. ap (λ (o : OrderState). has_failed o.events) is ∙ failed_accept m.order.events _ _ _ ∙ m.counted none;
       given = subst (λ (o : OrderState). AreGiven o.pairs c.write-first.new.self.live c.write-second.new.self.live) (sym is)
           (given_accept g.A.Disk.tells g.B.Disk.tells m.order.pairs c.args.b c.args.from.now c.len-moment.result c.write-first.result c.write-second.result _ _ _ _ _ _ _ _ _ _ _ _ c.write-first.ensures.step c.write-second.ensures.step m.given);
@@ -53,8 +55,9 @@ invariant_of-self-2 g c =
     let is_counted : c.saturating_add-self.result ≡ 0 → ⊥ = λ none. omega (arith, none, c.saturating_add-self.ensures) in
     record {
       size = c.write-first.ensures.same.blocks ∙ m.size ∙ sym c.write-second.ensures.same.blocks;
+      roomed = subst (KeepsRoom m.most) (sym c.note_lost.ensures) (keeps_none m.most m.order c.write-first.result c.write-second.result c.came-came.result c.requires.room m.roomed);
       counted = λ none. absurd (is_counted none);
-      causes = causes_down _ _ _ _ _ _ _ (none_first _ _ none) (none_second _ _ none);
+      causes = causes_down _ _ _ _ _ _ (none_first _ _ none) (none_second _ _ none);
       given = given_none c.note_lost.new.order.pairs c.write-first.new.self.live c.write-second.new.self.live (none_first _ _ none) (none_second _ _ none);
       told = λ tells. let t = and_parts g.A.Disk.tells g.B.Disk.tells tells in
           subst (λ (o : OrderState). ∥ IsMirror (g.A.Disk.state c.write-first.new.self.disk) (g.B.Disk.state c.write-second.new.self.disk) c.write-first.new.self.live c.write-second.new.self.live c.write-first.new.self.end c.write-second.new.self.end o ∥₁) (sym c.note_lost.ensures)
