@@ -1,16 +1,15 @@
 -- A mirror on which nothing happened yet.
-use Rattle.std.proofs.Common.{◌≡◌, ℕ, zero, suc, ◌<◌, ◌≤◌, Bool, true, false, List, [], ◌∷◌, take, Option, Some, None, refl, sym, ◌∙◌, ap, subst, arith}
+use Rattle.std.proofs.Common.{◌≡◌, ℕ, zero, suc, ◌<◌, ◌≤◌, Bool, true, false, List, [], ◌∷◌, take, Some, None, refl, sym, ◌∙◌, ap, subst, arith}
 use Rattle.std.proofs.lemmas.Bool.{false≢true}
 use Rattle.base_types.specs.Seal.{Blocks}
 use Rattle.disk_contract.specs.declared.event.Event.{Event}
 use Rattle.disk_contract.specs.Disk.{State}
-use Rattle.disk_mirror.specs.declared.entry.Heard.{Heard}
 use Rattle.disk_mirror.specs.declared.entry.Side.{Side}
 use Rattle.disk_mirror.specs.declared.entry.Side.TheVariants.{First, Second}
 use Rattle.disk_mirror.specs.Behind.{LagsBehind}
 use Rattle.disk_mirror.specs.Order.{OrderState}
 use Rattle.disk_mirror.specs.Times.{IsTimed}
-use Rattle.disk_mirror.specs.Twin.{heard_on, heard_of, is_over, ticket_on, IsTwin}
+use Rattle.disk_mirror.specs.Twin.{heard_on, heard_of, ticket_on, IsTwin}
 use Rattle.disk_mirror.specs.Mirror.{IsOnSide, IsMirrorOf, IsMirror, AreGiven}
 
 -- no row is there

@@ -1,5 +1,5 @@
 -- A mark of the mirror has come on a disk exactly by the disk's own mark of it.
-use Rattle.std.proofs.Common.{◌≡◌, ℕ, zero, suc, ◌+◌, ◌≤◌, nat_le, Bool, true, false, if◌then◌else◌, List, [], ◌∷◌, length, get_or, refl, sym, ap, subst, arith}
+use Rattle.std.proofs.Common.{◌≡◌, ℕ, zero, suc, ◌+◌, ◌≤◌, nat_le, Bool, true, false, if◌then◌else◌, List, [], ◌∷◌, length, get_or, refl, sym, subst, arith}
 use Rattle.disk_mirror.specs.Times.{AreFrom, Ascend, came_by, moment_of, moment_on}
 
 le_true : (t k : ℕ) → t ≤ k → nat_le t k ≡ true

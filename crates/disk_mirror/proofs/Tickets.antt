@@ -1,12 +1,11 @@
 -- Each ticket that a live disk accepted has a row.
-use Rattle.std.proofs.Common.{◌≡◌, ◌⊎◌, inl, inr, ⊎_elim, ℕ, ◌==◌, Bool, true, false, if◌then◌else◌, List, [], ◌∷◌, map, Option, Some, None, refl, sym, ◌∙◌, ap, subst}
+use Rattle.std.proofs.Common.{◌≡◌, ◌⊎◌, inl, inr, ⊎_elim, ℕ, ◌==◌, true, false, if◌then◌else◌, List, [], ◌∷◌, map, Option, Some, None, refl, sym, ◌∙◌, ap, subst}
 use Rattle.std.proofs.lemmas.Bool.{eqb-true, eq-eqb, or_cases, false≢true, cond-true}
 use Rattle.disk_contract.specs.declared.event.Event.{Event}
 use Rattle.disk_contract.specs.declared.event.Event.TheVariants.{Wrote, Lost, Noticed}
 use Rattle.disk_contract.specs.Cell.{Write, IsAccepted}
 use Rattle.disk_contract.specs.Lawful.{writes_to}
 use Rattle.disk_mirror.specs.declared.entry.Side.{Side}
-use Rattle.disk_mirror.specs.declared.entry.Side.TheVariants.{First, Second}
 use Rattle.disk_mirror.specs.declared.entry.Pair.{Pair}
 use Rattle.disk_mirror.specs.declared.entry.Heard.{Heard}
 use Rattle.disk_mirror.specs.Twin.{ticket_on, twin, IsTwin}

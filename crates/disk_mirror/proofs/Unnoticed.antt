@@ -1,9 +1,9 @@
 -- No disk has noticed a write of ticket 0: so no wait for it was done.
-use Rattle.std.proofs.Common.{◌≡◌, ⊎_elim, ℕ, ◌<◌, ◌==◌, ◌||◌, Bool, true, false, IsTrue, List, [], ◌∷◌, ◌++◌, refl, sym, ◌∙◌, ap, ap₂, arith}
+use Rattle.std.proofs.Common.{◌≡◌, ⊎_elim, ℕ, ◌<◌, ◌==◌, ◌||◌, Bool, true, false, List, [], ◌∷◌, ◌++◌, refl, sym, ◌∙◌, ap, ap₂, arith}
 use Rattle.std.proofs.lemmas.Bool.{eqb-true, false≢true, or_cases, cases_Bool}
 use Rattle.disk_contract.specs.declared.event.Event.{Event}
 use Rattle.disk_contract.specs.declared.event.Event.TheVariants.{Wrote, Lost, Noticed}
-use Rattle.disk_contract.specs.Cell.{greatest_ticket, is_accepted, is_noticed}
+use Rattle.disk_contract.specs.Cell.{is_accepted, is_noticed}
 use Rattle.disk_contract.specs.Lawful.{AreLawfulAfter, IsLawful}
 use Rattle.disk_mirror.specs.Half.{HalfWaits}
 use Rattle.disk_mirror.proofs.Logs.{is_accepted-append}

@@ -129,7 +129,8 @@ impl<D: Disk> Half<D> {
         requires there { b < (D.state self.old.disk).blocks }
         requires more { moment < 2 ^ 64 - 1 }
         ensures same { SameDisk (D.state self.old.disk) (D.state self.new.disk) }
-        ensures step { HalfWrites D.tells b from.now moment result self.old.live self.new.live self.old.end self.new.end (D.state self.old.disk).log (D.state self.new.disk).log }
+        ensures step { HalfWrites D.tells b from.now moment result self.old.live self.new.live self.old.end self.new.end (D.state self.old.disk).log
+            (D.state self.new.disk).log }
     {
         if !self.live {
             return Written::Nothing;
@@ -163,7 +164,8 @@ impl<D: Disk> Half<D> {
     /// Polls the disk where it is live, and gives the ticket that it answers. `moment` is that of the mirror.
     pub(crate) fn poll(&mut self, moment: u64) -> Option<u64>
         ensures same { SameDisk (D.state self.old.disk) (D.state self.new.disk) }
-        ensures step { HalfPolls D.tells moment result self.old.live self.new.live self.old.end self.new.end (D.state self.old.disk).log (D.state self.new.disk).log }
+        ensures step { HalfPolls D.tells moment result self.old.live self.new.live self.old.end self.new.end (D.state self.old.disk).log
+            (D.state self.new.disk).log }
     {
         if !self.live {
             return None;
@@ -180,7 +182,8 @@ impl<D: Disk> Half<D> {
     /// Waits for a ticket of the disk where it is live, and says whether that was done. `moment` is that of the mirror.
     pub(crate) fn wait(&mut self, ticket: u64, moment: u64) -> bool
         ensures same { SameDisk (D.state self.old.disk) (D.state self.new.disk) }
-        ensures step { HalfWaits D.tells moment ticket result self.old.live self.new.live self.old.end self.new.end (D.state self.old.disk).log (D.state self.new.disk).log }
+        ensures step { HalfWaits D.tells moment ticket result self.old.live self.new.live self.old.end self.new.end (D.state self.old.disk).log
+            (D.state self.new.disk).log }
     {
         if !self.live {
             return false;

@@ -1,17 +1,19 @@
 //! The mirror: a disk over two, which has tickets of its own.
 
-ghost use Rattle.std.specs.Prelude.{◌≡◌, List, ◌⊎◌, ◌<◌, ◌≤◌, ◌+◌, ◌&&◌, ◌||◌, ℕ, Bool, true, false, not, [], length, map, take, nat_eq, IsTrue, OnOk, OnErr, IfOk, IfErr, IfSome, Some, None, Ok, is_err};
+ghost use Rattle.std.specs.Prelude.{◌≡◌, List, ◌⊎◌, ◌<◌, ◌≤◌, ◌+◌, ◌&&◌, ◌||◌, ℕ, Bool, true, false, not, [], length, map, take, nat_eq, IsTrue};
+ghost use Rattle.std.specs.Prelude.{OnOk, OnErr, IfOk, IfErr, IfSome, Some, None, Ok, is_err};
 ghost use Rattle.base_types.specs.Counts.{next_count, after_call};
 ghost use Rattle.base_types.specs.Seal.{Blocks};
 ghost use Rattle.disk_contract.specs.Cell.{IsAccepted, IsNoticed};
 ghost use Rattle.disk_contract.specs.Crash.{IsHonest};
-ghost use Rattle.disk_contract.specs.Disk.{HasFailed, writes_in, Reads, AddsWrite, AddsPoll, AddsNotices, HearsAlone, OnlyReads, OnlyWrites, OnlyPolls, OnlyWaits, SameDisk};
+ghost use Rattle.disk_contract.specs.Disk.{HasFailed, writes_in, Reads, AddsWrite, AddsPoll, AddsNotices, HearsAlone, OnlyReads, OnlyWrites};
+ghost use Rattle.disk_contract.specs.Disk.{OnlyPolls, OnlyWaits, SameDisk};
 ghost use Rattle.disk_contract.specs.Manner.{AnswersBy};
 ghost use Rattle.disk_mirror.specs.declared.entry.Side.TheVariants.{First, Second};
 ghost use Rattle.disk_mirror.specs.declared.mirror.MirrorRefusal.TheVariants.{Unlike, NoMemory as OutOfMemory};
 ghost use Rattle.disk_mirror.specs.Mirror.{counts_of, IsMirror, AreCaused, AreGiven, HasCauses, KeepsRoom, NoneLive, mirror_manner};
 ghost use Rattle.disk_mirror.specs.Half.{HasFailedOnce};
-ghost use Rattle.disk_mirror.specs.Order.{log_of, has_failed};
+ghost use Rattle.disk_mirror.specs.Order.{has_failed};
 ghost use Rattle.disk_mirror.specs.Twin.{heard_of, heard_on};
 ghost use Rattle.disk_mirror.specs.Rows.{after_report, first_ready, HearsPoll, HearsBoth};
 ghost use Rattle.disk_mirror.specs.declared.entry.Heard.{Heard};
@@ -65,7 +67,8 @@ pub struct Mirror<A: Disk, B: Disk> {
 }
 
 impl<A: Disk, B: Disk> Mirror<A, B> {
-    ghost use Rattle.disk_mirror.specs.MirrorOf.{IsNew, counts_in, first_end, first_in, first_is_live, order_in, room_in, second_end, second_in, second_is_live, state_of};
+    ghost use Rattle.disk_mirror.specs.MirrorOf.{IsNew, counts_in, first_end, first_in, first_is_live, order_in, room_in, second_end, second_in};
+    ghost use Rattle.disk_mirror.specs.MirrorOf.{second_is_live, state_of};
 
     /// A mirror of two disks on which nothing happened yet, and which began with the same blocks where they have as many.
     /// It has room for so many writes.
@@ -73,7 +76,8 @@ impl<A: Disk, B: Disk> Mirror<A, B> {
     /// # Errors
     /// `Unlike` exactly where the numbers of blocks differ. Out of memory. The disks are given back.
     pub fn new(alloc: Global, a: A, b: B, room: u32) -> Result<Mirror<A, B>, (A, B, MirrorRefusal)>
-        requires alike { IsTrue (A.tells && B.tells) → (A.state a).blocks ≡ (B.state b).blocks → (n : ℕ) → n < (A.state a).blocks → (B.state b).base n ≡ (A.state a).base n }
+        requires alike { IsTrue (A.tells && B.tells) → (A.state a).blocks ≡ (B.state b).blocks → (n : ℕ) → n < (A.state a).blocks
+            → (B.state b).base n ≡ (A.state a).base n }
         requires first { IsTrue (A.tells && B.tells) → (A.state a).log ≡ [] }
         requires second { IsTrue (A.tells && B.tells) → (B.state b).log ≡ [] }
         ensures disks { IfOk result (λ m. (first_in m ≡ a) × (second_in m ≡ b)) }
@@ -118,10 +122,12 @@ impl<A: Disk, B: Disk> Mirror<A, B> {
             → ∥ IsHonest (A.state (first_in self.now)).blocks (A.state (first_in self.now)).base (state_of A.state B.state self.now).log img ∥₁ }
         ensures first_down { IsTrue (A.tells && B.tells) → first_is_live self.now ≡ false → (img : Blocks)
             → IsHonest (A.state (first_in self.now)).blocks (A.state (first_in self.now)).base (A.state (first_in self.now)).log img
-            → ∥ IsHonest (A.state (first_in self.now)).blocks (A.state (first_in self.now)).base (take (first_end self.now) (state_of A.state B.state self.now).log) img ∥₁ }
+            → ∥ IsHonest (A.state (first_in self.now)).blocks (A.state (first_in self.now)).base
+            (take (first_end self.now) (state_of A.state B.state self.now).log) img ∥₁ }
         ensures second_down { IsTrue (A.tells && B.tells) → second_is_live self.now ≡ false → (img : Blocks)
             → IsHonest (A.state (first_in self.now)).blocks (B.state (second_in self.now)).base (B.state (second_in self.now)).log img
-            → ∥ IsHonest (A.state (first_in self.now)).blocks (A.state (first_in self.now)).base (take (second_end self.now) (state_of A.state B.state self.now).log) img ∥₁ }
+            → ∥ IsHonest (A.state (first_in self.now)).blocks (A.state (first_in self.now)).base
+            (take (second_end self.now) (state_of A.state B.state self.now).log) img ∥₁ }
     {
         // calls for their clauses alone: that the disks' logs are lawful
         self.a.lawful();
@@ -133,9 +139,11 @@ impl<A: Disk, B: Disk> Mirror<A, B> {
     /// events that each disk had when the events of the mirror had come, one number for each, ascend to those of now.
     pub fn moments(&self)
         ensures first { IsTrue (A.tells && B.tells) → LeavesAtMoments (A.state (first_in self.now)).blocks (A.state (first_in self.now)).base
-            (state_of A.state B.state self.now).log (times_on First (order_in self.now).times) (first_is_live self.now) (first_end self.now) (A.state (first_in self.now)).base (A.state (first_in self.now)).log }
+            (state_of A.state B.state self.now).log (times_on First (order_in self.now).times) (first_is_live self.now) (first_end self.now)
+            (A.state (first_in self.now)).base (A.state (first_in self.now)).log }
         ensures second { IsTrue (A.tells && B.tells) → LeavesAtMoments (A.state (first_in self.now)).blocks (A.state (first_in self.now)).base
-            (state_of A.state B.state self.now).log (times_on Second (order_in self.now).times) (second_is_live self.now) (second_end self.now) (B.state (second_in self.now)).base (B.state (second_in self.now)).log }
+            (state_of A.state B.state self.now).log (times_on Second (order_in self.now).times) (second_is_live self.now) (second_end self.now)
+            (B.state (second_in self.now)).base (B.state (second_in self.now)).log }
     {
         let _ = &self.order;
     }
@@ -157,8 +165,10 @@ impl<A: Disk, B: Disk> Mirror<A, B> {
     /// mirror has too, and began with the same ones.
     pub fn alike(&self)
         ensures size { (B.state (second_in self.now)).blocks ≡ (A.state (first_in self.now)).blocks }
-        ensures first { ((state_of A.state B.state self.now).blocks ≡ (A.state (first_in self.now)).blocks) × ((state_of A.state B.state self.now).base ≡ (A.state (first_in self.now)).base) }
-        ensures second { IsTrue (A.tells && B.tells) → (n : ℕ) → n < (A.state (first_in self.now)).blocks → (B.state (second_in self.now)).base n ≡ (A.state (first_in self.now)).base n }
+        ensures first { ((state_of A.state B.state self.now).blocks ≡ (A.state (first_in self.now)).blocks)
+            × ((state_of A.state B.state self.now).base ≡ (A.state (first_in self.now)).base) }
+        ensures second { IsTrue (A.tells && B.tells) → (n : ℕ) → n < (A.state (first_in self.now)).blocks
+            → (B.state (second_in self.now)).base n ≡ (A.state (first_in self.now)).base n }
     {
         let _ = &self.order;
     }
@@ -169,8 +179,12 @@ impl<A: Disk, B: Disk> Mirror<A, B> {
     /// # Errors
     /// Out of memory.
     pub fn marks(&self, alloc: Global, marks: &[Mark]) -> Result<(Vec<Mark>, Vec<Mark>), NoMemory>
-        ensures first { IfOk result (λ both. both.0.items ≡ map (mark_on (times_on First (order_in self.now).times) (life_of (first_is_live self.now) (first_end self.now) (A.state (first_in self.now)))) marks.now) }
-        ensures second { IfOk result (λ both. both.1.items ≡ map (mark_on (times_on Second (order_in self.now).times) (life_of (second_is_live self.now) (second_end self.now) (B.state (second_in self.now)))) marks.now) }
+        ensures first { IfOk result (λ both. both.0.items ≡ map
+            (mark_on (times_on First (order_in self.now).times) (life_of (first_is_live self.now) (first_end self.now) (A.state (first_in self.now))))
+            marks.now) }
+        ensures second { IfOk result (λ both. both.1.items ≡ map
+            (mark_on (times_on Second (order_in self.now).times)
+            (life_of (second_is_live self.now) (second_end self.now) (B.state (second_in self.now)))) marks.now) }
     {
         let first = self.order.marks(alloc, Side::First, self.a.life(), marks)?;
         let second = self.order.marks(alloc, Side::Second, self.b.life(), marks)?;
@@ -252,11 +266,13 @@ impl<A: Disk, B: Disk> Mirror<A, B> {
         requires there { b < (A.state (first_in self.old)).blocks }
         requires room { length (order_in self.old).pairs < (order_in self.old).room }
         requires live { (first_is_live self.old || second_is_live self.old) ≡ true }
-        ensures counts { counts_in self.new ≡ counts_of (after_call (is_err result) self.old.faults) self.old.read_faults self.old.waits self.old.polls self.old.most }
+        ensures counts { counts_in self.new ≡ counts_of (after_call (is_err result) self.old.faults) self.old.read_faults self.old.waits
+            self.old.polls self.old.most }
         ensures size { (A.state (first_in self.new)).blocks ≡ (A.state (first_in self.old)).blocks }
         ensures base { (A.state (first_in self.new)).base ≡ (A.state (first_in self.old)).base }
         ensures down { OnErr result (NoneLive (first_is_live self.new) (second_is_live self.new)) }
-        ensures log { IsTrue (A.tells && B.tells) → AddsWrite b from.now result (state_of A.state B.state self.old).log (state_of A.state B.state self.new).log }
+        ensures log { IsTrue (A.tells && B.tells)
+            → AddsWrite b from.now result (state_of A.state B.state self.old).log (state_of A.state B.state self.new).log }
     {
         // calls for their clauses alone: that the disks' logs are lawful, how much room there is, and what a block is
         self.a.lawful();
@@ -283,7 +299,9 @@ impl<A: Disk, B: Disk> Mirror<A, B> {
         ensures log { IsTrue (A.tells && B.tells) → (state_of A.state B.state self.new).log ≡ (state_of A.state B.state self.old).log }
         ensures pairs { (order_in self.new).pairs ≡ (order_in self.old).pairs }
         ensures other { (B.state (second_in self.new)).log ≡ (B.state (second_in self.old)).log }
-        ensures hears { IsTrue (A.tells && B.tells) → HearsPoll First (order_in self.old).pairs (A.state (first_in self.old)).log (A.state (first_in self.new)).log (order_in self.old).heard (order_in self.new).heard }
+        ensures hears { IsTrue (A.tells && B.tells)
+            → HearsPoll First (order_in self.old).pairs (A.state (first_in self.old)).log (A.state (first_in self.new)).log (order_in self.old).heard
+            (order_in self.new).heard }
     {
         // calls for their clauses alone: that the disks' logs are lawful, and how much room there is
         self.a.lawful();
@@ -309,7 +327,9 @@ impl<A: Disk, B: Disk> Mirror<A, B> {
         ensures log { IsTrue (A.tells && B.tells) → (state_of A.state B.state self.new).log ≡ (state_of A.state B.state self.old).log }
         ensures pairs { (order_in self.new).pairs ≡ (order_in self.old).pairs }
         ensures other { (A.state (first_in self.new)).log ≡ (A.state (first_in self.old)).log }
-        ensures hears { IsTrue (A.tells && B.tells) → HearsPoll Second (order_in self.old).pairs (B.state (second_in self.old)).log (B.state (second_in self.new)).log (order_in self.old).heard (order_in self.new).heard }
+        ensures hears { IsTrue (A.tells && B.tells)
+            → HearsPoll Second (order_in self.old).pairs (B.state (second_in self.old)).log (B.state (second_in self.new)).log
+            (order_in self.old).heard (order_in self.new).heard }
     {
         // calls for their clauses alone: that the disks' logs are lawful, and how much room there is
         self.a.lawful();
@@ -361,7 +381,8 @@ impl<A: Disk, B: Disk> Mirror<A, B> {
         ensures size { (A.state (first_in self.new)).blocks ≡ (A.state (first_in self.old)).blocks }
         ensures base { (A.state (first_in self.new)).base ≡ (A.state (first_in self.old)).base }
         ensures pairs { length (order_in self.new).pairs ≡ length (order_in self.old).pairs }
-        ensures first { (first_is_live self.new ≡ first_is_live self.old) × (heard_on First (heard_of (order_in self.new).heard ticket) ≡ heard_on First (heard_of (order_in self.old).heard ticket)) }
+        ensures first { (first_is_live self.new ≡ first_is_live self.old)
+            × (heard_on First (heard_of (order_in self.new).heard ticket) ≡ heard_on First (heard_of (order_in self.old).heard ticket)) }
         ensures heard { second_is_live self.new ≡ true → heard_on Second (heard_of (order_in self.new).heard ticket) ≡ true }
         ensures log { IsTrue (A.tells && B.tells) → (state_of A.state B.state self.new).log ≡ (state_of A.state B.state self.old).log }
     {
@@ -415,7 +436,8 @@ impl<A: Disk, B: Disk> Mirror<A, B> {
 
     // Waits on each live disk for ticket 0, which no disk gives. It failed where none is left behind it, which is counted.
     fn wait_for_none(&mut self) -> Result<(), DiskFault>
-        ensures counts { counts_in self.new ≡ counts_of (after_call (is_err result) self.old.faults) self.old.read_faults self.old.waits self.old.polls self.old.most }
+        ensures counts { counts_in self.new ≡ counts_of (after_call (is_err result) self.old.faults) self.old.read_faults self.old.waits
+            self.old.polls self.old.most }
         ensures size { (A.state (first_in self.new)).blocks ≡ (A.state (first_in self.old)).blocks }
         ensures base { (A.state (first_in self.new)).base ≡ (A.state (first_in self.old)).base }
         ensures down { OnErr result (NoneLive (first_is_live self.new) (second_is_live self.new)) }
@@ -438,10 +460,12 @@ impl<A: Disk, B: Disk> Mirror<A, B> {
         ensures size { (A.state (first_in self.new)).blocks ≡ (A.state (first_in self.old)).blocks }
         ensures base { (A.state (first_in self.new)).base ≡ (A.state (first_in self.old)).base }
         ensures least { result ≡ first_ready (first_is_live self.old) (second_is_live self.old) (order_in self.old).heard }
-        ensures logs { ((A.state (first_in self.new)).log ≡ (A.state (first_in self.old)).log) × ((B.state (second_in self.new)).log ≡ (B.state (second_in self.old)).log) }
+        ensures logs { ((A.state (first_in self.new)).log ≡ (A.state (first_in self.old)).log)
+            × ((B.state (second_in self.new)).log ≡ (B.state (second_in self.old)).log) }
         ensures rows { (order_in self.new).heard ≡ after_report result (order_in self.old).heard }
         ensures live { (first_is_live self.new ≡ first_is_live self.old) × (second_is_live self.new ≡ second_is_live self.old) }
-        ensures log { IsTrue (A.tells && B.tells) → AddsPoll {E = ℕ} (Ok result) (state_of A.state B.state self.old).log (state_of A.state B.state self.new).log }
+        ensures log { IsTrue (A.tells && B.tells)
+            → AddsPoll {E = ℕ} (Ok result) (state_of A.state B.state self.old).log (state_of A.state B.state self.new).log }
     {
         // calls for their clauses alone: that the disks' logs are lawful, and how much room there is
         self.a.lawful();
@@ -555,9 +579,11 @@ impl<A: Disk, B: Disk> Disk for Mirror<A, B> {
 
     fn write(&mut self, b: u32, from: &Block) -> Result<u64, DiskFault>
         requires { b < (A.state (first_in self.old)).blocks }
-        ensures log { IsTrue (A.tells && B.tells) → AddsWrite b from.now result (state_of A.state B.state self.old).log (state_of A.state B.state self.new).log }
+        ensures log { IsTrue (A.tells && B.tells)
+            → AddsWrite b from.now result (state_of A.state B.state self.old).log (state_of A.state B.state self.new).log }
         ensures spends { OnlyWrites (is_err result) (state_of A.state B.state self.old) (state_of A.state B.state self.new) }
-        ensures down { OnErr result (NoneLive (first_is_live self.new) (second_is_live self.new) ⊎ ((order_in self.old).room ≤ length (order_in self.old).pairs)) }
+        ensures down { OnErr result (NoneLive (first_is_live self.new) (second_is_live self.new)
+            ⊎ ((order_in self.old).room ≤ length (order_in self.old).pairs)) }
     {
         if self.order.is_full() {
             self.faults = self.faults.saturating_add(1);
@@ -575,8 +601,10 @@ impl<A: Disk, B: Disk> Disk for Mirror<A, B> {
         ensures spends { OnlyPolls (is_err result) (state_of A.state B.state self.old) (state_of A.state B.state self.new) }
         ensures down { OnErr result (NoneLive (first_is_live self.new) (second_is_live self.new)) }
         ensures least { (rows : List Heard)
-            × (IsTrue (A.tells && B.tells) → HearsBoth (order_in self.old).pairs (A.state (first_in self.old)).log (A.state (first_in self.new)).log (B.state (second_in self.old)).log (B.state (second_in self.new)).log (order_in self.old).heard rows)
-            × IfOk result (λ ticket. (ticket ≡ first_ready (first_is_live self.new) (second_is_live self.new) rows) × ((order_in self.new).heard ≡ after_report ticket rows)) }
+            × (IsTrue (A.tells && B.tells) → HearsBoth (order_in self.old).pairs (A.state (first_in self.old)).log (A.state (first_in self.new)).log
+            (B.state (second_in self.old)).log (B.state (second_in self.new)).log (order_in self.old).heard rows)
+            × IfOk result (λ ticket. (ticket ≡ first_ready (first_is_live self.new) (second_is_live self.new) rows)
+            × ((order_in self.new).heard ≡ after_report ticket rows)) }
     {
         self.polls = self.polls.saturating_add(1);
         self.poll_first();

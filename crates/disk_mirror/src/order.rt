@@ -3,7 +3,8 @@
 //! No call takes steps in the number of events: what grows is the depth of a tree over the writes, and of a search
 //! among their tickets.
 
-ghost use Rattle.std.specs.Prelude.{◌≡◌, ◌<◌, ◌≤◌, ◌+◌, ◌++◌, ◌||◌, ◌-◌, ◌*◌, ℕ, [], ◌∷◌, Some, length, map, not, false, true, slice_set, get_or, vec_len, vec_capacity, IfSome, IfOk, if◌then◌else◌, nat_le, nat_lt};
+ghost use Rattle.std.specs.Prelude.{◌≡◌, ◌<◌, ◌≤◌, ◌+◌, ◌++◌, ◌||◌, ◌-◌, ◌*◌, ℕ, [], ◌∷◌, Some, length, map, not, false, true, slice_set, get_or};
+ghost use Rattle.std.specs.Prelude.{vec_len, vec_capacity, IfSome, IfOk, if◌then◌else◌, nat_le, nat_lt};
 ghost use Rattle.disk_mirror.specs.Twin.{ticket_on, heard_of, unheard, AreAscending};
 ghost use Rattle.disk_mirror.specs.Turns.{accepted_in, failed_in, heard_in, reported_in_order};
 ghost use Rattle.disk_mirror.specs.Rows.{set_heard, set_reported, first_ready};
@@ -41,7 +42,8 @@ impl Model for Order {
 
     ghost view = { λ o. record { events = o.events.items; times = o.times.items; pairs = o.pairs.items; heard = o.heard.items; room = o.room } };
 
-    ghost invariant = { λ o. IsKept o.events.items o.times.items o.pairs.items o.heard.items o.nodes.items o.size o.room (vec_capacity o.events) (vec_capacity o.times) (vec_capacity o.pairs) (vec_capacity o.heard) };
+    ghost invariant = { λ o. IsKept o.events.items o.times.items o.pairs.items o.heard.items o.nodes.items o.size o.room (vec_capacity o.events)
+        (vec_capacity o.times) (vec_capacity o.pairs) (vec_capacity o.heard) };
 }
 
 impl Order {

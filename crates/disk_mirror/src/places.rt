@@ -25,7 +25,8 @@ pub(crate) fn place_with(pairs: &[Pair], side: Side, ticket: u64) -> Option<usiz
 fn first_from(pairs: &[Pair], side: Side, ticket: u64) -> usize
     ensures within { result ≤ length pairs.now }
     ensures before { AreAscending side pairs.now → (i : ℕ) → i < result → is_less (on side (get_or pairs.now i no_pair)) (Some ticket) ≡ true }
-    ensures behind { AreAscending side pairs.now → (i : ℕ) → result ≤ i → i < length pairs.now → is_less (on side (get_or pairs.now i no_pair)) (Some ticket) ≡ false }
+    ensures behind { AreAscending side pairs.now → (i : ℕ) → result ≤ i → i < length pairs.now
+        → is_less (on side (get_or pairs.now i no_pair)) (Some ticket) ≡ false }
 {
     let mut low = 0;
     let mut high = pairs.len();

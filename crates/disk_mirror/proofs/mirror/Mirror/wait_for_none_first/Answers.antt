@@ -1,4 +1,4 @@
-use Rattle.std.proofs.Common.{◌∙◌, sym, subst}
+use Rattle.std.proofs.Common.{◌∙◌, subst}
 use Rattle.std.proofs.lemmas.Bool.{and_parts}
 use Rattle.disk_mirror.specs.Half.{HalfWaits}
 use Rattle.disk_mirror.proofs.Causes.{causes_stay}

@@ -1,4 +1,4 @@
-use Rattle.std.proofs.Common.{◌≡◌, ◌∙◌, ◌+◌, ◌<◌, ◌≤◌, ℕ, List, false, length, ap, subst, arith}
+use Rattle.std.proofs.Common.{◌≡◌, ◌∙◌, ◌+◌, ◌<◌, ◌≤◌, ℕ, List, false, ap, subst, arith}
 use Rattle.disk_mirror.specs.declared.entry.Ripe.{Ripe}
 use Rattle.disk_mirror.specs.Order.{OrderState}
 use Rattle.disk_mirror.specs.Ripe.{is_ripe, ripe_at, IsFirstRipe}
