@@ -11,6 +11,7 @@ use Rattle.disk_contract.specs.Manner.{Manner}
 use Rattle.disk_mirror.specs.Half.{HasFailedOnce}
 use Rattle.disk_mirror.specs.Mirror.{HasCauses, NoneLive, mirror_manner}
 use Rattle.disk_mirror.specs.MirrorOf.{IsNew}
+use Rattle.disk_mirror.specs.Times.{LeavesAtMoments}
 use Rattle.cmd_image.specs.declared.ending.Ending.{Ending}
 use Rattle.cmd_image.specs.declared.ending.Ending.TheVariants.{End, SourceFault, LongInput}
 use Rattle.cmd_image.specs.declared.ending.RunRefusal.{RunRefusal}
@@ -21,7 +22,8 @@ use Rattle.cmd_image.specs.Runs.{ComesOfDisk, CountsFaults, Streams}
 use Rattle.cmd_mirror.specs.declared.refusal.MirroredRefusal.{MirroredRefusal}
 use Rattle.cmd_mirror.specs.declared.refusal.MirroredRefusal.TheVariants.{Unlike, Run}
 use Rattle.cmd_mirror.specs.Comparing.{AreAlike, AreOnlyRead, Compares}
-use Rattle.cmd_mirror.specs.Mirrored.{BothFailed, CountsMirrored, FailsAsBoth, IsUsedUp, MakesNone, marked_answer_of, mirrored_fails_pushing, mirrored_opens_nothing, most_writes}
+use Rattle.cmd_mirror.specs.Mirrored.{BothFailed, CountsMirrored, FailsAsBoth, GoesBackInTwo, IsUsedUp, MakesNone, marked_answer_of, mirrored_fails_pushing, mirrored_opens_nothing, most_writes}
+use Rattle.cmd_mirror.specs.Sides.{Course, GoesBack, IsSideOf, marks_along}
 use Rattle.cmd_mirror.specs.Steps.{BeginsAsFirst, ComparesToNone, HasRoom}
 use Rattle.cmd_mirror.proofs.Backs.{failed_once}
 
@@ -139,3 +141,31 @@ counts_by known ended answer before after is counts = record {
 
 pub opened_by : (known : Bool) (ended : Result Ending RunRefusal) (answer : Result Ending MirroredRefusal) → answer ≡ marked_answer_of known ended → mirrored_opens_nothing answer ≡ true → opens_nothing ended ≡ true
 opened_by known ended answer is none = sym (ap mirrored_opens_nothing is ∙ (marked_says known ended).1) ∙ none
+
+-- The two that go back.
+
+-- what the law of sides gives of a disk
+GivesBack : Type 0
+GivesBack = (known : Bool) (c : Course) (mirror disk : State) (marks own : List Mark) → IsSideOf c mirror disk → own ≡ marks_along known c disk marks → GoesBack known c mirror disk marks own
+
+pub parts : {D : Type 0} (S : D → State) (tells known : Bool) (one two : Course) (m : State) (a b first second : D) (marks first_marks second_marks : List Mark) (ended : Result Ending RunRefusal) (answer : Result Ending MirroredRefusal) → first ≡ a → second ≡ b → GivesBack
+    → (S a).blocks ≡ m.blocks → (S b).blocks ≡ m.blocks
+    → (IsTrue tells → LeavesAtMoments m.blocks m.base m.log one.times one.live one.end (S a).base (S a).log) → (IsTrue tells → LeavesAtMoments m.blocks m.base m.log two.times two.live two.end (S b).base (S b).log)
+    → HasFailedOnce one.live (S a) → HasFailedOnce two.live (S b) → (IsTrue tells → HasRoom m) → HasCauses m one.live two.live
+    → first_marks ≡ marks_along known one (S a) marks → second_marks ≡ marks_along known two (S b) marks → answer ≡ marked_answer_of known ended
+    → GoesBackInTwo tells m (S first) (S second) marks first_marks second_marks ended answer
+unfolding GivesBack
+parts {D} S tells known one two m a b first second marks first_marks second_marks ended answer first_is second_is law size other_size leaves other_leaves failed other_failed room causes own other_own answered =
+    subst (λ (d : D). GoesBackInTwo tells m (S d) (S second) marks first_marks second_marks ended answer) (sym first_is) (subst (λ (d : D). GoesBackInTwo tells m (S a) (S d) marks first_marks second_marks ended answer) (sym second_is) here)
+  where
+    here : GoesBackInTwo tells m (S a) (S b) marks first_marks second_marks ended answer
+    here = record {
+      known = known;
+      first_course = one;
+      second_course = two;
+      goes_first = λ t. law known one m (S a) marks first_marks (record { blocks = size; leaves = leaves t; down = failed_once one.live (S a) failed }) own;
+      goes_second = λ t. law known two m (S b) marks second_marks (record { blocks = other_size; leaves = other_leaves t; down = failed_once two.live (S b) other_failed }) other_own;
+      blocks = (size, other_size);
+      fails = fails tells m (S a) (S b) one.live two.live room causes failed other_failed;
+      answered = answered;
+    }

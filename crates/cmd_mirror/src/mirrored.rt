@@ -22,7 +22,7 @@ use base_io::{Sink, Source};
 use cmd_image::{
     Ending, Left, LentDisk, RunRefusal, close_lent, open_lent, room_for_a_mark, run_disk,
 };
-use disk_contract::{Bay, Disk, Mark};
+use disk_contract::{Bay, BayFault, Disk, Mark};
 use disk_mirror::{Mirror, MirrorRefusal};
 use std::alloc::Global;
 
@@ -303,11 +303,26 @@ fn close_both<B: Bay>(
     } = both;
     let back = close_lent(bay, name, first, first_marks);
     let other_back = close_lent(bay, other, second, second_marks);
+    answer_behind(answer, back, other_back)
+}
+
+/// The answer of a run where the bay answered so to the return of the two disks.
+fn answer_behind(
+    answer: Result<Ending, MirroredRefusal>,
+    back: Result<(), BayFault>,
+    other_back: Result<(), BayFault>,
+) -> Result<Ending, MirroredRefusal>
+    ensures { result ≡ mirrored_answer_of answer back other_back }
+{
     let ending = answer?;
     if ending != Ending::End {
         return Ok(ending);
     }
-    back?;
-    other_back?;
+    if let Err(fault) = back {
+        return Err(fault.into());
+    }
+    if let Err(fault) = other_back {
+        return Err(fault.into());
+    }
     Ok(Ending::End)
 }
