@@ -1,0 +1,4 @@
+pub mod Comparing
+pub mod Mirrored
+pub mod Sides
+pub mod Steps
