@@ -5,3 +5,5 @@
 #![tactic(auto)]
 
 mod side_laws;
+
+pub use side_laws::{a_disk_of_a_mirror_goes_back, crashes_of_a_mirror_are_of_its_disks};
