@@ -1,1 +1,4 @@
+pub mod Moments
 pub mod Points
+pub mod Honest
+pub mod Backs
