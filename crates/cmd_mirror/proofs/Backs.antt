@@ -97,6 +97,6 @@ leaves_of_run law alike one keeps c mirror disk marks side = record {
 pub goes_back : Comes → Alike → OneTree → Keeps → (known : Bool) (c : Course) (mirror disk : State) (marks own : List Mark) → IsSideOf c mirror disk → own ≡ marks_along known c disk marks → GoesBack known c mirror disk marks own
 goes_back law alike one keeps known c mirror disk marks own side along = record {
     side = side;
-    marks = along;
+    along = along;
     told = told known c disk marks own side.down along;
     points = leaves_of_run law alike one keeps c mirror disk marks side }

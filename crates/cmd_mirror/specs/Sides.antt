@@ -83,6 +83,6 @@ pub record IsSideOf (c : Course) (mirror disk : State) : Type 0 where
 -- A disk of a mirror goes back after a run, with its own marks for those of the mirror, or with none where there was no memory for them. These tell its own moments, and crashes leave of it what `LeavesOfRun` says.
 pub record GoesBack (known : Bool) (c : Course) (mirror disk : State) (marks own : List Mark) : Type 0 where
   pub side : IsSideOf c mirror disk
-  pub marks : own ≡ marks_along known c disk marks
+  pub along : own ≡ marks_along known c disk marks
   pub told : known ≡ true → map (told_moment (length disk.log)) own ≡ map (λ m. own_moment c (length disk.log) m.moment) marks
   pub points : LeavesOfRun c mirror marks disk
