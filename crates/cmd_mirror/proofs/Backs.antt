@@ -1,9 +1,8 @@
 -- How a disk of a mirror goes back after a run.
-use Rattle.std.proofs.Common.{◌≡◌, ◌↔◌, ℕ, suc, ◌+◌, ◌≤◌, ◌<◌, nat_le, nat_lt, ◌||◌, Bool, true, false, if◌then◌else◌, List, [], ◌∷◌, length, map, Some, refl, sym, ap, ap₂, ◌∙◌, subst, arith}
-use Rattle.std.proofs.lemmas.Bool.{false≢true}
+use Rattle.std.proofs.Common.{◌≡◌, ◌↔◌, ℕ, zero, suc, ◌+◌, ◌≤◌, ◌<◌, nat_le, nat_lt, ◌||◌, Bool, true, false, if◌then◌else◌, List, [], ◌∷◌, length, map, Some, refl, sym, ap, ap₂, ◌∙◌, subst, arith}
+use Rattle.std.proofs.lemmas.Bool.{false≢true, lt-ltb}
 use Rattle.base_types.specs.Seal.{Blocks}
 use Rattle.disk_contract.specs.declared.bay.Mark.{Mark}
-use Rattle.disk_contract.specs.declared.event.Event.{Event}
 use Rattle.disk_contract.specs.Bay.{has_faults}
 use Rattle.disk_contract.specs.Crash.{Window}
 use Rattle.disk_contract.specs.Disk.{State}
@@ -19,10 +18,9 @@ use Rattle.lang_tree.specs.Tree.{Tree}
 use Rattle.crash_stands.specs.Stands.{StandsFor}
 use Rattle.cmd_session.specs.Crashes.{IsCrashConsistent, LeavesPoints}
 use Rattle.cmd_image.specs.Runs.{RunsDisk}
-use Rattle.cmd_image.specs.Shows.{StandsThroughout}
-use Rattle.cmd_mirror.specs.Sides.{Course, GoesBack, IsConsistentAlong, IsSideOf, LeavesOfRun, StandsAlong, is_live_at, marks_along, own_moment, told_moment}
+use Rattle.cmd_mirror.specs.Sides.{Course, GoesBack, IsConsistentAlong, IsSideOf, LeavesOfRun, is_live_at, marks_along, own_moment, told_moment}
 use Rattle.cmd_mirror.proofs.Moments.{Comes}
-use Rattle.cmd_mirror.proofs.Honest.{Alike, Leaves, consistent_along, stands_along}
+use Rattle.cmd_mirror.proofs.Honest.{Alike, consistent_along, stands_along}
 
 -- an image stands for one tree
 abbrev pub OneTree : Type 0
@@ -34,12 +32,12 @@ Keeps = (n : ℕ) (b : List ℕ) (h : Header) → header_of n b ≡ Some h → I
 
 -- a disk that has failed has counted it
 counted : (r f : ℕ) → 0 < f + r → (nat_lt 0 r || nat_lt 0 f) ≡ true
-counted 0 0 low = absurd (none low)
+counted zero zero low = absurd (none low)
   where
     none : 0 < 0 → ⊥
     none low = omega (arith, low)
-counted 0 (suc f) low = refl
-counted (suc r) f low = refl
+counted zero (suc f) low = ap (λ v. nat_lt 0 0 || v) (lt-ltb 0 (suc f) (omega arith))
+counted (suc r) f low = ap (λ v. v || nat_lt 0 f) (lt-ltb 0 (suc r) (omega arith))
 
 pub failed_once : (live : Bool) (s : State) → HasFailedOnce live s → live ≡ false → has_faults s ≡ true
 failed_once live s failed down = counted s.read_faults s.faults (failed down)
@@ -88,15 +86,21 @@ consistent_run keeps one first last marks cmds replies r same =
 
 pub leaves_of_run : Comes → Alike → OneTree → Keeps → (c : Course) (mirror disk : State) (marks : List Mark) → IsSideOf c mirror disk → LeavesOfRun c mirror marks disk
 leaves_of_run law alike one keeps c mirror disk marks side = record {
-    served = λ first cmds replies r same. subst (λ (n : ℕ). IsConsistentAlong c n r.geom.i disk.base disk.log r.mounted cmds replies r.moments) (sym side.blocks)
+  served = λ first cmds replies r same. subst (λ (n : ℕ). IsConsistentAlong c n r.geom.i disk.base disk.log r.mounted cmds replies r.moments) (sym side.blocks)
       (consistent_along law alike mirror.blocks r.geom.i mirror.base disk.base mirror.log disk.log c r.mounted cmds replies r.moments side.leaves r.run.ascend
-        (consistent_run keeps one first mirror marks cmds replies r same));
-    unopened = λ stands. subst (λ (n : ℕ). Window n disk.base disk.log 0 (λ img. ∥ ((t : Tree) → StandsFor n img t ↔ StandsFor n disk.base t) ∥₁)) (sym side.blocks)
-      (stands_along alike mirror.blocks mirror.base disk.base mirror.log disk.log c side.leaves stands) }
+      (consistent_run keeps one first mirror marks cmds replies r same));
+  unopened = λ stands. subst (λ (n : ℕ). Window n disk.base disk.log 0 (λ img. ∥ ((t : Tree) → StandsFor n img t ↔ StandsFor n disk.base t) ∥₁)) (sym side.blocks)
+      (stands_along alike mirror.blocks mirror.base disk.base mirror.log disk.log c side.leaves stands);
+}
 
 pub goes_back : Comes → Alike → OneTree → Keeps → (known : Bool) (c : Course) (mirror disk : State) (marks own : List Mark) → IsSideOf c mirror disk → own ≡ marks_along known c disk marks → GoesBack known c mirror disk marks own
 goes_back law alike one keeps known c mirror disk marks own side along = record {
-    side = side;
-    along = along;
-    told = told known c disk marks own side.down along;
-    points = leaves_of_run law alike one keeps c mirror disk marks side }
+  side = side;
+  along = along;
+  told = told known c disk marks own side.down along;
+  points = leaves_of_run law alike one keeps c mirror disk marks side;
+}
+
+-- one disk of a mirror, from what the mirror's calls tell
+pub side_of : (c : Course) (mirror disk : State) → disk.blocks ≡ mirror.blocks → LeavesAtMoments mirror.blocks mirror.base mirror.log c.times c.live c.end disk.base disk.log → HasFailedOnce c.live disk → IsSideOf c mirror disk
+side_of c mirror disk blocks leaves failed = record { blocks = blocks; leaves = leaves; down = failed_once c.live disk failed }

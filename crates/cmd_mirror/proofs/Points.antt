@@ -30,10 +30,10 @@ same_top own k at s from (cmd ∷ cmds) [] moments first a = refl
 same_top own k at s from (cmd ∷ cmds) (reply ∷ replies) [] first a = refl
 same_top own k at s from (cmd ∷ cmds) (reply ∷ replies) (m ∷ ms) first a =
     begun_first (is_sync cmd && (s.changed && may_have_written reply)) s.tree k at (own from) from
-      (points_after (after_reply s cmd reply) (own m) cmds replies (map own ms)) (points_after (after_reply s cmd reply) m cmds replies ms) first
-      (same_top own k at (after_reply s cmd reply) m cmds replies ms a.0 a.1)
+    (points_after (after_reply s cmd reply) (own m) cmds replies (map own ms)) (points_after (after_reply s cmd reply) m cmds replies ms) first
+    (same_top own k at (after_reply s cmd reply) m cmds replies ms a.0 a.1)
 
-tree_of : Point → Tree
+abbrev tree_of : Point → Tree
 tree_of p = p.tree
 
 trees_first : (v : Bool) (t : Tree) (own_from from : ℕ) (xs ys : List Point) → map tree_of xs ≡ map tree_of ys
@@ -48,8 +48,8 @@ same_trees own s from (cmd ∷ cmds) [] moments = refl
 same_trees own s from (cmd ∷ cmds) (reply ∷ replies) [] = refl
 same_trees own s from (cmd ∷ cmds) (reply ∷ replies) (m ∷ ms) =
     trees_first (is_sync cmd && (s.changed && may_have_written reply)) s.tree (own from) from
-      (points_after (after_reply s cmd reply) (own m) cmds replies (map own ms)) (points_after (after_reply s cmd reply) m cmds replies ms)
-      (same_trees own (after_reply s cmd reply) m cmds replies ms)
+    (points_after (after_reply s cmd reply) (own m) cmds replies (map own ms)) (points_after (after_reply s cmd reply) m cmds replies ms)
+    (same_trees own (after_reply s cmd reply) m cmds replies ms)
 
 -- a point with this tree
 from_map : (o : Option Point) (t : Tree) → option_map tree_of o ≡ Some t → (p : Point) × (o ≡ Some p) × (p.tree ≡ t)
@@ -66,12 +66,12 @@ pub same_point : (own : ℕ → ℕ) (n : ℕ) (img : Blocks) (s : Session) (fro
     → StandsForOne n img (points_of s from cmds replies moments) low high → StandsForOne n img (points_of s (own from) cmds replies (map own moments)) own_low own_high
 same_point own n img s from cmds replies moments low high own_low own_high is_low is_high one =
     let at = point_of (points_of s (own from) cmds replies (map own moments)) (points_of s from cmds replies moments) one.number one.point
-        (ap (λ ts. s.tree ∷ ts) (same_trees own s from cmds replies moments)) one.is in
+    (ap (λ ts. s.tree ∷ ts) (same_trees own s from cmds replies moments)) one.is in
     record {
       number = one.number;
       point = at.0;
       from = subst (λ l. l ≤ one.number) (sym is_low) one.from;
       upto = subst (λ h. one.number ≤ h) (sym is_high) one.upto;
-      is = at.1.0;
-      stands = subst (λ (t : Tree). StandsFor n img t) (sym at.1.1) one.stands;
+      is = at.1;
+      stands = subst (λ (t : Tree). StandsFor n img t) (sym at.2) one.stands;
     }
