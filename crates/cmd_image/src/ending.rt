@@ -77,7 +77,7 @@ impl From<BayFault> for RunRefusal {
 }
 
 /// The refusal for a call of the bay.
-pub(crate) fn run_refusal_of_bay(fault: BayFault) -> RunRefusal
+pub fn run_refusal_of_bay(fault: BayFault) -> RunRefusal
     ensures { result ≡ run_refusal_of_bay fault }
 {
     match fault {

@@ -30,7 +30,7 @@ impl fmt::Display for MakeRefusal {
 impl Error for MakeRefusal {}
 
 /// The refusal for a call of the bay.
-pub(crate) fn make_refusal_of_bay(fault: BayFault) -> MakeRefusal
+pub fn make_refusal_of_bay(fault: BayFault) -> MakeRefusal
     ensures { result ≡ make_refusal_of_bay fault }
 {
     match fault {

@@ -88,14 +88,18 @@ pub fn run_script<B: Bay, S: Source, K: Sink>(
 
 /// A disk over which a script was run, on its way back.
 #[derive(Drop)]
-struct Left<D: Disk + Drop> {
-    disk: D,
-    marks: Vec<Mark>,
-    answer: Result<Ending, RunRefusal>,
+pub struct Left<D: Disk + Drop> {
+    /// The disk.
+    pub disk: D,
+    /// Its marks: that of the mount's end, and one for each reply; or none where no file system was opened.
+    pub marks: Vec<Mark>,
+    /// How the run ended.
+    pub answer: Result<Ending, RunRefusal>,
 }
 
-/// Mounts a disk that was just opened, and runs the commands of the input over it.
-fn run_disk<D: Disk + Drop, S: Source, K: Sink>(
+/// Mounts a disk that was just opened, and runs the commands of the input over it. The disk is handed on whatever comes,
+/// with its marks and the answer; it is for the caller to give it back. `marks` must be empty, with room for one.
+pub fn run_disk<D: Disk + Drop, S: Source, K: Sink>(
     alloc: Global,
     disk: D,
     marks: Vec<Mark>,
