@@ -1,1 +1,3 @@
 pub mod Sides
+pub mod Copies
+pub mod Returns

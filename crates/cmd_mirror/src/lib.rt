@@ -4,4 +4,7 @@
 //! The rules are described in docs/MIRROR.md.
 #![tactic(auto)]
 
+mod copying;
 mod side_laws;
+
+pub use copying::{CopyFault, copy_image};
