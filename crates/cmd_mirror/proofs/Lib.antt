@@ -1,1 +1,3 @@
 pub mod Points
+pub mod Copying
+pub mod CopyBays

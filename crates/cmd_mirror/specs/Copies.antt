@@ -1,13 +1,12 @@
 -- What a copying of an image does: what is under the other name, and what the disk that is read and the disk that is written have done by then. It is described in docs/MIRROR.md.
 use Rattle.std.specs.Prelude.{◌≡◌, ◌⊎◌, ℕ, ◌<◌, ◌≤◌, Bool, true, false, IsTrue, List, [], ◌∷◌, length, replicate, Option, Some, Result, Ok, Err, OnOk}
-use Rattle.base_types.specs.Counts.{after_call, after_calls}
 use Rattle.base_types.specs.Seal.{Blocks, blocks_of}
 use Rattle.disk_contract.specs.declared.event.Event.{Event}
 use Rattle.disk_contract.specs.declared.event.Event.TheVariants.{Wrote, Lost, Noticed}
 use Rattle.disk_contract.specs.declared.bay.BayFault.{BayFault}
 use Rattle.disk_contract.specs.Bay.{Kept, image_of}
-use Rattle.disk_contract.specs.Cell.{accepted, cell_of}
-use Rattle.disk_contract.specs.Disk.{State, SameDisk, OnlyReads, HasFailed}
+use Rattle.disk_contract.specs.Cell.{cell_of}
+use Rattle.disk_contract.specs.Disk.{State, OnlyReads, Spends, HasFailed}
 use Rattle.cmd_image.specs.declared.make_refusal.MakeRefusal.{MakeRefusal}
 use Rattle.cmd_image.specs.declared.make_refusal.MakeRefusal.TheVariants.{Fault}
 use Rattle.cmd_image.specs.Makes.{make_refusal_of_bay}
@@ -40,10 +39,9 @@ AreCopiesOf at (Wrote ticket block bytes ∷ es) = (bytes ≡ at block) × AreCo
 AreCopiesOf at (Lost block bytes ∷ es) = (bytes ≡ at block) × AreCopiesOf at es
 AreCopiesOf at (Noticed ticket ∷ es) = AreCopiesOf at es
 
--- The disk's first n blocks are copies: of each the last accepted write has the bytes that the block has there, and it is durable, with nothing pending.
-pub record AreCopied (at : Blocks) (n : ℕ) (base : Blocks) (log : List Event) : Type 0 where
-  pub accepted : (b : ℕ) → b < n → accepted base log b ≡ at b
-  pub durable : (b : ℕ) → b < n → cell_of base log b ≡ record { settled = at b; pending = [] }
+-- of the disk's first n blocks each is durable with the bytes that it has there, and nothing is pending on it
+abbrev pub AreCopied : Blocks → ℕ → Blocks → List Event → Type 0
+AreCopied at n base log = (b : ℕ) → b < n → cell_of base log b ≡ record { settled = at b; pending = [] }
 
 -- whether a read of the one disk failed
 abbrev pub fails_reading : Result (Unit {0}) CopyFault → Bool
@@ -57,13 +55,9 @@ fails_writing (Ok x) = false
 fails_writing (Err Read) = false
 fails_writing (Err Write) = true
 
--- What a copying spends of the disk that it writes: it reads nothing and polls nothing, and waits so many times at most; where a write or a wait failed, that was counted once.
-pub record WritesAndWaits (failed : Bool) (most : ℕ) (old new : State) : Type 0 where
-  pub same : SameDisk old new
-  pub faults : new.faults ≡ after_call failed old.faults
-  pub read_faults : new.read_faults ≡ old.read_faults
-  pub waits : (made : ℕ) × (made ≤ most) × (new.waits ≡ after_calls made old.waits)
-  pub polls : new.polls ≡ old.polls
+-- what a copying spends of the disk that it writes: it waits so many times at most, reads nothing and polls nothing; where a write or a wait failed, that was counted once
+abbrev pub WritesAndWaits : Bool → ℕ → State → State → Type 0
+WritesAndWaits failed most old new = (made : ℕ) × (made ≤ most) × Spends failed made 0 old new
 
 -- The blocks of a disk with no event are copied to another with none: the one is only read, and each write of the other is a copy; where all is copied, all of it is durable; and a call of the other fails as that disk's manner lets it.
 pub record CopiesBlocks (tells : Bool) (result : Result (Unit {0}) CopyFault) (from from_now to to_now : State) : Type 0 where

@@ -1,13 +1,14 @@
 -- What becomes of a bay in which an image was copied: which disks it handed out, that each went back, and where a fault comes from. It is described in docs/MIRROR.md.
-use Rattle.std.specs.Prelude.{◌≡◌, ◌≢◌, ◌⊎◌, ℕ, ◌<◌, Bool, true, IsTrue, List, [], Result, Ok, Err}
+use Rattle.std.specs.Prelude.{◌≡◌, ◌≢◌, ◌⊎◌, ℕ, ◌<◌, Bool, true, IsTrue, List, [], Result, Ok, Err, OnOk}
 use Rattle.disk_contract.specs.declared.bay.BayFault.{BayFault}
-use Rattle.disk_contract.specs.Bay.{BayState, Opens, Makes, Closes}
+use Rattle.disk_contract.specs.Bay.{BayState, Opens, Makes, Closes, SameImage}
 use Rattle.disk_contract.specs.Disk.{State}
 use Rattle.cmd_image.specs.declared.make_refusal.MakeRefusal.{MakeRefusal}
-use Rattle.cmd_image.specs.Makes.{make_refusal_of_bay}
+use Rattle.cmd_image.specs.declared.make_refusal.MakeRefusal.TheVariants.{Fault}
+use Rattle.cmd_image.specs.Makes.{HasMakeCause, make_refusal_of_bay}
 use Rattle.cmd_image.specs.Shows.{FailedByManner, MayFailToOpen}
 use Rattle.cmd_mirror.specs.declared.copying.CopyFault.{CopyFault}
-use Rattle.cmd_mirror.specs.Copies.{CopiesBlocks, copy_answer_of}
+use Rattle.cmd_mirror.specs.Copies.{CopiesBlocks, HasPart, HaveOneImage, copy_answer_of}
 
 -- what is under each name but these two is as it was
 abbrev pub SameBeside : List ℕ → List ℕ → BayState → BayState → Type 0
@@ -77,3 +78,13 @@ pub record CopiesOpened (tells : Bool) (name other : List ℕ) (first second : S
   pub copies : CopiesBlocks tells copied first first_last second second_last
   pub may_fail : IsTrue tells → 0 < first_last.read_faults → first_last.manner.reads_fail ≡ true
   pub closes : ClosesBoth tells name other first_last second_last copied result old new
+
+-- All that is said of a copying, by its answer.
+pub record Copied (tells : Bool) (name other : List ℕ) (result : Result (Unit {0}) MakeRefusal) (old new : BayState) : Type 0 where
+  pub copied : IsTrue tells → OnOk result (HaveOneImage (old.kept name) (new.kept other))
+  pub part : IsTrue tells → SameImage other old new ⊎ HasPart (old.kept name) (new.kept other)
+  pub kept : IsTrue tells → SameImage name old new
+  pub others : IsTrue tells → SameBeside name other old new
+  pub comes : CopyLeavesBay tells name other result old new
+  pub cause : HasMakeCause result old new
+  pub reason : IsTrue tells → result ≡ Err Fault → HasCopyReason tells name other result old new

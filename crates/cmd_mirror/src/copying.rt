@@ -9,12 +9,13 @@ ghost use Rattle.cmd_image.specs.declared.make_refusal.MakeRefusal.TheVariants.{
 ghost use Rattle.cmd_image.specs.Makes.{HasMakeCause, make_refusal_of_bay};
 ghost use Rattle.cmd_mirror.specs.Copies.{AreCopiesOf, CopiedSoFar, CopiesBlocks, HasPart, HaveOneImage};
 ghost use Rattle.cmd_mirror.specs.Copies.{WritesAndWaits, fails_reading, fails_writing};
-ghost use Rattle.cmd_mirror.specs.Returns.{ClosesBoth, CopiesOpened, CopyLeavesBay, HasCopyReason, SameBeside};
+ghost use Rattle.cmd_mirror.specs.Returns.{ClosesBoth, Copied, CopiesOpened, CopyLeavesBay, HasCopyReason, SameBeside};
 
 use base_types::Block;
 use base_types::limits::BLOCK_LENGTH;
 use cmd_image::{MakeRefusal, make_refusal_of_bay};
-use disk_contract::{Bay, Disk};
+use crash_argument::a_read_gives_what_was_written_last;
+use disk_contract::{Bay, Disk, an_event_changes_one_block, calls_in_a_row_spend_together};
 use std::alloc::Global;
 use std::error::Error;
 use std::fmt;
@@ -67,6 +68,23 @@ pub fn copy_image<B: Bay>(
     ensures cause { HasMakeCause result (B.state bay.old) (B.state bay.new) }
     ensures reason { IsTrue B.tells → result ≡ Err Fault → HasCopyReason B.tells name.now other.now result (B.state bay.old) (B.state bay.new) }
 {
+    copy_under(alloc, bay, name, other)
+}
+
+/// Copies the image under `name` to `other`, with all that `copy_image` says of it in one.
+///
+/// # Errors
+/// As those of `copy_image`.
+fn copy_under<B: Bay>(
+    alloc: Global,
+    bay: &mut B,
+    name: &str,
+    other: &str,
+) -> Result<(), MakeRefusal>
+    requires apart { name.now ≢ other.now }
+    ensures { Copied B.tells name.now other.now result (B.state bay.old) (B.state bay.new) }
+{
+    a_read_gives_what_was_written_last();
     let original = open_original(bay, name)?;
     match make_blank(bay, other, original.blocks()) {
         Ok(copy) => copy_opened(alloc, bay, name, other, original, copy),
@@ -184,6 +202,7 @@ fn copy_blocks<D: Disk>(original: &mut D, copy: &mut D) -> Result<(), CopyFault>
     requires blank { IsTrue D.tells → (D.state copy.old).log ≡ [] }
     ensures { CopiesBlocks D.tells result (D.state original.old) (D.state original.new) (D.state copy.old) (D.state copy.new) }
 {
+    calls_in_a_row_spend_together();
     for b in 0..original.blocks() {
         if let Err(fault) = copy_block(original, copy, b) {
             return Err(fault);
@@ -209,15 +228,17 @@ fn copy_block<D: Disk>(original: &mut D, copy: &mut D, b: u32) -> Result<(), Cop
         → CopiedSoFar (D.state original.old).base (b + 1) (D.state copy.new).base (D.state copy.new).log) }
     ensures cause { IsTrue D.tells → fails_writing result ≡ true → HasFailed (D.state copy.new) }
 {
+    an_event_changes_one_block();
+    calls_in_a_row_spend_together();
     let mut block: Block = [0; BLOCK_LENGTH];
-    if original.read(b, &mut block).is_err() {
+    let Ok(()) = original.read(b, &mut block) else {
         return Err(CopyFault::Read);
-    }
+    };
     let Ok(ticket) = copy.write(b, &block) else {
         return Err(CopyFault::Write);
     };
-    if copy.wait(ticket).is_err() {
+    let Ok(()) = copy.wait(ticket) else {
         return Err(CopyFault::Write);
-    }
+    };
     Ok(())
 }
