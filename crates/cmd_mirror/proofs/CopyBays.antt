@@ -90,8 +90,8 @@ copied_all idle from first last before after begins blank size copied takes = by
     by None none = absurd none
     by (Some new) is = ap Some (same_image new.image from.image (is.image.length ∙ size ∙ begins.blocks)
         (λ b below.
-            let cell = copied b (omega (arith, below, begins.blocks)) in
-            is.image.each b (omega (arith, below, size, begins.blocks)) ∙ (idle last.base last.log b (ap (λ (c : Cell). c.pending) cell)).1 ∙ ap (λ (c : Cell). c.settled) cell ∙ ap (λ (at : Blocks). at b) begins.base))
+        let cell = copied b (omega (arith, below, begins.blocks)) in
+        is.image.each b (omega (arith, below, size, begins.blocks)) ∙ (idle last.base last.log b (ap (λ (c : Cell). c.pending) cell)).1 ∙ ap (λ (c : Cell). c.settled) cell ∙ ap (λ (at : Blocks). at b) begins.base))
 
 -- The counts.
 
@@ -124,6 +124,7 @@ is_fault (Err NoMemory) = false
 module _ {D : Type 0} (state : D → State) (tells : Bool) (name other : List ℕ) (apart : name ≢ other) (old : BayState) where
   -- no disk was opened
   pub none : (fault : BayFault) (new : BayState) → Opens tells state name (Err fault) old new → Copied tells name other (Err (make_refusal_of_bay fault)) old new
+  unfolding is_fault
   none fault new opens = record {
     copied = λ t. tt;
     part = λ t. inl (ap image_of (opens.kept t other));
@@ -142,7 +143,6 @@ module _ {D : Type 0} (state : D → State) (tells : Bool) (name other : List �
       cause bay.NoMemory is = is.disk_faults
 
       reason : (f : BayFault) → Opens tells state name (Err f) old new → IsTrue tells → Err (make_refusal_of_bay f) ≡ Err Fault → HasCopyReason tells name other (Err (make_refusal_of_bay f)) old new
-      unfolding is_fault
       reason bay.Fault is t same = inl (is.fails t)
       reason bay.NoMemory is t same = absurd (false≢true (ap is_fault same))
 
@@ -168,6 +168,7 @@ module _ {D : Type 0} (state : D → State) (tells : Bool) (name other : List �
 
     -- no disk was made under the other name, and the first went back
     pub one : (made new : BayState) (fault : BayFault) (back : Result (Unit {0}) BayFault) → Makes tells state other (state first).blocks (Err fault) opened made → Closes tells name (state first) [] back made new → Copied tells name other (Err (make_refusal_of_bay fault)) old new
+    unfolding is_fault
     one made new fault back makes closes = record {
       copied = λ t. tt;
       part = λ t. inl (ap image_of (closes.others t other (λ same. apart (sym same))) ∙ makes.image t ∙ ap image_of (opens.kept t other));
@@ -187,7 +188,6 @@ module _ {D : Type 0} (state : D → State) (tells : Bool) (name other : List �
             closes.disk_faults ∙ ap (λ (failed : Bool). if failed then next_count made.disk_faults else made.disk_faults) (faulty false false (state first) opens.counts.read_faults opens.counts.faults) ∙ is.disk_faults ∙ opens.disk_faults
 
         reason : (f : BayFault) → Makes tells state other (state first).blocks (Err f) opened made → IsTrue tells → Err (make_refusal_of_bay f) ≡ Err Fault → HasCopyReason tells name other (Err (make_refusal_of_bay f)) old new
-        unfolding is_fault
         reason bay.Fault is t same = inl (inl (sym opens.same.may_fail ∙ is.fails t))
         reason bay.NoMemory is t same = absurd (false≢true (ap is_fault same))
 
