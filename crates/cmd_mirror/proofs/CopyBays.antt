@@ -1,7 +1,7 @@
 -- What becomes of the bay where an image was copied: what is under each name, and where a fault comes from.
-use Rattle.std.proofs.Common.{◌≡◌, ◌≢◌, ◌⊎◌, inl, inr, ⊎_elim, ℕ, ◌<◌, ◌≤◌, ◌==◌, ◌||◌, nat_lt, Bool, true, false, IsTrue, if◌then◌else◌, List, [], length, replicate, length-replicate, Option, None, Some, Result, Ok, Err, OnOk, OnErr, refl, sym, ap, ap₂, ◌∙◌, subst, arith}
+use Rattle.std.proofs.Common.{◌≡◌, ◌≢◌, ◌⊎◌, inl, inr, ⊎_elim, ℕ, ◌<◌, ◌≤◌, ◌==◌, ◌||◌, nat_lt, Bool, true, false, IsTrue, if◌then◌else◌, List, [], ◌∷◌, length, replicate, Option, None, Some, Result, Ok, Err, OnOk, OnErr, refl, sym, ap, ap₂, ◌∙◌, subst, arith}
 use Rattle.std.proofs.lemmas.Bool.{cases_lt, eqb-true, false≢true}
-use Rattle.std.proofs.lemmas.List.{ext_get_or, get_or-replicate}
+use Rattle.std.proofs.lemmas.List.{ext_get_or, get_or-replicate, length-replicate}
 use Rattle.base_types.specs.Counts.{after_call, next_count}
 use Rattle.base_types.specs.Seal.{Blocks, blocks_of}
 use Rattle.disk_contract.specs.declared.bay.BayFault.{BayFault}
@@ -29,7 +29,7 @@ same_image copy image size blocks = ext_get_or [] copy image size (λ b below. b
 -- what a disk that was only read leaves under its name is the image with which it began
 rests : (from before after : Option Kept) (first last : State) (back : Result (Unit {0}) BayFault) → BeginsWith from first → last.blocks ≡ first.blocks → last.base ≡ first.base → last.log ≡ [] → before ≡ from → OnOk back (TakesBack last [] before after)
     → OnErr back (image_of after ≡ image_of before) → image_of after ≡ image_of from
-rests from before after first last (Err fault) begins size base log same takes stays = stays ∙ ap image_of same
+rests from before after first last (Err why) begins size base log same takes stays = stays ∙ ap image_of same
 rests None before after first last (Ok x) begins size base log same takes stays = absurd begins
 rests (Some kept) before after first last (Ok x) begins size base log same takes stays = by after (subst (λ (k : Option Kept). TakesBack last [] k after) same takes)
   where
@@ -61,7 +61,7 @@ zeros n b below = get_or-replicate n b (replicate 1024 0) [] below
 
 leaves : (at : Blocks) (n : ℕ) (last : State) (before after : Option Kept) (back : Result (Unit {0}) BayFault) → before ≡ Some (fresh (zero_blocks n)) → last.blocks ≡ n → last.base ≡ blocks_of (zero_blocks n) → AreCopiesOf at last.log
     → OnOk back (TakesBack last [] before after) → OnErr back (image_of after ≡ image_of before) → LeavesOf at n after
-leaves at n last before after (Err fault) blank size base copies takes stays = record {
+leaves at n last before after (Err why) blank size base copies takes stays = record {
   image = zero_blocks n;
   is = stays ∙ ap image_of blank;
   size = length-replicate n (replicate 1024 0);
@@ -132,7 +132,7 @@ module _ {D : Type 0} (state : D → State) (tells : Bool) (name other : List �
     others = λ t each aside beside. opens.kept t each;
     comes = inl (record { fault = fault; opens = unopened; answer = refl });
     cause = cause fault opens;
-    reason = reason fault opens;
+    reason = λ t is. reason fault opens t (ap is_fault is);
   }
     where
       unopened : Opens tells (λ (d : State). d) name (Err fault) old new
@@ -142,9 +142,9 @@ module _ {D : Type 0} (state : D → State) (tells : Bool) (name other : List �
       cause bay.Fault is = inl is.cause.1
       cause bay.NoMemory is = is.disk_faults
 
-      reason : (f : BayFault) → Opens tells state name (Err f) old new → IsTrue tells → Err (make_refusal_of_bay f) ≡ Err Fault → HasCopyReason tells name other (Err (make_refusal_of_bay f)) old new
+      reason : (f : BayFault) → Opens tells state name (Err f) old new → IsTrue tells → is_fault (Err (make_refusal_of_bay f)) ≡ true → HasCopyReason tells name other (Err (make_refusal_of_bay f)) old new
       reason bay.Fault is t same = inl (is.fails t)
-      reason bay.NoMemory is t same = absurd (false≢true (ap is_fault same))
+      reason bay.NoMemory is t same = absurd (false≢true same)
 
   module _ (opened : BayState) (first : D) (opens : Opens tells state name (Ok first) old opened) where
     by_state : Opens tells (λ (d : State). d) name (Ok (state first)) old opened
@@ -176,7 +176,7 @@ module _ {D : Type 0} (state : D → State) (tells : Bool) (name other : List �
       others = λ t each aside beside. closes.others t each aside ∙ makes.others t each beside ∙ opens.kept t each;
       comes = inr (inl (record { first = state first; opened = opened; between = made; fault = fault; back = back; opens = by_state; makes = unmade; closes = closes; answer = refl }));
       cause = cause fault makes;
-      reason = reason fault makes;
+      reason = λ t is. reason fault makes t (ap is_fault is);
     }
       where
         unmade : Makes tells (λ (d : State). d) other (state first).blocks (Err fault) opened made
@@ -187,9 +187,9 @@ module _ {D : Type 0} (state : D → State) (tells : Bool) (name other : List �
         cause bay.NoMemory is =
             closes.disk_faults ∙ ap (λ (failed : Bool). if failed then next_count made.disk_faults else made.disk_faults) (faulty false false (state first) opens.counts.read_faults opens.counts.faults) ∙ is.disk_faults ∙ opens.disk_faults
 
-        reason : (f : BayFault) → Makes tells state other (state first).blocks (Err f) opened made → IsTrue tells → Err (make_refusal_of_bay f) ≡ Err Fault → HasCopyReason tells name other (Err (make_refusal_of_bay f)) old new
+        reason : (f : BayFault) → Makes tells state other (state first).blocks (Err f) opened made → IsTrue tells → is_fault (Err (make_refusal_of_bay f)) ≡ true → HasCopyReason tells name other (Err (make_refusal_of_bay f)) old new
         reason bay.Fault is t same = inl (inl (sym opens.same.may_fail ∙ is.fails t))
-        reason bay.NoMemory is t same = absurd (false≢true (ap is_fault same))
+        reason bay.NoMemory is t same = absurd (false≢true same)
 
     -- both were handed out, and both went back
     module _ (made new : BayState) (second : D) (makes : Makes tells state other (state first).blocks (Ok second) opened made) (first_last second_last : State) (copied : Result (Unit {0}) CopyFault) (copies : CopiesBlocks tells copied (state first) first_last (state second) second_last)
@@ -303,8 +303,8 @@ module _ {D : Type 0} (state : D → State) (tells : Bool) (name other : List �
       copied_by : IsTrue tells → (c : Result (Unit {0}) CopyFault) (x y : Result (Unit {0}) BayFault) → OnOk c (AreCopied (state first).base (state first).blocks second_last.base second_last.log) → OnOk y (TakesBack second_last [] (closes.between.kept other) (new.kept other))
           → OnOk (copy_answer_of c x y) (HaveOneImage (old.kept name) (new.kept other))
       copied_by t (Err why) x y is taken = tt
-      copied_by t (Ok u) (Err fault) y is taken = tt
-      copied_by t (Ok u) (Ok v) (Err fault) is taken = tt
+      copied_by t (Ok u) (Err why) y is taken = tt
+      copied_by t (Ok u) (Ok v) (Err why) is taken = tt
       copied_by t (Ok u) (Ok v) (Ok w) is taken = whole t is taken
 
       pub two : Copied tells name other result old new

@@ -1,3 +1,3 @@
 pub mod Points
-pub mod Copying
+pub mod CopySteps
 pub mod CopyBays

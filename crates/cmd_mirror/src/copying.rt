@@ -1,7 +1,7 @@
 //! Copies the image under a name to another name, block by block: a disk is opened on the one, a disk of as many blocks is
 //! made under the other, and each block that is read is written and waited for; then both go back.
 
-ghost use Rattle.std.specs.Prelude.{◌≡◌, ◌≢◌, ◌⊎◌, ◌<◌, ◌+◌, true, IsTrue, [], Ok, Err, Result, IfOk, IfErr, OnOk};
+ghost use Rattle.std.specs.Prelude.{◌≡◌, ◌≢◌, ◌⊎◌, ◌<◌, ◌+◌, Bool, true, IsTrue, [], Ok, Err, Result, IfOk, IfErr, OnOk};
 ghost use Rattle.disk_contract.specs.declared.bay.BayFault.{BayFault as Failure};
 ghost use Rattle.disk_contract.specs.Bay.{Closes, Makes, Opens, SameImage};
 ghost use Rattle.disk_contract.specs.Disk.{HasFailed, OnlyReads};
@@ -192,15 +192,15 @@ fn close_both<B: Bay>(
     Ok(())
 }
 
-/// Copies all blocks of a disk that has no event to another such disk of as many blocks, in order.
+/// Copies all blocks of a disk to another one of as many blocks, in order. What it says of contents is said of disks with
+/// no event yet.
 ///
 /// # Errors
 /// Which of the disks failed, which that disk has counted; the blocks behind aren't copied.
 fn copy_blocks<D: Disk>(original: &mut D, copy: &mut D) -> Result<(), CopyFault>
     requires size { (D.state copy.old).blocks ≡ (D.state original.old).blocks }
-    requires fresh { IsTrue D.tells → (D.state original.old).log ≡ [] }
-    requires blank { IsTrue D.tells → (D.state copy.old).log ≡ [] }
-    ensures { CopiesBlocks D.tells result (D.state original.old) (D.state original.new) (D.state copy.old) (D.state copy.new) }
+    ensures { (tells : Bool) → (IsTrue tells → IsTrue D.tells × ((D.state original.old).log ≡ []) × ((D.state copy.old).log ≡ []))
+        → CopiesBlocks tells result (D.state original.old) (D.state original.new) (D.state copy.old) (D.state copy.new) }
 {
     calls_in_a_row_spend_together();
     for b in 0..original.blocks() {
@@ -218,14 +218,13 @@ fn copy_blocks<D: Disk>(original: &mut D, copy: &mut D) -> Result<(), CopyFault>
 fn copy_block<D: Disk>(original: &mut D, copy: &mut D, b: u32) -> Result<(), CopyFault>
     requires there { b < (D.state original.old).blocks }
     requires within { b < (D.state copy.old).blocks }
-    requires fresh { IsTrue D.tells → (D.state original.old).log ≡ [] }
     ensures reads { OnlyReads (fails_reading result) (D.state original.old) (D.state original.new) }
-    ensures unwritten { IsTrue D.tells → (D.state original.new).log ≡ [] }
+    ensures unwritten { IsTrue D.tells → (D.state original.new).log ≡ (D.state original.old).log }
     ensures spends { WritesAndWaits (fails_writing result) 1 (D.state copy.old) (D.state copy.new) }
-    ensures copies { IsTrue D.tells → AreCopiesOf (D.state original.old).base (D.state copy.old).log
+    ensures copies { IsTrue D.tells → (D.state original.old).log ≡ [] → AreCopiesOf (D.state original.old).base (D.state copy.old).log
         → AreCopiesOf (D.state original.old).base (D.state copy.new).log }
-    ensures whole { IsTrue D.tells → OnOk result (CopiedSoFar (D.state original.old).base b (D.state copy.old).base (D.state copy.old).log
-        → CopiedSoFar (D.state original.old).base (b + 1) (D.state copy.new).base (D.state copy.new).log) }
+    ensures whole { IsTrue D.tells → (D.state original.old).log ≡ [] → OnOk result
+        (CopiedSoFar (D.state original.old).base b (D.state copy.old).base (D.state copy.old).log → CopiedSoFar (D.state original.old).base (b + 1) (D.state copy.new).base (D.state copy.new).log) }
     ensures cause { IsTrue D.tells → fails_writing result ≡ true → HasFailed (D.state copy.new) }
 {
     an_event_changes_one_block();

@@ -8,8 +8,8 @@ invariant-loop-b g l = record {
   upto : l.b ≤ l.b-end;
   all : l.b-end ≡ (g.D.Disk.state l.fn.original).blocks;
   reads : OnlyReads false (g.D.Disk.state l.fn.original) (g.D.Disk.state l.original);
-  fresh : IsTrue g.D.Disk.tells → (g.D.Disk.state l.original).log ≡ [];
+  unwritten : IsTrue g.D.Disk.tells → (g.D.Disk.state l.original).log ≡ (g.D.Disk.state l.fn.original).log;
   spent : WritesAndWaits false l.b (g.D.Disk.state l.fn.copy) (g.D.Disk.state l.copy);
-  copies : IsTrue g.D.Disk.tells → AreCopiesOf (g.D.Disk.state l.fn.original).base (g.D.Disk.state l.copy).log;
-  so_far : IsTrue g.D.Disk.tells → CopiedSoFar (g.D.Disk.state l.fn.original).base l.b (g.D.Disk.state l.copy).base (g.D.Disk.state l.copy).log;
+  copies : IsTrue g.D.Disk.tells → (g.D.Disk.state l.fn.original).log ≡ [] → (g.D.Disk.state l.fn.copy).log ≡ [] → AreCopiesOf (g.D.Disk.state l.fn.original).base (g.D.Disk.state l.copy).log;
+  so_far : IsTrue g.D.Disk.tells → (g.D.Disk.state l.fn.original).log ≡ [] → (g.D.Disk.state l.fn.copy).log ≡ [] → CopiedSoFar (g.D.Disk.state l.fn.original).base l.b (g.D.Disk.state l.copy).base (g.D.Disk.state l.copy).log;
 }

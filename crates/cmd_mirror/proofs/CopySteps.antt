@@ -1,11 +1,11 @@
 -- What one more block makes of a copying: of the log of the disk that is written, and of its blocks.
 use Rattle.std.proofs.Common.{◌≡◌, ◌≢◌, ◌⊎◌, ⊎_elim, ℕ, ◌+◌, ◌<◌, ◌≤◌, Bool, true, false, ◌==◌, if◌then◌else◌, List, [], ◌∷◌, ◌++◌, Some, Result, Ok, Err, refl, sym, ◌∙◌, ap, subst, arith, append-nil, append_assoc}
-use Rattle.std.proofs.lemmas.Bool.{cases_eq, eqb-true, eqb-false, or_cases, or_left, or_right, false≢true}
+use Rattle.std.proofs.lemmas.Bool.{cases_eq, eq-eqb, eqb-true, eqb-false, or_cases, or_left, or_right, false≢true}
 use Rattle.base_types.specs.Counts.{after_call}
 use Rattle.base_types.specs.Seal.{Blocks}
 use Rattle.disk_contract.specs.declared.event.Event.{Event}
 use Rattle.disk_contract.specs.declared.event.Event.TheVariants.{Wrote, Lost, Noticed}
-use Rattle.disk_contract.specs.Cell.{Cell, Write, accepted, cell_of, from_ticket, is_lost, IsNoticed, notices, settle, with_write}
+use Rattle.disk_contract.specs.Cell.{Cell, Write, accepted, cell_of, from_ticket, is_lost, IsAccepted, IsNoticed, notices, settle, with_write}
 use Rattle.disk_contract.specs.Disk.{AddsNotices, AddsWrite, OnlyReads, Reads, Spends, State}
 use Rattle.cmd_mirror.specs.Copies.{AreCopiesOf, CopiedSoFar, WritesAndWaits}
 
@@ -31,6 +31,13 @@ copies_wrote at b x (Err e) old new is adds before =
 -- and what a wait brings
 pub copies_noticed : (at : Blocks) (old new : List Event) → AddsNotices old new → AreCopiesOf at old → AreCopiesOf at new
 copies_noticed at old new adds before = subst (AreCopiesOf at) (sym adds.log) (copies_then at old (notices adds.tickets) before (notices_copy at adds.tickets))
+
+-- a write that was accepted last
+pub accepted_last : (t b : ℕ) (x : List ℕ) (log : List Event) → IsAccepted t (log ++ Wrote t b x ∷ [])
+accepted_last t b x [] = or_left _ _ (eq-eqb t t refl)
+accepted_last t b x (Wrote u c y ∷ es) = or_right _ _ (accepted_last t b x es)
+accepted_last t b x (Lost c y ∷ es) = accepted_last t b x es
+accepted_last t b x (Noticed u ∷ es) = accepted_last t b x es
 
 -- a read of a disk with no event gives what was there when it began
 pub read_is : (s : State) (b : ℕ) (x : List ℕ) → s.log ≡ [] → Reads s b x → x ≡ s.base b
@@ -109,7 +116,7 @@ module _ (laws : CellLaws) (base : Blocks) where
 -- nothing is copied yet on a disk with no event
 pub none_yet : (at base : Blocks) (log : List Event) → log ≡ [] → CopiedSoFar at 0 base log
 none_yet at base log empty = record {
-  copied = λ b below. omega (arith, below);
+  copied = λ b below. absurd (omega (arith, below));
   idle = λ b. ap (λ (l : List Event). (cell_of base l b).pending) empty;
 }
 
