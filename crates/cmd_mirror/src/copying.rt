@@ -224,7 +224,8 @@ fn copy_block<D: Disk>(original: &mut D, copy: &mut D, b: u32) -> Result<(), Cop
     ensures copies { IsTrue D.tells → (D.state original.old).log ≡ [] → AreCopiesOf (D.state original.old).base (D.state copy.old).log
         → AreCopiesOf (D.state original.old).base (D.state copy.new).log }
     ensures whole { IsTrue D.tells → (D.state original.old).log ≡ [] → OnOk result
-        (CopiedSoFar (D.state original.old).base b (D.state copy.old).base (D.state copy.old).log → CopiedSoFar (D.state original.old).base (b + 1) (D.state copy.new).base (D.state copy.new).log) }
+        (CopiedSoFar (D.state original.old).base b (D.state copy.old).base (D.state copy.old).log
+        → CopiedSoFar (D.state original.old).base (b + 1) (D.state copy.new).base (D.state copy.new).log) }
     ensures cause { IsTrue D.tells → fails_writing result ≡ true → HasFailed (D.state copy.new) }
 {
     an_event_changes_one_block();
