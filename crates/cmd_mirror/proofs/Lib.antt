@@ -6,3 +6,5 @@ pub mod Moments
 pub mod Points
 pub mod Honest
 pub mod Backs
+pub mod CopySteps
+pub mod CopyBays

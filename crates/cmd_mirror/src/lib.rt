@@ -5,10 +5,12 @@
 #![tactic(auto)]
 
 mod comparing;
+mod copying;
 mod mirrored;
 mod refusal;
 mod side_laws;
 
+pub use copying::{CopyFault, copy_image};
 pub use mirrored::run_mirrored;
 pub use refusal::MirroredRefusal;
 pub use side_laws::{a_disk_of_a_mirror_goes_back, crashes_of_a_mirror_are_of_its_disks};
