@@ -31,20 +31,24 @@ use Rattle.cmd_image.specs.declared.ending.Ending.TheVariants as script
 use Rattle.cmd_image.specs.declared.ending.RunRefusal.{RunRefusal}
 use Rattle.cmd_image.specs.declared.ending.RunRefusal.TheVariants as run
 use Rattle.cmd_image.specs.Runs.{HasRunCause}
+use Rattle.cmd_mirror.specs.declared.refusal.MirroredRefusal.{MirroredRefusal}
+use Rattle.cmd_mirror.specs.declared.refusal.MirroredRefusal.TheVariants as mirrored
 use Rattle.cmd_words.specs.declared.request.Request.{Request}
-use Rattle.cmd_words.specs.declared.request.Request.TheVariants.{Record, Replay, Tree, Make, Run, Load}
+use Rattle.cmd_words.specs.declared.request.Request.TheVariants.{Record, Replay, Tree, Make, Run, RunMirrored, Copy, Load}
 use Rattle.cmd_host.specs.declared.disk.Behaviour.{Behaviour}
 use Rattle.cmd_host.specs.Behaving.{MountFails, fails_of, rule_of}
 use Rattle.cmd_host.specs.Disks.{setting_on}
-use Rattle.cmd_program.specs.Endings.{EndsBehind, HasFault, Met, Tells, met, usage_line, disk_line, damaged_line, spent_line, no_prefix_line, long_line, choice_line}
+use Rattle.cmd_program.specs.Copying.{CopiesTo}
+use Rattle.cmd_program.specs.Endings.{EndsBehind, HasFault, Met, Tells, met, usage_line, disk_line, damaged_line, spent_line, no_prefix_line, long_line, choice_line, unlike_line}
 use Rattle.cmd_program.specs.Loading.{LoadsTo}
 use Rattle.cmd_program.specs.Making.{EndsMaking, MakesTo}
-use Rattle.cmd_program.specs.Program.{Completes, Does, EndsLoad, EndsMake, EndsReplay, EndsRun, EndsShow, EndsSo, MakesWhere, RecordsWhere, RecordsTo, Refuses, setting_of, shape_of}
+use Rattle.cmd_program.specs.Mirroring.{EndsMirrored, RunsMirroredTo}
+use Rattle.cmd_program.specs.Program.{Completes, Does, EndsLoad, EndsMake, EndsReplay, EndsRun, EndsRunOnTwo, EndsShow, EndsSo, MakesWhere, RecordsWhere, RecordsTo, Refuses, setting_of, shape_of}
 use Rattle.cmd_program.specs.Replaying.{EndsAt, EndsCrash, EndsFound, EndsReading, ReplaysTo, trace_line}
 use Rattle.cmd_program.specs.Scripting.{EndsScript, RunsTo}
 use Rattle.cmd_program.specs.Showing.{EndsShowing, ShowsTo}
 use Rattle.cmd_program.specs.declared.status.Status.{Status}
-use Rattle.cmd_program.specs.declared.status.Status.TheVariants.{Done, Usage, BadTrace, NoMemory, DiskFault, Damaged, SourceFault, SinkFault, Spent, NoPrefix, LongInput, BadChoice}
+use Rattle.cmd_program.specs.declared.status.Status.TheVariants.{Done, Usage, BadTrace, NoMemory, DiskFault, Damaged, SourceFault, SinkFault, Spent, NoPrefix, LongInput, BadChoice, Unlike}
 use Rattle.cmd_program.proofs.ProgramLemmas.{never_begun}
 
 -- a line that was told ends the run
@@ -106,6 +110,9 @@ unmade answer is other = cc
 
 unrun : (answer : Result Ending RunRefusal) → answer ≡ Err run.NoMemory → answer ≡ Err run.Fault → ⊥
 unrun answer is other = cc
+
+unmirrored : (answer : Result Ending MirroredRefusal) → answer ≡ Err (mirrored.Run run.NoMemory) → answer ≡ Err (mirrored.Run run.Fault) → ⊥
+unmirrored answer is other = cc
 
 -- Where no memory is found before anything was read or written, that may be so for every request.
 pub does_memory : (tells : Bool) (request : Option Request) (left told : Option (List ℕ)) (source sink : ℕ) (bay : BayState)
@@ -180,6 +187,50 @@ does_memory tells (Some (Run image)) left told source sink bay = record {
   reason = λ known fault. absurd (unrun (Err run.NoMemory) refl fault);
   ends = (refl, refl);
 }
+does_memory tells (Some (RunMirrored image other)) left told source sink bay = record {
+  answer = Err (mirrored.Run run.NoMemory);
+  between = told;
+  sink_between = sink;
+  comes = inl (record {
+    why = run.NoMemory;
+    unlent = record {
+      none = record { kept = λ known each. refl; faults = omega arith; disk_faults = refl; handed = refl; closed = refl };
+      same = refl;
+      answer = inr refl;
+    };
+    answered = refl;
+  });
+  counts = record { source = omega arith; rises = omega arith; sink = refl };
+  cause = tt;
+  reason = λ known fault. absurd (unmirrored (Err (mirrored.Run run.NoMemory)) refl fault);
+  ends = (refl, refl);
+}
+does_memory tells (Some (Copy image other)) left told source sink bay = record {
+  answer = Err make.NoMemory;
+  copied = λ known. tt;
+  part = λ known. inl refl;
+  kept = λ known. refl;
+  others = λ known each apart beside. refl;
+  back = inl (record {
+    fault = failed.NoMemory;
+    opens = record {
+      counts = tt;
+      disk = λ known. tt;
+      manner = λ known. tt;
+      kept = λ known each. refl;
+      cause = (omega arith, tt);
+      fails = λ known. tt;
+      same = record { may_fail = refl; manner = λ each. refl };
+      disk_faults = refl;
+      handed = refl;
+      closed = refl;
+    };
+    answer = refl;
+  });
+  cause = refl;
+  reason = λ known fault. absurd (unmade (Err make.NoMemory) refl fault);
+  ends = (refl, refl);
+}
 does_memory tells (Some (Load seed count)) left told source sink bay = inr (refl, refl)
 
 pub completes_memory : (request : Option Request) (m : Met) → Completes request NoMemory m
@@ -187,6 +238,7 @@ completes_memory None m = tt
 completes_memory (Some (Record blocks journal nodes notices room fail)) m = λ fits no_source no_sink. tt
 completes_memory (Some (Tree image)) m = λ no_sink. tt
 completes_memory (Some (Make image blocks journal nodes)) m = λ fits no_sink. tt
+completes_memory (Some (Copy image other)) m = λ no_sink. tt
 completes_memory (Some (Load seed count)) m = λ no_sink. tt
 completes_memory other m = λ no_source no_sink. tt
 
@@ -247,21 +299,21 @@ completes_show tells image status m s fault no_sink = by s.answer s.cause s.ends
     by (Err show.SinkFault) cause e = absurd (no_sink (subst (λ (x : Status). HasFault x m.source m.source_now m.sink m.sink_now) e.0 fault))
     by other cause e = subst (EndsShow P) (sym e.0) tt
 
-completes_made : (tells : Bool) (image : List ℕ) (g : Geometry) (status : Status) (m : Met) → MakesTo tells image g status m → HasFault status m.source m.source_now m.sink m.sink_now
+-- a making or a copying that was answered so
+ends_making : (answer : Result (Unit {0}) MakeRefusal) (status : Status) (m : Met) → HasMakeCause answer m.bay m.bay_now → EndsMaking answer status m.taken m.taken_now → HasFault status m.source m.source_now m.sink m.sink_now
     → ¬ Rose m.sink m.sink_now → EndsMake (CountsFault m.bay m.bay_now) status
-completes_made tells image g status m s fault no_sink = by s.answer s.cause s.ends
-  where
-    P : Type 0
-    P = CountsFault m.bay m.bay_now
-
-    by : (answer : Result (Unit {0}) MakeRefusal) → HasMakeCause answer m.bay m.bay_now → EndsMaking answer status m.taken m.taken_now → EndsMake P status
-    by (Err make.Fault) cause e = ends_so_behind (EndsMake P) DiskFault status disk_line m.taken m.taken_now m.source m.source_now m.sink m.sink_now cause e fault no_sink
-    by other cause e = subst (EndsMake P) (sym e.0) tt
+ends_making (Err make.Fault) status m cause e fault no_sink =
+    ends_so_behind (EndsMake (CountsFault m.bay m.bay_now)) DiskFault status disk_line m.taken m.taken_now m.source m.source_now m.sink m.sink_now cause e fault no_sink
+ends_making other status m cause e fault no_sink = subst (EndsMake (CountsFault m.bay m.bay_now)) (sym e.0) tt
 
 pub completes_make : (fits tells : Bool) (image : List ℕ) (g : Geometry) (status : Status) (m : Met) → MakesWhere fits tells image g status m → HasFault status m.source m.source_now m.sink m.sink_now
     → fits ≡ true → ¬ Rose m.sink m.sink_now → EndsMake (CountsFault m.bay m.bay_now) status
-completes_make true tells image g status m s fault does no_sink = completes_made tells image g status m s fault no_sink
+completes_make true tells image g status m s fault does no_sink = ends_making s.answer status m s.cause s.ends fault no_sink
 completes_make false tells image g status m s fault does no_sink = absurd (false≢true does)
+
+pub completes_copy : (tells : Bool) (image other : List ℕ) (status : Status) (m : Met) → CopiesTo tells image other status m → HasFault status m.source m.source_now m.sink m.sink_now
+    → ¬ Rose m.sink m.sink_now → EndsMake (CountsFault m.bay m.bay_now) status
+completes_copy tells image other status m s fault no_sink = ends_making s.answer status m s.cause s.ends fault no_sink
 
 pub completes_load : (seed count : ℕ) (status : Status) (m : Met) → LoadsTo seed count status m.taken m.taken_now → HasFault status m.source m.source_now m.sink m.sink_now → ¬ Rose m.sink m.sink_now → EndsLoad status
 completes_load seed count status m (inl e) fault no_sink = ends_so_behind EndsLoad Done status (summary_text (summary_of seed count)) m.taken m.taken_now m.source m.source_now m.sink m.sink_now tt e fault no_sink
@@ -283,3 +335,22 @@ completes_run tells image status m r fault no_source no_sink = by r.answer r.cau
     by (Err run.Spent) cause e = ends_so_behind (EndsRun P) Spent status spent_line r.between m.taken_now m.source m.source_now m.sink m.sink_now tt e fault no_sink
     by (Err run.SinkFault) cause e = absurd (no_sink (subst (λ (s : Status). HasFault s m.source m.source_now m.sink m.sink_now) e.0 fault))
     by other cause e = subst (EndsRun P) (sym e.0) tt
+
+pub completes_mirrored : (tells : Bool) (image other : List ℕ) (status : Status) (m : Met) → RunsMirroredTo tells image other status m → HasFault status m.source m.source_now m.sink m.sink_now
+    → ¬ Rose m.source m.source_now → ¬ Rose m.sink m.sink_now → EndsRunOnTwo status
+completes_mirrored tells image other status m r fault no_source no_sink = by r.answer r.ends
+  where
+    behind_line : (X : Status) (line : List ℕ) → EndsRunOnTwo X → EndsBehind X line status r.between m.taken_now → EndsRunOnTwo status
+    behind_line X line may e = ends_so_behind EndsRunOnTwo X status line r.between m.taken_now m.source m.source_now m.sink m.sink_now may e fault no_sink
+
+    by : (answer : Result Ending MirroredRefusal) → EndsMirrored answer status r.between m.taken_now → EndsRunOnTwo status
+    by (Ok script.End) e = subst EndsRunOnTwo (sym e.0) tt
+    by (Ok script.SourceFault) (inl t) = absurd (no_source (subst (λ (s : Status). HasFault s m.source m.source_now m.sink m.sink_now) t.0 fault))
+    by (Ok script.SourceFault) (inr t) = absurd (no_sink (subst (λ (s : Status). HasFault s m.source m.source_now m.sink m.sink_now) t.0 fault))
+    by (Ok script.LongInput) e = behind_line LongInput long_line tt e
+    by (Err (mirrored.Run run.Fault)) e = behind_line DiskFault disk_line tt e
+    by (Err (mirrored.Run (run.Damaged damage))) e = behind_line (Damaged damage) damaged_line tt e
+    by (Err (mirrored.Run run.Spent)) e = behind_line Spent spent_line tt e
+    by (Err (mirrored.Run run.SinkFault)) e = absurd (no_sink (subst (λ (x : Status). HasFault x m.source m.source_now m.sink m.sink_now) e.0 fault))
+    by (Err (mirrored.Run run.NoMemory)) e = subst EndsRunOnTwo (sym e.0) tt
+    by (Err mirrored.Unlike) e = behind_line Unlike unlike_line tt e

@@ -83,3 +83,6 @@ long_line = codes "error 12 long input\n"
 
 abbrev pub choice_line : List ℕ
 choice_line = codes "error 13 choice\n"
+
+abbrev pub unlike_line : List ℕ
+unlike_line = codes "error 15 unlike\n"

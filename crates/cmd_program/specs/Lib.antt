@@ -5,6 +5,8 @@ pub mod Showing
 pub mod Making
 pub mod Loading
 pub mod Scripting
+pub mod Mirroring
+pub mod Copying
 pub mod Program
 pub mod Statuses
 pub mod Recordings

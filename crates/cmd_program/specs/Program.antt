@@ -5,19 +5,21 @@ use Rattle.base_types.specs.Counts.{Rose}
 use Rattle.layout_geometry.specs.Geometry.{Geometry, geometry_fits}
 use Rattle.cmd_words.specs.declared.request.Notices.{Notices}
 use Rattle.cmd_words.specs.declared.request.Request.{Request}
-use Rattle.cmd_words.specs.declared.request.Request.TheVariants.{Record, Replay, Tree, Make, Run, Load}
+use Rattle.cmd_words.specs.declared.request.Request.TheVariants.{Record, Replay, Tree, Make, Run, RunMirrored, Copy, Load}
 use Rattle.disk_memory.specs.MemDisk.{manner_by}
 use Rattle.cmd_image.specs.Shows.{CountsFault}
 use Rattle.cmd_host.specs.Behaving.{fails_of, rule_of, Setting}
+use Rattle.cmd_program.specs.Copying.{CopiesTo}
 use Rattle.cmd_program.specs.Endings.{Met, EndsBehind, EndsSilent, usage_line, shape_line}
 use Rattle.cmd_program.specs.Loading.{LoadsTo}
 use Rattle.cmd_program.specs.Making.{MakesTo}
+use Rattle.cmd_program.specs.Mirroring.{RunsMirroredTo}
 use Rattle.cmd_program.specs.Output.{Recorded}
 use Rattle.cmd_program.specs.Replaying.{ReplaysTo}
 use Rattle.cmd_program.specs.Scripting.{RunsTo}
 use Rattle.cmd_program.specs.Showing.{ShowsTo}
 use Rattle.cmd_program.specs.declared.status.Status.{Status}
-use Rattle.cmd_program.specs.declared.status.Status.TheVariants.{Done, Usage, NoMemory, DiskFault, Damaged, SourceFault, SinkFault, Spent, BadShape, LongInput}
+use Rattle.cmd_program.specs.declared.status.Status.TheVariants.{Done, Usage, NoMemory, DiskFault, Damaged, SourceFault, SinkFault, Spent, BadShape, LongInput, Unlike}
 
 -- these bytes were read, which are no more than an input may have
 abbrev pub ReadsWithin : List ℕ → Option (List ℕ) → Option (List ℕ) → Type 0
@@ -66,7 +68,7 @@ shape_of blocks journal nodes = record { n = blocks; j = journal; i = nodes }
 abbrev pub setting_of : ℕ → ℕ → ℕ → Notices → ℕ → Option ℕ → Setting
 setting_of blocks journal nodes notices room fail = record { shape = shape_of blocks journal nodes; manner = manner_by room (fails_of fail) (rule_of notices) }
 
--- What the program does for what its words ask, over a bay that tells or doesn't. It records on a disk of the geometry, where that fits, and else says so. It replays a crash of the trace that is its input. It shows the tree of an image of the bay. It makes an image under a name of the bay, where its geometry fits. It serves the load of a seed. It runs the script that is its input on an image of the bay. Words that ask for nothing are told the usage.
+-- What the program does for what its words ask, over a bay that tells or doesn't. It records on a disk of the geometry, where that fits, and else says so. It replays a crash of the trace that is its input. It shows the tree of an image of the bay. It makes an image under a name of the bay, where its geometry fits. It serves the load of a seed. It runs the script that is its input on an image of the bay, or on two that are kept alike. It copies an image to another name. Words that ask for nothing are told the usage.
 abbrev pub Does : Bool → Option Request → Status → Met → Type 0
 Does tells None status m = Refuses Usage usage_line status m.taken m.taken_now
 Does tells (Some (Record blocks journal nodes notices room fail)) status m =
@@ -75,6 +77,8 @@ Does tells (Some (Replay moment choice)) status m = ReplaysTo moment choice stat
 Does tells (Some (Tree image)) status m = ShowsTo tells image status m
 Does tells (Some (Make image blocks journal nodes)) status m = MakesWhere (geometry_fits (shape_of blocks journal nodes)) tells image (shape_of blocks journal nodes) status m
 Does tells (Some (Run image)) status m = RunsTo tells image status m
+Does tells (Some (RunMirrored image other)) status m = RunsMirroredTo tells image other status m
+Does tells (Some (Copy image other)) status m = CopiesTo tells image other status m
 Does tells (Some (Load seed count)) status m = LoadsTo seed count status m.taken m.taken_now
 
 -- the words ask for something that reads the input: a recording on a disk of a geometry that fits, a replay, or a run
@@ -85,6 +89,8 @@ reads_input (Some (Replay moment choice)) = true
 reads_input (Some (Tree image)) = false
 reads_input (Some (Make image blocks journal nodes)) = false
 reads_input (Some (Run image)) = true
+reads_input (Some (RunMirrored image other)) = true
+reads_input (Some (Copy image other)) = false
 reads_input (Some (Load seed count)) = false
 
 -- they ask for something that opens the bay: they name an image of it, with a geometry that fits where one is to be made
@@ -95,6 +101,8 @@ opens_bay (Some (Replay moment choice)) = false
 opens_bay (Some (Tree image)) = true
 opens_bay (Some (Make image blocks journal nodes)) = geometry_fits (shape_of blocks journal nodes)
 opens_bay (Some (Run image)) = true
+opens_bay (Some (RunMirrored image other)) = true
+opens_bay (Some (Copy image other)) = true
 opens_bay (Some (Load seed count)) = false
 
 -- how a recording may end where neither source nor sink failed and this write is to be lost: as it should, out of memory, or behind an input that is too long; and by a fault of the disk exactly where the first write is lost
@@ -123,7 +131,7 @@ EndsShow bay_failed (Damaged damage) = ⊤
 EndsShow bay_failed Spent = ⊤
 EndsShow bay_failed _ = ⊥
 
--- how a making may end where the sink didn't fail: by a fault of the disk only where the bay counted one
+-- how a making or a copying may end where the sink didn't fail: by a fault of the disk only where the bay counted one
 abbrev pub EndsMake : Type 0 → Status → Type 0
 EndsMake bay_failed Done = ⊤
 EndsMake bay_failed NoMemory = ⊤
@@ -146,7 +154,12 @@ EndsRun bay_failed Spent = ⊤
 EndsRun bay_failed LongInput = ⊤
 EndsRun bay_failed _ = ⊥
 
--- Completeness: unless the source or the sink failed, a recording on a disk of a geometry that fits ends so, and so do a replay, a showing, a making of such a geometry, a load, and a run on an image.
+-- how a run on two images may end where neither source nor sink failed: as one on an image, or unlike; from what a fault of the disk comes is said of the run
+abbrev pub EndsRunOnTwo : Status → Type 0
+EndsRunOnTwo Unlike = ⊤
+EndsRunOnTwo other = EndsRun ⊤ other
+
+-- Completeness: unless the source or the sink failed, a recording on a disk of a geometry that fits ends so, and so do a replay, a showing, a making of such a geometry, a copying, a load, and a run on an image or on two.
 abbrev pub Completes : Option Request → Status → Met → Type 0
 Completes None status m = ⊤
 Completes (Some (Record blocks journal nodes notices room fail)) status m =
@@ -156,4 +169,6 @@ Completes (Some (Tree image)) status m = ¬ Rose m.sink m.sink_now → EndsShow 
 Completes (Some (Make image blocks journal nodes)) status m =
     geometry_fits (shape_of blocks journal nodes) ≡ true → ¬ Rose m.sink m.sink_now → EndsMake (CountsFault m.bay m.bay_now) status
 Completes (Some (Run image)) status m = ¬ Rose m.source m.source_now → ¬ Rose m.sink m.sink_now → EndsRun (CountsFault m.bay m.bay_now) status
+Completes (Some (RunMirrored image other)) status m = ¬ Rose m.source m.source_now → ¬ Rose m.sink m.sink_now → EndsRunOnTwo status
+Completes (Some (Copy image other)) status m = ¬ Rose m.sink m.sink_now → EndsMake (CountsFault m.bay m.bay_now) status
 Completes (Some (Load seed count)) status m = ¬ Rose m.sink m.sink_now → EndsLoad status

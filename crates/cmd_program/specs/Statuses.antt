@@ -1,7 +1,7 @@
 -- The number of each status, with which the process exits. It is described in docs/TRACE.md.
 use Rattle.std.specs.Prelude.{ℕ}
 use Rattle.cmd_program.specs.declared.status.Status.{Status}
-use Rattle.cmd_program.specs.declared.status.Status.TheVariants.{Done, Usage, BadTrace, NoMemory, DiskFault, Damaged, SourceFault, SinkFault, Spent, NoPrefix, BadShape, LongInput, BadChoice}
+use Rattle.cmd_program.specs.declared.status.Status.TheVariants.{Done, Usage, BadTrace, NoMemory, DiskFault, Damaged, SourceFault, SinkFault, Spent, NoPrefix, BadShape, LongInput, BadChoice, Unlike}
 
 abbrev pub status_number : Status → ℕ
 status_number Done = 0
@@ -17,3 +17,4 @@ status_number NoPrefix = 10
 status_number BadShape = 11
 status_number LongInput = 12
 status_number BadChoice = 13
+status_number Unlike = 15

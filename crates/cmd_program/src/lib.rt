@@ -3,9 +3,11 @@
 //! its files, is `optfs`. The rules are described in docs/SCRIPT.md, docs/TRACE.md and docs/CRASHES.md.
 #![tactic(auto)]
 
+mod copying;
 mod laws;
 mod loading;
 mod making;
+mod mirroring;
 mod program;
 mod replaying;
 mod scripting;

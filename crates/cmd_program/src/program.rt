@@ -15,8 +15,10 @@ ghost use Rattle.cmd_host.specs.Disks.{FailedToMount, IsOpened, setting_on};
 ghost use Rattle.cmd_program.specs.Endings.{HasFault, met};
 ghost use Rattle.cmd_program.specs.Program.{Completes, Does, EndsSo, RecordsTo, RecordsWhere, opens_bay, reads_input, shape_of};
 
+use crate::copying::copy;
 use crate::loading::load;
 use crate::making::make;
+use crate::mirroring::run_mirrored;
 use crate::replaying::replay;
 use crate::scripting::run;
 use crate::showing::show;
@@ -47,6 +49,9 @@ use std::alloc::Global;
 ///   what they came to.
 /// - `run IMAGE` mounts the image of the bay and reads a script from `input`. It answers its commands by a file system on this
 ///   image, and writes their replies to `out`.
+/// - `run IMAGE --mirror OTHER` does the same on two images of the bay that have the same blocks, and keeps them alike. Where
+///   a disk of one fails it goes on with the other.
+/// - `copy IMAGE OTHER` has the bay make a disk under the other name, and makes it a copy of the image.
 pub fn optfs<S: Source, K: Sink, Y: Bay>(
     alloc: Global,
     words: &[String],
@@ -119,6 +124,10 @@ fn serve<S: Source, K: Sink, Y: Bay>(
             nodes,
         } => make(alloc, image.as_str(), (*blocks, *journal, *nodes), out, bay),
         Request::Run { image } => run(alloc, image.as_str(), input, out, bay),
+        Request::RunMirrored { image, other } => {
+            run_mirrored(alloc, image.as_str(), other.as_str(), input, out, bay)
+        }
+        Request::Copy { image, other } => copy(alloc, image.as_str(), other.as_str(), out, bay),
         Request::Load { seed, count } => load(alloc, *seed, *count, out),
     }
 }

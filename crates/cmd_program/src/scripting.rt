@@ -30,7 +30,7 @@ pub fn run<S: Source, K: Sink, Y: Bay>(
 }
 
 /// Writes the last line behind a script that was answered so, where its status has one.
-fn end_script<K: Sink>(answer: Result<Ending, RunRefusal>, out: &mut K) -> Status
+pub fn end_script<K: Sink>(answer: Result<Ending, RunRefusal>, out: &mut K) -> Status
     ensures tells { TellsScript answer result (K.taken out.old) (K.taken out.new) (K.faults out.old) (K.faults out.new) }
     ensures counts { K.faults out.old ≤ K.faults out.new }
 {

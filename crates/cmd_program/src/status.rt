@@ -35,6 +35,8 @@ pub enum Status {
     LongInput,
     /// 13: the moment is past the log, or a write that is named isn't pending at it.
     BadChoice,
+    /// 15: two images that are to be run as one don't have the same blocks. No status has the number 14.
+    Unlike,
 }
 
 impl Status {
@@ -56,6 +58,7 @@ impl Status {
             Status::BadShape => 11,
             Status::LongInput => 12,
             Status::BadChoice => 13,
+            Status::Unlike => 15,
         }
     }
 }

@@ -47,3 +47,6 @@ pub const LONG: &[u8] = b"error 12 long input\n";
 
 /// That of a choice that isn't one of the log.
 pub const CHOICE: &[u8] = b"error 13 choice\n";
+
+/// That of two images that are to be run as one, and don't have the same blocks.
+pub const UNLIKE: &[u8] = b"error 15 unlike\n";

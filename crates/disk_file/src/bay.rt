@@ -24,7 +24,8 @@ pub struct FileBay {
     rt: HostRuntime,
     /// Whether images are only shown.
     only_shows: bool,
-    why: Option<FileFault>,
+    /// What the system said last of each file, in the order in which they failed first.
+    whys: Vec<FileFault>,
     faults: u64,
     disk_faults: u64,
     handed: u64,
@@ -47,7 +48,7 @@ impl FileBay {
         FileBay {
             rt: *rt,
             only_shows: false,
-            why: None,
+            whys: Vec::new(rt.alloc()),
             faults: 0,
             disk_faults: 0,
             handed: 0,
@@ -65,17 +66,23 @@ impl FileBay {
         bay
     }
 
-    /// What the system said when a call of the bay failed last, or a call of a disk that was handed back by now, for a
-    /// message to people.
-    pub fn why(&self) -> Option<&FileFault> {
-        self.why.as_ref()
+    /// What the system said last of each file for which a call of the bay failed, or a call of a disk that was handed back by
+    /// now, for messages to people.
+    pub fn whys(&self) -> &[FileFault] {
+        self.whys.as_slice()
     }
 
     // Keeps what the system said of the file at a path.
     fn keep(&mut self, path: &str, why: Refused)
         ensures { self.new ≡ self.old }
     {
-        self.why = Some(FileFault::new(self.rt.alloc(), path, why));
+        let fault = FileFault::new(self.rt.alloc(), path, why);
+        match self.whys.iter().position(|known| known.is_of(path)) {
+            Some(at) => self.whys[at] = fault,
+            None => {
+                let _ = self.whys.push(fault);
+            }
+        }
     }
 
     // Counts a failed call, and keeps what the system said of the file at a path.

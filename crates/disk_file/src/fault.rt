@@ -46,6 +46,11 @@ impl FileFault {
     pub fn error(&self) -> io::Error {
         self.refused.error()
     }
+
+    /// Whether it is of the file at this path.
+    pub fn is_of(&self, path: &str) -> bool {
+        self.path.as_ref().is_some_and(|own| own.as_str() == path)
+    }
 }
 
 /// The path, what the system said, and what is to be done about it, on one line.

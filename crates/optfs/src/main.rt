@@ -2,6 +2,7 @@
 //! Nothing here has a clause; what it is trusted for is in the README.
 #![tactic(auto)]
 
+mod images;
 mod messages;
 mod replies;
 mod streams;

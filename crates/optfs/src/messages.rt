@@ -1,15 +1,17 @@
 //! What a run says on standard error: why its status isn't 0, and what the system said. Standard output has what the
 //! pages promise, and none of this; no contract reads it.
 
+use crate::images::{image_of, request_in, say_of_two};
 use crate::streams::Streams;
 use cmd_program::Status;
-use cmd_words::complaint;
+use cmd_words::{Request, complaint};
 use disk_file::FileBay;
 use std::rt::HostRuntime;
 
 /// The commands and their words.
 const USAGE: &str = "usage: optfs mkfs IMAGE N J I
-       optfs run IMAGE < SCRIPT > REPLIES
+       optfs run IMAGE [--mirror OTHER] < SCRIPT > REPLIES
+       optfs copy IMAGE OTHER
        optfs tree IMAGE > LISTING
        optfs record N J I [--notices none|fifo|SEED] [--room R] [--fail W] < SCRIPT > TRACE
        optfs replay --at K [--stand all|none|LIST] [--tear LIST] < TRACE
@@ -23,19 +25,36 @@ pub(crate) fn say_why(
     bay: &FileBay,
     streams: &Streams,
 ) {
-    if let Some(why) = bay.why() {
+    for why in bay.whys() {
         let _ = eprintln!(rt; "optfs: {why}");
     }
-    if let Some(reply) = first_failed(streams) {
+    let request = request_in(rt, words);
+    let failed = first_failed(streams);
+    if let Some(reply) = failed {
         let _ = eprintln!(rt;
             "optfs: the disk failed: from reply {reply} on, which is refused 14, nothing was done"
         );
     }
+    if let Some(Request::RunMirrored { image, other }) = &request {
+        say_of_two(rt, status, (image.as_str(), other.as_str()), bay, failed.is_some());
+    }
+    say_status(rt, words, status, bay, streams, request.as_ref());
+}
+
+// Says what the status means, where that isn't told yet.
+fn say_status(
+    rt: &HostRuntime,
+    words: &[String],
+    status: Status,
+    bay: &FileBay,
+    streams: &Streams,
+    request: Option<&Request>,
+) {
     match status {
         Status::Usage => say_usage(rt, words),
-        Status::DiskFault if bay.why().is_some() => {}
+        Status::DiskFault if !bay.whys().is_empty() => {}
         Status::Damaged(damage) => {
-            let _ = match image_of(words) {
+            let _ = match image_of(request) {
                 Some(image) => eprintln!(rt; "optfs: {image} stands for no tree: {damage}"),
                 None => eprintln!(rt; "optfs: the crash leaves no tree: {damage}"),
             };
@@ -50,21 +69,6 @@ pub(crate) fn say_why(
     }
 }
 
-// The image that the words of `run` or `tree` name: the first one behind the command, but for the `--` that ends options.
-fn image_of(words: &[String]) -> Option<&String> {
-    if words.first()?.as_str() == "replay" {
-        return None;
-    }
-    let mut are_ended = false;
-    for word in words.iter().skip(1) {
-        if are_ended || word.as_str() != "--" {
-            return Some(word);
-        }
-        are_ended = true;
-    }
-    None
-}
-
 // The first reply by which the disk failed.
 fn first_failed(streams: &Streams) -> Option<u64> {
     streams.replies.as_ref()?.failed()
@@ -77,7 +81,8 @@ fn meaning(status: Status) -> Option<&'static str> {
         | Status::Usage
         | Status::Damaged(_)
         | Status::SourceFault
-        | Status::SinkFault => None,
+        | Status::SinkFault
+        | Status::Unlike => None,
         Status::BadTrace => Some(
             "the input is no trace, as the line shows that standard output names",
         ),

@@ -4,7 +4,7 @@ use Rattle.cmd_words.specs.declared.request.Request.{Request}
 use Rattle.cmd_words.specs.Words.{IsInRange}
 use Rattle.cmd_program.specs.Endings.{Met, met}
 use Rattle.cmd_program.specs.Program.{Completes}
-use Rattle.cmd_program.proofs.Requests.{completes_load, completes_make, completes_replay, completes_run, completes_show}
+use Rattle.cmd_program.proofs.Requests.{completes_copy, completes_load, completes_make, completes_mirrored, completes_replay, completes_run, completes_show}
 use Rattle.cmd_program.proofs.program.serve.Goals as goal
 
 pub returns-in-Record-clause-completes : goal.returns-in-Record-clause-completes
@@ -34,3 +34,17 @@ returns-in-Load-clause-completes g c =
 pub returns-in-Run-clause-completes : goal.returns-in-Run-clause-completes
 returns-in-Run-clause-completes g c =
     rw c.in-Run.is (completes_run _ _ c.run.result _ c.run.ensures.runs c.run.ensures.faults)
+
+pub run_mirrored-requires : goal.run_mirrored-requires
+run_mirrored-requires g c = subst (λ (r : Request). IsInRange (Some r)) c.in-RunMirrored.is c.requires.range
+
+pub copy-requires : goal.copy-requires
+copy-requires g c = subst (λ (r : Request). IsInRange (Some r)) c.in-Copy.is c.requires.range
+
+pub returns-in-RunMirrored-clause-completes : goal.returns-in-RunMirrored-clause-completes
+returns-in-RunMirrored-clause-completes g c =
+    rw c.in-RunMirrored.is (completes_mirrored _ _ _ c.run_mirrored.result _ c.run_mirrored.ensures.runs c.run_mirrored.ensures.faults)
+
+pub returns-in-Copy-clause-completes : goal.returns-in-Copy-clause-completes
+returns-in-Copy-clause-completes g c =
+    rw c.in-Copy.is (completes_copy _ _ _ c.copy.result _ (c.copy.ensures.copies (g.S.Source.remaining c.args.input.now) (g.S.Source.faults c.args.input.now)) (c.copy.ensures.faults (g.S.Source.faults c.args.input.now)))

@@ -1,0 +1,60 @@
+//! Which image the words name that is judged, and what a run on two images says on standard error beside what the system
+//! said: which one was lost, and how one goes on.
+
+use cmd_program::Status;
+use cmd_words::{Request, read_words};
+use disk_file::FileBay;
+use std::rt::HostRuntime;
+
+/// What the words ask for.
+pub(crate) fn request_in(rt: &HostRuntime, words: &[String]) -> Option<Request> {
+    match read_words(rt.alloc(), words) {
+        Ok(request) => request,
+        Err(_) => None,
+    }
+}
+
+/// The image that is judged where a tree is to be shown, or a script to be run.
+pub(crate) fn image_of(request: Option<&Request>) -> Option<&str> {
+    match request? {
+        Request::Tree { image } | Request::Run { image } => Some(image.as_str()),
+        Request::RunMirrored { image, other: _ } => Some(image.as_str()),
+        _ => None,
+    }
+}
+
+/// Says of a run on two images that ended with this status what is to be done, where one was lost or they differ, or where
+/// all writes were made for which there is room; a reply then said that the disk failed.
+pub(crate) fn say_of_two(
+    rt: &HostRuntime,
+    status: Status,
+    images: (&str, &str),
+    bay: &FileBay,
+    has_failed: bool,
+) {
+    let (image, other) = images;
+    let _ = match (status, is_lost(bay, image), is_lost(bay, other)) {
+        (Status::Unlike, _, _) => eprintln!(rt;
+            "optfs: {image} and {other} differ: remove the one that isn't to be kept, and make it anew by optfs copy"
+        ),
+        (Status::DiskFault, _, _) | (_, true, true) => Ok(()),
+        (_, true, false) => say_lost(rt, image, other),
+        (_, false, true) => say_lost(rt, other, image),
+        (_, false, false) if has_failed => eprintln!(rt;
+            "optfs: a run on two images has room for 524288 writes: run the rest anew"
+        ),
+        (_, false, false) => Ok(()),
+    };
+}
+
+// Whether a call failed for this image.
+fn is_lost(bay: &FileBay, image: &str) -> bool {
+    bay.whys().iter().any(|why| why.is_of(image))
+}
+
+// Says which image was lost, and how one goes on from the one that is left.
+fn say_lost(rt: &HostRuntime, lost: &str, left: &str) -> std::io::Result<()> {
+    eprintln!(rt;
+        "optfs: {lost} was lost, and the run went on with {left}: remove {lost}, and make it anew by optfs copy {left} {lost}"
+    )
+}
