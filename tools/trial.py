@@ -6,6 +6,8 @@ nothing wrong or was skipped, and else 1.
 
 import argparse
 import collections
+import importlib.machinery
+import importlib.util
 import os
 import pathlib
 import re
@@ -42,6 +44,14 @@ def options(about):
 def name():
     """The name of the trial."""
     return pathlib.Path(sys.argv[0]).name
+
+
+def module_of(trial):
+    """Another trial of this folder, as a module."""
+    loader = importlib.machinery.SourceFileLoader(trial.replace("-", "_"), str(TOP / "tools" / trial))
+    module = importlib.util.module_from_spec(importlib.util.spec_from_loader(loader.name, loader))
+    loader.exec_module(module)
+    return module
 
 
 def skip(why):
@@ -84,26 +94,25 @@ def strace(log, more=()):
     return ["strace", "-o", str(log), "-y", "-s", "0", *more]
 
 
-def calls_of(log, image):
-    """The calls in a log of strace that are about the image, its folder, or a standard stream (`in`, `out`, `err`)."""
+def calls_of(log, image, other=""):
+    """The calls in a log of strace that are about the image, another one, their folder, or a standard stream (`in`, `out`, `err`)."""
     calls, counts = [], collections.Counter()
     for line in pathlib.Path(log).read_text(errors="replace").splitlines():
         begin = re.match(r"(\w+)\((.*)", line)
         if begin is None:
             continue
         counts[begin[1]] += 1
-        about = about_what(begin[2], str(image))
+        about = about_what(begin[2], str(image), str(other))
         if about:
             calls.append(Call(begin[1], counts[begin[1]], about, line))
     return calls
 
 
-def about_what(words, image):
+def about_what(words, image, other=""):
     """What the words of a call are about, or an empty text."""
     words = re.sub(r"AT_FDCWD<[^>]*>", "", words.rsplit(") = ", 1)[0])
-    folder = os.path.dirname(image)
-    for path, about in ((image, "image"), (folder, "folder")):
-        if re.search(rf'[<"]{re.escape(path)}/?( \(deleted\))?[>"]', words):
+    for path, about in ((image, "image"), (other, "other"), (os.path.dirname(image), "folder")):
+        if path and re.search(rf'[<"]{re.escape(path)}/?( \(deleted\))?[>"]', words):
             return about
     return {"0<": "in", "1<": "out", "2<": "err"}.get(words[:2], "")
 
