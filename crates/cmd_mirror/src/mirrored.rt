@@ -85,12 +85,10 @@ pub fn run_mirrored<B: Bay, S: Source, K: Sink>(
     match mirror_of(alloc, first, second) {
         Ok(mirror) => {
             let both = run_over(alloc, mirror, marks, input, out);
-            // calls for their clauses alone: that the disks' manners let their reads fail
-            both.first.lawful();
-            both.second.lawful();
             close_both(bay, name, other, both)
         }
         Err(both) => {
+            // calls for their clauses alone: that the disks' manners let their reads fail
             both.first.lawful();
             both.second.lawful();
             close_both(bay, name, other, both)
