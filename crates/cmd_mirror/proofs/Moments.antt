@@ -1,5 +1,5 @@
 -- A mark has come on a disk of a mirror, by the disk's own moments, exactly where the mirror's mark has come at the moment that stands for that.
-use Rattle.std.proofs.Common.{◌≡◌, ℕ, ◌+◌, ◌≤◌, ◌<◌, min, nat_le, Bool, true, false, true≢false, if◌then◌else◌, List, [], ◌∷◌, length, refl, sym, ◌∙◌, arith}
+use Rattle.std.proofs.Common.{◌≡◌, ℕ, ◌+◌, ◌≤◌, min, nat_le, Bool, true, false, true≢false, if◌then◌else◌, List, [], ◌∷◌, length, refl, sym, ◌∙◌, arith}
 use Rattle.std.proofs.lemmas.Bool.{leb-true, leb-false, le-leb, lt-leb}
 use Rattle.disk_mirror.specs.Times as mirror
 use Rattle.disk_mirror.specs.Times.{came_by, moment_of, moment_on}

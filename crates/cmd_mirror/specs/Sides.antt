@@ -1,5 +1,5 @@
 -- One disk of a mirror over which a run was made: how its moments go along with those of the mirror, which marks go along with it, and what crashes leave of it. It is described in docs/MIRROR.md.
-use Rattle.std.specs.Prelude.{◌≡◌, ◌↔◌, ℕ, ◌+◌, ◌<◌, nat_le, nat_lt, ◌||◌, Bool, true, false, if◌then◌else◌, List, [], length, map}
+use Rattle.std.specs.Prelude.{◌≡◌, ◌↔◌, ℕ, ◌+◌, nat_le, nat_lt, ◌||◌, Bool, true, false, if◌then◌else◌, List, [], length, map}
 use Rattle.base_types.specs.Seal.{Blocks}
 use Rattle.disk_contract.specs.declared.bay.Mark.{Mark}
 use Rattle.disk_contract.specs.declared.disk.Disk.{Ghosts}
