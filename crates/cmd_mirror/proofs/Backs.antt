@@ -7,7 +7,7 @@ use Rattle.disk_contract.specs.Bay.{has_faults}
 use Rattle.disk_contract.specs.Crash.{Window}
 use Rattle.disk_contract.specs.Disk.{State}
 use Rattle.disk_mirror.specs.Half.{HasFailedOnce}
-use Rattle.disk_mirror.specs.Times.{LeavesAtMoments, life_of, mark_on, moment_on}
+use Rattle.disk_mirror.specs.Times.{life_of, mark_on, moment_on}
 use Rattle.layout_journal.specs.declared.header.Header.{Header}
 use Rattle.layout_journal.specs.Layout.{IsWithinDisk, header_of}
 use Rattle.layout_geometry.specs.Geometry.{Geometry}
@@ -100,7 +100,3 @@ goes_back law alike one keeps known c mirror disk marks own side along = record 
   told = told known c disk marks own side.down along;
   points = leaves_of_run law alike one keeps c mirror disk marks side;
 }
-
--- one disk of a mirror, from what the mirror's calls tell
-pub side_of : (c : Course) (mirror disk : State) → disk.blocks ≡ mirror.blocks → LeavesAtMoments mirror.blocks mirror.base mirror.log c.times c.live c.end disk.base disk.log → HasFailedOnce c.live disk → IsSideOf c mirror disk
-side_of c mirror disk blocks leaves failed = record { blocks = blocks; leaves = leaves; down = failed_once c.live disk failed }
