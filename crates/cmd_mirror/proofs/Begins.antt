@@ -1,5 +1,5 @@
 -- Two disks that were just opened and compared, and what becomes of them: their mirror, or why there is none; and the two that go back from a mirror.
-use Rattle.std.proofs.Common.{◌≡◌, ◌⊎◌, inl, inr, ℕ, ◌<◌, ◌≤◌, nat_lt, ◌&&◌, Bool, true, false, IsTrue, List, [], Result, Ok, Err, refl, sym, ap, ◌∙◌, subst, arith}
+use Rattle.std.proofs.Common.{◌≡◌, ◌⊎◌, inl, inr, ℕ, ◌<◌, ◌≤◌, ◌&&◌, Bool, true, false, IsTrue, List, [], Result, Ok, Err, refl, sym, ap, ◌∙◌, subst}
 use Rattle.std.proofs.lemmas.Bool.{false≢true, ltb-false}
 use Rattle.base_types.specs.Counts.{after_call}
 use Rattle.base_types.specs.Seal.{Blocks}
@@ -20,8 +20,7 @@ use Rattle.cmd_image.specs.Mounted.{IsFresh}
 use Rattle.cmd_image.specs.Refusals.{opens_nothing, run_fails_pushing}
 use Rattle.cmd_image.specs.Runs.{ComesOfDisk, CountsFaults, Streams}
 use Rattle.cmd_mirror.specs.declared.refusal.MirroredRefusal.{MirroredRefusal}
-use Rattle.cmd_mirror.specs.declared.refusal.MirroredRefusal.TheVariants.{Unlike, Run}
-use Rattle.cmd_mirror.specs.Comparing.{AreAlike, AreOnlyRead, Compares}
+use Rattle.cmd_mirror.specs.Comparing.{AreAlike, AreOnlyRead}
 use Rattle.cmd_mirror.specs.Mirrored.{BothFailed, CountsMirrored, FailsAsBoth, GoesBackInTwo, IsUsedUp, MakesNone, RunsOverTwo, marked_answer_of, mirrored_fails_pushing, mirrored_opens_nothing, most_writes}
 use Rattle.cmd_mirror.specs.Sides.{Course, GoesBack, IsSideOf, marks_along}
 use Rattle.cmd_mirror.specs.Steps.{BeginsAsFirst, ComparesToNone, HasRoom}

@@ -1,8 +1,6 @@
 -- What becomes of the bay where a run over two images made no mirror: where no disk was handed out, where one was, and where two were.
 use Rattle.std.proofs.Common.{◌≡◌, ◌≢◌, ◌⊎◌, inl, inr, ℕ, ◌<◌, ◌≤◌, nat_lt, ◌||◌, Bool, true, false, IsTrue, if◌then◌else◌, List, [], Option, None, Some, Result, Ok, Err, refl, sym, ap, ap₂, ◌∙◌, subst, arith}
 use Rattle.std.proofs.lemmas.Bool.{false≢true}
-use Rattle.std.proofs.lemmas.Result.{err_from_is_err_and}
-use Rattle.std.specs.Result.{IsErrAnd}
 use Rattle.base_types.specs.Counts.{after_call, next_count, Rose}
 use Rattle.disk_contract.specs.declared.bay.Mark.{Mark}
 use Rattle.disk_contract.specs.declared.bay.BayFault.{BayFault}
@@ -10,7 +8,6 @@ use Rattle.disk_contract.specs.declared.bay.BayFault.TheVariants as bay
 use Rattle.disk_contract.specs.Bay.{BayState, BeginsWith, Closes, HasNoCounts, Kept, Opens, has_faults}
 use Rattle.disk_contract.specs.Disk.{OnlyReads, State}
 use Rattle.cmd_image.specs.declared.ending.Ending.{Ending}
-use Rattle.cmd_image.specs.declared.ending.RunRefusal.{RunRefusal}
 use Rattle.cmd_image.specs.declared.ending.RunRefusal.TheVariants as run
 use Rattle.cmd_image.specs.Mounted.{IsFresh}
 use Rattle.cmd_image.specs.Refusals.{run_refusal_of_bay}
@@ -184,7 +181,6 @@ by_manner unread d now zero is only reads = let more : 0 < now.read_faults = ome
 module _ (tells : Bool) (name other : List ℕ) (first first_last second second_last : State) (old opened new : BayState) (streams : Streams) (opens : OpensBoth tells name other first second old opened)
     (closes : ClosesBoth tells name other first_last second_last [] [] opened new) (fu su : Bool) (reads : AreOnlyRead tells fu su first first_last second second_last)
     (manner_first : IsTrue tells → 0 < first_last.read_faults → first_last.manner.reads_fail ≡ true) (manner_second : IsTrue tells → 0 < second_last.read_faults → second_last.manner.reads_fail ≡ true) where
-
   none : (why : MirroredRefusal) → MakesNone tells why fu su first second → MakesNoMirror tells name other (Err why) old new streams streams
   none why makes = record {
     first = first;
@@ -250,4 +246,4 @@ pub no_mirror_by : (tells : Bool) (name other : List ℕ) (first first_last seco
 no_mirror_by tells name other first first_last second second_last first_marks second_marks answer result old opened new streams opens one two none closes is manner_first manner_second =
     let bare : ClosesBoth tells name other first_last second_last [] [] opened new = subst (λ (m : List Mark). ClosesBoth tells name other first_last second_last [] m opened new) two (subst (λ (m : List Mark). ClosesBoth tells name other first_last second_last m second_marks opened new) one closes) in
     unmirrored_by tells name other result none.why old new streams (is ∙ ap (λ (a : Result Ending MirroredRefusal). mirrored_answer_of a closes.back closes.other_back) none.answered)
-        (no_mirror tells name other first first_last second second_last old opened new streams opens bare none.first_unread none.second_unread none.reads manner_first manner_second none.why none.none)
+    (no_mirror tells name other first first_last second second_last old opened new streams opens bare none.first_unread none.second_unread none.reads manner_first manner_second none.why none.none)

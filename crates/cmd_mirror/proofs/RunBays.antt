@@ -132,7 +132,6 @@ cause_by tells name other (Err (Run run.NoMemory)) old new before after like on_
 module _ (tells : Bool) (name other : List ℕ) (apart : name ≢ other) (first first_last second second_last : State) (first_marks second_marks : List Mark) (answer : Result Ending MirroredRefusal) (old opened new : BayState) (before after : Streams)
     (opens : OpensBoth tells name other first second old opened) (alike : AreAlike tells first second) (runs : RunsOverTwo tells first first_last second_last first_marks second_marks answer before after)
     (closes : ClosesBoth tells name other first_last second_last first_marks second_marks opened new) where
-
   ran : RunsBoth tells name other (mirrored_answer_of answer closes.back closes.other_back) old new before after
   ran = record {
     first = first;
