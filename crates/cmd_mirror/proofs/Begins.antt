@@ -1,5 +1,5 @@
 -- Two disks that were just opened and compared, and what becomes of them: their mirror, or why there is none; and the two that go back from a mirror.
-use Rattle.std.proofs.Common.{◌≡◌, ◌⊎◌, inl, inr, ℕ, ◌<◌, ◌≤◌, nat_lt, ◌&&◌, Bool, true, false, IsTrue, List, [], Result, Ok, Err, refl, sym, ap, ◌∙◌, subst, arith}
+use Rattle.std.proofs.Common.{◌≡◌, ◌⊎◌, inl, inr, ℕ, ◌<◌, ◌≤◌, ◌&&◌, Bool, true, false, IsTrue, List, [], Result, Ok, Err, refl, sym, ap, ◌∙◌, subst}
 use Rattle.std.proofs.lemmas.Bool.{false≢true, ltb-false}
 use Rattle.base_types.specs.Counts.{after_call}
 use Rattle.base_types.specs.Seal.{Blocks}
@@ -20,9 +20,8 @@ use Rattle.cmd_image.specs.Mounted.{IsFresh}
 use Rattle.cmd_image.specs.Refusals.{opens_nothing, run_fails_pushing}
 use Rattle.cmd_image.specs.Runs.{ComesOfDisk, CountsFaults, Streams}
 use Rattle.cmd_mirror.specs.declared.refusal.MirroredRefusal.{MirroredRefusal}
-use Rattle.cmd_mirror.specs.declared.refusal.MirroredRefusal.TheVariants.{Unlike, Run}
-use Rattle.cmd_mirror.specs.Comparing.{AreAlike, AreOnlyRead, Compares}
-use Rattle.cmd_mirror.specs.Mirrored.{BothFailed, CountsMirrored, FailsAsBoth, GoesBackInTwo, IsUsedUp, MakesNone, marked_answer_of, mirrored_fails_pushing, mirrored_opens_nothing, most_writes}
+use Rattle.cmd_mirror.specs.Comparing.{AreAlike, AreOnlyRead}
+use Rattle.cmd_mirror.specs.Mirrored.{BothFailed, CountsMirrored, FailsAsBoth, GoesBackInTwo, IsUsedUp, MakesNone, RunsOverTwo, marked_answer_of, mirrored_fails_pushing, mirrored_opens_nothing, most_writes}
 use Rattle.cmd_mirror.specs.Sides.{Course, GoesBack, IsSideOf, marks_along}
 use Rattle.cmd_mirror.specs.Steps.{BeginsAsFirst, ComparesToNone, HasRoom}
 use Rattle.cmd_mirror.proofs.Backs.{failed_once}
@@ -145,7 +144,7 @@ opened_by known ended answer is none = sym (ap mirrored_opens_nothing is ∙ (ma
 -- The two that go back.
 
 -- what the law of sides gives of a disk
-GivesBack : Type 0
+abbrev pub GivesBack : Type 0
 GivesBack = (known : Bool) (c : Course) (mirror disk : State) (marks own : List Mark) → IsSideOf c mirror disk → own ≡ marks_along known c disk marks → GoesBack known c mirror disk marks own
 
 pub parts : {D : Type 0} (S : D → State) (tells known : Bool) (one two : Course) (m : State) (a b first second : D) (marks first_marks second_marks : List Mark) (ended : Result Ending RunRefusal) (answer : Result Ending MirroredRefusal) → first ≡ a → second ≡ b → GivesBack
@@ -154,7 +153,6 @@ pub parts : {D : Type 0} (S : D → State) (tells known : Bool) (one two : Cours
     → HasFailedOnce one.live (S a) → HasFailedOnce two.live (S b) → (IsTrue tells → HasRoom m) → HasCauses m one.live two.live
     → first_marks ≡ marks_along known one (S a) marks → second_marks ≡ marks_along known two (S b) marks → answer ≡ marked_answer_of known ended
     → GoesBackInTwo tells m (S first) (S second) marks first_marks second_marks ended answer
-unfolding GivesBack
 parts {D} S tells known one two m a b first second marks first_marks second_marks ended answer first_is second_is law size other_size leaves other_leaves failed other_failed room causes own other_own answered =
     subst (λ (d : D). GoesBackInTwo tells m (S d) (S second) marks first_marks second_marks ended answer) (sym first_is) (subst (λ (d : D). GoesBackInTwo tells m (S a) (S d) marks first_marks second_marks ended answer) (sym second_is) here)
   where
@@ -168,4 +166,21 @@ parts {D} S tells known one two m a b first second marks first_marks second_mark
       blocks = (size, other_size);
       fails = fails tells m (S a) (S b) one.live two.live room causes failed other_failed;
       answered = answered;
+    }
+
+-- A run over a mirror.
+
+pub runs_over : (tells : Bool) (first second mirror last a b : State) (marks first_marks second_marks : List Mark) (ended : Result Ending RunRefusal) (answer : Result Ending MirroredRefusal) (before after : Streams) → ComesOfDisk (tells && tells) mirror last marks ended before after
+    → ((IsTrue tells → HasRoom last) → GoesBackInTwo tells last a b marks first_marks second_marks ended answer) → BeginsAsFirst tells first second mirror → RunsOverTwo tells first a b first_marks second_marks answer before after
+runs_over tells first second mirror last a b marks first_marks second_marks ended answer before after comes goes begin =
+    let here : ComesOfDisk tells mirror last marks ended before after = subst (λ (t : Bool). ComesOfDisk t mirror last marks ended before after) (twice tells) comes in record {
+      mirror = mirror;
+      mirror_last = last;
+      marks = marks;
+      ended = ended;
+      blocks = begin.blocks;
+      base = begin.base;
+      fresh = begin.fresh;
+      comes = here;
+      goes = goes (λ t. same_manner tells mirror last marks ended before after here t ∙ begin.room);
     }

@@ -1,8 +1,6 @@
 -- What becomes of the bay where a run over two images made no mirror: where no disk was handed out, where one was, and where two were.
 use Rattle.std.proofs.Common.{◌≡◌, ◌≢◌, ◌⊎◌, inl, inr, ℕ, ◌<◌, ◌≤◌, nat_lt, ◌||◌, Bool, true, false, IsTrue, if◌then◌else◌, List, [], Option, None, Some, Result, Ok, Err, refl, sym, ap, ap₂, ◌∙◌, subst, arith}
 use Rattle.std.proofs.lemmas.Bool.{false≢true}
-use Rattle.std.proofs.lemmas.Result.{err_from_is_err_and}
-use Rattle.std.specs.Result.{IsErrAnd}
 use Rattle.base_types.specs.Counts.{after_call, next_count, Rose}
 use Rattle.disk_contract.specs.declared.bay.Mark.{Mark}
 use Rattle.disk_contract.specs.declared.bay.BayFault.{BayFault}
@@ -10,7 +8,6 @@ use Rattle.disk_contract.specs.declared.bay.BayFault.TheVariants as bay
 use Rattle.disk_contract.specs.Bay.{BayState, BeginsWith, Closes, HasNoCounts, Kept, Opens, has_faults}
 use Rattle.disk_contract.specs.Disk.{OnlyReads, State}
 use Rattle.cmd_image.specs.declared.ending.Ending.{Ending}
-use Rattle.cmd_image.specs.declared.ending.RunRefusal.{RunRefusal}
 use Rattle.cmd_image.specs.declared.ending.RunRefusal.TheVariants as run
 use Rattle.cmd_image.specs.Mounted.{IsFresh}
 use Rattle.cmd_image.specs.Refusals.{run_refusal_of_bay}
@@ -19,7 +16,8 @@ use Rattle.cmd_image.specs.Shows.{FailedByManner, MayFailToOpen}
 use Rattle.cmd_mirror.specs.declared.refusal.MirroredRefusal.{MirroredRefusal}
 use Rattle.cmd_mirror.specs.declared.refusal.MirroredRefusal.TheVariants.{Unlike, Run}
 use Rattle.cmd_mirror.specs.Comparing.{AreOnlyRead, NoneIsUnread, OneIsUnread}
-use Rattle.cmd_mirror.specs.Mirrored.{ClosesBoth, ComesOfBoth, CountsMirrored, HasMirroredCause, HasMirroredReason, MakesNoMirror, MakesNone, OpensBoth, mirrored_fails_pushing}
+use Rattle.cmd_mirror.specs.Mirrored.{ClosesBoth, ComesOfBoth, CountsMirrored, HasMirroredCause, HasMirroredReason, MakesNoMirror, MakesNone, OpensBoth, mirrored_answer_of, mirrored_fails_pushing}
+use Rattle.cmd_mirror.specs.Steps.{ComparesToNone}
 
 -- An opening.
 
@@ -27,8 +25,8 @@ use Rattle.cmd_mirror.specs.Mirrored.{ClosesBoth, ComesOfBoth, CountsMirrored, H
 pub opened_state : {D : Type 0} (state : D → State) (tells : Bool) (name : List ℕ) (d : D) (old new : BayState) → Opens tells state name (Ok d) old new → Opens tells (λ (s : State). s) name (Ok (state d)) old new
 opened_state state tells name d old new o = record { counts = o.counts; disk = o.disk; manner = o.manner; kept = o.kept; cause = o.cause; fails = o.fails; same = o.same; disk_faults = o.disk_faults; handed = o.handed; closed = o.closed }
 
-pub refused_state : {D : Type 0} (state : D → State) (tells : Bool) (name : List ℕ) (fault : BayFault) (old new : BayState) → Opens tells state name (Err fault) old new → Opens tells (λ (s : State). s) name (Err fault) old new
-refused_state state tells name fault old new o = record { counts = o.counts; disk = o.disk; manner = o.manner; kept = o.kept; cause = o.cause; fails = o.fails; same = o.same; disk_faults = o.disk_faults; handed = o.handed; closed = o.closed }
+pub refused_state : {D : Type 0} (state : D → State) (tells : Bool) (name : List ℕ) (failed : BayFault) (old new : BayState) → Opens tells state name (Err failed) old new → Opens tells (λ (s : State). s) name (Err failed) old new
+refused_state state tells name failed old new o = record { counts = o.counts; disk = o.disk; manner = o.manner; kept = o.kept; cause = o.cause; fails = o.fails; same = o.same; disk_faults = o.disk_faults; handed = o.handed; closed = o.closed }
 
 pub opens_both : {D : Type 0} (state : D → State) (tells : Bool) (name other : List ℕ) (first second : D) (old between new : BayState) → Opens tells state name (Ok first) old between → Opens tells state other (Ok second) between new
     → OpensBoth tells name other (state first) (state second) old new
@@ -96,7 +94,7 @@ pub record SaysUnmirrored (tells : Bool) (name other : List ℕ) (result : Resul
   pub counts : CountsMirrored result streams streams
 
 -- whether the answer is a fault
-pub faulty : Result Ending MirroredRefusal → Bool
+abbrev pub faulty : Result Ending MirroredRefusal → Bool
 faulty (Ok ending) = false
 faulty (Err Unlike) = false
 faulty (Err (Run run.Fault)) = true
@@ -107,7 +105,6 @@ faulty (Err (Run run.NoMemory)) = false
 
 -- another answer isn't one
 pub not_fault : {P : Type 0} (answer : Result Ending MirroredRefusal) → faulty answer ≡ false → answer ≡ Err (Run run.Fault) → P
-unfolding faulty
 not_fault answer other is = absurd (false≢true (sym other ∙ ap faulty is))
 
 -- the same of the answer as the function has it
@@ -184,7 +181,6 @@ by_manner unread d now zero is only reads = let more : 0 < now.read_faults = ome
 module _ (tells : Bool) (name other : List ℕ) (first first_last second second_last : State) (old opened new : BayState) (streams : Streams) (opens : OpensBoth tells name other first second old opened)
     (closes : ClosesBoth tells name other first_last second_last [] [] opened new) (fu su : Bool) (reads : AreOnlyRead tells fu su first first_last second second_last)
     (manner_first : IsTrue tells → 0 < first_last.read_faults → first_last.manner.reads_fail ≡ true) (manner_second : IsTrue tells → 0 < second_last.read_faults → second_last.manner.reads_fail ≡ true) where
-
   none : (why : MirroredRefusal) → MakesNone tells why fu su first second → MakesNoMirror tells name other (Err why) old new streams streams
   none why makes = record {
     first = first;
@@ -220,6 +216,7 @@ module _ (tells : Bool) (name other : List ℕ) (first first_last second second_
   unread_manner t (inr two) = inr (by_manner su second second_last opens.opens_second.counts two.1 reads.reads_second (manner_second t))
 
   pub no_mirror : (why : MirroredRefusal) → MakesNone tells why fu su first second → SaysUnmirrored tells name other (Err why) old new streams
+  unfolding none
   no_mirror Unlike makes = record {
     comes = inr (inr (inl (none Unlike makes)));
     cause = unlike_counts makes.0;
@@ -241,3 +238,12 @@ module _ (tells : Bool) (name other : List ℕ) (first first_last second second_
     reason = λ t is. not_fault (Err (Run run.NoMemory)) refl is;
     counts = calm (Err (Run run.NoMemory)) streams refl;
   }
+
+-- the same of two that go back with no mark, as the function has it
+pub no_mirror_by : (tells : Bool) (name other : List ℕ) (first first_last second second_last : State) (first_marks second_marks : List Mark) (answer result : Result Ending MirroredRefusal) (old opened new : BayState) (streams : Streams) → OpensBoth tells name other first second old opened
+    → first_marks ≡ [] → second_marks ≡ [] → ComparesToNone tells first first_last second second_last answer → (closes : ClosesBoth tells name other first_last second_last first_marks second_marks opened new) → result ≡ mirrored_answer_of answer closes.back closes.other_back
+    → (IsTrue tells → 0 < first_last.read_faults → first_last.manner.reads_fail ≡ true) → (IsTrue tells → 0 < second_last.read_faults → second_last.manner.reads_fail ≡ true) → SaysUnmirrored tells name other result old new streams
+no_mirror_by tells name other first first_last second second_last first_marks second_marks answer result old opened new streams opens one two none closes is manner_first manner_second =
+    let bare : ClosesBoth tells name other first_last second_last [] [] opened new = subst (λ (m : List Mark). ClosesBoth tells name other first_last second_last [] m opened new) two (subst (λ (m : List Mark). ClosesBoth tells name other first_last second_last m second_marks opened new) one closes) in
+    unmirrored_by tells name other result none.why old new streams (is ∙ ap (λ (a : Result Ending MirroredRefusal). mirrored_answer_of a closes.back closes.other_back) none.answered)
+    (no_mirror tells name other first first_last second second_last old opened new streams opens bare none.first_unread none.second_unread none.reads manner_first manner_second none.why none.none)

@@ -113,8 +113,8 @@ unfolding is_unlike
 not_closed (Err why) back other_back is = is
 not_closed (Ok SourceFault) back other_back is = refl
 not_closed (Ok LongInput) back other_back is = refl
-not_closed (Ok End) (Err fault) other_back is = refl
-not_closed (Ok End) (Ok x) (Err fault) is = refl
+not_closed (Ok End) (Err failed) other_back is = refl
+not_closed (Ok End) (Ok x) (Err failed) is = refl
 not_closed (Ok End) (Ok x) (Ok y) is = refl
 
 -- the cause of any other answer says nothing
@@ -132,7 +132,6 @@ cause_by tells name other (Err (Run run.NoMemory)) old new before after like on_
 module _ (tells : Bool) (name other : List ℕ) (apart : name ≢ other) (first first_last second second_last : State) (first_marks second_marks : List Mark) (answer : Result Ending MirroredRefusal) (old opened new : BayState) (before after : Streams)
     (opens : OpensBoth tells name other first second old opened) (alike : AreAlike tells first second) (runs : RunsOverTwo tells first first_last second_last first_marks second_marks answer before after)
     (closes : ClosesBoth tells name other first_last second_last first_marks second_marks opened new) where
-
   ran : RunsBoth tells name other (mirrored_answer_of answer closes.back closes.other_back) old new before after
   ran = record {
     first = first;
@@ -225,3 +224,10 @@ module _ (tells : Bool) (name other : List ℕ) (apart : name ≢ other) (first 
         pushing = (unchanged answer closes.back closes.other_back).0;
         opened = (unchanged answer closes.back closes.other_back).1;
       }
+
+-- the same of the answer as the function has it
+pub says_mirrored_by : (tells : Bool) (name other : List ℕ) → name ≢ other → (first first_last second second_last : State) (first_marks second_marks : List Mark) (answer : Result Ending MirroredRefusal) (old opened new : BayState) (before after : Streams) (result : Result Ending MirroredRefusal)
+    → OpensBoth tells name other first second old opened → AreAlike tells first second → RunsOverTwo tells first first_last second_last first_marks second_marks answer before after
+    → (closes : ClosesBoth tells name other first_last second_last first_marks second_marks opened new) → result ≡ mirrored_answer_of answer closes.back closes.other_back → SaysMirrored tells name other answer result old new before after
+says_mirrored_by tells name other apart first first_last second second_last first_marks second_marks answer old opened new before after result opens alike runs closes is =
+    subst (λ (r : Result Ending MirroredRefusal). SaysMirrored tells name other answer r old new before after) (sym is) (says_mirrored tells name other apart first first_last second second_last first_marks second_marks answer old opened new before after opens alike runs closes)

@@ -12,7 +12,8 @@ ghost use Rattle.cmd_image.specs.Mounted.{IsFresh};
 ghost use Rattle.cmd_image.specs.declared.ending.RunRefusal.TheVariants.{Fault, NoMemory as OutOfMemory};
 ghost use Rattle.cmd_mirror.specs.Comparing.{AreAlike};
 ghost use Rattle.cmd_mirror.specs.declared.refusal.MirroredRefusal.TheVariants.{Run};
-ghost use Rattle.cmd_mirror.specs.Mirrored.{ClosesBoth, ComesOfBoth, CountsMirrored, GoesBackInTwo, HasMirroredCause, HasMirroredReason, RunsOverTwo, marked_answer_of, mirrored_answer_of, mirrored_opens_nothing, of_run};
+ghost use Rattle.cmd_mirror.specs.Mirrored.{ClosesBoth, ComesOfBoth, CountsMirrored, GoesBackInTwo, HasMirroredCause, HasMirroredReason, RunsOverTwo};
+ghost use Rattle.cmd_mirror.specs.Mirrored.{marked_answer_of, mirrored_answer_of, mirrored_opens_nothing, of_run};
 ghost use Rattle.cmd_mirror.specs.Steps.{BeginsAsFirst, ComparesToNone, HasRoom, of_mirror};
 
 use crate::comparing::compare;
@@ -85,12 +86,10 @@ pub fn run_mirrored<B: Bay, S: Source, K: Sink>(
     match mirror_of(alloc, first, second) {
         Ok(mirror) => {
             let both = run_over(alloc, mirror, marks, input, out);
-            // calls for their clauses alone: that the disks' manners let their reads fail
-            both.first.lawful();
-            both.second.lawful();
             close_both(bay, name, other, both)
         }
         Err(both) => {
+            // calls for their clauses alone: that the disks' manners let their reads fail
             both.first.lawful();
             both.second.lawful();
             close_both(bay, name, other, both)
@@ -200,8 +199,10 @@ fn run_over<B: Bay, S: Source, K: Sink>(
     requires fresh { IsFresh B.tells (state_of (λ lent. B.D.state (disk_of lent)) (λ lent. B.D.state (disk_of lent)) mirror) }
     requires empty { marks.items ≡ [] }
     requires room { vec_len marks < vec_capacity marks }
-    ensures runs { (first second : State) → BeginsAsFirst B.tells first second (state_of (λ lent. B.D.state (disk_of lent)) (λ lent. B.D.state (disk_of lent)) mirror)
-        → RunsOverTwo B.tells first (B.D.state (disk_of result.first)) (B.D.state (disk_of result.second)) result.first_marks.items result.second_marks.items result.answer
+    ensures runs { (first second : State)
+        → BeginsAsFirst B.tells first second (state_of (λ lent. B.D.state (disk_of lent)) (λ lent. B.D.state (disk_of lent)) mirror)
+        → RunsOverTwo B.tells first (B.D.state (disk_of result.first)) (B.D.state (disk_of result.second))
+        result.first_marks.items result.second_marks.items result.answer
         (record { left = S.remaining input.old; source_faults = S.faults input.old; taken = K.taken out.old; sink_faults = K.faults out.old })
         (record { left = S.remaining input.new; source_faults = S.faults input.new; taken = K.taken out.new; sink_faults = K.faults out.new }) }
     ensures counts { CountsMirrored result.answer
@@ -218,7 +219,8 @@ fn run_over<B: Bay, S: Source, K: Sink>(
 fn part<B: Bay>(alloc: Global, left: Left<LentMirror<B>>) -> Both<B>
     ensures goes { (IsTrue B.tells → HasRoom (state_of (λ lent. B.D.state (disk_of lent)) (λ lent. B.D.state (disk_of lent)) left.disk))
         → GoesBackInTwo B.tells (state_of (λ lent. B.D.state (disk_of lent)) (λ lent. B.D.state (disk_of lent)) left.disk)
-        (B.D.state (disk_of result.first)) (B.D.state (disk_of result.second)) left.marks.items result.first_marks.items result.second_marks.items left.answer result.answer }
+        (B.D.state (disk_of result.first)) (B.D.state (disk_of result.second))
+        left.marks.items result.first_marks.items result.second_marks.items left.answer result.answer }
     ensures answered { (known : Bool) × (result.answer ≡ marked_answer_of known left.answer) }
 {
     a_disk_of_a_mirror_goes_back();
