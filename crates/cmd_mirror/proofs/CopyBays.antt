@@ -8,10 +8,9 @@ use Rattle.disk_contract.specs.declared.bay.BayFault.{BayFault}
 use Rattle.disk_contract.specs.declared.bay.BayFault.TheVariants as bay
 use Rattle.disk_contract.specs.declared.event.Event.{Event}
 use Rattle.disk_contract.specs.declared.event.Event.TheVariants.{Wrote, Lost, Noticed}
-use Rattle.disk_contract.specs.Bay.{BayState, BeginsWith, Begins, Closes, HasBlocks, HasNoCounts, IsKeptOf, IsLeftBy, Kept, Makes, Opens, SameImage, TakesBack, fresh, has_faults, image_of, zero_blocks}
+use Rattle.disk_contract.specs.Bay.{BayState, BeginsWith, Begins, Closes, HasBlocks, Kept, Makes, Opens, SameImage, TakesBack, fresh, has_faults, image_of, zero_blocks}
 use Rattle.disk_contract.specs.Cell.{Cell, accepted, accepted_from, cell_of, is_lost}
-use Rattle.disk_contract.specs.Disk.{HasFailed, State}
-use Rattle.cmd_image.specs.Shows.{CountsFault, FailedByManner}
+use Rattle.disk_contract.specs.Disk.{State}
 use Rattle.cmd_image.specs.declared.make_refusal.MakeRefusal.{MakeRefusal}
 use Rattle.cmd_image.specs.declared.make_refusal.MakeRefusal.TheVariants.{Fault, NoMemory}
 use Rattle.cmd_image.specs.Makes.{HasMakeCause, make_refusal_of_bay}
@@ -45,7 +44,7 @@ accepted_part at b x (Lost c y ∷ es) copies = accepted_part at b x es copies.1
 accepted_part at b x (Noticed t ∷ es) copies = accepted_part at b x es copies
 accepted_part at b x (Wrote t c y ∷ es) copies =
     ⊎_elim inl (λ same. elim (c == b) as (λ v. (c == b) ≡ v → (if v then y else x) ≡ (if c == b then y else x) → (accepted_from b (if c == b then y else x) es ≡ at b) ⊎ (accepted_from b (if c == b then y else x) es ≡ x)) [
-      | true ↦ λ e is. inl (same ∙ sym is ∙ copies.0 ∙ ap at (eqb-true c b (sym e)))
+      | true ↦ λ e is. inl (same ∙ sym is ∙ copies.0 ∙ ap at (eqb-true c b e))
       | false ↦ λ e is. inr (same ∙ sym is)
     ] refl refl) (accepted_part at b (if c == b then y else x) es copies.1)
 

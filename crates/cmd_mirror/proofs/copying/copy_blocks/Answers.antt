@@ -1,4 +1,4 @@
-use Rattle.std.proofs.Common.{◌+◌, ◌≡◌, false, ℕ, arith, refl, subst, sym, ◌∙◌}
+use Rattle.std.proofs.Common.{◌+◌, ◌≡◌, false, ℕ, arith, refl, subst, ◌∙◌}
 use Rattle.std.proofs.lemmas.Bool.{false≢true}
 use Rattle.base_types.specs.Seal.{Blocks}
 use Rattle.cmd_mirror.specs.Copies.{AreCopied, AreCopiesOf, CopiedSoFar}
