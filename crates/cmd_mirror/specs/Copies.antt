@@ -1,12 +1,12 @@
 -- What a copying of an image does: what is under the other name, and what the disk that is read and the disk that is written have done by then. It is described in docs/MIRROR.md.
-use Rattle.std.specs.Prelude.{◌≡◌, ◌⊎◌, ℕ, ◌<◌, ◌≤◌, Bool, true, false, IsTrue, List, [], ◌∷◌, length, replicate, Option, Some, Result, Ok, Err, OnOk}
+use Rattle.std.specs.Prelude.{◌≡◌, ◌⊎◌, ℕ, ◌+◌, ◌-◌, ◌<◌, ◌≤◌, Bool, true, false, IsTrue, List, [], ◌∷◌, length, replicate, slice_index_or, Option, Some, Result, Ok, Err, OnOk}
 use Rattle.base_types.specs.Seal.{Blocks, blocks_of}
 use Rattle.disk_contract.specs.declared.event.Event.{Event}
 use Rattle.disk_contract.specs.declared.event.Event.TheVariants.{Wrote, Lost, Noticed}
 use Rattle.disk_contract.specs.declared.bay.BayFault.{BayFault}
 use Rattle.disk_contract.specs.Bay.{Kept, image_of}
-use Rattle.disk_contract.specs.Cell.{cell_of}
-use Rattle.disk_contract.specs.Disk.{State, OnlyReads, Spends, HasFailed}
+use Rattle.disk_contract.specs.Cell.{IsAccepted, IsNoticed, cell_of}
+use Rattle.disk_contract.specs.Disk.{State, OnlyReads, OnlyWrites, Spends, HasFailed}
 use Rattle.cmd_image.specs.declared.make_refusal.MakeRefusal.{MakeRefusal}
 use Rattle.cmd_image.specs.declared.make_refusal.MakeRefusal.TheVariants.{Fault}
 use Rattle.cmd_image.specs.Makes.{make_refusal_of_bay}
@@ -79,7 +79,50 @@ copy_answer_of (Err why) back_first back = Err Fault
 
 -- On the way. Only private contracts speak of it.
 
--- So far the first n blocks are copies, and nothing is pending on any block.
-pub record CopiedSoFar (at : Blocks) (n : ℕ) (base : Blocks) (log : List Event) : Type 0 where
-  pub copied : AreCopied at n base log
-  pub idle : (b : ℕ) → (cell_of base log b).pending ≡ []
+-- The blocks from `first` on and before `end` are durable copies behind the later log, and the others are as they were behind the earlier one.
+pub record CopiesRange (at : Blocks) (first end : ℕ) (base : Blocks) (old new : List Event) : Type 0 where
+  pub copied : (b : ℕ) → first ≤ b → b < end → cell_of base new b ≡ record { settled = at b; pending = [] }
+  pub others : (b : ℕ) → (b < first) ⊎ (end ≤ b) → cell_of base new b ≡ cell_of base old b
+
+-- a block was written with its copy in the write of this ticket: it is durable, or that write alone is pending on it and its notice hasn't come
+abbrev pub IsSent : Blocks → Blocks → List Event → ℕ → ℕ → Type 0
+IsSent at base log b t = (cell_of base log b ≡ record { settled = at b; pending = [] })
+    ⊎ (¬ IsNoticed t log × ((old : List ℕ) × (cell_of base log b ≡ record { settled = old; pending = record { ticket = Some t; bytes = at b } ∷ [] })))
+
+-- From block `first` on a stretch is copied with these tickets: the blocks before the place `low` in it are durable copies, those from there on and before `high` are sent, and the others are as they were behind the earlier log.
+pub record IsStretch (at : Blocks) (first low high : ℕ) (tickets : List ℕ) (base : Blocks) (old new : List Event) : Type 0 where
+  pub copied : (b : ℕ) → first ≤ b → b < first + low → cell_of base new b ≡ record { settled = at b; pending = [] }
+  pub sent : (i : ℕ) → low ≤ i → i < high → IsSent at base new (first + i) (slice_index_or tickets i 0)
+  pub others : (b : ℕ) → (b < first) ⊎ (first + high ≤ b) → cell_of base new b ≡ cell_of base old b
+
+-- the first of these tickets, so many, are those of accepted writes
+abbrev pub AreGiven : List ℕ → ℕ → List Event → Type 0
+AreGiven tickets count log = (i : ℕ) → i < count → IsAccepted (slice_index_or tickets i 0) log
+
+-- So many blocks from `first` on were read from the one disk and written to the other, with these tickets; where that failed, so many at most.
+pub record SendsStretch (tells : Bool) (first count : ℕ) (tickets : List ℕ) (result : Result (Unit {0}) CopyFault) (from from_now to to_now : State) : Type 0 where
+  pub reads : OnlyReads (fails_reading result) from from_now
+  pub unwritten : IsTrue tells → from_now.log ≡ from.log
+  pub spends : OnlyWrites (fails_writing result) to to_now
+  pub copies : IsTrue tells → from.log ≡ [] → AreCopiesOf from.base to.log → AreCopiesOf from.base to_now.log
+  pub sent : IsTrue tells → from.log ≡ [] → ((b : ℕ) → (cell_of to.base to.log b).pending ≡ []) → OnOk result (IsStretch from.base first 0 count tickets to.base to.log to_now.log)
+  pub given : IsTrue tells → OnOk result (AreGiven tickets count to_now.log)
+  pub cause : IsTrue tells → fails_writing result ≡ true → HasFailed to_now
+
+-- The first of these tickets, so many, were waited for, where so many in all are those of accepted writes; a wait that failed was the last one.
+pub record WaitsForStretch (tells : Bool) (count all : ℕ) (tickets : List ℕ) (result : Result (Unit {0}) CopyFault) (to to_now : State) : Type 0 where
+  pub answer : fails_reading result ≡ false
+  pub spends : WritesAndWaits (fails_writing result) count to to_now
+  pub given : IsTrue tells → AreGiven tickets all to.log → AreGiven tickets all to_now.log
+  pub copies : IsTrue tells → (at : Blocks) → AreCopiesOf at to.log → AreCopiesOf at to_now.log
+  pub whole : IsTrue tells → (at : Blocks) (first : ℕ) (old : List Event) → ((b : ℕ) → (cell_of to.base old b).pending ≡ []) → IsStretch at first 0 all tickets to.base old to.log → OnOk result (IsStretch at first count all tickets to.base old to_now.log)
+  pub cause : IsTrue tells → AreGiven tickets all to.log → fails_writing result ≡ true → HasFailed to_now
+
+-- The blocks from `first` on and before `end` were copied from the one disk to the other, on which nothing was pending; where that failed, some of them at most.
+pub record CopiesPart (tells : Bool) (first end : ℕ) (result : Result (Unit {0}) CopyFault) (from from_now to to_now : State) : Type 0 where
+  pub reads : OnlyReads (fails_reading result) from from_now
+  pub unwritten : IsTrue tells → from_now.log ≡ from.log
+  pub spends : WritesAndWaits (fails_writing result) (end - first) to to_now
+  pub copies : IsTrue tells → from.log ≡ [] → AreCopiesOf from.base to.log → AreCopiesOf from.base to_now.log
+  pub whole : IsTrue tells → from.log ≡ [] → ((b : ℕ) → (cell_of to.base to.log b).pending ≡ []) → OnOk result (CopiesRange from.base first end to.base to.log to_now.log)
+  pub cause : IsTrue tells → fails_writing result ≡ true → HasFailed to_now

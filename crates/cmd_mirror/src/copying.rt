@@ -1,14 +1,12 @@
 //! Copies the image under a name to another name, block by block: a disk is opened on the one, a disk of as many blocks is
-//! made under the other, and each block that is read is written and waited for; then both go back.
+//! made under the other, and the blocks are read, written and waited for, a stretch at a time; then both go back.
 
-ghost use Rattle.std.specs.Prelude.{◌≡◌, ◌≢◌, ◌⊎◌, ◌<◌, ◌+◌, Bool, true, IsTrue, [], Ok, Err, Result, IfOk, IfErr, OnOk};
+ghost use Rattle.std.specs.Prelude.{◌≡◌, ◌≢◌, ◌⊎◌, ◌≤◌, ◌+◌, Bool, IsTrue, [], Ok, Err, Result, IfOk, IfErr, OnOk};
 ghost use Rattle.disk_contract.specs.declared.bay.BayFault.{BayFault as Failure};
 ghost use Rattle.disk_contract.specs.Bay.{Closes, Makes, Opens, SameImage};
-ghost use Rattle.disk_contract.specs.Disk.{HasFailed, OnlyReads};
 ghost use Rattle.cmd_image.specs.declared.make_refusal.MakeRefusal.TheVariants.{Fault};
 ghost use Rattle.cmd_image.specs.Makes.{HasMakeCause, make_refusal_of_bay};
-ghost use Rattle.cmd_mirror.specs.Copies.{AreCopiesOf, CopiedSoFar, CopiesBlocks, HasPart, HaveOneImage};
-ghost use Rattle.cmd_mirror.specs.Copies.{WritesAndWaits, fails_reading, fails_writing};
+ghost use Rattle.cmd_mirror.specs.Copies.{CopiesBlocks, CopiesPart, HasPart, HaveOneImage, SendsStretch, WaitsForStretch};
 ghost use Rattle.cmd_mirror.specs.Returns.{ClosesBoth, Copied, CopiesOpened, CopyLeavesBay, HasCopyReason, SameBeside};
 
 use base_types::Block;
@@ -41,10 +39,11 @@ impl fmt::Display for CopyFault {
 impl Error for CopyFault {}
 
 /// Copies the image under `name` to `other`, in place of what stood there: the bay opens a disk on the image and makes one
-/// of as many blocks of zeros under the other name, each block is read from the one and written to the other, in order,
-/// and each write is waited for before the next read; then the first disk goes back, and then the second, with no marks.
-/// Where a call failed, those behind it aren't made, but each disk that was handed out goes back. An image of no blocks is
-/// copied too: a disk of no blocks is made and goes back, and no block is read or written.
+/// of as many blocks of zeros under the other name; the blocks are read from the one and written to the other; then the
+/// first disk goes back, and then the second, with no marks. The blocks behind the headers are copied first, a stretch at a
+/// time, and each write is waited for before the next stretch begins; the headers are the last stretch. Where a call failed,
+/// those behind it aren't made, but each disk that was handed out goes back. An image of no blocks is copied too: a disk of
+/// no blocks is made and goes back, and no block is read or written.
 ///
 /// # Errors
 /// `Fault` comes of a call of the bay or of a disk that failed, which was counted; that nothing is under `name` is one.
@@ -192,8 +191,15 @@ fn close_both<B: Bay>(
     Ok(())
 }
 
-/// Copies all blocks of a disk to another one of as many blocks, in order. What it says of contents is said of disks with
-/// no event yet.
+/// How many blocks are written before they are waited for. Over a file the waits of a stretch sync it once.
+const STRETCH: u32 = 1024;
+
+/// How many blocks at the beginning of a disk may hold its headers.
+const HEADERS: u32 = 2;
+
+/// Copies all blocks of a disk to another one of as many blocks: first those behind the headers, and once they are durable
+/// the headers. So an image whose copying was broken off before them has no header. What is said of contents is said of
+/// disks with no event yet.
 ///
 /// # Errors
 /// Which of the disks failed, which that disk has counted; the blocks behind aren't copied.
@@ -203,42 +209,115 @@ fn copy_blocks<D: Disk>(original: &mut D, copy: &mut D) -> Result<(), CopyFault>
         → CopiesBlocks tells result (D.state original.old) (D.state original.new) (D.state copy.old) (D.state copy.new) }
 {
     calls_in_a_row_spend_together();
-    for b in 0..original.blocks() {
-        if let Err(fault) = copy_block(original, copy, b) {
+    let blocks = original.blocks();
+    let headers = HEADERS.min(blocks);
+    if let Err(fault) = copy_range(original, copy, headers, blocks) {
+        return Err(fault);
+    }
+    copy_range(original, copy, 0, headers)
+}
+
+/// Copies the blocks from `start` on and before `end`, in order, a stretch at a time.
+///
+/// # Errors
+/// Which of the disks failed, which that disk has counted; the blocks behind aren't copied.
+fn copy_range<D: Disk>(
+    original: &mut D,
+    copy: &mut D,
+    start: u32,
+    end: u32,
+) -> Result<(), CopyFault>
+    requires order { start ≤ end }
+    requires there { end ≤ (D.state original.old).blocks }
+    requires within { end ≤ (D.state copy.old).blocks }
+    ensures { CopiesPart D.tells start end result (D.state original.old) (D.state original.new) (D.state copy.old) (D.state copy.new) }
+{
+    calls_in_a_row_spend_together();
+    let mut first = start;
+    while first < end {
+        let count = STRETCH.min(end - first);
+        if let Err(fault) = copy_stretch(original, copy, first, count) {
             return Err(fault);
         }
+        first += count;
     }
     Ok(())
 }
 
-/// Reads block `b` of the one disk, writes it to the other, and waits until it is durable there.
+/// Copies so many blocks from `first` on: writes them all, and then waits until each is durable.
 ///
 /// # Errors
 /// Which of the disks failed, which that disk has counted.
-fn copy_block<D: Disk>(original: &mut D, copy: &mut D, b: u32) -> Result<(), CopyFault>
-    requires there { b < (D.state original.old).blocks }
-    requires within { b < (D.state copy.old).blocks }
-    ensures reads { OnlyReads (fails_reading result) (D.state original.old) (D.state original.new) }
-    ensures unwritten { IsTrue D.tells → (D.state original.new).log ≡ (D.state original.old).log }
-    ensures spends { WritesAndWaits (fails_writing result) 1 (D.state copy.old) (D.state copy.new) }
-    ensures copies { IsTrue D.tells → (D.state original.old).log ≡ [] → AreCopiesOf (D.state original.old).base (D.state copy.old).log
-        → AreCopiesOf (D.state original.old).base (D.state copy.new).log }
-    ensures whole { IsTrue D.tells → (D.state original.old).log ≡ [] → OnOk result
-        (CopiedSoFar (D.state original.old).base b (D.state copy.old).base (D.state copy.old).log
-        → CopiedSoFar (D.state original.old).base (b + 1) (D.state copy.new).base (D.state copy.new).log) }
-    ensures cause { IsTrue D.tells → fails_writing result ≡ true → HasFailed (D.state copy.new) }
+fn copy_stretch<D: Disk>(
+    original: &mut D,
+    copy: &mut D,
+    first: u32,
+    count: u32,
+) -> Result<(), CopyFault>
+    requires few { count ≤ 1024 }
+    requires fits { first + count ≤ 4294967295 }
+    requires there { first + count ≤ (D.state original.old).blocks }
+    requires within { first + count ≤ (D.state copy.old).blocks }
+    ensures { CopiesPart D.tells first (first + count) result (D.state original.old) (D.state original.new) (D.state copy.old) (D.state copy.new) }
+{
+    calls_in_a_row_spend_together();
+    let mut tickets = [0; 1024];
+    if let Err(fault) = send_stretch(original, copy, first, count, &mut tickets) {
+        return Err(fault);
+    }
+    wait_for_stretch(copy, count, &tickets)
+}
+
+/// Reads so many blocks from `first` on, and writes each to the other disk. The list is for the tickets of the writes.
+///
+/// # Errors
+/// Which of the disks failed, which that disk has counted.
+fn send_stretch<D: Disk>(
+    original: &mut D,
+    copy: &mut D,
+    first: u32,
+    count: u32,
+    tickets: &mut [u64; 1024],
+) -> Result<(), CopyFault>
+    requires few { count ≤ 1024 }
+    requires fits { first + count ≤ 4294967295 }
+    requires there { first + count ≤ (D.state original.old).blocks }
+    requires within { first + count ≤ (D.state copy.old).blocks }
+    ensures { SendsStretch D.tells first count tickets.new result (D.state original.old) (D.state original.new) (D.state copy.old) (D.state copy.new) }
 {
     an_event_changes_one_block();
     calls_in_a_row_spend_together();
     let mut block: Block = [0; BLOCK_LENGTH];
-    let Ok(()) = original.read(b, &mut block) else {
-        return Err(CopyFault::Read);
-    };
-    let Ok(ticket) = copy.write(b, &block) else {
-        return Err(CopyFault::Write);
-    };
-    let Ok(()) = copy.wait(ticket) else {
-        return Err(CopyFault::Write);
-    };
+    for i in 0..count {
+        let Ok(()) = original.read(first + i, &mut block) else {
+            return Err(CopyFault::Read);
+        };
+        let Ok(ticket) = copy.write(first + i, &block) else {
+            return Err(CopyFault::Write);
+        };
+        tickets[i as usize] = ticket;
+    }
+    Ok(())
+}
+
+/// Waits for the first tickets of the list, so many.
+///
+/// # Errors
+/// A wait failed, which the disk has counted.
+fn wait_for_stretch<D: Disk>(
+    copy: &mut D,
+    count: u32,
+    tickets: &[u64; 1024],
+) -> Result<(), CopyFault>
+    requires few { count ≤ 1024 }
+    ensures { WaitsForStretch D.tells count count tickets.now result (D.state copy.old) (D.state copy.new) }
+{
+    an_event_changes_one_block();
+    calls_in_a_row_spend_together();
+    for i in 0..count {
+        let Ok(()) = copy.wait(tickets[i as usize]) else {
+            return Err(CopyFault::Write);
+        };
+    }
     Ok(())
 }
