@@ -1,22 +1,21 @@
--- What becomes of the bay where a run over two images made no mirror: where no disk was handed out, where one was, and where two were.
-use Rattle.std.proofs.Common.{◌≡◌, ◌≢◌, ◌⊎◌, inl, inr, ℕ, ◌<◌, ◌≤◌, nat_lt, ◌||◌, Bool, true, false, IsTrue, if◌then◌else◌, List, [], Option, None, Some, Result, Ok, Err, refl, sym, ap, ap₂, ◌∙◌, subst, arith}
+-- What becomes of the bay where a run over two images made no mirror: where one disk was handed out, and where two were.
+use Rattle.std.proofs.Common.{◌≡◌, ◌⊎◌, inl, inr, ℕ, ◌<◌, ◌≤◌, nat_lt, ◌||◌, Bool, true, false, IsTrue, if◌then◌else◌, List, [], None, Result, Ok, Err, refl, sym, ap, ap₂, ◌∙◌, subst, arith}
 use Rattle.std.proofs.lemmas.Bool.{false≢true}
 use Rattle.base_types.specs.Counts.{after_call, next_count, Rose}
 use Rattle.disk_contract.specs.declared.bay.Mark.{Mark}
 use Rattle.disk_contract.specs.declared.bay.BayFault.{BayFault}
 use Rattle.disk_contract.specs.declared.bay.BayFault.TheVariants as bay
-use Rattle.disk_contract.specs.Bay.{BayState, BeginsWith, Closes, HasNoCounts, Kept, Opens, has_faults}
+use Rattle.disk_contract.specs.Bay.{BayState, Closes, HasNoCounts, Opens, has_faults}
 use Rattle.disk_contract.specs.Disk.{OnlyReads, State}
 use Rattle.cmd_image.specs.declared.ending.Ending.{Ending}
 use Rattle.cmd_image.specs.declared.ending.RunRefusal.TheVariants as run
-use Rattle.cmd_image.specs.Mounted.{IsFresh}
 use Rattle.cmd_image.specs.Refusals.{run_refusal_of_bay}
 use Rattle.cmd_image.specs.Runs.{Streams}
 use Rattle.cmd_image.specs.Shows.{FailedByManner, MayFailToOpen}
 use Rattle.cmd_mirror.specs.declared.refusal.MirroredRefusal.{MirroredRefusal}
 use Rattle.cmd_mirror.specs.declared.refusal.MirroredRefusal.TheVariants.{Unlike, Run}
 use Rattle.cmd_mirror.specs.Comparing.{AreOnlyRead, NoneIsUnread, OneIsUnread}
-use Rattle.cmd_mirror.specs.Mirrored.{ClosesBoth, ComesOfBoth, CountsMirrored, HasMirroredCause, HasMirroredReason, MakesNoMirror, MakesNone, OpensBoth, mirrored_answer_of, mirrored_fails_pushing}
+use Rattle.cmd_mirror.specs.Mirrored.{ClosesBoth, ComesOfBoth, HasMirroredCause, HasMirroredReason, MakesNoMirror, MakesNone, OpensBoth, mirrored_answer_of}
 use Rattle.cmd_mirror.specs.Steps.{ComparesToNone}
 
 -- An opening.
@@ -32,14 +31,6 @@ pub opens_both : {D : Type 0} (state : D → State) (tells : Bool) (name other :
     → OpensBoth tells name other (state first) (state second) old new
 opens_both state tells name other first second old between new one two = record { between = between; opens_first = opened_state state tells name first old between one; opens_second = opened_state state tells other second between new two }
 
-fresh_by : (kept : Option Kept) (d : State) → BeginsWith kept d → d.log ≡ []
-fresh_by None d none = absurd none
-fresh_by (Some kept) d begins = begins.log
-
--- nothing happened on it yet
-pub fresh : {D : Type 0} (state : D → State) (tells : Bool) (name : List ℕ) (d : D) (old new : BayState) → Opens tells state name (Ok d) old new → IsFresh tells (state d)
-fresh state tells name d old new opens = record { counts = opens.counts; nothing = λ t. fresh_by (old.kept name) (state d) (opens.disk t) }
-
 -- Counts.
 
 -- a count of the bay rose where a call of it failed
@@ -47,11 +38,7 @@ pub rose_by : (first before now last : ℕ) → first ≤ before → (before ≤
 rose_by first before now last low (most, inl more) high = omega (arith, low, more, high)
 rose_by first before now last low (most, inr end) high = omega (arith, low, most, end, high)
 
--- the bay's faults never fall as two disks go back
-pub closing_faults : (tells : Bool) (name other : List ℕ) (first second : State) (first_marks second_marks : List Mark) (old new : BayState) (c : ClosesBoth tells name other first second first_marks second_marks old new) → old.faults ≤ new.faults
-closing_faults tells name other first second first_marks second_marks old new c = omega (arith, c.closes_first.cause.0, c.closes_second.cause.0)
-
--- and as they are handed out
+-- the bay's faults never fall as two disks are handed out
 pub opening_faults : (tells : Bool) (name other : List ℕ) (first second : State) (old new : BayState) (o : OpensBoth tells name other first second old new) → old.faults ≤ new.faults
 opening_faults tells name other first second old new o = omega (arith, o.opens_first.cause.0, o.opens_second.cause.0)
 
@@ -91,7 +78,6 @@ pub record SaysUnmirrored (tells : Bool) (name other : List ℕ) (result : Resul
   pub comes : ComesOfBoth tells name other result old new streams streams
   pub cause : HasMirroredCause tells name other result old new streams streams
   pub reason : IsTrue tells → result ≡ Err (Run run.Fault) → HasMirroredReason tells name other result old new streams streams
-  pub counts : CountsMirrored result streams streams
 
 -- whether the answer is a fault
 abbrev pub faulty : Result Ending MirroredRefusal → Bool
@@ -111,34 +97,6 @@ not_fault answer other is = absurd (false≢true (sym other ∙ ap faulty is))
 pub unmirrored_by : (tells : Bool) (name other : List ℕ) (result : Result Ending MirroredRefusal) (why : MirroredRefusal) (old new : BayState) (streams : Streams) → result ≡ Err why → SaysUnmirrored tells name other (Err why) old new streams → SaysUnmirrored tells name other result old new streams
 unmirrored_by tells name other result why old new streams is h = subst (λ (r : Result Ending MirroredRefusal). SaysUnmirrored tells name other r old new streams) (sym is) h
 
--- a push didn't fail
-calm : (result : Result Ending MirroredRefusal) (streams : Streams) → mirrored_fails_pushing result ≡ false → CountsMirrored result streams streams
-calm result streams none = record { source = omega arith; rises = omega arith; sink = ap (λ (t : Bool). if t then next_count streams.sink_faults else streams.sink_faults) (sym none) }
-
--- No disk was handed out.
-
-pub unasked : (tells : Bool) (name other : List ℕ) (old : BayState) (streams : Streams) → SaysUnmirrored tells name other (Err (Run run.NoMemory)) old old streams
-unasked tells name other old streams = record {
-  comes = inl (record { why = run.NoMemory; unlent = record { none = record { kept = λ t each. refl; faults = omega arith; disk_faults = refl; handed = refl; closed = refl }; same = refl; answer = inr refl }; answered = refl });
-  cause = tt;
-  reason = λ t is. not_fault (Err (Run run.NoMemory)) refl is;
-  counts = calm (Err (Run run.NoMemory)) streams refl;
-}
-
-pub unlent : (tells : Bool) (name other : List ℕ) (fault : BayFault) (old new : BayState) (streams : Streams) → Opens tells (λ (s : State). s) name (Err fault) old new → SaysUnmirrored tells name other (Err (Run (run_refusal_of_bay fault))) old new streams
-unlent tells name other bay.Fault old new streams opens = record {
-  comes = inl (record { why = run.Fault; unlent = record { none = record { kept = opens.kept; faults = opens.cause.0; disk_faults = opens.disk_faults; handed = opens.handed; closed = opens.closed }; same = refl; answer = inl refl }; answered = refl });
-  cause = inl (inl (rose_by old.faults old.faults new.faults new.faults (omega arith) opens.cause (omega arith)));
-  reason = λ t is. inl (opens.fails t);
-  counts = calm (Err (Run run.Fault)) streams refl;
-}
-unlent tells name other bay.NoMemory old new streams opens = record {
-  comes = inl (record { why = run.NoMemory; unlent = record { none = record { kept = opens.kept; faults = opens.cause.0; disk_faults = opens.disk_faults; handed = opens.handed; closed = opens.closed }; same = refl; answer = inr refl }; answered = refl });
-  cause = tt;
-  reason = λ t is. not_fault (Err (Run run.NoMemory)) refl is;
-  counts = calm (Err (Run run.NoMemory)) streams refl;
-}
-
 -- One disk was handed out.
 
 -- what the bay tells of a name that has none
@@ -152,13 +110,11 @@ lent_one tells name other first bay.Fault back old between opened new streams op
   comes = inr (inl (record { first = first; fault = bay.Fault; back = back; between = between; opened = opened; opens = opens; refuses = refuses; closes = closes; same = refl; answered = refl }));
   cause = inl (inl (rose_by old.faults between.faults opened.faults new.faults opens.cause.0 refuses.cause closes.cause.0));
   reason = λ t is. inr (inl (later tells name other first old between t opens (refuses.fails t)));
-  counts = calm (Err (Run run.Fault)) streams refl;
 }
 lent_one tells name other first bay.NoMemory back old between opened new streams opens refuses closes = record {
   comes = inr (inl (record { first = first; fault = bay.NoMemory; back = back; between = between; opened = opened; opens = opens; refuses = refuses; closes = closes; same = refl; answered = refl }));
   cause = tt;
   reason = λ t is. not_fault (Err (Run run.NoMemory)) refl is;
-  counts = calm (Err (Run run.NoMemory)) streams refl;
 }
 
 -- Two disks were handed out, and made no mirror.
@@ -221,13 +177,11 @@ module _ (tells : Bool) (name other : List ℕ) (first first_last second second_
     comes = inr (inr (inl (none Unlike makes)));
     cause = unlike_counts makes.0;
     reason = λ t is. not_fault (Err Unlike) refl is;
-    counts = calm (Err Unlike) streams refl;
   }
   no_mirror (Run run.Fault) makes = record {
     comes = inr (inr (inl (none (Run run.Fault) makes)));
     cause = inl (inr (unread_counts makes.0));
     reason = λ t is. inr (inr (inl (none (Run run.Fault) makes, unread_manner t makes.0)));
-    counts = calm (Err (Run run.Fault)) streams refl;
   }
   no_mirror (Run (run.Damaged damage)) makes = absurd makes
   no_mirror (Run run.Spent) makes = absurd makes
@@ -236,7 +190,6 @@ module _ (tells : Bool) (name other : List ℕ) (first first_last second second_
     comes = inr (inr (inl (none (Run run.NoMemory) makes)));
     cause = tt;
     reason = λ t is. not_fault (Err (Run run.NoMemory)) refl is;
-    counts = calm (Err (Run run.NoMemory)) streams refl;
   }
 
 -- the same of two that go back with no mark, as the function has it

@@ -1,13 +1,10 @@
--- Two disks on which nothing has happened yet, as they are read: what they give, and what reading changes of them.
-use Rattle.std.proofs.Common.{◌≡◌, ◌≢◌, ◌⊎◌, inl, inr, ℕ, ◌+◌, ◌<◌, Bool, true, false, IsTrue, ◌&&◌, List, [], Result, Ok, Err, refl, sym, ap, ◌∙◌, subst, arith}
+-- Two disks that are compared: what reading changes of them, and what is known of their blocks, one block after the other.
+use Rattle.std.proofs.Common.{◌≡◌, ◌⊎◌, inl, inr, ℕ, ◌+◌, ◌<◌, Bool, true, false, IsTrue, ◌&&◌, Ok, refl, sym, ap, ◌∙◌, subst, arith}
 use Rattle.std.proofs.lemmas.Bool.{cases_eq, false≢true}
-use Rattle.std.specs.Result.{IsErr}
 use Rattle.base_types.specs.Counts.{after_call}
 use Rattle.base_types.specs.Seal.{Blocks}
-use Rattle.disk_contract.specs.declared.event.Event.{Event}
-use Rattle.disk_contract.specs.Cell.{accepted, is_lost}
-use Rattle.disk_contract.specs.Disk.{OnlyReads, Reads, State}
-use Rattle.cmd_mirror.specs.Comparing.{AreOnlyRead, Compares, ComparesBlock, ComparedBelow, OneIsUnread, SaysOfBlock}
+use Rattle.disk_contract.specs.Disk.{OnlyReads, State}
+use Rattle.cmd_mirror.specs.Comparing.{AreOnlyRead, Compares, ComparesBlock, ComparedBelow}
 
 -- What reading changes.
 
@@ -36,34 +33,6 @@ both_on tells fu su a b c x y z before now = record {
 
 pub neither : (tells : Bool) (a x : State) → AreOnlyRead tells false false a a x x
 neither tells a x = record { reads_first = untouched a; reads_second = untouched x; log_first = λ t. refl; log_second = λ t. refl }
-
--- What they give.
-
--- a disk on which nothing has happened gives what it began with
-pub given : (s : State) (b : ℕ) (x : List ℕ) → s.log ≡ [] → Reads s b x → x ≡ s.base b
-given s b x empty reads = reads.calm (ap (λ (log : List Event). is_lost b log) empty) ∙ ap (λ (log : List Event). accepted s.base log b) empty
-
--- so two such disks are the same in a block where they give the same
-pub says_block : (E : Type 0) (tells : Bool) (b : ℕ) (same : Bool) (a x : State) (one two : List ℕ) → (IsTrue tells → one ≡ a.base b) → (IsTrue tells → two ≡ x.base b)
-    → (same ≡ true → two ≡ one) → (same ≡ false → two ≢ one) → SaysOfBlock {E = E} tells b (Ok same) false false a x
-says_block E tells b true a x one two first second same differs = ((refl, refl), λ t. sym (second t) ∙ same refl ∙ first t)
-says_block E tells b false a x one two first second same differs = ((refl, refl), λ t is. differs refl (second t ∙ is ∙ sym (first t)))
-
--- One block.
-
-pub block_by : (E : Type 0) (tells : Bool) (b : ℕ) (same : Bool) (a a_now x x_now : State) (one two : List ℕ) → OnlyReads false a a_now → (IsTrue tells → a_now.log ≡ a.log) → OnlyReads false x x_now → (IsTrue tells → x_now.log ≡ x.log)
-    → (IsTrue tells → a.log ≡ []) → (IsTrue tells → x.log ≡ []) → (IsTrue tells → Reads a b one) → (IsTrue tells → Reads x b two)
-    → (same ≡ true → two ≡ one) → (same ≡ false → two ≢ one) → ComparesBlock {E = E} tells b (Ok same) a a_now x x_now
-block_by E tells b same a a_now x x_now one two only_a log_a only_x log_x empty_a empty_x reads_a reads_x is differs = record {
-  first_unread = false;
-  second_unread = false;
-  reads = record { reads_first = only_a; reads_second = only_x; log_first = log_a; log_second = log_x };
-  says = says_block E tells b same a x one two (λ t. given a b one (empty_a t) (reads_a t)) (λ t. given x b two (empty_x t) (reads_x t)) is differs;
-}
-
-pub unread_block : {E : Type 0} (tells : Bool) (b : ℕ) (r : Result Bool E) (fu su : Bool) (a a_now x x_now : State) → IsErr r → OneIsUnread fu su → AreOnlyRead tells fu su a a_now x x_now → ComparesBlock tells b r a a_now x x_now
-unread_block tells b (Ok same) fu su a a_now x x_now failed one reads = absurd (false≢true failed)
-unread_block tells b (Err e) fu su a a_now x x_now failed one reads = record { first_unread = fu; second_unread = su; reads = reads; says = one }
 
 -- All blocks.
 
@@ -124,16 +93,6 @@ none_yet tells a x = record {
   differs = λ is. absurd (false≢true (sym is));
 }
 
--- a read failed
-pub unread : {E F : Type 0} (tells : Bool) (b : ℕ) (alike : Bool) (r : Result Bool F) (e : E) (a now c x y z : State) → x.blocks ≡ a.blocks → IsErr r → ComparedBelow tells b alike a now x y → ComparesBlock {E = E} tells b (Err e) now c y z → Compares tells r a c x z
-unread tells b alike (Ok same) e a now c x y z size failed below one = absurd (false≢true failed)
-unread tells b alike (Err f) e a now c x y z size failed below one = record {
-  first_unread = one.first_unread;
-  second_unread = one.second_unread;
-  reads = both_on tells one.first_unread one.second_unread a now c x y z below.reads one.reads;
-  says = (one.says, size);
-}
-
 -- all blocks were compared
 pub compared : {E : Type 0} (tells : Bool) (n : ℕ) (alike : Bool) (a now x y : State) → x.blocks ≡ a.blocks → n ≡ a.blocks → ComparedBelow tells n alike a now x y → Compares {E = E} tells (Ok alike) a now x y
 compared tells n true a now x y size whole below = record {
@@ -148,7 +107,3 @@ compared tells n false a now x y size whole below = record {
   reads = below.reads;
   says = ((refl, refl), inr (size, below.differs refl));
 }
-
--- the numbers differ
-pub unlike_sizes : {E : Type 0} (tells : Bool) (a x : State) → x.blocks ≢ a.blocks → Compares {E = E} tells (Ok false) a a x x
-unlike_sizes tells a x other = record { first_unread = false; second_unread = false; reads = neither tells a x; says = ((refl, refl), inl other) }

@@ -1,5 +1,5 @@
 -- What becomes of the bay where a script was run over the mirror of two of its disks, and where a fault comes from.
-use Rattle.std.proofs.Common.{◌≡◌, ◌≢◌, ◌⊎◌, inl, inr, ℕ, ◌<◌, ◌≤◌, nat_lt, ◌||◌, Bool, true, false, IsTrue, List, Option, None, Some, Result, Ok, Err, refl, sym, ap, ◌∙◌, subst, arith}
+use Rattle.std.proofs.Common.{◌≡◌, ◌≢◌, ◌⊎◌, inl, inr, ℕ, ◌≤◌, nat_lt, Bool, true, false, IsTrue, List, Option, None, Some, Result, Ok, Err, refl, sym, ap, ◌∙◌, subst, arith}
 use Rattle.std.proofs.lemmas.Bool.{false≢true, ltb-true, or_cases}
 use Rattle.base_types.specs.Counts.{Rose}
 use Rattle.disk_contract.specs.declared.bay.Mark.{Mark}
@@ -17,28 +17,14 @@ use Rattle.cmd_image.specs.Shows.{MayFailToOpen}
 use Rattle.cmd_mirror.specs.declared.refusal.MirroredRefusal.{MirroredRefusal}
 use Rattle.cmd_mirror.specs.declared.refusal.MirroredRefusal.TheVariants.{Unlike, Run}
 use Rattle.cmd_mirror.specs.Comparing.{AreAlike}
-use Rattle.cmd_mirror.specs.Mirrored.{BothFailed, ClosesBoth, ComesOfBoth, CountsAFault, FailsAsBoth, HasMirroredCause, HasMirroredReason, IsUsedUp, OpensBoth, RunsBoth, RunsOverTwo, marked_answer_of, mirrored_answer_of, mirrored_fails_pushing, mirrored_opens_nothing, of_run}
+use Rattle.cmd_mirror.specs.Mirrored.{BothFailed, ClosesBoth, ComesOfBoth, CountsAFault, FailsAsBoth, HasMirroredCause, HasMirroredReason, IsUsedUp, OpensBoth, RunsBoth, RunsOverTwo, marked_answer_of, mirrored_answer_of, of_run}
 use Rattle.cmd_mirror.proofs.Lends.{first_counted, not_fault, opening_faults, rose_by}
 
 -- All that is said of a run over two images whose disks went back.
-pub record SaysMirrored (tells : Bool) (name other : List ℕ) (answer result : Result Ending MirroredRefusal) (old new : BayState) (before after : Streams) : Type 0 where
+pub record SaysMirrored (tells : Bool) (name other : List ℕ) (result : Result Ending MirroredRefusal) (old new : BayState) (before after : Streams) : Type 0 where
   pub comes : ComesOfBoth tells name other result old new before after
   pub cause : HasMirroredCause tells name other result old new before after
   pub reason : IsTrue tells → result ≡ Err (Run run.Fault) → HasMirroredReason tells name other result old new before after
-  pub pushing : mirrored_fails_pushing result ≡ mirrored_fails_pushing answer
-  pub opened : mirrored_opens_nothing result ≡ mirrored_opens_nothing answer
-
--- a close changes neither whether a push failed nor whether a file system was opened
-unchanged : (answer : Result Ending MirroredRefusal) (back other_back : Result (Unit {0}) BayFault)
-    → (mirrored_fails_pushing (mirrored_answer_of answer back other_back) ≡ mirrored_fails_pushing answer) × (mirrored_opens_nothing (mirrored_answer_of answer back other_back) ≡ mirrored_opens_nothing answer)
-unchanged (Err why) back other_back = (refl, refl)
-unchanged (Ok SourceFault) back other_back = (refl, refl)
-unchanged (Ok LongInput) back other_back = (refl, refl)
-unchanged (Ok End) (Err bay.Fault) other_back = (refl, refl)
-unchanged (Ok End) (Err bay.NoMemory) other_back = (refl, refl)
-unchanged (Ok End) (Ok x) (Err bay.Fault) = (refl, refl)
-unchanged (Ok End) (Ok x) (Err bay.NoMemory) = (refl, refl)
-unchanged (Ok End) (Ok x) (Ok y) = (refl, refl)
 
 -- a disk that began with an image has as many blocks
 has_blocks : (kept : Option Kept) (first : State) (n : ℕ) → BeginsWith kept first → n ≡ first.blocks → HasBlocks n kept
@@ -215,19 +201,17 @@ module _ (tells : Bool) (name other : List ℕ) (apart : name ≢ other) (first 
   reason_of t (inr (inl back)) = first_reason t (subst (λ (r : Result (Unit {0}) BayFault). OnFault r (IsTrue opened.may_fail ⊎ ¬ HasBlocks first_last.blocks (opened.kept name))) back (closes.closes_first.fails t))
   reason_of t (inr (inr back)) = second_reason t (subst (λ (r : Result (Unit {0}) BayFault). OnFault r (IsTrue closes.between.may_fail ⊎ ¬ HasBlocks second_last.blocks (closes.between.kept other))) back (closes.closes_second.fails t))
 
-  pub says_mirrored : SaysMirrored tells name other answer (mirrored_answer_of answer closes.back closes.other_back) old new before after
+  pub says_mirrored : SaysMirrored tells name other (mirrored_answer_of answer closes.back closes.other_back) old new before after
   says_mirrored =
       let like : is_unlike (mirrored_answer_of answer closes.back closes.other_back) ≡ false = not_closed answer closes.back closes.other_back (ap is_unlike runs.goes.answered ∙ not_of_marked runs.goes.known runs.ended) in record {
         comes = inr (inr (inr ran));
         cause = cause_by tells name other (mirrored_answer_of answer closes.back closes.other_back) old new before after like (λ is. cause_of (which answer closes.back closes.other_back is));
         reason = λ t is. reason_of t (which answer closes.back closes.other_back is);
-        pushing = (unchanged answer closes.back closes.other_back).0;
-        opened = (unchanged answer closes.back closes.other_back).1;
       }
 
 -- the same of the answer as the function has it
 pub says_mirrored_by : (tells : Bool) (name other : List ℕ) → name ≢ other → (first first_last second second_last : State) (first_marks second_marks : List Mark) (answer : Result Ending MirroredRefusal) (old opened new : BayState) (before after : Streams) (result : Result Ending MirroredRefusal)
     → OpensBoth tells name other first second old opened → AreAlike tells first second → RunsOverTwo tells first first_last second_last first_marks second_marks answer before after
-    → (closes : ClosesBoth tells name other first_last second_last first_marks second_marks opened new) → result ≡ mirrored_answer_of answer closes.back closes.other_back → SaysMirrored tells name other answer result old new before after
+    → (closes : ClosesBoth tells name other first_last second_last first_marks second_marks opened new) → result ≡ mirrored_answer_of answer closes.back closes.other_back → SaysMirrored tells name other result old new before after
 says_mirrored_by tells name other apart first first_last second second_last first_marks second_marks answer old opened new before after result opens alike runs closes is =
-    subst (λ (r : Result Ending MirroredRefusal). SaysMirrored tells name other answer r old new before after) (sym is) (says_mirrored tells name other apart first first_last second second_last first_marks second_marks answer old opened new before after opens alike runs closes)
+    subst (λ (r : Result Ending MirroredRefusal). SaysMirrored tells name other r old new before after) (sym is) (says_mirrored tells name other apart first first_last second second_last first_marks second_marks answer old opened new before after opens alike runs closes)

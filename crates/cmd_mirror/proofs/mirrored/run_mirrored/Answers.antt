@@ -51,7 +51,7 @@ before g c = record { left = g.S.Source.remaining c.args.input.now; source_fault
 after : (g : Over) (c : After-close_both g) → Streams
 after g c = record { left = g.S.Source.remaining c.run_over-both.new.input; source_faults = g.S.Source.faults c.run_over-both.new.input; taken = g.K.Sink.taken c.run_over-both.new.out; sink_faults = g.K.Sink.faults c.run_over-both.new.out }
 
-whole : (g : Over) (c : After-close_both g) → SaysMirrored g.B.Bay.tells c.args.name.now c.args.other.now c.run_over-both.result.answer c.close_both.result (g.B.Bay.state c.args.bay.now) (g.B.Bay.state c.close_both.new.bay) (before g c) (after g c)
+whole : (g : Over) (c : After-close_both g) → SaysMirrored g.B.Bay.tells c.args.name.now c.args.other.now c.close_both.result (g.B.Bay.state c.args.bay.now) (g.B.Bay.state c.close_both.new.bay) (before g c) (after g c)
 unfolding before after
 whole g c = let both = c.run_over-both.result in
     let begin = c.in-Ok-mirror_of.ensures.made in
