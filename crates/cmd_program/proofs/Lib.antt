@@ -2,3 +2,4 @@ pub mod ProgramLemmas
 mod Requests
 mod Scripts
 mod Calm
+mod Pairs

@@ -41,7 +41,7 @@ use Rattle.cmd_host.specs.Disks.{setting_on}
 use Rattle.cmd_program.specs.Copying.{CopiesTo}
 use Rattle.cmd_program.specs.Endings.{EndsBehind, HasFault, Met, Tells, met, usage_line, disk_line, damaged_line, spent_line, no_prefix_line, long_line, choice_line, unlike_line}
 use Rattle.cmd_program.specs.Loading.{LoadsTo}
-use Rattle.cmd_program.specs.Making.{EndsMaking, MakesTo}
+use Rattle.cmd_program.specs.Making.{EndsMaking}
 use Rattle.cmd_program.specs.Mirroring.{EndsMirrored, RunsMirroredTo}
 use Rattle.cmd_program.specs.Program.{Completes, Does, EndsLoad, EndsMake, EndsReplay, EndsRun, EndsRunOnTwo, EndsShow, EndsSo, MakesWhere, RecordsWhere, RecordsTo, Refuses, setting_of, shape_of}
 use Rattle.cmd_program.specs.Replaying.{EndsAt, EndsCrash, EndsFound, EndsReading, ReplaysTo, trace_line}

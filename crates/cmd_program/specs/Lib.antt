@@ -7,6 +7,7 @@ pub mod Loading
 pub mod Scripting
 pub mod Mirroring
 pub mod Copying
+pub mod Pairs
 pub mod Program
 pub mod Statuses
 pub mod Recordings

@@ -8,6 +8,7 @@ mod laws;
 mod loading;
 mod making;
 mod mirroring;
+mod pair_laws;
 mod program;
 mod replaying;
 mod scripting;
@@ -17,5 +18,6 @@ mod telling;
 
 pub use cmd_session::ImageDamage;
 pub use laws::{a_crash_of_a_recording_is_found, no_fault_is_made_where_nothing_fails};
+pub use pair_laws::two_images_are_left;
 pub use program::optfs;
 pub use status::Status;

@@ -1,5 +1,5 @@
 -- What a request asks for ends as it should.
-use Rattle.std.proofs.Common.{Some, sym, subst}
+use Rattle.std.proofs.Common.{Some, sym, ◌∙◌, subst}
 use Rattle.cmd_words.specs.declared.request.Request.{Request}
 use Rattle.cmd_words.specs.Words.{IsInRange}
 use Rattle.cmd_program.specs.Endings.{Met, met}
@@ -36,10 +36,10 @@ returns-in-Run-clause-completes g c =
     rw c.in-Run.is (completes_run _ _ c.run.result _ c.run.ensures.runs c.run.ensures.faults)
 
 pub run_mirrored-requires : goal.run_mirrored-requires
-run_mirrored-requires g c = subst (λ (r : Request). IsInRange (Some r)) c.in-RunMirrored.is c.requires.range
+run_mirrored-requires g c = λ same. subst (λ (r : Request). IsInRange (Some r)) c.in-RunMirrored.is c.requires.range (sym c.as_str-in-RunMirrored.ensures ∙ same ∙ c.as_str-in-RunMirrored-2.ensures)
 
 pub copy-requires : goal.copy-requires
-copy-requires g c = subst (λ (r : Request). IsInRange (Some r)) c.in-Copy.is c.requires.range
+copy-requires g c = λ same. subst (λ (r : Request). IsInRange (Some r)) c.in-Copy.is c.requires.range (sym c.as_str-in-Copy.ensures ∙ same ∙ c.as_str-in-Copy-2.ensures)
 
 pub returns-in-RunMirrored-clause-completes : goal.returns-in-RunMirrored-clause-completes
 returns-in-RunMirrored-clause-completes g c =
