@@ -18,8 +18,8 @@ EndsMirrored (Err mirrored.Unlike) = EndsBehind Unlike unlike_line
 
 -- The same as EndsMirrored, with its cause: where the sink failed as the line was told its count rose. Only private contracts speak of it.
 abbrev pub TellsMirrored : Result Ending MirroredRefusal → Status → Option (List ℕ) → Option (List ℕ) → ℕ → ℕ → Type 0
-TellsMirrored (Ok ending) = TellsScript (Ok ending)
-TellsMirrored (Err (mirrored.Run why)) = TellsScript (Err why)
+TellsMirrored (Ok ending) result taken taken_now sink sink_now = TellsScript (Ok ending) result taken taken_now sink sink_now
+TellsMirrored (Err (mirrored.Run why)) result taken taken_now sink sink_now = TellsScript (Err why) result taken taken_now sink sink_now
 TellsMirrored (Err mirrored.Unlike) result taken taken_now sink sink_now = Tells Unlike result unlike_line taken taken_now sink sink_now
 
 -- The script was run on the images under the two names, with this answer; then the program ended with this status. Which commands were run, how each was answered, what the output took, and what became of the two disks is as `cmd_mirror` says it.
