@@ -2,6 +2,7 @@ pub mod Readings
 pub mod Lends
 pub mod RunBays
 pub mod Begins
+pub mod Replies
 pub mod Moments
 pub mod Points
 pub mod Honest
