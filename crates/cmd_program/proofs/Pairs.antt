@@ -197,7 +197,7 @@ pair_of tells image other m between sink_between t apart same b =
     let r = returned b.answer b.closes.back b.closes.other_back b.answered in
     let known = marked b.runs.goes.known b.runs.ended (r.before ∙ b.runs.goes.answered) in
     let ran : IsRun tells b.runs.mirror b.runs.mirror_last b.runs.marks (Ok script.End) before after =
-        subst (λ (a : Result Ending RunRefusal). ComesOfDisk tells b.runs.mirror b.runs.mirror_last b.runs.marks a before after) known.1 b.runs.comes in
+    subst (λ (a : Result Ending RunRefusal). ComesOfDisk tells b.runs.mirror b.runs.mirror_last b.runs.marks a before after) known.1 b.runs.comes in
     let limit = (ran.runs t).geom.i in
     record {
       seen = ran.reads.0;

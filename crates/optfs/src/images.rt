@@ -28,11 +28,14 @@ pub(crate) fn image_of(request: Option<&Request>) -> Option<&str> {
 pub(crate) fn say_of_two(
     rt: &HostRuntime,
     status: Status,
-    images: (&str, &str),
+    request: Option<&Request>,
     bay: &FileBay,
     has_failed: bool,
 ) {
-    let (image, other) = images;
+    let Some(Request::RunMirrored { image, other }) = request else {
+        return;
+    };
+    let (image, other) = (image.as_str(), other.as_str());
     let _ = match (status, is_lost(bay, image), is_lost(bay, other)) {
         (Status::Unlike, _, _) => eprintln!(rt;
             "optfs: {image} and {other} differ: remove the one that isn't to be kept, and make it anew by optfs copy"

@@ -35,9 +35,7 @@ pub(crate) fn say_why(
             "optfs: the disk failed: from reply {reply} on, which is refused 14, nothing was done"
         );
     }
-    if let Some(Request::RunMirrored { image, other }) = &request {
-        say_of_two(rt, status, (image.as_str(), other.as_str()), bay, failed.is_some());
-    }
+    say_of_two(rt, status, request.as_ref(), bay, failed.is_some());
     say_status(rt, words, status, bay, streams, request.as_ref());
 }
 
