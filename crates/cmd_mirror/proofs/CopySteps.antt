@@ -1,5 +1,5 @@
--- What one more block makes of a copying: of the log of the disk that is written, and of its blocks.
-use Rattle.std.proofs.Common.{◌≡◌, ◌≢◌, ◌⊎◌, inl, inr, ⊎_elim, ℕ, ◌+◌, ◌-◌, ◌<◌, ◌≤◌, Bool, true, false, ◌==◌, if◌then◌else◌, IsTrue, List, [], ◌∷◌, ◌++◌, length, slice_index_or, slice_set, OnOk, Some, Result, Ok, Err, refl, sym, ◌∙◌, ap, subst, arith, append-nil, append_assoc}
+-- What a stretch makes of a copying: of the log of the disk that is written, and of its blocks; and how stretches join.
+use Rattle.std.proofs.Common.{◌≡◌, ◌≢◌, inl, inr, ⊎_elim, ℕ, ◌+◌, ◌-◌, ◌<◌, ◌≤◌, Bool, true, false, ◌==◌, if◌then◌else◌, IsTrue, List, [], ◌∷◌, ◌++◌, length, slice_index_or, slice_set, OnOk, Some, Result, Ok, Err, refl, sym, ◌∙◌, ap, subst, arith, append-nil, append_assoc}
 use Rattle.std.proofs.lemmas.Bool.{cases_eq, cases_lt, eq-eqb, eqb-true, eqb-false, or_cases, or_left, or_right, false≢true}
 use Rattle.std.proofs.lemmas.List.{get_or-set_other, get_or-set_same}
 use Rattle.base_types.specs.Counts.{after_call}
@@ -9,7 +9,7 @@ use Rattle.disk_contract.specs.declared.event.Event.TheVariants.{Wrote, Lost, No
 use Rattle.disk_contract.specs.Cell.{Cell, Write, accepted, cell_of, from_ticket, is_lost, IsAccepted, IsNoticed, notices, settle, with_write}
 use Rattle.disk_contract.specs.Disk.{AddsNotices, AddsWrite, HasFailed, OnlyReads, OnlyWaits, OnlyWrites, Reads, Spends, State}
 use Rattle.cmd_mirror.specs.declared.copying.CopyFault.{CopyFault}
-use Rattle.cmd_mirror.specs.declared.copying.CopyFault.TheVariants.{Read, Write as Written}
+use Rattle.cmd_mirror.specs.declared.copying.CopyFault.TheVariants.{Write as Written}
 use Rattle.cmd_mirror.specs.Copies.{AreCopied, AreCopiesOf, AreGiven, CopiesBlocks, CopiesPart, CopiesRange, IsSent, IsStretch, SendsStretch, WaitsForStretch, WritesAndWaits, fails_reading, fails_writing}
 
 -- The log.
@@ -149,7 +149,7 @@ module _ (laws : CellLaws) (base : Blocks) where
         others = λ b out. rests log b ts (ap (λ (d : Cell). d.pending) (s.others b out) ∙ idle b) ∙ s.others b out;
       }
 
--- All blocks.
+-- The calls.
 
 -- a disk with no event has no copies
 pub no_copies : (at : Blocks) (log : List Event) → log ≡ [] → AreCopiesOf at log
@@ -190,39 +190,7 @@ by_base P Q same step before = subst Q same (step (subst P (sym same) before))
 
 -- A stretch.
 
-begins : (at base : Blocks) (log : List Event) (first : ℕ) (tickets : List ℕ) → IsStretch at first 0 0 tickets base log log
-begins at base log first tickets = record {
-  copied = λ b low high. absurd (omega (arith, low, high));
-  sent = λ i low high. absurd (omega (arith, high));
-  others = λ b out. refl;
-}
-
--- nothing is sent yet
-pub sends_none : (tells : Bool) (first : ℕ) (tickets : List ℕ) (from to : State) → SendsStretch tells first 0 tickets (Ok tt) from from to to
-unfolding writes_nothing
-sends_none tells first tickets from to = record {
-  reads = reads_nothing from;
-  unwritten = λ t. refl;
-  spends = (writes_nothing to).2;
-  copies = λ t empty before. before;
-  sent = λ t empty idle. begins from.base to.base to.log first tickets;
-  given = λ t i below. absurd (omega (arith, below));
-  cause = λ t is. absurd (false≢true is);
-}
-
 module _ (together : SpendTogether) (tells : Bool) (first i : ℕ) (tickets : List ℕ) (from mid to to_mid : State) (so_far : SendsStretch tells first i tickets (Ok tt) from mid to to_mid) where
-  -- a read failed
-  pub sends_unread : (count : ℕ) (now : State) → OnlyReads true mid now → (IsTrue tells → now.log ≡ mid.log) → SendsStretch tells first count tickets (Err Read) from now to to_mid
-  sends_unread count now reads log = record {
-    reads = reads_on true from mid now so_far.reads reads;
-    unwritten = λ t. log t ∙ so_far.unwritten t;
-    spends = so_far.spends;
-    copies = so_far.copies;
-    sent = λ t empty before. tt;
-    given = λ t. tt;
-    cause = λ t is. absurd (false≢true is);
-  }
-
   module _ (now : State) (reads : OnlyReads false mid now) (log : IsTrue tells → now.log ≡ mid.log) (x : List ℕ) (read : IsTrue tells → Reads mid (first + i) x) where
     bytes : IsTrue tells → from.log ≡ [] → x ≡ from.base (first + i)
     bytes t empty = read_is mid (first + i) x (so_far.unwritten t ∙ empty) (read t) ∙ ap (λ (at : Blocks). at (first + i)) so_far.reads.same.base
