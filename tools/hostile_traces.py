@@ -174,6 +174,24 @@ def refuse(random, text):
     return b"".join(lines)
 
 
+def change_command(random, text):
+    """The bytes of a command `write` or `fill`, which the disk then doesn't have."""
+    lines = lines_of(text)
+    places = [at for at, line in enumerate(lines) if line[:8] in (b"c write ", b"c fill /")]
+    if not places:
+        return text
+    at = random.choice(places)
+    words, _, last = lines[at].rstrip(b"\n").rpartition(b" ")
+    new = random.randbytes(len(last) // 2).hex().encode() if line_word(lines[at]) == b"write" else b"%d" % random.randrange(256)
+    lines[at] = words + b" " + new + b"\n"
+    return b"".join(lines)
+
+
+def line_word(line):
+    """The word of the command of a line."""
+    return line.split(b" ")[1]
+
+
 def end_early(random, text):
     """Entries that are taken away at the end."""
     lines = lines_of(text)
@@ -197,7 +215,7 @@ def add_entries(random, text):
 
 
 HARSH = [change_bytes, move_bytes, cut, change_lines, change_number, change_reply]
-MILD = [change_contents, change_contents, change_contents, change_events, change_events, refuse, end_early, add_entries]
+MILD = [change_contents, change_contents, change_contents, change_events, change_events, refuse, change_command, end_early, add_entries]
 
 
 def drawn(random, bases):

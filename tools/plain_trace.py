@@ -14,6 +14,7 @@ NUMBER = re.compile("0|[1-9][0-9]*")
 BLOCK_TEXT = re.compile("[0-9a-f]{2048}")
 OUTSIDE = {f"refused {number} {plain_tree.REFUSALS[number]}" for number in range(13, 18)}
 FIGURES = {"full": 2, "toobig": 3, "scattered": 1}
+MOST_BYTES = 2**18
 FAULT, STOPPED = "refused 14 DiskFault", "refused 15 Stopped"
 
 
@@ -23,6 +24,10 @@ class WrongLine(Exception):
     def __init__(self, number):
         super().__init__(number)
         self.number = number
+
+
+class Outgrown(Exception):
+    """A file of the trace would get more than `MOST_BYTES`. Such a trace isn't read, since a plain tree holds all bytes."""
 
 
 class Answer(NamedTuple):
@@ -56,8 +61,6 @@ class Reader:
         self.place = "first"
         # the sync points, and what each reply promised at its mark
         self.points, self.promises = [], []
-        # the most bytes that the files had at once
-        self.most_bytes = 0
 
     def take(self, line):
         """Takes a line, where it may come; whether it may."""
@@ -125,7 +128,6 @@ class Reader:
         self.mark, self.place = len(self.events), "between"
         promised = plain_tree.PROMISE.fullmatch(reply)
         self.promises += [(self.mark, int(promised[1]))] if promised else []
-        self.most_bytes = max(self.most_bytes, sum(len(data) for data in self.tree.nodes.values() if data))
         return True
 
     def takes(self, reply):
@@ -145,11 +147,19 @@ class Reader:
         if self.command.word == "durable":
             point = number_of(known[1], 2**64) if known else None
             return point is not None and self.tree.durable <= point <= self.tree.point
+        if self.outgrows():
+            raise Outgrown
         if self.tree.answer(self.command) != reply:
             return False
         if makes:
             self.points.append(Point(self.mark, self.tree.listing()))
         return True
+
+    def outgrows(self):
+        """Whether the command may make a file that is too long for this reader."""
+        word, arguments = self.command
+        ends = {"write": lambda: arguments[1] + len(arguments[2]), "fill": lambda: arguments[1] + arguments[2], "truncate": lambda: arguments[1]}
+        return word in ends and MOST_BYTES < ends[word]() <= plain_tree.LARGEST_FILE
 
     def has_figures(self, reply):
         """Whether a reply is a refusal with figures, each of 32 bits."""
@@ -163,7 +173,8 @@ class Reader:
 
 
 def read(text):
-    """What the bytes of a trace say. `WrongLine` tells where they show first that they are none."""
+    """What the bytes of a trace say. `WrongLine` tells where they show first that they are none, and `Outgrown` that they may
+    be one which isn't read."""
     *lines, rest = text.split(b"\n")
     reader = Reader()
     for number, line in enumerate(lines, 1):
