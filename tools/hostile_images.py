@@ -6,7 +6,7 @@ else. What stands in an image isn't known here: that is for a reader to say.
 """
 
 import plain_disk
-from plain_disk import BLOCK, COMMIT, DESCRIPTOR, FRESH, HEADER, NODE, PAYLOAD, SLOT, SPENT, ZEROS, Header
+from plain_disk import BLOCK, COMMIT, DESCRIPTOR, ESCAPED, FRESH, HEADER, MOST_RUNS, NODE, PAYLOAD, SLOT, SPENT, ZEROS, Entry, Header
 
 GEOMETRIES = [(64, 16, 16)] * 6 + [(64, 16, 24), (72, 18, 20), (96, 24, 32), (128, 32, 16)]
 # Offsets and widths of the fields of each kind of block, of an entry, of a node and of a slot.
@@ -65,17 +65,19 @@ class Drawn:
         self.place_all()
 
     def name(self, above):
-        """A name that isn't in a directory yet, or `None`."""
+        """A name that isn't in a directory yet, or none that is lawful; or `None`."""
         used = [name for name, _ in self.slots[above]]
+        if self.random.random() < 0.01:
+            return self.random.choice(ODD_NAMES)
         names = [*NAMES, *(b"n%d" % number for number in range(30))]
         return next((name for name in self.random.sample(names, 12) if name not in used), None)
 
     def enter(self, number):
         above = self.random.choice([*self.slots])
         name = self.name(above)
-        if name:
+        if name is not None:
             self.slots[above].append((name, number))
-        return bool(name)
+        return name is not None
 
     def add_directory(self, number):
         if self.enter(number):
@@ -85,7 +87,8 @@ class Drawn:
         links = sum(self.enter(number) for _ in range(self.random.choice([1, 1, 1, 2, 18])))
         if links:
             self.links[number] = links
-            self.sizes[number] = self.random.choice([0, 1, 2, 1023, 1024, 1025, self.random.randrange(4000)])
+            large = self.random.randrange(27, 31) * BLOCK if self.random.random() < 0.02 else 3000
+            self.sizes[number] = self.random.choice([0, 1, 2, 1023, 1024, 1025, self.random.randrange(4000), large])
 
     def place_all(self):
         """Takes blocks for all nodes, and puts together what they have."""
@@ -94,7 +97,8 @@ class Drawn:
             data = b"".join(plain_disk.slot_bytes(child, name) for name, child in slots)
             nodes[number] = plain_disk.node_bytes(1, 1, len(data), self.place(data, b"\0"))
         for number, links in self.links.items():
-            data = self.random.randbytes(self.sizes[number]) if len(self.free) > 4 else b""
+            size = self.sizes[number] if len(self.free) > self.sizes[number] // BLOCK + 4 else 0
+            data = (self.random.choice([b"", b"", b"OPT", b"\0PT", COMMIT]) + self.random.randbytes(size))[:size]
             runs = self.place(data, self.random.choice([b"\0", b"\xff"]))
             nodes[number] = plain_disk.node_bytes(2, links, len(data), runs)
         table = b"".join(nodes.get(number, bytes(NODE)) for number in range(1, self.geometry.nodes + 1))
@@ -108,8 +112,12 @@ class Drawn:
         places = [self.free.pop() for _ in range(-(-len(data) // BLOCK))]
         for at, place in enumerate(places):
             self.blocks[place] = data[BLOCK * at : BLOCK * (at + 1)].ljust(BLOCK, filler)
-        firsts = [at for at, place in enumerate(places) if not at or place != places[at - 1] + 1]
-        return [(places[at], end - at) for at, end in zip(firsts, [*firsts[1:], len(places)])]
+        is_split = self.random.random() < 0.02
+        firsts = [at for at, place in enumerate(places) if not at or place != places[at - 1] + 1 or is_split]
+        runs = [(places[at], end - at) for at, end in zip(firsts, [*firsts[1:], len(places)])]
+        if runs and self.random.random() < 0.02:
+            runs.insert(self.random.randrange(len(runs) + 1), self.random.choice([(runs[0][0] + 2, 0), (self.geometry.blocks, 1), (self.geometry.data - 1, 1)]))
+        return runs[:MOST_RUNS + 1]
 
 
 def spelled(random, geometry):
@@ -117,8 +125,9 @@ def spelled(random, geometry):
     image = [ZEROS] * geometry.blocks
     for block, data in Drawn(random, geometry).blocks.items():
         image[block] = data
-    start = random.choice([1, 1, 2, 7, SPENT - 1])
-    header = Header(random.choice([1, 2, 5, 2**40]), random.choice([1, 2, 5, 2**40]), start, start - 1, random.randrange(geometry.journal), 0)
+    number = lambda: random.choice([1, 1, 2, 2, 5, 7, 2**40, *random.choice([[1], [2], [SPENT - 1], [SPENT]])])
+    start = number()
+    header = Header(number(), number(), start, start - 1, random.randrange(geometry.journal), 0)
     image[random.randrange(2)] = plain_disk.header_block(geometry, header)
     if random.random() < 0.3:
         fill_ring(random, image, geometry, header)
@@ -129,7 +138,7 @@ def fill_ring(random, image, geometry, header):
     """Puts what is no part of the run into the ring: old records, and blocks of anything."""
     for _ in range(random.randrange(1, 5)):
         number, epoch = random.randrange(1, 4), max(1, header.epoch - random.randrange(3))
-        entry = plain_disk.Entry(geometry.bitmap, PAYLOAD, plain_disk.sha(ZEROS))
+        entry = Entry(geometry.bitmap, PAYLOAD, plain_disk.sha(ZEROS))
         record = plain_disk.Record(number, random.randrange(geometry.journal), [entry], [], [ZEROS])
         for block, data in plain_disk.record_writes(geometry, epoch, record, []):
             image[block] = data
@@ -140,41 +149,107 @@ def journaled(random, geometry):
     """An image in whose ring are records that make other trees of the one that is at home, and perhaps broken ones."""
     image = spelled(random, geometry)
     _, geometry, header, _ = plain_disk.find(image)
-    epoch, place = header.epoch, random.randrange(geometry.journal)
-    left, sure = geometry.journal, random.choice([0, 0, 1, 2])
-    first = header._replace(turn=header.turn + 1, start=1, sure=sure, at=place, closed=int(random.random() < 0.15))
-    image[random.randrange(2)] = plain_disk.header_block(geometry, first)
-    for number in range(1, random.choice([2, 2, 3, 4])):
+    place, left, start = random.randrange(geometry.journal), geometry.journal, random.choice([1, 1, 1, 2, SPENT - 2])
+    header = header._replace(turn=header.turn + random.choice([0, 1, 1, 1]), start=start, sure=start - 1 + random.choice([0, 0, 1, 2]))
+    header = header._replace(at=place, closed=int(random.random() < 0.15))
+    image[random.randrange(2)] = plain_disk.header_block(geometry, header)
+    for number in range(start, start + random.choice([1, 1, 2, 3])):
         after = [*image]
         for block, data in Drawn(random, geometry).blocks.items():
             after[block] = data
         for _ in range(random.choice([0, 0, 0, 1])):
             random.choice(HOME_CHANGES)(random, after, geometry)
-        places = write_record(random, image, geometry, epoch, number, place, after)
-        place, left = place + places, left - places
+        record = Forged(random, image, geometry, after)
+        if random.random() < 0.4:
+            random.choice(FLAWS)(random, geometry, record)
+        taken = record.write(random, image, geometry, header.epoch, number, place)
+        place, left = place + taken, left - taken
         if left < 3:
             break
     return image
 
 
-def write_record(random, image, geometry, epoch, number, place, after):
-    """Puts a record into the ring that makes an image another one, and returns how many places it takes."""
-    changed = [block for block in range(geometry.bitmap, geometry.blocks) if image[block] != after[block]]
-    is_fresh = {block: block >= geometry.data and random.random() < 0.7 for block in changed}
-    payloads, stored, fresh = [], [], []
-    for block in changed or [geometry.bitmap]:
-        if is_fresh.get(block):
-            fresh.append(plain_disk.Entry(block, FRESH, plain_disk.sha(after[block])))
-        else:
-            kind, data = plain_disk.escaped(after[block])
-            payloads.append(plain_disk.Entry(block, kind, plain_disk.sha(data)))
-            stored.append(data)
-    if not payloads:
-        payloads, stored = [plain_disk.Entry(geometry.bitmap, PAYLOAD, plain_disk.sha(after[geometry.bitmap]))], [after[geometry.bitmap]]
-    record = plain_disk.Record(number, place, payloads, fresh, stored)
-    for block, data in plain_disk.record_writes(geometry, epoch, record, [after[entry.block] for entry in fresh]):
-        image[block] = data
-    return record.places
+class Forged:
+    """A record that makes an image another one: its entries, and the bytes that it stores and puts at home."""
+
+    def __init__(self, random, image, geometry, after):
+        changed = [block for block in range(geometry.bitmap, geometry.blocks) if image[block] != after[block]]
+        self.fresh = [block for block in changed if block >= geometry.data and random.random() < 0.7]
+        payloads = [block for block in changed if block not in self.fresh] or [geometry.bitmap]
+        kept = [plain_disk.escaped(after[block]) for block in payloads]
+        self.stored, self.news = [data for _, data in kept], [after[block] for block in self.fresh]
+        self.payloads = [Entry(block, kind, plain_disk.sha(data)) for block, (kind, data) in zip(payloads, kept)]
+        self.fresh = [Entry(block, FRESH, plain_disk.sha(after[block])) for block in self.fresh]
+        # what is changed in its blocks once they are there
+        self.flaws = []
+
+    def write(self, random, image, geometry, epoch, number, place):
+        """Puts it into an image, and returns how many places it takes."""
+        record = plain_disk.Record(number, place, self.payloads, self.fresh, self.stored)
+        for block, data in plain_disk.record_writes(geometry, epoch, record, self.news):
+            if block < len(image):
+                image[block] = data
+        heads = [geometry.ring(place + at) for at in range(record.heads)]
+        for flaw in self.flaws:
+            flaw(image, random.choice(heads))
+        return record.places
+
+
+def out_of_order(random, geometry, record):
+    """Two neighbours change places, or one stands twice."""
+    pairs = random.choice([[record.payloads, record.stored], [record.fresh, record.news]])
+    for row in pairs:
+        row[-2:] = reversed(row[-2:]) if len(pairs[0]) > 1 and pairs[0][-1] != pairs[0][-2] else row[-1:] * 2
+
+
+def named_twice(random, geometry, record):
+    """A fresh block is a payload as well, or a payload is fresh."""
+    if record.fresh:
+        entry, data = random.choice([*zip(record.fresh, record.news)])
+        kind, kept = plain_disk.escaped(data)
+        at = sum(other.block < entry.block for other in record.payloads)
+        record.payloads.insert(at, Entry(entry.block, kind, plain_disk.sha(kept)))
+        record.stored.insert(at, kept)
+
+
+def other_block(random, geometry, record):
+    """An entry of a block that none may name."""
+    row = random.choice([record.payloads, record.fresh or record.payloads])
+    at = random.choice([0, -1])
+    low, high = (geometry.data - 1, geometry.bitmap), (geometry.blocks, geometry.blocks + 1, 2**32 - 1)
+    block = random.choice(high if at else low if row is record.fresh else (geometry.bitmap - 1, 2, 0))
+    row[at] = row[at]._replace(block=block)
+
+
+def other_kind(random, geometry, record):
+    """An entry of another kind, and perhaps bytes that fit it."""
+    row = random.choice([record.payloads, record.fresh or record.payloads])
+    at = random.randrange(len(row))
+    row[at] = row[at]._replace(kind=random.choice([0, PAYLOAD, FRESH, ESCAPED, 4, 255]))
+    if row is record.payloads and random.random() < 0.5:
+        record.stored[at] = random.choice([b"OPT", b"\0PT", b"\0PS"]) + record.stored[at][3:]
+        row[at] = row[at]._replace(digest=plain_disk.sha(record.stored[at]))
+
+
+def no_payloads(random, geometry, record):
+    record.payloads, record.stored = [], []
+
+
+def other_head(random, geometry, record):
+    """A number of a commit block or a descriptor is one more or one less, or the block isn't sealed."""
+    def change(image, block):
+        fields = COMMIT_FIELDS[:5] if image[block][:8] == COMMIT else DESCRIPTOR_FIELDS[:4]
+        at, width = random.choice(fields)
+        number = int.from_bytes(image[block][at : at + width], "little") + random.choice([-1, 1])
+        put(random, image, block, at, (number % 256**width).to_bytes(width, "little"), 1)
+
+    def unseal(image, block):
+        image[block] = image[block][:-1] + bytes([image[block][-1] ^ 1])
+
+    record.flaws.append(random.choice([change, change, change, unseal]))
+
+
+FLAWS = [out_of_order, named_twice, other_block, other_kind, no_payloads, other_head, other_head]
 
 
 # Changes

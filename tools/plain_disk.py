@@ -469,14 +469,16 @@ class Tree:
         return read_slots(self.bytes_of(number)) if self.nodes[number].links == 1 else None
 
     def walk(self):
-        """The paths of all nodes that are reached from the root. A directory that was met is gone into once."""
+        """The paths of all nodes that are reached from the root, by the first slot of a name. A directory that was met is gone
+        into once."""
         paths, met, ahead = {"/": 1}, {1}, ["/"]
         while ahead:
             path = ahead.pop()
             for name, child in self.slots[paths[path]]:
                 below = f"{path.rstrip('/')}/{name}"
+                is_new = below not in paths
                 paths.setdefault(below, child)
-                if self.slots.get(child) is not None and child not in met:
+                if is_new and self.slots.get(child) is not None and child not in met:
                     met.add(child)
                     ahead.append(below)
         return paths
