@@ -55,8 +55,8 @@ class Drawn:
 
     def __init__(self, random, geometry):
         self.random, self.geometry, self.blocks = random, geometry, {}
-        self.free = [*range(geometry.data, geometry.blocks)]
-        if random.random() < 0.7:
+        self.free = [*range(geometry.blocks - 1, geometry.data - 1, -1)]
+        if random.random() < 0.6:
             random.shuffle(self.free)
         numbers = random.sample(range(2, geometry.nodes + 1), random.randrange(min(9, geometry.nodes)))
         self.slots, self.links, self.sizes = {1: []}, {}, {}
@@ -116,7 +116,8 @@ class Drawn:
         firsts = [at for at, place in enumerate(places) if not at or place != places[at - 1] + 1 or is_split]
         runs = [(places[at], end - at) for at, end in zip(firsts, [*firsts[1:], len(places)])]
         if runs and self.random.random() < 0.02:
-            runs.insert(self.random.randrange(len(runs) + 1), self.random.choice([(runs[0][0] + 2, 0), (self.geometry.blocks, 1), (self.geometry.data - 1, 1)]))
+            odd = [(runs[0][0] + 2, 0), (self.geometry.blocks, 1), (self.geometry.data - 1, 1)]
+            runs.insert(self.random.randrange(len(runs) + 1), self.random.choice(odd))
         return runs[:MOST_RUNS + 1]
 
 
@@ -238,8 +239,8 @@ def no_payloads(random, geometry, record):
 def other_head(random, geometry, record):
     """A number of a commit block or a descriptor is one more or one less, or the block isn't sealed."""
     def change(image, block):
-        fields = COMMIT_FIELDS[:5] if image[block][:8] == COMMIT else DESCRIPTOR_FIELDS[:4]
-        at, width = random.choice(fields)
+        fields = COMMIT_FIELDS[:5] if image[block][:8] == COMMIT else [*DESCRIPTOR_FIELDS[:4], (36, 1), (37, 3)]
+        at, width = random.choice([*fields, (random.randrange(900, 992), 1)])
         number = int.from_bytes(image[block][at : at + width], "little") + random.choice([-1, 1])
         put(random, image, block, at, (number % 256**width).to_bytes(width, "little"), 1)
 

@@ -19,6 +19,9 @@ ODD_LINES = [b"", b"#", b" ", b"end", b"end ", b"END", b"g 64 16 16", b"w", b"d"
 GEOMETRY_LINES = [b"g 64 16 20", b"g 65 16 16", b"g 64 17 16", b"g 300 40 64", b"g 64 16 18", b"g 63 16 16", b"g 1048577 16 16", b"g 064 16 16", b"g 8300 24 16"]
 
 
+REFUSALS = ["refused 13 ReadFault", "refused 14 DiskFault", "refused 16 Spent", "refused 17 NoMemory"]
+
+
 def lines_of(text):
     """The lines of a text, each with its line feed but perhaps the last one."""
     return re.findall(rb"[^\n]*\n|[^\n]+", text)
@@ -166,7 +169,7 @@ def refuse(random, text):
     if not places:
         return text
     at = random.choice(places)
-    why = random.choice(["refused 13 ReadFault", "refused 14 DiskFault", "refused 16 Spent", "refused 17 NoMemory", "full 3 2", "toobig 1 2 3", "scattered 29"])
+    why = random.choice([*REFUSALS, "full 3 2", "toobig 1 2 3", "scattered 29"])
     lines[at] = b" ".join([*lines[at].split(b" ")[:2], why.encode()]) + b"\n"
     if "DiskFault" in why and random.random() < 0.8:
         for place in (place for place in places if place > at and lines[place - 1] != b"c ?\n"):
@@ -205,7 +208,8 @@ def add_entries(random, text):
     marks = sum(line[:2] in (b"w ", b"f ", b"d ") for line in lines)
     tree = plain_tree.Tree(16)
     names = random.sample(["a", "b", "n0", "n1", "n2"], 2)
-    words = [f"create /{names[0]}", f"read /{names[1]} 0 5", "durable", "poll", "osync", "?", "list /", f"stat /{names[0]}", f"unlink /{names[1]}"]
+    words = [f"create /{names[0]}", f"read /{names[1]} 0 5", f"stat /{names[0]}", f"unlink /{names[1]}"]
+    words += ["durable", "poll", "osync", "?", "list /"]
     added = []
     for line in random.sample(words, random.randrange(1, 4)):
         command = plain_tree.BAD if line == "?" else plain_tree.parse(line.encode())
@@ -229,13 +233,14 @@ def drawn(random, bases):
 def choice(random, trace):
     """A moment and a choice of what becomes of the pending writes: the words of `replay`. Of no trace it is any."""
     events = trace.events if trace else []
-    moment = random.choice([len(events), random.randrange(len(events) + 1), random.randrange(len(events) + 1), random.randrange(len(events) + 3)])
+    moment = random.choice([len(events), *(random.randrange(len(events) + more) for more in (1, 1, 3))])
     waiting = plain_disk.pending(events[:moment])[1]
     names = [str(one.ticket) if one.kind == "w" else f"f{one.ticket}" for one in waiting]
     share = random.choice([0, 0.3, 0.7, 0.9, 1, 1])
     stand = [name for name in names if random.random() < share]
     stand += random.choices(["1", "2", "f1", "99"], k=1) if random.random() < 0.03 else []
     tickets = [name for name in names if name[0] != "f"]
-    tear = [f"{name}:{random.choice([1, 8, 512, 1000, 1023])}" for name in random.sample(tickets, min(len(tickets), random.choice([0, 0, 0, 1, 2])))]
+    torn = random.sample(tickets, min(len(tickets), random.choice([0, 0, 0, 1, 2])))
+    tear = [f"{name}:{random.choice([1, 8, 512, 1000, 1023])}" for name in torn]
     stands = random.choice(["all", "none"]) if random.random() < 0.3 else ",".join(stand) or "none"
     return moment, stands, ",".join(tear)
