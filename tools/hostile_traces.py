@@ -38,7 +38,7 @@ def edge(random, number):
 
 def change_bytes(random, text):
     at, count = random.randrange(len(text) + 1), random.choice([1, 1, 1, 2, 8])
-    new = random.choice([random.randbytes(count), b"", b" ", b"\n", b"0", b"a" * count, text[at : at + count] * 2])
+    new = random.choice([random.randbytes(count), b"", b" ", b"\n", b"0", b"a" * count, text[at : at + count] * 2, text[at : at + count].upper()])
     return text[:at] + new + text[at + count :]
 
 
@@ -121,6 +121,39 @@ def change_contents(random, text):
     return b"".join(lines)
 
 
+def forge_record(random, text):
+    """A block that a record has, with the digest of its entry: the record is as whole as it was."""
+    lines, geometry = lines_of(text), geometry_of(lines_of(text))
+    writes = {at: data for at, line in enumerate(lines) if line[:2] in (b"w ", b"f ") and (data := data_of(line))}
+    parts = {at: part for at, data in writes.items() if geometry and (part := plain_disk.read_descriptor(geometry, data))}
+    if not parts:
+        return text
+    at, (*_, entries) = random.choice([*parts.items()])
+    number = random.randrange(len(entries))
+    entry = entries[number]
+    place = next((place for place, data in writes.items() if plain_disk.sha(data) == entry.digest), None)
+    if place is None:
+        return text
+    image = [plain_disk.ZEROS] * geometry.blocks
+    image[entry.block] = plain_disk.unescaped(entry.kind, writes[place])
+    is_before = [entry.block < end for end in (geometry.table, geometry.data, geometry.blocks)]
+    changes = [hostile_images.change_bits, hostile_images.change_node, hostile_images.change_slot]
+    changes[is_before.index(True)](random, image, geometry)
+    kind, kept = plain_disk.escaped(image[entry.block])
+    kind, kept = (entry.kind, image[entry.block]) if entry.kind == plain_disk.FRESH else (kind, kept)
+    first = 32 + 40 * number
+    body = writes[at][: first + 4] + bytes([kind]) + writes[at][first + 5 : first + 8] + plain_disk.sha(kept) + writes[at][first + 40 : -32]
+    for one, data in ((place, kept), (at, plain_disk.sealed(body))):
+        lines[one] = lines[one].rstrip(b"\n").rpartition(b" ")[0] + b" " + data.hex().encode() + b"\n"
+    return b"".join(lines)
+
+
+def data_of(line):
+    """The bytes of a block that a line has, or `None`."""
+    digits = line.rstrip(b"\n").rpartition(b" ")[2]
+    return bytes.fromhex(digits.decode()) if re.fullmatch(rb"[0-9a-f]{2048}", digits) else None
+
+
 def geometry_of(lines):
     """The geometry of the first line, or `None`."""
     found = re.fullmatch(rb"g ([0-9]{1,7}) ([0-9]{1,7}) ([0-9]{1,7})\n", lines[0]) if lines else None
@@ -168,7 +201,8 @@ def refuse(random, text):
     places = [at for at, line in enumerate(lines) if line[:2] == b"r "]
     if not places:
         return text
-    at = random.choice(places)
+    syncs = [at for at in places if lines[at - 1][-5:] == b"sync\n" or b" synced " in lines[at]]
+    at = random.choice(random.choice([places, syncs or places]))
     why = random.choice([*REFUSALS, "full 3 2", "toobig 1 2 3", "scattered 29"])
     lines[at] = b" ".join([*lines[at].split(b" ")[:2], why.encode()]) + b"\n"
     if "DiskFault" in why and random.random() < 0.8:
@@ -219,7 +253,7 @@ def add_entries(random, text):
 
 
 HARSH = [change_bytes, move_bytes, cut, change_lines, change_number, change_reply]
-MILD = [change_contents, change_contents, change_contents, change_events, change_events, refuse, change_command, end_early, add_entries]
+MILD = [change_contents, change_contents, forge_record, forge_record, change_events, change_events, refuse, change_command, end_early, add_entries]
 
 
 def drawn(random, bases):
