@@ -4,6 +4,7 @@ It follows docs/LAYOUT.md, docs/JOURNAL.md, docs/RECOVERY.md, docs/DISK.md and d
 alone. An image is a list of blocks, each 1,024 bytes.
 """
 
+import collections
 import hashlib
 import re
 import struct
@@ -19,7 +20,18 @@ HEADER, COMMIT, DESCRIPTOR = b"OPTH0001", b"OPTC0001", b"OPTD0001"
 
 
 class Damage(Exception):
-    """What is broken in blocks that stand for no tree, or in an image that can't be mounted."""
+    """Why blocks stand for no tree, or why an image can't be mounted: `texts` has all that may be told of it, by
+    docs/FSCK.md and docs/SHOWING.md. `SPENT_TEXT` alone is the damage of an image whose numbers are at their end."""
+
+    def __init__(self, *texts):
+        super().__init__(*texts)
+        self.texts = texts
+
+    def __str__(self):
+        return ", or ".join(self.texts[:3])
+
+
+NO_HEADER_TEXT, SPENT_TEXT = "there is no header", "spent"
 
 
 def sha(data):
@@ -271,15 +283,23 @@ def greatest_epoch(image, geometry):
     return max([0, *(one[1].epoch for one in headers if one), *(int.from_bytes(b[8:16], "little") for b in tagged)])
 
 
-def mounted(image):
-    """The image behind a mount. `Damage` tells why there is none."""
+def mountable(image):
+    """What a mount of an image finds, and the recovered blocks. `Damage` tells why it isn't mounted."""
     found = find(image)
     if found is None:
-        raise Damage("no header")
+        raise Damage(NO_HEADER_TEXT)
     header, greatest = found.header, greatest_epoch(image, found.geometry)
     if max(header.turn, header.start, header.sure, found.last, greatest) >= SPENT:
-        raise Damage("spent")
-    check_bits(found.geometry, recovered(image, found))
+        raise Damage(SPENT_TEXT)
+    blocks = recovered(image, found)
+    check_bits(found.geometry, blocks)
+    return found, blocks
+
+
+def mounted(image):
+    """The image behind a mount. `Damage` tells why there is none."""
+    found, _ = mountable(image)
+    header, greatest = found.header, greatest_epoch(image, found.geometry)
     image, slot, turn = list(image), found.slot, header.turn
     if found.run and not (header.closed and header.sure == found.last):
         slot, turn = 1 - slot, turn + 1
@@ -327,93 +347,141 @@ def slot_bytes(number, name):
     return (struct.pack("<IB", number, len(name)) + name).ljust(SLOT, b"\0")
 
 
-def damaged_where(is_broken, what):
-    if is_broken:
-        raise Damage(what)
+def damaged_by(texts):
+    """`Damage`, where something is broken."""
+    texts = list(texts)
+    if texts:
+        raise Damage(*texts)
 
 
 def check_bits(geometry, blocks):
-    """Whether the bits of the blocks before the data and behind the end are right."""
+    """Whether the bits of the blocks before the data and behind the end are right. The least wrong one is told."""
     bits = int.from_bytes(b"".join(blocks[number] for number in range(geometry.bitmap, geometry.table)), "little")
     before = (1 << geometry.data) - 1
-    damaged_where(bits & before != before, "a bit before the data")
-    damaged_where(bits >> geometry.blocks, "a bit behind the end")
+    wrong = ~bits & before | bits >> geometry.blocks << geometry.blocks
+    if wrong:
+        raise Damage(f"the bit of block {(wrong & -wrong).bit_length() - 1} is wrong")
 
 
 def read_node(geometry, spelled):
-    """The node with these bytes, or `None` where they are zeros."""
-    if not any(spelled):
-        return None
+    """The node with these bytes; `None` where they are those of no node in use."""
     kind, zero, count, links, size = struct.unpack("<BBHIQ", spelled[:16])
     is_odd = kind not in (1, 2) or zero or any(spelled[16:32]) or count > MOST_RUNS or any(spelled[32 + 8 * count :])
-    damaged_where(is_odd or not links, "a node")
-    damaged_where(size % SLOT if kind == 1 else links > 65535 or size > 2**30, "a node's size or links")
+    if is_odd or not links or (size % SLOT if kind == 1 else links > 65535 or size > 2**30):
+        return None
     runs = [struct.unpack("<II", spelled[first : first + 8]) for first in range(32, 32 + 8 * count, 8)]
     within = all(length and geometry.data <= first and first + length <= geometry.blocks for first, length in runs)
     tidy = all(sum(one) != other[0] for one, other in zip(runs, runs[1:]))
     blocks = sum(length for _, length in runs)
-    damaged_where(not within or not tidy or blocks != -(-size // BLOCK), "a node's runs")
+    if not within or not tidy or blocks != -(-size // BLOCK):
+        return None
     return Node(kind, links, size, runs, [b for first, length in runs for b in range(first, first + length)])
 
 
+def read_slots(data):
+    """The slots with these bytes, as names and numbers of nodes, or `None` where one of them is no slot."""
+    slots = []
+    for first in range(0, len(data), SLOT):
+        child, length = struct.unpack("<IB", data[first : first + 5])
+        name, rest = data[first + 5 : first + 5 + length], data[first + 5 + length : first + SLOT]
+        is_name = 1 <= length <= 59 and re.fullmatch(rb"[!-.0-~]+", name) and name not in (b".", b"..")
+        if not is_name or any(rest):
+            return None
+        slots.append((name.decode(), child))
+    return slots
+
+
 class Tree:
-    """The tree for which blocks stand: its paths, and the nodes in use. `Damage` tells why they stand for none."""
+    """The tree for which blocks stand: its paths, and the nodes in use. `Damage` tells why they stand for none, first by
+    the rules on blocks, bits and zeros, and where these hold by those on names, slots and links (docs/FSCK.md)."""
 
     def __init__(self, geometry, blocks):
-        self.geometry, self.blocks = geometry, blocks
+        self.geometry, self.blocks = geometry, blocks if isinstance(blocks, dict) else dict(enumerate(blocks))
         check_bits(geometry, blocks)
         table = b"".join(blocks[number] for number in range(geometry.table, geometry.data))
-        spelled = [table[first : first + NODE] for first in range(0, len(table), NODE)]
-        nodes = {number: read_node(geometry, one) for number, one in enumerate(spelled, 1)}
-        self.nodes = {number: node for number, node in nodes.items() if node}
-        self.check_places()
-        self.paths = {"/": 1}
-        self.slots = {number: self.read_slots(number) for number, node in self.nodes.items() if node.kind == 1}
-        damaged_where(1 not in self.slots, "the root")
-        self.walk("/")
-        self.check_links()
+        spelled = {number: table[NODE * (number - 1) : NODE * number] for number in range(1, geometry.nodes + 1)}
+        used = {number: read_node(geometry, one) for number, one in spelled.items() if any(one)}
+        self.nodes = {number: node for number, node in used.items() if node}
+        bad = [f"the bytes of node {number} are no node's" for number, node in used.items() if node is None]
+        damaged_by([*bad, *self.broken_places()])
+        directories = [number for number, node in self.nodes.items() if node.kind == 1]
+        self.slots = {number: self.slots_of(number) for number in directories}
+        self.paths = self.walk() if self.slots.get(1) is not None else {}
+        damaged_by(self.broken_slots())
 
-    def check_places(self):
-        """Each block of a node is its alone, and just these are marked."""
-        places = [place for node in self.nodes.values() for place in node.places]
-        marked = [number for number in range(self.geometry.data, self.geometry.blocks) if self.bit(number)]
-        damaged_where(sorted(places) != marked, "blocks of nodes, or bits of them")
+    def broken_places(self):
+        """What is broken in blocks, bits and zeros."""
+        owned = set()
+        for number, node in self.nodes.items():
+            for place in node.places:
+                if not self.bit(place):
+                    yield f"node {number} has block {place}, whose bit is clear"
+                if place in owned:
+                    yield f"node {number} has block {place}, which has a place before"
+                owned.add(place)
+            if node.kind == 1 and any(self.whole(node)[node.size :]):
+                yield f"directory {number} has bytes behind its last slot"
+        for number in range(self.geometry.data, self.geometry.blocks):
+            if number not in owned and self.bit(number):
+                yield f"no node has block {number}, whose bit is set"
+
+    def broken_slots(self):
+        """What is broken in names, slots and links."""
+        read = {number: slots for number, slots in self.slots.items() if slots is not None}
+        named = collections.Counter(child for slots in read.values() for _, child in slots)
+        reached = set(self.paths.values())
+        if 1 not in read:
+            yield "node 1 is no directory"
+        for number, slots in read.items():
+            before = set()
+            for place, (name, child) in enumerate(slots):
+                if child == 1:
+                    yield f"slot {place} of node {number} names the root"
+                if child not in self.nodes or child in self.slots and child not in read:
+                    yield f"slot {place} of node {number} names a node that is not in use"
+                if name in before:
+                    yield f"slot {place} of node {number} has the name of another"
+                before.add(name)
+        for number, node in self.nodes.items():
+            if node.kind == 1 and number not in read:
+                yield f"the bytes or the links of directory {number} are wrong"
+                continue
+            if node.kind == 1 and number != 1 and named[number] != 1:
+                yield f"node {number}, a directory, is not named once"
+            if node.kind == 2 and named[number] != node.links:
+                yield f"node {number} has other links than slots name it"
+            if number not in reached:
+                yield f"no path leads to node {number}"
 
     def bit(self, number):
         return bit(self.blocks, self.geometry, number)
 
+    def whole(self, node):
+        """All bytes of the blocks of a node. A block whose bit is clear is empty."""
+        return b"".join(self.blocks.get(place, ZEROS) for place in node.places)
+
     def bytes_of(self, number):
         """All bytes of a node."""
-        node = self.nodes[number]
-        return b"".join(self.blocks[place] for place in node.places)[: node.size]
+        return self.whole(self.nodes[number])[: self.nodes[number].size]
 
-    def read_slots(self, number):
-        """The names in a directory, with the numbers of their nodes."""
-        node, slots = self.nodes[number], {}
-        whole = b"".join(self.blocks[place] for place in node.places)
-        damaged_where(any(whole[node.size :]) or node.links != 1, "a directory's tail or links")
-        for first in range(0, node.size, SLOT):
-            child, length = struct.unpack("<IB", whole[first : first + 5])
-            name, rest = whole[first + 5 : first + 5 + length], whole[first + 5 + length : first + SLOT]
-            is_name = 1 <= length <= 59 and re.fullmatch(rb"[!-.0-~]+", name) and name not in (b".", b"..")
-            damaged_where(not is_name or any(rest) or name.decode() in slots, "a slot")
-            damaged_where(child == 1 or child not in self.nodes, "a slot's node")
-            slots[name.decode()] = child
-        return slots
+    def slots_of(self, number):
+        """The slots of a directory, or `None` where its bytes or its links are wrong."""
+        return read_slots(self.bytes_of(number)) if self.nodes[number].links == 1 else None
 
-    def walk(self, path):
-        """Finds all paths below one."""
-        for name, child in self.slots[self.paths[path]].items():
-            below = f"{path.rstrip('/')}/{name}"
-            damaged_where(child in self.slots and child in self.paths.values(), "a directory is named twice")
-            self.paths[below] = child
-            if child in self.slots:
-                self.walk(below)
-
-    def check_links(self):
-        """Each node in use is reached, and a file by as many paths as it has links."""
-        counts = {number: sum(other == number for other in self.paths.values()) for number in self.nodes}
-        damaged_where(any(counts[number] != node.links for number, node in self.nodes.items()), "links")
+    def walk(self):
+        """The paths of all nodes that are reached from the root, by the first slot of a name. A directory that was met is gone
+        into once."""
+        paths, met, ahead = {"/": 1}, {1}, ["/"]
+        while ahead:
+            path = ahead.pop()
+            for name, child in self.slots[paths[path]]:
+                below = f"{path.rstrip('/')}/{name}"
+                is_new = below not in paths
+                paths.setdefault(below, child)
+                if is_new and self.slots.get(child) is not None and child not in met:
+                    met.add(child)
+                    ahead.append(below)
+        return paths
 
     def listing(self):
         """The lines of the tree, as `tree` of the program writes them."""
@@ -430,7 +498,8 @@ class Tree:
 def tree_of(image):
     """The tree for which an image stands."""
     found = find(image)
-    damaged_where(found is None, "no header")
+    if found is None:
+        raise Damage(NO_HEADER_TEXT)
     return Tree(found.geometry, recovered(image, found))
 
 

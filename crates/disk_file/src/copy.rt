@@ -3,6 +3,7 @@
 
 use crate::bytes::length_of;
 use base_types::Block;
+use base_types::limits::MOST_BLOCKS;
 use std::alloc::{AllocError, Global};
 use std::fs::File;
 use std::io;
@@ -10,6 +11,9 @@ use std::os::unix::fs::FileExt;
 
 /// A block of zeros.
 const ZEROS: Block = [0; 1024];
+
+/// How many blocks at the beginning of an image may hold its headers.
+const HEADERS: u32 = 2;
 
 /// The blocks of an image, as they were when it was copied and as they were written since.
 #[derive(Drop)]
@@ -20,11 +24,17 @@ pub(crate) struct ImageCopy {
 }
 
 impl ImageCopy {
-    /// A copy of the first blocks of a file.
+    /// A copy of the first blocks of a file. No image has more than `MOST_BLOCKS`: of a file with more only those are read
+    /// that could hold a header, in which a mount finds that it is none.
     ///
     /// # Errors
     /// What the system said; or that there is no memory.
     pub(crate) fn of_file(alloc: Global, file: &File, blocks: u32) -> io::Result<ImageCopy> {
+        let blocks = if blocks > MOST_BLOCKS {
+            HEADERS
+        } else {
+            blocks
+        };
         let mut copy = ImageCopy {
             places: Vec::with_capacity(alloc, blocks as usize)?,
             others: Vec::new(alloc),

@@ -1,0 +1,383 @@
+"""Images as one makes them who wants a program to fail: trees with odd places and odd records, of which bytes, fields and
+whole blocks are then changed, and sealed anew where a seal covers them.
+
+An image is a list of blocks, as in plain_disk.py. What is drawn comes from the `random` that is handed in, and from nothing
+else. What stands in an image isn't known here: that is for a reader to say.
+"""
+
+import plain_disk
+from plain_disk import BLOCK, COMMIT, DESCRIPTOR, ESCAPED, FRESH, HEADER, MOST_RUNS, NODE, PAYLOAD, SLOT, SPENT, ZEROS, Entry, Header
+
+GEOMETRIES = [(64, 16, 16)] * 6 + [(64, 16, 24), (72, 18, 20), (96, 24, 32), (128, 32, 16)]
+# Offsets and widths of the fields of each kind of block, of an entry, of a node and of a slot.
+HEADER_FIELDS = [(8, 8), (16, 8), (24, 8), (32, 8), (40, 4), (44, 4), (48, 4), (52, 4), (56, 4), (0, 8), (60, 4)]
+COMMIT_FIELDS = [(8, 8), (16, 8), (24, 4), (28, 4), (32, 4), (0, 8), (36, 4)]
+DESCRIPTOR_FIELDS = [(8, 8), (16, 8), (24, 4), (28, 4), (0, 8)]
+ENTRY_FIELDS = [(0, 4), (4, 1), (5, 1), (8, 8), (32, 8)]
+NODE_FIELDS = [(0, 1), (1, 1), (2, 2), (4, 4), (8, 8), (16, 8), (32, 4), (36, 4), (40, 4), (44, 4), (248, 8)]
+NAMES = [b"a", b"b", b"A", b"...", b"~", b"!", b"a" * 59, b"b" * 58, b"a.b", b"-", b"x" * 30]
+ODD_NAMES = [b"/", b".", b"..", b" ", b"\x7f", b"a/b", b"\x80", b"\0", b""]
+
+
+def geometry_of(random):
+    return plain_disk.Geometry(*random.choice(GEOMETRIES))
+
+
+def edge(random, old, width, geometry):
+    """A number that a field of so many bytes may have, near its old one or near a bound."""
+    most = 256**width - 1
+    near = [old + 1, old - 1, old * 2, old ^ 1 << random.randrange(8 * width), 0, 1, 2, most, most // 2 + 1]
+    bounds = [geometry.blocks, geometry.journal, geometry.nodes, geometry.data, geometry.bitmap, SPENT, SPENT - 1, 64, 1024, 2**30]
+    number = random.choice([*near, random.choice(bounds) + random.choice([-1, 0, 0, 1]), random.randrange(most + 1)])
+    return (number % (most + 1)).to_bytes(width, "little")
+
+
+def put(random, image, block, at, data, sealing=0.8):
+    """Puts bytes into a block. Where it was sealed it is most often sealed anew."""
+    old = image[block]
+    new = (old[:at] + data + old[at + len(data) :])[:BLOCK]
+    is_sealed = old[:3] == b"OPT" and at < BLOCK - 32 and plain_disk.is_sealed(old)
+    image[block] = plain_disk.sealed(new[:-32]) if is_sealed and random.random() < sealing else new
+
+
+def change_field(random, image, geometry, block, base, fields):
+    """Changes a field of what begins there in a block."""
+    at, width = random.choice(fields)
+    old = int.from_bytes(image[block][base + at : base + at + width], "little")
+    put(random, image, block, base + at, edge(random, old, width, geometry))
+
+
+# Trees and records that are drawn
+
+
+class Drawn:
+    """A tree that is drawn, with blocks anywhere: the blocks of its bitmap, its node table and its nodes."""
+
+    def __init__(self, random, geometry):
+        self.random, self.geometry, self.blocks = random, geometry, {}
+        self.free = [*range(geometry.blocks - 1, geometry.data - 1, -1)]
+        if random.random() < 0.6:
+            random.shuffle(self.free)
+        numbers = random.sample(range(2, geometry.nodes + 1), random.randrange(min(9, geometry.nodes)))
+        self.slots, self.links, self.sizes = {1: []}, {}, {}
+        for number in numbers:
+            (self.add_directory if random.random() < 0.35 else self.add_file)(number)
+        self.place_all()
+
+    def name(self, above):
+        """A name that isn't in a directory yet, or none that is lawful; or `None`."""
+        used = [name for name, _ in self.slots[above]]
+        if self.random.random() < 0.01:
+            return self.random.choice(ODD_NAMES)
+        names = [*NAMES, *(b"n%d" % number for number in range(30))]
+        return next((name for name in self.random.sample(names, 12) if name not in used), None)
+
+    def enter(self, number):
+        above = self.random.choice([*self.slots])
+        name = self.name(above)
+        if name is not None:
+            self.slots[above].append((name, number))
+        return name is not None
+
+    def add_directory(self, number):
+        if self.enter(number):
+            self.slots[number] = []
+
+    def add_file(self, number):
+        links = sum(self.enter(number) for _ in range(self.random.choice([1, 1, 1, 2, 18])))
+        if links:
+            self.links[number] = links
+            large = self.random.randrange(27, 31) * BLOCK if self.random.random() < 0.02 else 3000
+            self.sizes[number] = self.random.choice([0, 1, 2, 1023, 1024, 1025, self.random.randrange(4000), large])
+
+    def place_all(self):
+        """Takes blocks for all nodes, and puts together what they have."""
+        nodes = {}
+        for number, slots in self.slots.items():
+            data = b"".join(plain_disk.slot_bytes(child, name) for name, child in slots)
+            nodes[number] = plain_disk.node_bytes(1, 1, len(data), self.place(data, b"\0"))
+        for number, links in self.links.items():
+            size = self.sizes[number] if len(self.free) > self.sizes[number] // BLOCK + 4 else 0
+            data = (self.random.choice([b"", b"", b"OPT", b"\0PT", COMMIT]) + self.random.randbytes(size))[:size]
+            runs = self.place(data, self.random.choice([b"\0", b"\xff"]))
+            nodes[number] = plain_disk.node_bytes(2, links, len(data), runs)
+        table = b"".join(nodes.get(number, bytes(NODE)) for number in range(1, self.geometry.nodes + 1))
+        used = [*range(self.geometry.data), *(set(range(self.geometry.data, self.geometry.blocks)) - set(self.free))]
+        bits = sum(1 << number for number in used).to_bytes(BLOCK * (self.geometry.table - self.geometry.bitmap), "little")
+        for first, area in ((self.geometry.bitmap, bits), (self.geometry.table, table)):
+            self.blocks.update({first + at // BLOCK: area[at : at + BLOCK] for at in range(0, len(area), BLOCK)})
+
+    def place(self, data, filler):
+        """Takes blocks for these bytes, and returns their runs."""
+        places = [self.free.pop() for _ in range(-(-len(data) // BLOCK))]
+        for at, place in enumerate(places):
+            self.blocks[place] = data[BLOCK * at : BLOCK * (at + 1)].ljust(BLOCK, filler)
+        is_split = self.random.random() < 0.02
+        firsts = [at for at, place in enumerate(places) if not at or place != places[at - 1] + 1 or is_split]
+        runs = [(places[at], end - at) for at, end in zip(firsts, [*firsts[1:], len(places)])]
+        if runs and self.random.random() < 0.02:
+            odd = [(runs[0][0] + 2, 0), (self.geometry.blocks, 1), (self.geometry.data - 1, 1)]
+            runs.insert(self.random.randrange(len(runs) + 1), self.random.choice(odd))
+        return runs[:MOST_RUNS + 1]
+
+
+def spelled(random, geometry):
+    """An image with a tree that is drawn and an empty run."""
+    image = [ZEROS] * geometry.blocks
+    for block, data in Drawn(random, geometry).blocks.items():
+        image[block] = data
+    number = lambda: random.choice([1, 1, 2, 2, 5, 7, 2**40, *random.choice([[1], [2], [SPENT - 1], [SPENT]])])
+    start = number()
+    header = Header(number(), number(), start, start - 1, random.randrange(geometry.journal), 0)
+    image[random.randrange(2)] = plain_disk.header_block(geometry, header)
+    if random.random() < 0.3:
+        fill_ring(random, image, geometry, header)
+    return image
+
+
+def fill_ring(random, image, geometry, header):
+    """Puts what is no part of the run into the ring: old records, and blocks of anything."""
+    for _ in range(random.randrange(1, 5)):
+        number, epoch = random.randrange(1, 4), max(1, header.epoch - random.randrange(3))
+        entry = Entry(geometry.bitmap, PAYLOAD, plain_disk.sha(ZEROS))
+        record = plain_disk.Record(number, random.randrange(geometry.journal), [entry], [], [ZEROS])
+        for block, data in plain_disk.record_writes(geometry, epoch, record, []):
+            image[block] = data
+    image[geometry.ring(random.randrange(geometry.journal))] = random.randbytes(BLOCK)
+
+
+def journaled(random, geometry):
+    """An image in whose ring are records that make other trees of the one that is at home, and perhaps broken ones."""
+    image = spelled(random, geometry)
+    _, geometry, header, _ = plain_disk.find(image)
+    place, left, start = random.randrange(geometry.journal), geometry.journal, random.choice([1, 1, 1, 2, SPENT - 2])
+    header = header._replace(turn=header.turn + random.choice([0, 1, 1, 1]), start=start, sure=start - 1 + random.choice([0, 0, 1, 2]))
+    header = header._replace(at=place, closed=int(random.random() < 0.15))
+    image[random.randrange(2)] = plain_disk.header_block(geometry, header)
+    for number in range(start, start + random.choice([1, 1, 2, 3])):
+        after = [*image]
+        for block, data in Drawn(random, geometry).blocks.items():
+            after[block] = data
+        for _ in range(random.choice([0, 0, 0, 1])):
+            random.choice(HOME_CHANGES)(random, after, geometry)
+        record = Forged(random, image, geometry, after)
+        if random.random() < 0.4:
+            random.choice(FLAWS)(random, geometry, record)
+        taken = record.write(random, image, geometry, header.epoch, number, place)
+        place, left = place + taken, left - taken
+        if left < 3:
+            break
+    return image
+
+
+class Forged:
+    """A record that makes an image another one: its entries, and the bytes that it stores and puts at home."""
+
+    def __init__(self, random, image, geometry, after):
+        changed = [block for block in range(geometry.bitmap, geometry.blocks) if image[block] != after[block]]
+        self.fresh = [block for block in changed if block >= geometry.data and random.random() < 0.7]
+        payloads = [block for block in changed if block not in self.fresh] or [geometry.bitmap]
+        kept = [plain_disk.escaped(after[block]) for block in payloads]
+        self.stored, self.news = [data for _, data in kept], [after[block] for block in self.fresh]
+        self.payloads = [Entry(block, kind, plain_disk.sha(data)) for block, (kind, data) in zip(payloads, kept)]
+        self.fresh = [Entry(block, FRESH, plain_disk.sha(after[block])) for block in self.fresh]
+        # what is changed in its blocks once they are there
+        self.flaws = []
+
+    def write(self, random, image, geometry, epoch, number, place):
+        """Puts it into an image, and returns how many places it takes."""
+        record = plain_disk.Record(number, place, self.payloads, self.fresh, self.stored)
+        for block, data in plain_disk.record_writes(geometry, epoch, record, self.news):
+            if block < len(image):
+                image[block] = data
+        heads = [geometry.ring(place + at) for at in range(record.heads)]
+        for flaw in self.flaws:
+            flaw(image, random.choice(heads))
+        return record.places
+
+
+def out_of_order(random, geometry, record):
+    """Two neighbours change places, or one stands twice."""
+    pairs = random.choice([[record.payloads, record.stored], [record.fresh, record.news]])
+    for row in pairs:
+        row[-2:] = reversed(row[-2:]) if len(pairs[0]) > 1 and pairs[0][-1] != pairs[0][-2] else row[-1:] * 2
+
+
+def named_twice(random, geometry, record):
+    """A fresh block is a payload as well, or a payload is fresh."""
+    if record.fresh:
+        entry, data = random.choice([*zip(record.fresh, record.news)])
+        kind, kept = plain_disk.escaped(data)
+        at = sum(other.block < entry.block for other in record.payloads)
+        record.payloads.insert(at, Entry(entry.block, kind, plain_disk.sha(kept)))
+        record.stored.insert(at, kept)
+
+
+def other_block(random, geometry, record):
+    """An entry of a block that none may name."""
+    row = random.choice([record.payloads, record.fresh or record.payloads])
+    at = random.choice([0, -1])
+    low, high = (geometry.data - 1, geometry.bitmap), (geometry.blocks, geometry.blocks + 1, 2**32 - 1)
+    block = random.choice(high if at else low if row is record.fresh else (geometry.bitmap - 1, 2, 0))
+    row[at] = row[at]._replace(block=block)
+
+
+def other_kind(random, geometry, record):
+    """An entry of another kind, and perhaps bytes that fit it."""
+    row = random.choice([record.payloads, record.fresh or record.payloads])
+    at = random.randrange(len(row))
+    row[at] = row[at]._replace(kind=random.choice([0, PAYLOAD, FRESH, ESCAPED, 4, 255]))
+    if row is record.payloads and random.random() < 0.5:
+        record.stored[at] = random.choice([b"OPT", b"\0PT", b"\0PS"]) + record.stored[at][3:]
+        row[at] = row[at]._replace(digest=plain_disk.sha(record.stored[at]))
+
+
+def no_payloads(random, geometry, record):
+    record.payloads, record.stored = [], []
+
+
+def other_head(random, geometry, record):
+    """A number of a commit block or a descriptor is one more or one less, or the block isn't sealed."""
+    def change(image, block):
+        fields = COMMIT_FIELDS[:5] if image[block][:8] == COMMIT else [*DESCRIPTOR_FIELDS[:4], (36, 1), (37, 3)]
+        at, width = random.choice([*fields, (random.randrange(900, 992), 1)])
+        number = int.from_bytes(image[block][at : at + width], "little") + random.choice([-1, 1])
+        put(random, image, block, at, (number % 256**width).to_bytes(width, "little"), 1)
+
+    def unseal(image, block):
+        image[block] = image[block][:-1] + bytes([image[block][-1] ^ 1])
+
+    record.flaws.append(random.choice([change, change, change, unseal]))
+
+
+FLAWS = [out_of_order, named_twice, other_block, other_kind, no_payloads, other_head, other_head]
+
+
+# Changes
+
+
+def a_block(random, image, geometry):
+    """A block, of which those that carry something are drawn more often."""
+    areas = [(0, 2), (2, geometry.bitmap), (geometry.bitmap, geometry.table), (geometry.table, geometry.data), (geometry.data, geometry.blocks)]
+    blocks = [*range(*random.choice(areas))]
+    carrying = [block for block in blocks if block < len(image) and any(image[block][:64])]
+    return random.choice(carrying or blocks) % len(image)
+
+
+def change_bytes(random, image, geometry):
+    """Some bytes of a block."""
+    block, count = a_block(random, image, geometry), random.choice([1, 1, 1, 2, 4, 32])
+    at = random.choice([random.randrange(72), random.randrange(BLOCK), random.randrange(BLOCK)])
+    put(random, image, block, at, random.choice([bytes(count), b"\xff" * count, random.randbytes(count), random.randbytes(1)]))
+
+
+def change_block(random, image, geometry):
+    """A whole block, which becomes another one, is emptied or filled, or changes places."""
+    block, other = a_block(random, image, geometry), a_block(random, image, geometry)
+    new = random.choice([ZEROS, b"\xff" * BLOCK, random.randbytes(BLOCK), image[other], image[other]])
+    if random.random() < 0.3:
+        image[other] = image[block]
+    image[block] = new
+
+
+def change_header(random, image, geometry):
+    block = random.choice([block for block in (0, 1) if image[block][:8] == HEADER] or [0])
+    change_field(random, image, geometry, block, 0, HEADER_FIELDS)
+
+
+def change_record(random, image, geometry):
+    """A field of a commit block, a descriptor or an entry, or a byte of a payload."""
+    ring = [block for block in range(2, geometry.bitmap) if any(image[block])]
+    if not ring:
+        return change_header(random, image, geometry)
+    block = random.choice(ring)
+    tag = image[block][:8]
+    if tag == COMMIT:
+        change_field(random, image, geometry, block, 0, COMMIT_FIELDS)
+    elif tag == DESCRIPTOR and random.random() < 0.6:
+        entry = random.randrange(max(1, min(24, image[block][28])))
+        change_field(random, image, geometry, block, 32 + 40 * entry, ENTRY_FIELDS)
+    elif tag == DESCRIPTOR:
+        change_field(random, image, geometry, block, 0, DESCRIPTOR_FIELDS)
+    else:
+        put(random, image, block, random.randrange(BLOCK), random.randbytes(1))
+    return None
+
+
+def change_bits(random, image, geometry):
+    """Some bits of the bitmap."""
+    for _ in range(random.choice([1, 1, 1, 2])):
+        near = random.choice([0, geometry.data - 1, geometry.blocks - 1, geometry.blocks, 8191, random.randrange(8192)])
+        number = random.choice([near, random.randrange(geometry.data, geometry.blocks)]) % 8192
+        old = image[geometry.bitmap][number // 8]
+        put(random, image, geometry.bitmap, number // 8, bytes([old ^ 1 << number % 8]))
+
+
+def used_nodes(image, geometry):
+    """The numbers of the nodes whose first byte isn't zero."""
+    at = lambda number: image[geometry.table + (number - 1) // 4][NODE * ((number - 1) % 4)]
+    return [number for number in range(1, geometry.nodes + 1) if at(number)]
+
+
+def change_node(random, image, geometry):
+    """A field of a node, most often of one in use; or its bytes or its runs, which become those of another one."""
+    used = used_nodes(image, geometry)
+    number = random.choice(used) if used and random.random() < 0.85 else random.randrange(1, geometry.nodes + 1)
+    block, base = geometry.table + (number - 1) // 4, NODE * ((number - 1) % 4)
+    if random.random() < 0.7:
+        return change_field(random, image, geometry, block, base, NODE_FIELDS)
+    other = random.choice(used or [1])
+    data = image[geometry.table + (other - 1) // 4][NODE * ((other - 1) % 4) :][:NODE]
+    at, data = random.choice([(0, data), (0, bytes(NODE)), (32, data[32:36]), (32, data[32:]), (4, bytes([random.randrange(4)]))])
+    return put(random, image, block, base + at, data)
+
+
+def change_slot(random, image, geometry):
+    """A slot of a directory: its node, its name, or all of it; or one is put behind the last one."""
+    blocks = [block for block in range(geometry.data, geometry.blocks) if image[block][0] and 1 <= image[block][4] <= 59]
+    if not blocks:
+        return change_node(random, image, geometry)
+    block = random.choice(blocks)
+    slots = [at for at in range(0, BLOCK, SLOT) if any(image[block][at : at + SLOT])]
+    at, other = random.choice(slots), random.choice(slots)
+    name = random.choice([*NAMES, *ODD_NAMES])
+    new = random.choice([
+        random.choice([*used_nodes(image, geometry), 0, 1, geometry.nodes + 1]).to_bytes(4, "little"),
+        random.randrange(2**32).to_bytes(4, "little"),
+        image[block][at : at + 4] + bytes([len(name)]) + name.ljust(59, b"\0"),
+        image[block][at : at + 4] + image[block][other + 4 : other + SLOT],
+        image[block][other : other + SLOT],
+        bytes(SLOT),
+        image[block][at : at + 4] + bytes([random.choice([0, 1, 2, 58, 59, 60, 255])]),
+    ])
+    return put(random, image, block, min(at + random.choice([0, 0, 0, SLOT]), BLOCK - SLOT), new)
+
+
+HOME_CHANGES = [change_bits, change_node, change_slot, change_node, change_slot]
+CHANGES = [change_bytes, change_bytes, change_block, change_header, change_record, change_record, *HOME_CHANGES]
+
+
+def of_another_size(random, image, geometry):
+    """An image that is cut short or grown, sometimes with a header that says so; and bytes behind its last block."""
+    count = random.choice([0, 1, 2, len(image) - 1, len(image) + 1, len(image) + 8, random.randrange(len(image)), 63, 65])
+    image = (image + [random.choice([ZEROS, b"\xff" * BLOCK])] * max(0, count - len(image)))[:count]
+    for block in (0, 1):
+        if len(image) > block and image[block][:8] == HEADER and random.random() < 0.5:
+            image[block] = plain_disk.sealed(image[block][:48] + count.to_bytes(4, "little") + image[block][52:-32])
+    return image
+
+
+def drawn(random, bases):
+    """The bytes of an image that is drawn: one of the bases, or a new one, with changes."""
+    image = random.choice([
+        lambda: [*random.choice(bases)],
+        lambda: spelled(random, geometry_of(random)),
+        lambda: journaled(random, geometry_of(random)),
+    ])()
+    geometry = plain_disk.find(image).geometry
+    for _ in range(random.choice([0, 1, 1, 1, 1, 2, 3])):
+        random.choice(CHANGES)(random, image, geometry)
+    if random.random() < 0.06:
+        image = of_another_size(random, image, geometry)
+    tail = random.randbytes(random.choice([1, 452, 1023])) if random.random() < 0.05 else b""
+    return b"".join(image) + tail
