@@ -46,6 +46,6 @@ all_listed slots before into count first many all is =
 pub names_sorted : (slots : List Slot) → IsSortedByKey (λ (s : Slot). s.name) (slice_cmp nat_cmp) slots → IsSorted (slice_cmp nat_cmp) (map (λ (s : Slot). s.name) slots)
 names_sorted slots up k d low next =
     let e : Slot = record { node = 0; name = d } in
-    let many = length-map (λ (s : Slot). s.name) slots in
+    let many = length-map slots (λ (s : Slot). s.name) in
     ap₂ (λ a b. is_lt (slice_cmp nat_cmp a b)) (get_or-map (λ (s : Slot). s.name) slots (k + 1) e d (omega (arith, next, many))) (get_or-map (λ (s : Slot). s.name) slots k e d (omega (arith, next, many)))
     ∙ up k e low (omega (arith, next, many))
