@@ -11,7 +11,6 @@ use Rattle.lang_tree.specs.Listing.{line_of}
 use Rattle.crash_stands.specs.Inodes.{Inodes, ADir}
 use Rattle.crash_stands.specs.Maps.{IsMapOf}
 use Rattle.crash_stands.specs.Walks.{LeadsTo}
-use Rattle.fs_inodes.specs.Names.{names_of}
 use Rattle.fs_inodes.specs.Listing.{at_and_below}
 use Rattle.engine_blocks.specs.State.{State}
 use Rattle.engine_blocks.specs.Running.{HasNoBare}

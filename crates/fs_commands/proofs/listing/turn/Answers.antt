@@ -1,4 +1,6 @@
-use Rattle.std.proofs.Common.{sym, refl, ap, arith}
+use Rattle.std.proofs.Common.{sym, refl, ap, ◌∙◌, arith}
+use Rattle.std.proofs.lemmas.Bool.{true≢false}
+use Rattle.layout_geometry.specs.Geometry.{Geometry}
 use Rattle.fs_commands.specs.Listing.{turns_in, HasWritten}
 use Rattle.fs_commands.proofs.listed.Texts.{on_err}
 use Rattle.fs_commands.proofs.listed.Walks.{turns_join}
@@ -16,7 +18,12 @@ pub returns-in_err-push-2-clause-front : goal.returns-in_err-push-2-clause-front
 returns-in_err-push-2-clause-front g c = λ told. on_err _ _ (nothing_front (g.S.Blocks.state c.args.blocks.now) c.args.draft.now c.args.walk.now c.args.frame _)
 
 pub returns-then-not-is_in_table-clause-writes : goal.returns-then-not-is_in_table-clause-writes
-returns-then-not-is_in_table-clause-writes g c = ?
+returns-then-not-is_in_table-clause-writes g c = λ told.
+    let s = g.S.Blocks.state c.args.blocks.now in
+    let w = c.args.walk.now in
+    never_outside s c.args.draft.now w c.args.frame c.next_entry.new.frame c.in-Some.entry c.in-Some.ensures.some c.slots_name_nodes_in_use.ensures.used
+    c.i.result (c.i.ensures ∙ ap (λ (x : Geometry). x.i) c.geom.ensures) (λ inside. true≢false (sym (c.is_in_table.ensures.1 inside) ∙ c.if-not-is_in_table.true))
+    (λ m t. HasWritten m t (coming s c.args.draft.now w c.args.frame t) _ (g.K.Sink.taken c.args.out.now) (g.K.Sink.taken c.args.out.now))
 
 pub returns-then-not-is_in_table-clause-turns : goal.returns-then-not-is_in_table-clause-turns
 returns-then-not-is_in_table-clause-turns g c = omega (arith, ap turns_in c.in_ok-push.ensures.items, turns_join c.args.walk.now.frames.items c.next_entry.new.frame, c.in-Some.ensures.some.turns)
