@@ -1,6 +1,7 @@
 -- The walk that writes a listing: which paths it has still to come to, and what its calls leave. It is described in docs/FILE-SYSTEM.md.
-use Rattle.std.specs.Prelude.{◌≡◌, ℕ, ◌+◌, ◌-◌, ◌*◌, ◌^◌, ◌≤◌, ⊤, Bool, true, false, IsTrue, if◌then◌else◌, List, [], ◌∷◌, ◌++◌, length, take, drop, Option, Some, Result, Ok, Err}
+use Rattle.std.specs.Prelude.{◌≡◌, ℕ, ◌+◌, ◌-◌, ◌*◌, ◌^◌, ◌≤◌, ⊤, Bool, true, false, IsTrue, if◌then◌else◌, List, [], ◌∷◌, ◌++◌, length, map, take, drop, Option, Some, Result, Ok, Err}
 use Rattle.std.specs.List.{All, flat_map}
+use Rattle.std.specs.List.Sorted.{IsPermutation}
 use Rattle.std.specs.FinMap.{get}
 use Rattle.std.specs.Io.KnownBytes.{Appends}
 use Rattle.base_types.specs.Counts.{after_call}
@@ -10,7 +11,6 @@ use Rattle.lang_tree.specs.Listing.{line_of}
 use Rattle.crash_stands.specs.Inodes.{Inodes, ADir}
 use Rattle.crash_stands.specs.Maps.{IsMapOf}
 use Rattle.crash_stands.specs.Walks.{LeadsTo}
-use Rattle.fs_inodes.specs.Names.{names_of}
 use Rattle.fs_inodes.specs.Listing.{at_and_below}
 use Rattle.engine_blocks.specs.State.{State}
 use Rattle.engine_blocks.specs.Running.{HasNoBare}
@@ -113,12 +113,16 @@ under_names t up names = flat_map (λ name. at_and_below t (up ++ name ∷ [])) 
 
 -- The directories that a walk is in. Each lies in the one before it, and the names of the walk's path lead to them.
 
--- The directory is the one to which so many names of the path lead, and has the names of its slots.
+-- the names that a directory has still to come
+abbrev pub names_left : Frame → List (List ℕ)
+names_left f = map (λ s. s.name) (drop f.next f.entries.items)
+
+-- The directory is the one to which so many names of the path lead, and the entries are its slots, in any order.
 pub record IsFrame (m : Inodes) (path : List (List ℕ)) (depth : ℕ) (f : Frame) : Type 0 where
   pub leads : LeadsTo m (take depth path) f.dir
   pub slots : List Slot
   pub dir : m f.dir ≡ Some (ADir slots)
-  pub names : f.names ≡ names_of slots
+  pub entries : IsPermutation slots f.entries.items
 
 -- so are they all, the first one at this depth
 abbrev pub AreFrames : Inodes → List (List ℕ) → ℕ → List Frame → Type 0
@@ -132,22 +136,22 @@ HaveNumbers limit frames = All (λ f. IsNumber limit f.dir) frames
 -- the paths that they have still to come, those of the deepest one first
 abbrev pub paths_left : Tree → List (List ℕ) → ℕ → List Frame → Paths
 paths_left t path depth [] = []
-paths_left t path depth (f ∷ frames) = paths_left t path (depth + 1) frames ++ under_names t (take depth path) (drop f.next f.names)
+paths_left t path depth (f ∷ frames) = paths_left t path (depth + 1) frames ++ under_names t (take depth path) (names_left f)
 
 -- how many turns one takes still: one for each name, and one to leave it
 abbrev pub turns_of : Frame → ℕ
-turns_of f = length f.names - f.next + 1
+turns_of f = length f.entries.items - f.next + 1
 
 -- how many they all take
 abbrev pub turns_in : List Frame → ℕ
 turns_in [] = 0
 turns_in (f ∷ frames) = turns_of f + turns_in frames
 
--- A name was taken from those that the directory has still to come.
-pub record TakesName (old new : Frame) (name : List ℕ) : Type 0 where
-  pub rest : drop old.next old.names ≡ name ∷ drop new.next new.names
+-- An entry was taken from those that the directory has still to come.
+pub record TakesEntry (old new : Frame) (entry : Slot) : Type 0 where
+  pub rest : drop old.next old.entries.items ≡ entry ∷ drop new.next new.entries.items
   pub dir : new.dir ≡ old.dir
-  pub names : new.names ≡ old.names
+  pub entries : new.entries.items ≡ old.entries.items
   pub turns : turns_of new + 1 ≡ turns_of old
 
 -- The walk.
@@ -158,7 +162,7 @@ to_come t w = paths_left t w.path.items 0 w.frames.items
 
 -- those that the directory at its path has still to come
 abbrev pub under_frame : Tree → Walk → Frame → Paths
-under_frame t w f = under_names t w.path.items (drop f.next f.names)
+under_frame t w f = under_names t w.path.items (names_left f)
 
 -- how many turns it takes at most: a directory that it may enter has fewer than 2^64 names
 abbrev pub turns_left : Walk → ℕ

@@ -2,11 +2,11 @@
 //! root, directory by directory, and keeps the names of those that it is in, and of no others. A file is
 //! read and written in pieces. How the lines read is described elsewhere.
 
-ghost use Rattle.std.specs.Prelude.{◌≡◌, ◌≢◌, ◌≤◌, ◌<◌, ◌+◌, ◌^◌, ◌++◌, ℕ, IsTrue, true, false, List, [], length, drop, Some, IfErr, IfSome, IfNone};
+ghost use Rattle.std.specs.Prelude.{◌≡◌, ◌≢◌, ◌≤◌, ◌<◌, ◌↔◌, ◌+◌, ◌^◌, ◌++◌, ℕ, IsTrue, true, false, List, [], length, drop, Some, IfErr, IfSome, IfNone};
 ghost use Rattle.std.specs.Prelude.{OnOk, OnErr};
 ghost use Rattle.std.specs.Io.KnownBytes.{Appends};
 ghost use Rattle.base_io.specs.Prefix.{TakesPrefix};
-ghost use Rattle.layout_bytes.specs.declared.slot.Slot.{Slot};
+ghost use Rattle.layout_bytes.specs.declared.slot.Slot.{Slot as SlotValue};
 ghost use Rattle.lang_tree.specs.Tree.{Tree, File};
 ghost use Rattle.lang_tree.specs.Listing.{digits_behind_blank, line_of, listing as listing_of};
 ghost use Rattle.lang_tree.specs.Paths.{parent};
@@ -21,7 +21,7 @@ ghost use Rattle.fs_files.specs.Effects.{LooksOnly};
 ghost use Rattle.fs_dirs.specs.Directories.{IsNumber};
 ghost use Rattle.fs_dirs.specs.Reading.{MayRead};
 ghost use Rattle.fs_commands.specs.Listing.{ended_by_read, ended_by_push, ended_by_stop, CountsPushes, Lists, MayList, MayWalk, IsMapIn, IsFrame};
-ghost use Rattle.fs_commands.specs.Listing.{AreFrames, IsWalk, HasWritten, Enters, TakesName, HaveNumbers, lines_of, under_frame, to_come, turns_of};
+ghost use Rattle.fs_commands.specs.Listing.{AreFrames, IsWalk, HasWritten, Enters, TakesEntry, HaveNumbers, lines_of, under_frame, to_come, turns_of};
 ghost use Rattle.fs_commands.specs.Listing.{turns_left};
 ghost use Rattle.fs_session.specs.Sessions.{IsSession};
 
@@ -29,13 +29,14 @@ use crate::lines::{write_digits, write_dir, write_file_head};
 use crate::look::is_dir;
 use base_io::{Sink, SinkFault, prefixes_join, push_all};
 use base_types::{Name, NoMemory, ReadFault};
-use crash_stands::a_map_is_of_one_tree;
+use crash_stands::{a_map_is_of_one_tree, slots_name_nodes_in_use};
 use engine_blocks::Blocks;
-use fs_dirs::{find, names};
+use fs_dirs::entries;
 use fs_files::{Draft, FileRefusal, a_draft_begins};
 use fs_inodes::{a_listing_goes_down, the_map_gives_the_names, walks_are_the_same};
 use fs_session::blocks_have_the_map_of_their_tree;
-use lang_tree::{NameList, paths_are_counted};
+use lang_tree::paths_are_counted;
+use layout_bytes::Slot;
 use std::alloc::{AllocFailed, Global};
 use std::error::Error;
 use std::fmt;
@@ -138,8 +139,9 @@ impl From<FileRefusal> for ListRefusal {
 #[derive(Drop)]
 struct Frame {
     dir: u32,
-    names: NameList,
-    /// The place of the first name that is still to come.
+    /// Its entries, ascending by their names.
+    entries: Vec<Slot>,
+    /// The place of the first entry that is still to come.
     next: usize,
 }
 
@@ -155,8 +157,8 @@ struct Walk {
 }
 
 /// Writes the listing of the tree that stands in these blocks. It takes memory for the names of the
-/// directories on one path and for a piece of a file. A directory's names are read once, and then each is
-/// looked up.
+/// directories on one path, four bytes more for each, and for a piece of a file. A directory's names are read
+/// once, each with the number of its node.
 ///
 /// Where no tree stands, a directory may lead back to one above it. As many directories are entered as there
 /// are nodes; of any more the line alone is written.
@@ -254,32 +256,42 @@ fn turn<S: Blocks, K: Sink>(
     ensures lists { Lists S.tells result (S.state blocks.old) (S.state blocks.new) (K.faults out.old) (K.faults out.new) }
 {
     walks_are_the_same();
-    let Some(name) = next_name(&mut frame) else {
+    slots_name_nodes_in_use();
+    let Some(entry) = next_entry(&mut frame) else {
         leave(&mut walk.path);
         return Ok(());
     };
-    let dir = frame.dir;
     walk.frames.push(frame)?;
-    let Some(found) = find(draft, blocks, dir, &name)? else {
+    if !is_in_table(entry.node, blocks.geom().i()) {
         return Ok(());
-    };
-    walk.path.push(name)?;
-    show(draft, alloc, blocks, out, walk, found.node)?;
+    }
+    walk.path.push(entry.name)?;
+    show(draft, alloc, blocks, out, walk, entry.node)?;
     Ok(())
 }
 
-/// Takes the first of the names that the directory has still to come. `None` where it has none.
-fn next_name(frame: &mut Frame) -> Option<Name>
-    ensures some { IfSome result (λ name. TakesName frame.old frame.new name) }
-    ensures none { IfNone result (drop frame.old.next frame.old.names ≡ []) }
+/// Takes the first of the entries that the directory has still to come. `None` where it has none.
+fn next_entry(frame: &mut Frame) -> Option<Slot>
+    ensures some { IfSome result (λ entry. TakesEntry frame.old frame.new entry) }
+    ensures none { IfNone result (drop frame.old.next frame.old.entries.items ≡ []) }
 {
-    let names = frame.names.names();
-    if names.len() <= frame.next {
+    if frame.entries.len() <= frame.next {
         return None;
     }
-    let name = names[frame.next].copy();
+    let entry = &frame.entries[frame.next];
+    let taken = Slot {
+        node: entry.node,
+        name: entry.name.copy(),
+    };
     frame.next += 1;
-    Some(name)
+    Some(taken)
+}
+
+/// Whether a number is one of a table of so many. In a directory of a tree no entry names another.
+fn is_in_table(number: u32, limit: u32) -> bool
+    ensures { result ≡ true ↔ IsNumber limit number }
+{
+    1 <= number && number <= limit
 }
 
 /// Takes a path's last name off it.
@@ -346,7 +358,7 @@ fn enter<S: Blocks>(
     requires look { MayWalk S.tells (S.state blocks.old) draft.now }
     requires numbers { HaveNumbers (S.state blocks.old).books.geom.i walk.old.frames.items }
     requires number { IsNumber (S.state blocks.old).books.geom.i number }
-    ensures enters { IsTrue S.tells → OnOk result ((m : Inodes) (t : Tree) (slots : List Slot) → IsMapIn (S.state blocks.old) draft.now m t
+    ensures enters { IsTrue S.tells → OnOk result ((m : Inodes) (t : Tree) (slots : List SlotValue) → IsMapIn (S.state blocks.old) draft.now m t
         → LeadsTo m walk.old.path.items number
         → m number ≡ Some (ADir slots) → 0 < walk.old.left → AreFrames m walk.old.path.items 0 walk.old.frames.items
         → length walk.old.path.items ≡ length walk.old.frames.items
@@ -362,22 +374,22 @@ fn enter<S: Blocks>(
         leave(&mut walk.path);
         return Ok(());
     }
-    let names = names(draft, alloc, blocks, number)?;
-    walk.frames.push(entered(number, names))?;
+    let entries = entries(draft, alloc, blocks, number)?;
+    walk.frames.push(entered(number, entries))?;
     walk.left -= 1;
     Ok(())
 }
 
-/// A directory that was just entered, with these names.
-fn entered(dir: u32, names: NameList) -> Frame
-    ensures value { result ≡ record { dir = dir; names = names; next = 0 } }
+/// A directory that was just entered, with these entries.
+fn entered(dir: u32, entries: Vec<Slot>) -> Frame
+    ensures value { result ≡ record { dir = dir; entries = entries; next = 0 } }
     ensures turns { turns_of result ≤ 2 ^ 64 }
 {
-    // A list in memory has fewer than 2^64 names.
-    let _count = names.names().len();
+    // A list in memory has fewer than 2^64 entries.
+    let _count = entries.len();
     Frame {
         dir,
-        names,
+        entries,
         next: 0,
     }
 }

@@ -1,5 +1,5 @@
 -- What the steps of reading a directory need and give.
-use Rattle.std.specs.Prelude.{◌≡◌, ◌≢◌, ℕ, ◌%◌, ◌^◌, ◌<◌, Bool, false, IsTrue, IfErr, IfNone, IfOk, IfSome, is_err, List, ◌++◌, length, map, take, drop, slice_get, Option, None, Some, Result, Ok}
+use Rattle.std.specs.Prelude.{◌≡◌, ◌≢◌, ℕ, ◌%◌, ◌^◌, ◌<◌, Bool, false, IsTrue, IfErr, IfNone, IfOk, IfSome, is_err, List, ◌++◌, length, take, drop, slice_get, Option, None, Some, Result, Ok}
 use Rattle.std.specs.List.{All}
 use Rattle.layout_bytes.specs.declared.slot.Slot.{Slot}
 use Rattle.lang_tree.specs.declared.command.Refusal.{Refusal}
@@ -93,8 +93,8 @@ pub record HasWalked (tells : Bool) (start now : State) (d : DraftState) (names 
   pub walks : IsTrue tells → (t : Tree) → IsMapOf start.books.geom.i (inodes_in start d) t → walk_on (inodes_in start d) 1 names ≡ walk_on (inodes_in start d) k rest
   pub used : IsTrue tells → (t : Tree) → IsMapOf start.books.geom.i (inodes_in start d) t → (x : Inode) × (inodes_in start d k ≡ Some x)
 
--- Of a directory of so many slots the names of those before this place, which begins a block, were appended.
-pub record HasListed (tells : Bool) (start now : State) (d : DraftState) (node : List ℕ) (count first : ℕ) (before into : List (List ℕ)) : Type 0 where
+-- Of a directory of so many slots those before this place, which begins a block, were appended.
+pub record HasListed (tells : Bool) (start now : State) (d : DraftState) (node : List ℕ) (count first : ℕ) (before into : List Slot) : Type 0 where
   pub looks : LooksOnly tells false start now
   pub begins : first % 16 ≡ 0
-  pub names : IsTrue tells → (slots : List Slot) → HasSlots start d node slots → length slots ≡ count → into ≡ before ++ map (λ (s : Slot). s.name) (take first slots)
+  pub listed : IsTrue tells → (slots : List Slot) → HasSlots start d node slots → length slots ≡ count → into ≡ before ++ take first slots

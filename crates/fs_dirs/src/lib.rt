@@ -13,6 +13,6 @@ mod walks;
 pub use adding::add_slot;
 pub use changing::{set_slot, take_slot};
 pub use laws::{alterations_add_up, directories_are_read};
-pub use listing::names;
-pub use lookup::{Directory, Found, count_slots, find, find_in_directory};
+pub use listing::{entries, names};
+pub use lookup::{Directory, Found, count_slots, find_in_directory};
 pub use walks::{walk, walk_to_parent};

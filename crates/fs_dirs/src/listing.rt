@@ -1,10 +1,11 @@
-//! The names of a directory of a draft, in their order, as a listing needs them.
+//! The entries of a directory of a draft, in the order of their names, as a listing needs them, and the names
+//! alone.
 
 ghost use Rattle.std.specs.Prelude.{◌≡◌, ◌≤◌, ◌<◌, ◌^◌, ◌++◌, ℕ, IsTrue, List, [], ◌∷◌, length, map, slice_get, Some, IfOk, IfErr, OnOk};
 ghost use Rattle.std.specs.List.Sorted.{IsPermutation, IsSorted};
 ghost use Rattle.std.specs.Ordering.{nat_cmp};
 ghost use Rattle.std.specs.Cmp.Lexicographic.{slice_cmp};
-ghost use Rattle.layout_bytes.specs.declared.slot.Slot.{Slot};
+ghost use Rattle.layout_bytes.specs.declared.slot.Slot.{Slot as SlotValue};
 ghost use Rattle.layout_bytes.specs.Slot.{slots_in};
 ghost use Rattle.crash_stands.specs.Inodes.{ADir};
 ghost use Rattle.fs_files.specs.Asks.{MayLook};
@@ -20,13 +21,48 @@ use base_types::{Block, Name, NoMemory};
 use engine_blocks::{Blocks, calls_compose};
 use fs_files::{Draft, FileRefusal, NodeBlocks};
 use lang_tree::NameList;
+use layout_bytes::Slot;
 use layout_directory::entries_follow_their_bytes;
 use std::alloc::Global;
+
+/// The entries of directory `dir`, ascending by the bytes of their names. None where the node is no directory.
+/// The directory is read once, and the sort takes about n log n comparisons of n names.
+///
+/// # Errors
+/// A read of the disk failed, which the disk has counted; or out of memory.
+pub fn entries<S: Blocks>(
+    draft: &Draft,
+    alloc: Global,
+    blocks: &mut S,
+    dir: u32,
+) -> Result<Vec<Slot>, FileRefusal>
+    requires { MayLook S.tells (S.state blocks.old) draft.now dir }
+    ensures all { IsTrue S.tells → IfOk result (λ entries. (slots : List SlotValue) → inodes_in (S.state blocks.old) draft.now dir ≡ Some (ADir slots)
+        → IsPermutation slots entries.items) }
+    ensures sorted { IfOk result (λ entries. IsSorted (slice_cmp nat_cmp) (map (λ s. s.name) entries.items)) }
+    ensures refused { IfErr result LookRefused }
+    ensures looks { LooksOnly S.tells (fails_reading result) (S.state blocks.old) (S.state blocks.new) }
+{
+    calls_compose::<S>();
+    let mut entries = Vec::new(alloc);
+    let Some(directory) = open_directory(draft, blocks, dir)? else {
+        return Ok(entries);
+    };
+    push_slots(
+        draft,
+        blocks,
+        &directory.blocks,
+        directory.count,
+        &mut entries,
+    )?;
+    sort_by_name(&mut entries);
+    Ok(entries)
+}
 
 /// The names in directory `dir`, ascending by their bytes. None where the node is no directory.
 ///
 /// # Errors
-/// A read of the disk failed, which the disk has counted; or out of memory.
+/// As `entries`.
 pub fn names<S: Blocks>(
     draft: &Draft,
     alloc: Global,
@@ -34,43 +70,54 @@ pub fn names<S: Blocks>(
     dir: u32,
 ) -> Result<NameList, FileRefusal>
     requires { MayLook S.tells (S.state blocks.old) draft.now dir }
-    ensures all { IsTrue S.tells → IfOk result (λ names. (slots : List Slot) → inodes_in (S.state blocks.old) draft.now dir ≡ Some (ADir slots)
+    ensures all { IsTrue S.tells → IfOk result (λ names. (slots : List SlotValue) → inodes_in (S.state blocks.old) draft.now dir ≡ Some (ADir slots)
         → IsPermutation (map (λ s. s.name) slots) names) }
     ensures sorted { IfOk result (IsSorted (slice_cmp nat_cmp)) }
     ensures refused { IfErr result LookRefused }
     ensures looks { LooksOnly S.tells (fails_reading result) (S.state blocks.old) (S.state blocks.new) }
 {
-    calls_compose::<S>();
-    let mut names = Vec::new(alloc);
-    let Some(directory) = open_directory(draft, blocks, dir)? else {
-        return Ok(NameList::from_names(names));
-    };
-    push_names(
-        draft,
-        blocks,
-        &directory.blocks,
-        directory.count,
-        &mut names,
-    )?;
-    names.sort_unstable();
+    let found = entries(draft, alloc, blocks, dir)?;
+    let names = names_among(alloc, &found)?;
     Ok(NameList::from_names(names))
 }
 
-/// Appends the names of the directory with these blocks, which has so many slots, in the order of the slots.
+/// The names of these slots, in their order.
 ///
 /// # Errors
-/// As `names`.
-fn push_names<S: Blocks>(
+/// Out of memory.
+fn names_among(alloc: Global, slots: &[Slot]) -> Result<Vec<Name>, NoMemory>
+    ensures { IfOk result (λ names. names.items ≡ map (λ s. s.name) slots.now) }
+{
+    let mut names = Vec::with_capacity(alloc, slots.len())?;
+    for slot in slots {
+        names.push(slot.name.copy())?;
+    }
+    Ok(names)
+}
+
+/// Sorts slots by the bytes of their names.
+fn sort_by_name(slots: &mut Vec<Slot>)
+    ensures same { IsPermutation slots.old.items slots.new.items }
+    ensures sorted { IsSorted (slice_cmp nat_cmp) (map (λ s. s.name) slots.new.items) }
+{
+    slots.sort_unstable_by(|a, b| a.name.cmp(&b.name));
+}
+
+/// Appends the slots of the directory with these blocks, which has so many, in their order.
+///
+/// # Errors
+/// As `entries`.
+fn push_slots<S: Blocks>(
     draft: &Draft,
     blocks: &mut S,
     node: &NodeBlocks,
     count: u32,
-    into: &mut Vec<Name>,
+    into: &mut Vec<Slot>,
 ) -> Result<(), FileRefusal>
     requires read { MayReadBlocks S.tells (S.state blocks.old) draft.now node.now }
     requires few { count < 2 ^ 24 }
-    ensures names { IsTrue S.tells → OnOk result ((slots : List Slot) → HasSlots (S.state blocks.old) draft.now node.now slots → length slots ≡ count
-        → into.new.items ≡ into.old.items ++ map (λ s. s.name) slots) }
+    ensures slots { IsTrue S.tells → OnOk result ((slots : List SlotValue) → HasSlots (S.state blocks.old) draft.now node.now slots → length slots ≡ count
+        → into.new.items ≡ into.old.items ++ slots) }
     ensures refused { IfErr result LookRefused }
     ensures looks { LooksOnly S.tells (fails_reading result) (S.state blocks.old) (S.state blocks.new) }
 {
@@ -86,33 +133,33 @@ fn push_names<S: Blocks>(
     Ok(())
 }
 
-/// Appends the names of so many slots of the block, in their order.
+/// Appends so many slots of the block, in their order.
 ///
 /// # Errors
 /// Out of memory.
-fn push_block(block: &Block, entries: u32, into: &mut Vec<Name>) -> Result<(), NoMemory>
+fn push_block(block: &Block, entries: u32, into: &mut Vec<Slot>) -> Result<(), NoMemory>
     requires { entries ≤ 16 }
-    ensures { OnOk result ((slots : List Slot) → slots_in entries block.now ≡ Some slots → into.new.items ≡ into.old.items ++ map (λ s. s.name) slots) }
+    ensures { OnOk result ((slots : List SlotValue) → slots_in entries block.now ≡ Some slots → into.new.items ≡ into.old.items ++ slots) }
 {
     entries_follow_their_bytes();
     for place in 0..entries {
-        push_name(block, place, into)?;
+        push_slot(block, place, into)?;
     }
     Ok(())
 }
 
-/// Appends the name of the slot at a place of the block, where there is one.
+/// Appends the slot at a place of the block, where there is one.
 ///
 /// # Errors
 /// Out of memory.
-fn push_name(block: &Block, place: u32, into: &mut Vec<Name>) -> Result<(), NoMemory>
+fn push_slot(block: &Block, place: u32, into: &mut Vec<Slot>) -> Result<(), NoMemory>
     requires { place < 16 }
-    ensures { OnOk result ((entries : ℕ) (slots : List Slot) (s : Slot) → place < entries → slots_in entries block.now ≡ Some slots
-        → slice_get slots place ≡ Some s → into.new.items ≡ into.old.items ++ s.name ∷ []) }
+    ensures { OnOk result ((entries : ℕ) (slots : List SlotValue) (s : SlotValue) → place < entries → slots_in entries block.now ≡ Some slots
+        → slice_get slots place ≡ Some s → into.new.items ≡ into.old.items ++ s ∷ []) }
 {
     match slot_in(block, place) {
         Some(slot) => {
-            into.push(slot.name)?;
+            into.push(slot)?;
             Ok(())
         }
         None => Ok(()),

@@ -108,31 +108,11 @@ pub(crate) fn open_directory<S: Blocks>(
     }))
 }
 
-/// What stands under a name in node `dir`: the first slot that has it. `None` where no slot has it, and where
-/// the node is no directory.
+/// What stands under a name in a directory that was read: the first slot that has it. `None` where no slot has
+/// it. A slot that names no number of the table isn't one.
 ///
 /// # Errors
 /// A read of the disk failed, which the disk has counted.
-pub fn find<S: Blocks>(
-    draft: &Draft,
-    blocks: &mut S,
-    dir: u32,
-    name: &Name,
-) -> Result<Option<Found>, FileRefusal>
-    requires { MayLook S.tells (S.state blocks.old) draft.now dir }
-    ensures { LooksForName S.tells dir name.now result (S.state blocks.old) (S.state blocks.new) draft.now }
-{
-    calls_compose::<S>();
-    let Some(directory) = open_directory(draft, blocks, dir)? else {
-        return Ok(None);
-    };
-    find_in_directory(draft, blocks, &directory, name)
-}
-
-/// What stands under a name in a directory that was read. A slot that names no number of the table isn't one.
-///
-/// # Errors
-/// As `find`.
 pub fn find_in_directory<S: Blocks>(
     draft: &Draft,
     blocks: &mut S,

@@ -1,51 +1,49 @@
--- The names of a directory's slots: each has a slot, and a file has none.
-use Rattle.std.proofs.Common.{◌≡◌, ℕ, zero, suc, Bool, true, false, cond, ◌||◌, List, [], ◌∷◌, map, drop, bytes_eq, Some, None, is_some, refl, sym, ap, ◌∙◌, ◌⊎◌, inl, inr}
-use Rattle.std.proofs.lemmas.Bool.{cases_Bool, true≢false}
-use Rattle.std.proofs.lemmas.List.{nil_from_length}
-use Rattle.std.proofs.lemmas.Map.Text.{is_eq-slice_cmp}
-use Rattle.std.specs.List.{list_any}
-use Rattle.std.specs.Ordering.{nat_cmp, eq_by_cmp, is_eq}
-use Rattle.std.specs.Cmp.{IsTotalOrder, nat_cmp_total, tied_itself, eq_by_cmp_equiv}
-use Rattle.std.specs.Cmp.Lexicographic.{slice_cmp, lists_total}
-use Rattle.std.specs.FinMap.{empty, entries, find, contains_key-keys, get-from_entries, len-empty, len-entries}
+-- The entries of a directory: each is a slot, and its name leads to its node. A file has none.
+use Rattle.std.proofs.Common.{◌≡◌, ℕ, zero, suc, ◌<◌, true, false, cond, List, [], ◌∷◌, length, map, take, drop, slice_get, bytes_eq, Some, refl, sym, subst, ap, ◌∙◌, ◌⊎◌, inl, inr, arith}
+use Rattle.std.proofs.lemmas.Bool.{cases_Bool}
+use Rattle.std.proofs.lemmas.List.{nil_from_length, take-append-drop}
+use Rattle.std.proofs.lemmas.List.Elements.{Contains-append_right}
+use Rattle.std.proofs.lemmas.List.Sorted.{Contains-permutation, IsPermutation-sym}
+use Rattle.std.proofs.lemmas.Option.{slice_get-get_or}
+use Rattle.std.proofs.lemmas.Slice.Eq.{bytes_eq-Decides}
+use Rattle.std.specs.List.{Contains}
+use Rattle.std.specs.List.Sorted.{IsPermutation}
+use Rattle.std.specs.Ordering.{nat_cmp}
+use Rattle.std.specs.Cmp.Lexicographic.{slice_cmp}
+use Rattle.std.specs.FinMap.{empty, entries, len-empty, len-entries}
 use Rattle.layout_bytes.specs.declared.slot.Slot.{Slot}
+use Rattle.crash_stands.specs.Inodes.{AreDistinct}
 use Rattle.crash_stands.specs.Walks.{node_in}
-use Rattle.fs_inodes.specs.Names.{row_in, names_of}
-
-name_total : IsTotalOrder (slice_cmp nat_cmp)
-name_total = lists_total nat_cmp_total
+use Rattle.fs_inodes.specs.Names.{names_of}
 
 -- no slot, no name
 pub no_names : names_of [] ≡ []
 no_names = ap (map (λ e. e.0)) (nil_from_length (entries (empty {X = ℕ} {R = slice_cmp nat_cmp})) (sym (len-entries (empty {X = ℕ} {R = slice_cmp nat_cmp})) ∙ len-empty (slice_cmp nat_cmp) ℕ))
 
--- what comes after some of a list is in the list
-any_in : (test : List ℕ → Bool) (name : List ℕ) → test name ≡ true → (n : ℕ) (names rest : List (List ℕ)) → drop n names ≡ name ∷ rest → list_any test names ≡ true
-any_in test name passes zero names rest is = ap (list_any test) is ∙ ap (λ b. b || list_any test rest) passes
-any_in test name passes (suc n) [] rest is = absurd cc
-any_in test name passes (suc n) (x ∷ names) rest is = by (test x) (any_in test name passes n names rest is)
+-- an entry that is still to come is a slot
+pub is_slot : (slots entries rest : List Slot) (next : ℕ) (e : Slot) → IsPermutation slots entries → drop next entries ≡ e ∷ rest → Contains slots e
+is_slot slots entries rest next e same left =
+    let first : Contains (drop next entries) e = subst (λ l. Contains l e) (sym left) (0, omega arith, refl) in
+    Contains-permutation entries slots e (IsPermutation-sym slots entries same)
+    (subst (λ l. Contains l e) (take-append-drop next entries) (Contains-append_right (take next entries) (drop next entries) e first))
+
+-- where a slot stands
+pub place_of_slot : (slots : List Slot) (e : Slot) (has : Contains slots e) → slice_get slots has.0 ≡ Some e
+place_of_slot slots e has = slice_get-get_or slots has.0 e has.1 ∙ ap Some has.2
+
+-- the name of a slot leads to its node
+pub leads_to_node : (slots : List Slot) (e : Slot) → AreDistinct slots → Contains slots e → node_in slots e.name ≡ Some e.node
+leads_to_node [] e distinct (k, low, is) = absurd (omega (arith, low))
+leads_to_node (x ∷ slots) e distinct (zero, low, is) =
+    ap (λ (y : Slot). node_in (y ∷ slots) e.name) is ∙ ap (λ b. cond b (Some e.node) (node_in slots e.name)) ((bytes_eq-Decides e.name e.name).1 refl)
+leads_to_node (x ∷ slots) e distinct (suc k, low, is) = by (leads_to_node slots e behind (k, inside, is)) (cases_Bool (bytes_eq x.name e.name))
   where
-    by : (b : Bool) → list_any test names ≡ true → (b || list_any test names) ≡ true
-    by true e = refl
-    by false e = e
+    inside : k < length slots
+    inside = omega (arith, low)
 
--- the test of a key that is another name
-other_key : (q x : List ℕ) → bytes_eq x q ≡ false → eq_by_cmp (slice_cmp nat_cmp) q x ≡ false
-other_key q x e = (eq_by_cmp_equiv name_total).symm q x ∙ is_eq-slice_cmp x q ∙ e
+    behind : AreDistinct slots
+    behind i j u v at_i at_j same = omega (arith, distinct (suc i) (suc j) u v at_i at_j same)
 
--- a name that no slot has isn't found among their keys
-not_found : (q : List ℕ) (slots : List Slot) → node_in slots q ≡ None → find (slice_cmp nat_cmp) q (map (λ (s : Slot). (s.name, s.node)) slots) ≡ None
-not_found q [] none = refl
-not_found q (s ∷ slots) none = by (cases_Bool (bytes_eq s.name q)) (not_found q slots)
-  where
-    by : (bytes_eq s.name q ≡ true) ⊎ (bytes_eq s.name q ≡ false) → (node_in slots q ≡ None → find (slice_cmp nat_cmp) q (map (λ (s : Slot). (s.name, s.node)) slots) ≡ None)
-        → find (slice_cmp nat_cmp) q (map (λ (s : Slot). (s.name, s.node)) (s ∷ slots)) ≡ None
-    by (inl here) rec = absurd (true≢false (ap is_some (sym (ap (λ b. cond b (Some s.node) (node_in slots q)) here) ∙ none)))
-    by (inr off) rec = ap (λ b. cond b (Some s.node) (find (slice_cmp nat_cmp) q (map (λ (s : Slot). (s.name, s.node)) slots))) (other_key q s.name off) ∙ rec (sym (ap (λ b. cond b (Some s.node) (node_in slots q)) off) ∙ none)
-
--- a name of the slots has a slot
-pub has_slot : (slots : List Slot) (next : ℕ) (name : List ℕ) (rest : List (List ℕ)) → drop next (names_of slots) ≡ name ∷ rest → node_in slots name ≡ None → ⊥
-has_slot slots next name rest is none =
-    let any = any_in (eq_by_cmp (slice_cmp nat_cmp) name) name (ap is_eq (tied_itself name_total name)) next (names_of slots) rest is in
-    let there = contains_key-keys (row_in slots) name ∙ any in
-    true≢false (sym there ∙ ap is_some (get-from_entries name_total (map (λ (s : Slot). (s.name, s.node)) slots) name ∙ not_found name slots none))
+    by : node_in slots e.name ≡ Some e.node → (bytes_eq x.name e.name ≡ true) ⊎ (bytes_eq x.name e.name ≡ false) → node_in (x ∷ slots) e.name ≡ Some e.node
+    by rest (inl same) = absurd (omega (arith, distinct 0 (suc k) x e refl (slice_get-get_or slots k e inside ∙ ap Some is) ((bytes_eq-Decides x.name e.name).0 same)))
+    by rest (inr off) = ap (λ b. cond b (Some x.node) (node_in slots e.name)) off ∙ rest

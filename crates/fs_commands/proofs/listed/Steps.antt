@@ -1,9 +1,10 @@
 -- The steps of a walk: into a directory, past a file, to a name, and out of a directory.
-use Rattle.std.proofs.Common.{◌≡◌, ℕ, ◌+◌, ◌-◌, ◌<◌, ◌≤◌, if◌then◌else◌, List, [], ◌∷◌, ◌++◌, length, take, drop, Option, Some, option_map, sym, subst, ap, ap₂, ◌∙◌, arith, append-nil, append_assoc, length-append, length-take}
+use Rattle.std.proofs.Common.{◌≡◌, ℕ, ◌+◌, ◌-◌, ◌<◌, ◌≤◌, if◌then◌else◌, List, [], ◌∷◌, ◌++◌, length, map, take, drop, Option, Some, option_map, sym, subst, ap, ap₂, ◌∙◌, arith, append-nil, append_assoc, length-append, length-take}
 use Rattle.std.proofs.lemmas.List.{take_all, take-take, take-append-le}
 use Rattle.std.specs.Io.KnownBytes.{Appends}
 use Rattle.std.proofs.KnownBytes.{Appends-nil}
 use Rattle.std.specs.FinMap.{get}
+use Rattle.std.specs.List.Sorted.{IsPermutation}
 use Rattle.layout_bytes.specs.declared.slot.Slot.{Slot}
 use Rattle.base_io.specs.Prefix.{TakesPrefix}
 use Rattle.lang_tree.specs.Tree.{Tree, Thing, Dir, File}
@@ -15,7 +16,7 @@ use Rattle.fs_inodes.specs.Names.{names_of}
 use Rattle.fs_inodes.specs.Listing.{at_and_below}
 use Rattle.fs_commands.specs.declared.listing.Frame.{Frame}
 use Rattle.fs_commands.specs.declared.listing.Walk.{Walk}
-use Rattle.fs_commands.specs.Listing.{Paths, lines_of, is_dir_thing, dirs_among, under_names, paths_left, to_come, IsFrame, AreFrames, IsWalk, HasWritten, Enters, TakesName}
+use Rattle.fs_commands.specs.Listing.{Paths, lines_of, is_dir_thing, dirs_among, under_names, paths_left, to_come, IsFrame, AreFrames, IsWalk, HasWritten, Enters, TakesEntry, names_left}
 use Rattle.fs_commands.proofs.listed.Texts.{IsFirst, IsSecond}
 use Rattle.fs_commands.proofs.listed.Children.{no_names}
 use Rattle.fs_commands.proofs.listed.Walks.{lines_join, left_behind, AreAlike, left_alike, frames_alike, frames_join}
@@ -24,15 +25,15 @@ use Rattle.fs_commands.proofs.listed.Walks.{lines_join, left_behind, AreAlike, l
 
 -- a directory that was entered is the deepest one
 pub into_dir : (m : Inodes) (t : Tree) (old new : Walk) (f : Frame) (slots : List Slot) → new.path ≡ old.path → new.frames.items ≡ old.frames.items ++ f ∷ [] → new.left + 1 ≡ old.left
-    → f.next ≡ 0 → f.names ≡ names_of slots → LeadsTo m old.path.items f.dir → m f.dir ≡ Some (ADir slots)
+    → f.next ≡ 0 → IsPermutation slots f.entries.items → map (λ (s : Slot). s.name) f.entries.items ≡ names_of slots → LeadsTo m old.path.items f.dir → m f.dir ≡ Some (ADir slots)
     → AreFrames m old.path.items 0 old.frames.items → length old.path.items ≡ length old.frames.items → Enters m t (names_of slots) old new
-into_dir m t old new f slots same_path same_frames left first names leads dir frames depth =
+into_dir m t old new f slots same_path same_frames left first entries names leads dir frames depth =
     let path = old.path.items in
     let whole : take (0 + length old.frames.items) path ≡ path = take_all (0 + length old.frames.items) path (omega (arith, depth)) in
-    let deepest : IsFrame m path (0 + length old.frames.items) f = record { leads = subst (λ up. LeadsTo m up f.dir) (sym whole) leads; slots = slots; dir = dir; names = names } in
+    let deepest : IsFrame m path (0 + length old.frames.items) f = record { leads = subst (λ up. LeadsTo m up f.dir) (sym whole) leads; slots = slots; dir = dir; entries = entries } in
     record {
       rest = ap₂ (λ (p : List (List ℕ)) fs. paths_left t p 0 fs) (ap (λ p. p.items) same_path) same_frames ∙ left_behind t path 0 old.frames.items f
-          ∙ ap₂ (λ up ns. under_names t up ns ++ to_come t old) whole (ap (λ n. drop n f.names) first ∙ names);
+          ∙ ap₂ (λ up ns. under_names t up ns ++ to_come t old) whole (ap (λ n. map (λ (s : Slot). s.name) (drop n f.entries.items)) first ∙ names);
       frames = subst (λ p. AreFrames m p.items 0 new.frames.items) (sym same_path) (subst (λ fs. AreFrames m path 0 fs) (sym same_frames) (frames_join m path 0 old.frames.items f frames deepest));
       depth = omega (arith, ap (λ p. length p.items) same_path, ap length same_frames, length-append old.frames.items (f ∷ []), depth);
       left = left;
@@ -145,24 +146,24 @@ left_dir m t old new names taken none walk left same room =
 -- To a name.
 
 -- a walk at a directory's next name
-module _ (m : Inodes) (t : Tree) (old mid : Walk) (frame next : Frame) (name : List ℕ) (takes : TakesName frame next name) (path : mid.path.items ≡ old.path.items ++ name ∷ []) (frames : mid.frames.items ≡ old.frames.items ++ next ∷ [])
-    (room : mid.left ≡ old.left) (walk : IsWalk m t (under_names t old.path.items (drop frame.next frame.names)) old) (deepest : IsFrame m old.path.items (length old.frames.items) frame) where
+module _ (m : Inodes) (t : Tree) (old mid : Walk) (frame next : Frame) (entry : Slot) (takes : TakesEntry frame next entry) (path : mid.path.items ≡ old.path.items ++ entry.name ∷ []) (frames : mid.frames.items ≡ old.frames.items ++ next ∷ [])
+    (room : mid.left ≡ old.left) (walk : IsWalk m t (under_names t old.path.items (names_left frame)) old) (deepest : IsFrame m old.path.items (length old.frames.items) frame) where
   longer : AreAlike old.path.items mid.path.items 0 (length (old.frames.items ++ next ∷ []))
-  longer d low = sym (ap (take d) path ∙ take-append-le d old.path.items (name ∷ []) (omega (arith, low, length-append old.frames.items (next ∷ []), walk.depth)))
+  longer d low = sym (ap (take d) path ∙ take-append-le d old.path.items (entry.name ∷ []) (omega (arith, low, length-append old.frames.items (next ∷ []), walk.depth)))
 
   whole : take (0 + length old.frames.items) old.path.items ≡ old.path.items
   whole = take_all (0 + length old.frames.items) old.path.items (omega (arith, walk.depth))
 
-  to_come_mid : to_come t mid ≡ under_names t old.path.items (drop next.next next.names) ++ to_come t old
+  to_come_mid : to_come t mid ≡ under_names t old.path.items (names_left next) ++ to_come t old
   to_come_mid = ap (paths_left t mid.path.items 0) frames ∙ sym (left_alike old.path.items mid.path.items t 0 (old.frames.items ++ next ∷ []) longer)
-      ∙ left_behind t old.path.items 0 old.frames.items next ∙ ap (λ up. under_names t up (drop next.next next.names) ++ to_come t old) whole
+      ∙ left_behind t old.path.items 0 old.frames.items next ∙ ap (λ up. under_names t up (names_left next) ++ to_come t old) whole
 
   -- the paths at and below that name come first
-  pub same_paths : under_names t old.path.items (drop frame.next frame.names) ++ to_come t old ≡ at_and_below t mid.path.items ++ to_come t mid
+  pub same_paths : under_names t old.path.items (names_left frame) ++ to_come t old ≡ at_and_below t mid.path.items ++ to_come t mid
   same_paths =
       let at : List (List ℕ) → Paths = λ p. at_and_below t p in
-      let rest = under_names t old.path.items (drop next.next next.names) in
-      ap (λ ns. under_names t old.path.items ns ++ to_come t old) takes.rest ∙ append_assoc (at (old.path.items ++ name ∷ [])) rest (to_come t old)
+      let rest = under_names t old.path.items (names_left next) in
+      ap (λ ns. under_names t old.path.items ns ++ to_come t old) (ap (map (λ (s : Slot). s.name)) takes.rest) ∙ append_assoc (at (old.path.items ++ entry.name ∷ [])) rest (to_come t old)
       ∙ ap₂ (λ p l. at p ++ l) (sym path) (sym to_come_mid)
 
   pub walk_mid : IsWalk m t (at_and_below t mid.path.items) mid
@@ -172,10 +173,10 @@ module _ (m : Inodes) (t : Tree) (old mid : Walk) (frame next : Frame) (name : L
         leads = subst (λ d. LeadsTo m (take d old.path.items) next.dir) here (subst (λ n. LeadsTo m (take (length old.frames.items) old.path.items) n) (sym takes.dir) deepest.leads);
         slots = deepest.slots;
         dir = subst (λ n. m n ≡ Some (ADir deepest.slots)) (sym takes.dir) deepest.dir;
-        names = takes.names ∙ deepest.names;
+        entries = subst (IsPermutation deepest.slots) (sym takes.entries) deepest.entries;
       } in
       record {
         frames = subst (λ fs. AreFrames m mid.path.items 0 fs) (sym frames) (frames_alike old.path.items mid.path.items m 0 (old.frames.items ++ next ∷ []) longer (frames_join m old.path.items 0 old.frames.items next walk.frames one));
-        depth = omega (arith, ap length path, ap length frames, length-append old.path.items (name ∷ []), length-append old.frames.items (next ∷ []), walk.depth);
+        depth = omega (arith, ap length path, ap length frames, length-append old.path.items (entry.name ∷ []), length-append old.frames.items (next ∷ []), walk.depth);
         room = omega (arith, walk.room, ap (dirs_among t) same_paths, room);
       }

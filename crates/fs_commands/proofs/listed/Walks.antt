@@ -1,5 +1,5 @@
 -- The paths that a walk has still to come to, with one directory more, or with another path at its end.
-use Rattle.std.proofs.Common.{◌≡◌, ℕ, suc, ◌+◌, ◌<◌, List, [], ◌∷◌, ◌++◌, length, take, drop, refl, sym, subst, ap, ap₂, ◌∙◌, arith, append_assoc, append-nil}
+use Rattle.std.proofs.Common.{◌≡◌, ℕ, suc, ◌+◌, ◌<◌, List, [], ◌∷◌, ◌++◌, length, take, refl, sym, subst, ap, ap₂, ◌∙◌, arith, append_assoc, append-nil}
 use Rattle.std.proofs.lemmas.Grind.{flat_map-append}
 use Rattle.std.specs.FinMap.{get}
 use Rattle.lang_tree.specs.Tree.{Tree}
@@ -7,7 +7,7 @@ use Rattle.lang_tree.specs.Listing.{line_of}
 use Rattle.crash_stands.specs.Inodes.{Inodes}
 use Rattle.crash_stands.specs.Walks.{LeadsTo}
 use Rattle.fs_commands.specs.declared.listing.Frame.{Frame}
-use Rattle.fs_commands.specs.Listing.{Paths, lines_of, under_names, paths_left, IsFrame, AreFrames, turns_of, turns_in}
+use Rattle.fs_commands.specs.Listing.{Paths, lines_of, under_names, paths_left, IsFrame, AreFrames, turns_of, turns_in, names_left}
 
 -- the lines of paths in a row
 pub lines_join : (t : Tree) (xs ys : Paths) → lines_of t (xs ++ ys) ≡ lines_of t xs ++ lines_of t ys
@@ -15,16 +15,16 @@ lines_join t xs ys = flat_map-append (λ e. line_of e.0 e.1 (get t.nodes e.1)) x
 
 -- The paths that are left, with one directory more.
 pub left_behind : (t : Tree) (path : List (List ℕ)) (depth : ℕ) (frames : List Frame) (f : Frame)
-    → paths_left t path depth (frames ++ f ∷ []) ≡ under_names t (take (depth + length frames) path) (drop f.next f.names) ++ paths_left t path depth frames
+    → paths_left t path depth (frames ++ f ∷ []) ≡ under_names t (take (depth + length frames) path) (names_left f) ++ paths_left t path depth frames
 left_behind t path depth [] f =
     let here : depth ≡ depth + 0 = omega arith in
-    ap (λ d. under_names t (take d path) (drop f.next f.names)) here ∙ sym (append-nil (under_names t (take (depth + 0) path) (drop f.next f.names)))
+    ap (λ d. under_names t (take d path) (names_left f)) here ∙ sym (append-nil (under_names t (take (depth + 0) path) (names_left f)))
 left_behind t path depth (g ∷ frames) f =
     let here : depth + 1 + length frames ≡ depth + suc (length frames) = omega arith in
-    let own = under_names t (take depth path) (drop g.next g.names) in
+    let own = under_names t (take depth path) (names_left g) in
     ap (λ l. l ++ own) (left_behind t path (depth + 1) frames f)
-    ∙ append_assoc (under_names t (take (depth + 1 + length frames) path) (drop f.next f.names)) (paths_left t path (depth + 1) frames) own
-    ∙ ap (λ d. under_names t (take d path) (drop f.next f.names) ++ (paths_left t path (depth + 1) frames ++ own)) here
+    ∙ append_assoc (under_names t (take (depth + 1 + length frames) path) (names_left f)) (paths_left t path (depth + 1) frames) own
+    ∙ ap (λ d. under_names t (take d path) (names_left f) ++ (paths_left t path (depth + 1) frames ++ own)) here
 
 module _ (path other : List (List ℕ)) where
   -- two paths begin with the same names above each of so many directories
@@ -38,13 +38,13 @@ module _ (path other : List (List ℕ)) where
   pub left_alike : (t : Tree) (depth : ℕ) (frames : List Frame) → AreAlike depth (length frames) → paths_left t path depth frames ≡ paths_left t other depth frames
   left_alike t depth [] alike = refl
   left_alike t depth (f ∷ frames) alike =
-      ap₂ (λ l up. l ++ under_names t up (drop f.next f.names)) (left_alike t (depth + 1) frames (next_alike depth (length frames) alike)) (alike depth (omega arith))
+      ap₂ (λ l up. l ++ under_names t up (names_left f)) (left_alike t (depth + 1) frames (next_alike depth (length frames) alike)) (alike depth (omega arith))
 
   -- and they lead to the same directories
   pub frames_alike : (m : Inodes) (depth : ℕ) (frames : List Frame) → AreAlike depth (length frames) → AreFrames m path depth frames → AreFrames m other depth frames
   frames_alike m depth [] alike h = tt
   frames_alike m depth (f ∷ frames) alike h = (
-    record { leads = subst (λ up. LeadsTo m up f.dir) (alike depth (omega arith)) h.0.leads; slots = h.0.slots; dir = h.0.dir; names = h.0.names },
+    record { leads = subst (λ up. LeadsTo m up f.dir) (alike depth (omega arith)) h.0.leads; slots = h.0.slots; dir = h.0.dir; entries = h.0.entries },
     frames_alike m (depth + 1) frames (next_alike depth (length frames) alike) h.1,
   )
 

@@ -1,5 +1,5 @@
 -- The whole walk: it begins with all paths of the tree to come, and goes on turn by turn.
-use Rattle.std.proofs.Common.{◌≡◌, ℕ, ◌+◌, List, [], ◌∷◌, ◌++◌, length, take, drop, Option, Some, refl, sym, subst, ap, ap₂, ◌∙◌, arith, append_assoc, append-nil, length-append}
+use Rattle.std.proofs.Common.{◌≡◌, ℕ, ◌+◌, List, [], ◌∷◌, ◌++◌, length, take, Option, Some, refl, sym, subst, ap, ap₂, ◌∙◌, arith, append_assoc, append-nil, length-append}
 use Rattle.std.proofs.lemmas.List.{take_all}
 use Rattle.std.proofs.lemmas.List.Elements.{All-pop}
 use Rattle.std.specs.FinMap.{get}
@@ -23,7 +23,7 @@ use Rattle.fs_files.specs.Drafts.{DraftState, nothing_drafted}
 use Rattle.fs_dirs.specs.Directories.{IsNumber, inodes_in}
 use Rattle.fs_commands.specs.declared.listing.Frame.{Frame}
 use Rattle.fs_commands.specs.declared.listing.Walk.{Walk}
-use Rattle.fs_commands.specs.Listing.{IsMapIn, lines_of, dirs_among, under_names, paths_left, to_come, IsFrame, AreFrames, IsWalk, HasWritten, HaveNumbers}
+use Rattle.fs_commands.specs.Listing.{IsMapIn, lines_of, dirs_among, under_names, paths_left, to_come, IsFrame, AreFrames, IsWalk, HasWritten, HaveNumbers, names_left}
 use Rattle.fs_session.specs.Sessions.{IsSession}
 use Rattle.fs_commands.proofs.listed.Texts.{IsSecond}
 use Rattle.fs_commands.proofs.listed.Walks.{lines_join, left_behind, frames_split}
@@ -88,9 +88,9 @@ module _ (start s : State) (d : DraftState) (before : Option (List ℕ)) (w : Wa
     same_left =
         let whole : take (0 + length mid.frames.items) mid.path.items ≡ mid.path.items = take_all (0 + length mid.frames.items) mid.path.items (omega (arith, depth)) in
         ap₂ (λ p fs. paths_left t p 0 fs) (sym same_path) frames ∙ left_behind t mid.path.items 0 mid.frames.items frame
-        ∙ ap (λ up. under_names t up (drop frame.next frame.names) ++ to_come t mid) whole
+        ∙ ap (λ up. under_names t up (names_left frame) ++ to_come t mid) whole
 
-    goes_on : IsWalk m t (under_names t mid.path.items (drop frame.next frame.names)) mid
+    goes_on : IsWalk m t (under_names t mid.path.items (names_left frame)) mid
     goes_on = record { frames = parts.0; depth = depth; room = omega (arith, ap (dirs_among t) same_left, so_far.room, left) }
 
     all_lines : lines_of t so_far.seen ++ lines_of t (coming s d mid frame t) ≡ lines_of t (at_and_below t [])

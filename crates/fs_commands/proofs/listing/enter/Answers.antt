@@ -1,4 +1,7 @@
-use Rattle.std.proofs.Common.{◌≡◌, Some, refl, sym, subst, ap, ◌∙◌, arith}
+use Rattle.std.proofs.Common.{◌≡◌, map, Some, refl, sym, subst, ap, ◌∙◌, arith}
+use Rattle.std.proofs.lemmas.List.Sorted.{IsPermutation-map}
+use Rattle.std.specs.List.Sorted.{IsPermutation}
+use Rattle.layout_bytes.specs.declared.slot.Slot.{Slot}
 use Rattle.crash_stands.specs.Inodes.{ADir}
 use Rattle.crash_stands.specs.Walks.{LeadsTo}
 use Rattle.fs_commands.specs.declared.listing.Frame.{Frame}
@@ -13,10 +16,12 @@ returns-clause-enters g c = λ told m t slots h leads dir some frames depth.
     let path = c.args.walk.now.path.items in
     let laws = c.the_map_gives_the_names.ensures in
     let here = sym (ap (λ f. f c.args.number) h.same) ∙ dir in
-    let sorted = laws.sorted s.books.geom.i m t path c.args.number slots c.in_ok-names.names h.map leads dir (c.in_ok-names.ensures.all told slots here) c.in_ok-names.ensures.sorted in
+    let shuffled = c.in_ok-entries.ensures.all told slots here in
+    let sorted = laws.sorted s.books.geom.i m t path c.args.number slots _ h.map leads dir (IsPermutation-map (λ (s : Slot). s.name) slots _ shuffled) c.in_ok-entries.ensures.sorted in
     let number = sym (ap (λ (f : Frame). f.dir) c.entered.ensures.value) in
+    let same = ap (λ (f : Frame). f.entries.items) c.entered.ensures.value in
     into_dir m t c.args.walk.now _ c.entered.result slots refl c.in_ok-push.ensures.items (omega (arith, some)) (ap (λ (f : Frame). f.next) c.entered.ensures.value)
-    (ap (λ (f : Frame). f.names) c.entered.ensures.value ∙ sym sorted ∙ laws.names s.books.geom.i m t path c.args.number slots h.map leads dir)
+    (subst (IsPermutation slots) (sym same) shuffled) (ap (map (λ (s : Slot). s.name)) same ∙ sym sorted ∙ laws.names s.books.geom.i m t path c.args.number slots h.map leads dir)
     (subst (λ n. LeadsTo m path n) number leads) (subst (λ n. m n ≡ Some (ADir slots)) number dir) frames depth
 
 pub returns-clause-turns : goal.returns-clause-turns

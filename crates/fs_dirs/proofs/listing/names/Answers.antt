@@ -1,32 +1,16 @@
-use Rattle.std.proofs.Common.{◌≡◌, false, rules, sym, ap, ◌∙◌}
-use Rattle.std.proofs.lemmas.Option.{none-some, same_Some}
-use Rattle.crash_stands.specs.Inodes.{ADir}
-use Rattle.engine_blocks.specs.State.{Bookkeeping}
-use Rattle.fs_dirs.specs.Directories.{inodes_in}
-use Rattle.fs_dirs.proofs.reading.Looks.{of_found, of_none, draft_stays, same_inodes}
+use Rattle.std.proofs.Common.{◌≡◌, map, sym, subst, ap, ◌∙◌}
+use Rattle.std.proofs.lemmas.List.Sorted.{IsPermutation-map}
+use Rattle.std.specs.List.Sorted.{IsPermutation, IsSorted}
+use Rattle.std.specs.Ordering.{nat_cmp}
+use Rattle.std.specs.Cmp.Lexicographic.{slice_cmp}
+use Rattle.layout_bytes.specs.declared.slot.Slot.{Slot}
 use Rattle.fs_dirs.proofs.listing.names.Goals as goal
-
-pub returns-in_default-clause-all : goal.returns-in_default-clause-all
-returns-in_default-clause-all g c = λ told slots is.
-    absurd (none-some _ (of_none _ c.in_default.is (c.in_ok-directory.ensures.none told) (ADir slots) is))
-
-pub push_names-requires-clause-read : goal.push_names-requires-clause-read
-push_names-requires-clause-read g c =
-    let looks = c.in_ok-directory.ensures.looks in
-    record {
-      going = ap (λ (b : Bookkeeping). b.stopped) looks.books ∙ c.requires.going;
-      draft = draft_stays g.S.Blocks.tells false _ _ c.args.draft.now looks c.requires.draft;
-      inside = (of_found _ _ _ c.in-Some.is c.in_ok-directory.ensures.opened).1.inside;
-    }
-
-pub push_names-requires-clause-few : goal.push_names-requires-clause-few
-push_names-requires-clause-few g c = (of_found _ _ _ c.in-Some.is c.in_ok-directory.ensures.opened).1.few
 
 pub returns-clause-all : goal.returns-clause-all
 returns-clause-all g c = λ told slots is.
-    let old = g.S.Blocks.state c.args.blocks.now in
-    let mid = g.S.Blocks.state c.open_directory.new.blocks in
-    let r = of_found _ _ _ c.in-Some.is c.in_ok-directory.ensures.opened in
-    let at = ap (inodes_in mid c.args.draft.now) r.0 ∙ ap (λ m. m c.args.dir) (same_inodes g.S.Blocks.tells false old mid c.args.draft.now c.in_ok-directory.ensures.looks told) ∙ is in
-    let listed = c.in_ok-push_names.ensures.names told slots (record { dir = c.in-Some.directory.number; is = at; blocks = r.1.blocks told }) (sym (same_Some _ _ (r.1.count told (ADir slots) at))) in
-    search rules
+    subst (IsPermutation (map (λ (s : Slot). s.name) slots)) (sym (c.from_names.ensures ∙ c.in_ok-names.ensures ∙ ap (map (λ (s : Slot). s.name)) c.deref.ensures.value))
+    (IsPermutation-map (λ (s : Slot). s.name) _ _ (c.in_ok-found.ensures.all told slots is))
+
+pub returns-clause-sorted : goal.returns-clause-sorted
+returns-clause-sorted g c =
+    subst (IsSorted (slice_cmp nat_cmp)) (sym (c.from_names.ensures ∙ c.in_ok-names.ensures ∙ ap (map (λ (s : Slot). s.name)) c.deref.ensures.value)) c.in_ok-found.ensures.sorted

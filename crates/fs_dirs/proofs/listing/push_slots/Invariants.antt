@@ -1,6 +1,6 @@
 use Rattle.std.proofs.Common.{◌-◌}
 use Rattle.fs_dirs.specs.Reading.{HasListed}
-use Rattle.fs_dirs.proofs.listing.push_names.Given as goal
+use Rattle.fs_dirs.proofs.listing.push_slots.Given as goal
 
 abbrev pub invariant-loop-first : goal.invariant-loop-first
 invariant-loop-first g l = HasListed g.S.Blocks.tells (g.S.Blocks.state l.fn.blocks) (g.S.Blocks.state l.blocks) l.draft l.node l.count l.first l.fn.into.items l.into.items

@@ -1,7 +1,7 @@
 use Rattle.fs_dirs.specs.Reading.{slots_from}
 use Rattle.fs_dirs.proofs.reading.Listings.{block_more, all_listed}
 use Rattle.fs_dirs.proofs.reading.Searches.{read_entries}
-use Rattle.fs_dirs.proofs.listing.push_names.Goals as goal
+use Rattle.fs_dirs.proofs.listing.push_slots.Goals as goal
 
 pub loop-first-preserved : goal.loop-first-preserved
 loop-first-preserved g c =
@@ -11,6 +11,6 @@ loop-first-preserved g c =
     (read_entries g.S.Blocks.tells (g.S.Blocks.state c.args.blocks.now) (g.S.Blocks.state c.loop-first.blocks) c.args.draft.now c.args.count c.loop-first.first c.min-entries.result c.args.node.now c.read_slots.new.into slots
     c.loop-first.invariant.looks told has many c.min-entries.ensures (c.in_ok-read_slots.ensures.slots told)))
 
-pub returns-clause-names : goal.returns-clause-names
-returns-clause-names g c = λ told slots has many.
-    all_listed slots c.args.into.now.items c.loop-first.into.items c.args.count c.loop-first.first many c.loop-first-test.false (c.loop-first.invariant.names told slots has many)
+pub returns-clause-slots : goal.returns-clause-slots
+returns-clause-slots g c = λ told slots has many.
+    all_listed slots c.args.into.now.items c.loop-first.into.items c.args.count c.loop-first.first many c.loop-first-test.false (c.loop-first.invariant.listed told slots has many)
