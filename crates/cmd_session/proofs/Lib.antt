@@ -4,7 +4,6 @@ pub mod Crashes
 pub mod Marks
 pub mod Issuing
 pub mod Losses
-pub mod Counting
 pub mod Serving
 pub mod Opening
 pub mod Weights

@@ -1,5 +1,5 @@
 -- One command more: the run goes on, and so does what is known of its points.
-use Rattle.std.proofs.Common.{◌≡◌, ◌≢◌, ◌⊎◌, inl, ⊎_elim, ℕ, ◌+◌, ◌<◌, ◌≤◌, Bool, true, false, IsTrue, if◌then◌else◌, List, [], ◌∷◌, ◌++◌, length, take, slice_get, Some, ◌&&◌, Err, sym, ◌∙◌, ap, subst, arith}
+use Rattle.std.proofs.Common.{◌≡◌, ◌≢◌, ◌⊎◌, ⊎_elim, ℕ, ◌+◌, ◌<◌, ◌≤◌, Bool, true, false, IsTrue, if◌then◌else◌, List, [], ◌∷◌, ◌++◌, length, take, slice_get, Some, ◌&&◌, sym, ◌∙◌, ap, subst, arith}
 use Rattle.std.proofs.Math.Logic.{∥∥₁_map}
 use Rattle.std.proofs.lemmas.Bool.{cases_lt, cases_eq, cases_Bool, eq-eqb, ne_eqb, lt-ltb, le-ltb, true≢false, false≢true}
 use Rattle.std.proofs.lemmas.List.{length-append}
@@ -11,33 +11,29 @@ use Rattle.layout_geometry.specs.Geometry.{Geometry}
 use Rattle.crash_stands.specs.Stands.{IsTreeOf}
 use Rattle.lang_tree.specs.declared.command.Cmd.{Cmd}
 use Rattle.lang_tree.specs.declared.command.Cmd.TheVariants.{Bad}
-use Rattle.lang_tree.specs.declared.command.Refusal.{Refusal}
 use Rattle.lang_tree.specs.declared.command.Refusal.TheVariants as because
 use Rattle.lang_tree.specs.declared.command.Reply.{Reply}
 use Rattle.lang_tree.specs.declared.command.Reply.TheVariants.{Refused}
-use Rattle.lang_tree.specs.Points.{Point, after_reply, asks_for_durability, is_refusal, is_sync, may_have_written, made_by, points_after, points_of, promised_by}
-use Rattle.lang_tree.specs.Run.{Answers, Run, StopsAfterFault, is_of_disk, is_of_memory}
+use Rattle.lang_tree.specs.Points.{Point, after_reply, is_refusal, is_sync, may_have_written, made_by, points_after, points_of}
+use Rattle.lang_tree.specs.Run.{Answers, Run, StopsAfterFault, is_of_disk}
 use Rattle.lang_tree.specs.Step.{Session, step, osync, session_on}
 use Rattle.lang_tree.specs.Tree.{Tree}
 use Rattle.engine_blocks.specs.Crashes.{Advances, MakesPoint}
 use Rattle.engine_blocks.specs.State.{State}
 use Rattle.fs_session.specs.Applying.{Applies, AnswersSession, PassesTime}
-use Rattle.fs_session.specs.Commands.{is_disk_fault}
-use Rattle.fs_session.specs.Points.{KnowsPoints, LeavesTree, trees_after, with_tree}
+use Rattle.fs_session.specs.Points.{KnowsPoints, LeavesTree, TellsPoints, trees_after, with_tree}
 use Rattle.fs_session.specs.Sessions.{IsSession}
 use Rattle.cmd_session.specs.Crashes.{LeavesPoints}
 use Rattle.cmd_session.specs.Histories.{session_after, last_mark, HasNoFault}
 use Rattle.cmd_session.specs.Issued.{StandsForLast, IssuesLast}
 use Rattle.cmd_session.specs.Serving.{HasTree, GoesOn, HasServed, IsDrawn}
-use Rattle.cmd_session.proofs.Counting.{TellsPoints, tells_points}
 use Rattle.cmd_session.proofs.Crashes.{StandsForTree, crashes_more}
 use Rattle.cmd_session.proofs.Issuing.{issued_now, issues_more}
 use Rattle.cmd_session.proofs.Histories.{none_some, points_more, session_more, run_more, floor_more, ascend_more, get_before, get_behind, get_split}
 
--- What lang_tree promises of replies, and fs_commands of points.
+-- What lang_tree promises of replies, and fs_session of points.
 pub record ServingLaws {S : Type 0} (tells : Bool) (state : S → State) : Type 1 where
-  pub never : (f : Session) (cmd : Cmd) → (step f cmd).1 ≡ Refused because.DiskFault → ⊥
-  pub unasked : (f next : Session) (cmd : Cmd) (reply : Reply) → Answers is_of_disk f cmd reply next → asks_for_durability cmd ≡ false → promised_by reply ≡ 0
+  pub points : (old new : S) (f : Session) (cmd : Cmd) (reply : Reply) (begun : ℕ) → IsSession (state old) f → Applies tells state cmd reply old new → TellsPoints f cmd reply begun (state old) (state new)
   pub session : (old new : Session) (cmd : Cmd) (reply : Reply) → Answers is_of_disk old cmd reply new → new ≡ after_reply old cmd reply
   pub stops : (cmds : List Cmd) (replies : List Reply) (cmd : Cmd) (reply : Reply) → length cmds ≡ length replies → StopsAfterFault cmds replies
       → ((i : ℕ) → slice_get replies i ≡ Some (Refused because.DiskFault) → cmd ≢ Bad → reply ≡ Refused because.Stopped) → StopsAfterFault (cmds ++ cmd ∷ []) (replies ++ reply ∷ [])
@@ -45,10 +41,6 @@ pub record ServingLaws {S : Type 0} (tells : Bool) (state : S → State) : Type 
   pub call : (old new : S) (trees : ℕ → Tree) (img : Blocks) → Advances (state old) (state new) → KnowsPoints (state new) trees → (state new).crash.left_since (length (state old).crash.log) img → ∥ LeavesTree (state new) trees (state old).books.floor (state new).books.point img ∥₁
   pub issued : (s : S) (trees : ℕ → Tree) → IsTrue tells → KnowsPoints (state s) trees → (state s).books.stopped ≡ false
       → ∥ ((m : Blocks) × (state s).crash.issued m) ∥₁ × ((m : Blocks) → (state s).crash.issued m → IsTreeOf (state s).books.geom m (trees (state s).books.point))
-
--- no command is refused by the tree for a fault of the disk
-pub never_faults : ((old new : Session) (cmd : Cmd) (why : Refusal) → Answers is_of_memory old cmd (Refused why) new → (is_of_disk why ≡ false) ⊎ (why ≡ because.NoMemory)) → (f : Session) (cmd : Cmd) → (step f cmd).1 ≡ Refused because.DiskFault → ⊥
-never_faults alone f cmd is = ⊎_elim (λ out. true≢false out) (λ memory. true≢false (ap (λ (w : Refusal). is_disk_fault (Err w)) memory)) (alone f (step f cmd).0 cmd because.DiskFault (inl (ap (λ (r : Reply). ((step f cmd).0, r)) is)))
 
 -- what is known of points stays known over one command
 abbrev pub KeepsKnown : {S : Type 0} → (S → State) → S → S → Type 0
@@ -108,7 +100,7 @@ module _ {S : Type 0} (tells : Bool) (state : S → State) (told : IsTrue tells)
   next_is = session_more first cmds replies cmd reply served.answered ∙ sym (laws.session f a.next cmd reply a.answers)
 
   tellings : TellsPoints f cmd reply (last_mark mounted marks) (state old) (state new)
-  tellings = tells_points tells state told laws.never (last_mark mounted marks) laws.unasked f cmd reply old new served.goes_on.session applies a
+  tellings = laws.points old new f cmd reply (last_mark mounted marks) served.goes_on.session applies
 
   points_are : points_of first mounted all_cmds all_replies all_marks ≡ points_of first mounted cmds replies marks ++ made_by f cmd reply (last_mark mounted marks)
   points_are = ap (λ (ps : List Point). record { tree = first.tree; begun = 0 } ∷ ps) (points_more first mounted cmds replies marks cmd reply mark served.answered served.marked)

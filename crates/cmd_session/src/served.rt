@@ -5,11 +5,10 @@ use crash_stands::an_image_stands_for_one_tree;
 use engine_blocks::{Blocks, Figures};
 use fs_check::CheckRefusal;
 use fs_commands::Fs;
-use fs_session::{a_crash_leaves_the_tree_of_a_point, points_stay_known};
-use lang_tree::{
-    Cmd, Reply, a_fault_ends_the_session, a_reply_tells_the_session,
-    a_tree_in_memory_refuses_for_no_disk, no_other_command_is_promised_a_point,
+use fs_session::{
+    a_crash_leaves_the_tree_of_a_point, a_reply_tells_the_points, points_stay_known,
 };
+use lang_tree::{Cmd, Reply, a_fault_ends_the_session, a_reply_tells_the_session};
 use std::alloc::Global;
 use std::marker::Model;
 
@@ -97,8 +96,7 @@ impl<S: Blocks + Drop> Served<S> {
     {
         a_reply_tells_the_session();
         a_fault_ends_the_session();
-        a_tree_in_memory_refuses_for_no_disk();
-        no_other_command_is_promised_a_point();
+        a_reply_tells_the_points::<S>();
         a_crash_leaves_the_tree_of_a_point::<S>();
         let reply = self.fs.apply(alloc, cmd);
         points_stay_known(self.fs.blocks());

@@ -30,7 +30,10 @@ pub use memory::{
     nothing_is_taken_at_first,
 };
 pub use plan::{Plan, carry};
-pub use points::{a_crash_leaves_the_tree_of_a_point, live_blocks_are_enough, points_stay_known};
+pub use points::{
+    a_crash_leaves_the_tree_of_a_point, a_reply_tells_the_points, live_blocks_are_enough,
+    points_stay_known,
+};
 pub use space::has_room;
 pub use syncs::{dsync, osync};
 pub use unused::{NodeUse, UnusedNodes};

@@ -1,5 +1,5 @@
-//! Sync points as trees: which tree each point has, how that stays known from call to call, and that a crash
-//! leaves one of these trees. The functions do nothing; their clauses are laws. What a crash may leave of
+//! Sync points as trees: which tree each point has, how that stays known from call to call, that a crash leaves one
+//! of these trees, and what a reply tells of points. The functions do nothing; their clauses are laws. What a crash may leave of
 //! blocks is described by engine_blocks, and when blocks stand for a tree by crash_stands.
 
 ghost use Rattle.std.specs.Prelude.{◌≡◌, ◌⊎◌, ◌+◌, ◌≤◌, ℕ, IsTrue, false, Result, length};
@@ -8,11 +8,18 @@ ghost use Rattle.layout_geometry.specs.Geometry.{Geometry, IsGeometry};
 ghost use Rattle.engine_blocks.specs.declared.refusals.SyncRefusal.{SyncRefusal};
 ghost use Rattle.engine_blocks.specs.Crashes.{HasLiveBlocks, HasMapOfPoint, Advances, MakesPoint};
 ghost use Rattle.engine_blocks.specs.Effects.{Syncs};
+ghost use Rattle.lang_tree.specs.declared.command.Cmd.{Cmd};
+ghost use Rattle.lang_tree.specs.declared.command.Reply.{Reply};
+ghost use Rattle.lang_tree.specs.Step.{Session};
 ghost use Rattle.lang_tree.specs.Tree.{Tree};
 ghost use Rattle.crash_stands.specs.Stands.{IsTreeOf};
-ghost use Rattle.fs_session.specs.Points.{KnowsPoints, LeavesTree, with_tree, trees_after};
+ghost use Rattle.fs_session.specs.Applying.{Applies};
+ghost use Rattle.fs_session.specs.Points.{KnowsPoints, LeavesTree, TellsPoints, with_tree, trees_after};
+ghost use Rattle.fs_session.specs.Sessions.{IsSession};
 
+use crate::laws::a_command_answers_its_session;
 use engine_blocks::Blocks;
+use lang_tree::{a_tree_in_memory_refuses_for_no_disk, no_other_command_is_promised_a_point};
 
 /// Blocks that have the live blocks of a map stand for each tree for which that map stands.
 pub fn live_blocks_are_enough()
@@ -65,4 +72,15 @@ pub fn points_stay_known<S: Blocks>(blocks: &S)
         → KnowsPoints (S.state old) trees → KnowsPoints (S.state blocks.now) (trees_after (S.state old) (S.state blocks.now) trees t) }
 {
     blocks.geom().lawful();
+}
+
+/// The reply to a command of a session tells of points: how many it made, that what it promised is on the disk, and
+/// that a fault ends the session.
+pub fn a_reply_tells_the_points<S: Blocks>()
+    ensures { IsTrue S.tells → (old new : S) (f : Session) (cmd : Cmd) (reply : Reply) (begun : ℕ) → IsSession (S.state old) f
+        → Applies S.tells S.state cmd reply old new → TellsPoints f cmd reply begun (S.state old) (S.state new) }
+{
+    a_command_answers_its_session::<S>();
+    a_tree_in_memory_refuses_for_no_disk();
+    no_other_command_is_promised_a_point();
 }

@@ -54,7 +54,7 @@ module _ {S : Type 0} (tells : Bool) (state : S → State) (told : IsTrue tells)
     (alone : (old new : Session) (cmd : Cmd) (why : Refusal) → Answers is_of_memory old cmd (Refused why) new → (is_of_disk why ≡ false) ⊎ (why ≡ because.NoMemory)) where
   module _ (why : Refusal) (outside : is_of_disk why ≡ true) (own : why ≢ because.NoMemory) (f : Session) where
     -- the tree never refuses so
-    by_tree : (cmd : Cmd) → (step f cmd).1 ≡ Refused why → ⊥
+    pub by_tree : (cmd : Cmd) → (step f cmd).1 ≡ Refused why → ⊥
     by_tree cmd e = ⊎_elim (λ inside. false≢true (sym inside ∙ outside)) own (alone f (step f cmd).0 cmd why (inl (ap (λ (r : Reply). ((step f cmd).0, r)) e)))
 
     of_carried : (cmd : Cmd) (result : Result Reply Refusal) (mid new : S) → IsSession (state mid) f → Carries tells cmd result (state mid) (state new) → reply_for result ≡ Refused why → Failed tells state f cmd why new

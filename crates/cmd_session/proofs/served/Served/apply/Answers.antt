@@ -3,7 +3,7 @@ use Rattle.lang_tree.specs.Run.{is_of_disk}
 use Rattle.fs_commands.specs.Opened.{blocks_in}
 use Rattle.cmd_session.specs.Budget.{KeepsBudget}
 use Rattle.cmd_session.specs.Serving.{HasServed}
-use Rattle.cmd_session.proofs.Serving.{KeepsKnown, never_faults, serves_more}
+use Rattle.cmd_session.proofs.Serving.{KeepsKnown, serves_more}
 use Rattle.cmd_session.proofs.Spending.{keeps_more, writes_more}
 use Rattle.cmd_session.proofs.served.Served.apply.Goals as goal
 
@@ -12,8 +12,7 @@ returns-clause-serves g c = λ told drawn k t mounted cmds replies marks served.
     let old = blocks_in c.self.inside.fs in
     serves_more g.S.Blocks.tells g.S.Blocks.state told
     (record {
-      never = never_faults c.a_tree_in_memory_refuses_for_no_disk.ensures.alone;
-      unasked = λ f next cmd reply. c.no_other_command_is_promised_a_point.ensures is_of_disk f next cmd reply;
+      points = c.a_reply_tells_the_points.ensures told;
       session = λ before after cmd reply. c.a_reply_tells_the_session.ensures is_of_disk before after cmd reply;
       stops = c.a_fault_ends_the_session.ensures.more;
       now = c.a_crash_leaves_the_tree_of_a_point.ensures.now;

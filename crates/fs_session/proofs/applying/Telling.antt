@@ -15,6 +15,7 @@ use Rattle.engine_blocks.specs.State.{Bookkeeping, State}
 use Rattle.engine_blocks.specs.Calls.{if_changed}
 use Rattle.fs_session.specs.Applying.{Ticks, Runs, Began, Applies, AnswersSession, is_spent, reply_for}
 use Rattle.fs_session.specs.Commands.{Carries, is_disk_fault}
+use Rattle.fs_session.specs.Points.{TellsPoints}
 use Rattle.fs_session.specs.Sessions.{IsSession}
 use Rattle.fs_session.specs.Syncs.{SyncsSession}
 
@@ -60,18 +61,6 @@ and_false c = grind arith
 
 pub osync_written : (f : Session) (b : Bool) → may_have_written (osync f b).1 ≡ true
 osync_written f b = grind arith
-
--- What a reply tells of the points: how many there are by then, that a new one has the session's tree, that what was promised is on the disk, and that a fault ends the session.
-pub record TellsPoints (f : Session) (cmd : Cmd) (reply : Reply) (begun : ℕ) (old new : State) : Type 0 where
-  pub upto : new.books.point ≤ old.books.point + length (made_by f cmd reply begun)
-  pub going : new.books.stopped ≡ false → new.books.point ≡ old.books.point + length (made_by f cmd reply begun)
-  pub made : old.books.point < new.books.point → made_by f cmd reply begun ≡ record { tree = f.tree; begun = begun } ∷ []
-  pub promised : promised_by reply ≤ new.books.floor
-  pub fault : reply ≡ Refused because.DiskFault → new.books.stopped ≡ true
-  pub stays : old.books.stopped ≡ true → new.books.stopped ≡ true
-  pub calm : old.books.stopped ≡ false → new.books.stopped ≡ true → reply ≡ Refused because.DiskFault
-  pub ended : old.books.stopped ≡ true → cmd ≢ Bad → reply ≡ Refused because.Stopped
-  pub awake : old.books.point < new.books.point → old.books.stopped ≡ false
 
 -- the same of points alone
 record CountsMade (f : Session) (cmd : Cmd) (reply : Reply) (begun : ℕ) (old new : State) : Type 0 where
