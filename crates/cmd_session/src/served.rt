@@ -5,9 +5,7 @@ use crash_stands::an_image_stands_for_one_tree;
 use engine_blocks::{Blocks, Figures};
 use fs_check::CheckRefusal;
 use fs_commands::Fs;
-use fs_session::{
-    a_crash_leaves_the_tree_of_a_point, a_reply_tells_the_points, points_stay_known,
-};
+use fs_session::{a_crash_leaves_the_tree_of_a_point, a_reply_tells_the_points, points_stay_known};
 use lang_tree::{Cmd, Reply, a_fault_ends_the_session, a_reply_tells_the_session};
 use std::alloc::Global;
 use std::marker::Model;
