@@ -19,13 +19,13 @@ use Rattle.engine_blocks.specs.State.{Bookkeeping, State}
 use Rattle.fs_session.specs.Applying.{Ticks, Runs, Began, Applies, reply_for, is_spent}
 use Rattle.fs_session.specs.Commands.{Carries}
 use Rattle.fs_session.specs.Sessions.{IsSession, Stands}
+use Rattle.fs_session.specs.Staying.{session_ticks}
 use Rattle.fs_session.specs.Syncs.{SyncsSession}
 use Rattle.cmd_session.specs.Budget.{KeepsBudget, budget_of, commits, may_have_begun, sync_budget, weight_after, weight_by, writes_of}
 use Rattle.cmd_session.specs.Histories.{session_after}
 use Rattle.cmd_session.specs.Serving.{HasServed}
-use Rattle.cmd_session.proofs.Counting.{is_bad, session_ticks}
 use Rattle.cmd_session.proofs.Histories.{none_some, some_none, one_less}
-use Rattle.cmd_session.proofs.Weights.{weighs, within_weight}
+use Rattle.cmd_session.proofs.Weights.{is_bad, weighs, within_weight}
 
 -- The writes of one command.
 
@@ -91,7 +91,7 @@ module _ {S : Type 0} (tells : Bool) (state : S → State) (told : IsTrue tells)
       by (inr ran) = omega (
         arith,
         ran.0.moves.writes told,
-        of_run f cmd began.result began.mid new (session_ticks tells false told (state old) (state began.mid) f on ran.0 h) ran.1,
+        of_run f cmd began.result began.mid new (session_ticks tells false (state old) (state began.mid) ran.0 f on told h) ran.1,
         writes_alike cmd (reply_for began.result) (state old).books (state began.mid).books ran.0.moves.pipeline,
         ap (λ (r : Reply). writes_of cmd r (state old).books) began.is,
       )

@@ -18,9 +18,12 @@ use Rattle.engine_blocks.specs.State.{Bookkeeping, State}
 use Rattle.fs_session.specs.Applying.{Ticks, Runs, Began, Applies, reply_for, is_spent}
 use Rattle.fs_session.specs.Commands.{Carries, is_disk_fault}
 use Rattle.fs_session.specs.Sessions.{IsSession}
+use Rattle.fs_session.specs.Staying.{session_ticks}
 use Rattle.fs_session.specs.Syncs.{SyncsSession}
 use Rattle.cmd_session.specs.Budget.{sync_budget, sync_places, weight_by}
-use Rattle.cmd_session.proofs.Counting.{is_bad, session_ticks}
+
+pub is_bad : (cmd : Cmd) → (cmd ≡ Bad) ⊎ (cmd ≢ Bad)
+is_bad cmd = grind (arith, false≢true)
 
 -- A command that the tree refuses costs nothing.
 
@@ -112,7 +115,7 @@ module _ {S : Type 0} (tells : Bool) (state : S → State) (told : IsTrue tells)
           → (state new).books.running.weight ≡ weight_by (bitmap_blocks g) f (state old).books.running.weight cmd reply
       by (inl failed) = absurd (true≢false (sym failed.0.moves.disk.stopped ∙ going))
       by (inr ran) =
-          of_run cmd began.result began.mid new (ran.0.moves.pipeline.geom ∙ geom) (session_ticks tells false told (state old) (state began.mid) f on ran.0 h) ran.1 going
+          of_run cmd began.result began.mid new (ran.0.moves.pipeline.geom ∙ geom) (session_ticks tells false (state old) (state began.mid) ran.0 f on told h) ran.1 going
           ∙ ap (λ (r : Running). weight_by (bitmap_blocks g) f r.weight cmd (reply_for began.result)) ran.0.moves.pipeline.running
           ∙ ap (weight_by (bitmap_blocks g) f (state old).books.running.weight cmd) (sym began.is)
 
