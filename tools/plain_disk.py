@@ -283,13 +283,18 @@ def greatest_epoch(image, geometry):
     return max([0, *(one[1].epoch for one in headers if one), *(int.from_bytes(b[8:16], "little") for b in tagged)])
 
 
+def greatest_number(image, found):
+    """The greatest number of the journal of an image in which this was found."""
+    header = found.header
+    return max(header.turn, header.start, header.sure, found.last, greatest_epoch(image, found.geometry))
+
+
 def mountable(image):
     """What a mount of an image finds, and the recovered blocks. `Damage` tells why it isn't mounted."""
     found = find(image)
     if found is None:
         raise Damage(NO_HEADER_TEXT)
-    header, greatest = found.header, greatest_epoch(image, found.geometry)
-    if max(header.turn, header.start, header.sure, found.last, greatest) >= SPENT:
+    if greatest_number(image, found) >= SPENT:
         raise Damage(SPENT_TEXT)
     blocks = recovered(image, found)
     check_bits(found.geometry, blocks)
