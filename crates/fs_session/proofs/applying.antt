@@ -6,3 +6,4 @@ pub mod Causes
 pub mod Telling
 pub mod Turning
 pub mod Waiting
+pub mod Again

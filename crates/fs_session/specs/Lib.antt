@@ -12,3 +12,4 @@ pub mod Staying
 pub mod Serving
 pub mod Moments
 pub mod Points
+pub mod WithoutMemory

@@ -2,9 +2,11 @@
 use Rattle.std.specs.Prelude.{◌≡◌, ◌⊎◌, ◌+◌, ◌^◌, ◌<◌, ◌≤◌, ℕ, Bool, false, true, IsTrue, IfOk, IfErr, OnOk, OnErr, Result, Err}
 use Rattle.disk_contract.specs.Disk.{GrowsByWrites}
 use Rattle.lang_tree.specs.declared.command.Cmd.{Cmd}
+use Rattle.lang_tree.specs.declared.command.Cmd.TheVariants.{Dsync}
 use Rattle.lang_tree.specs.declared.command.Refusal.{Refusal}
 use Rattle.lang_tree.specs.declared.command.Refusal.TheVariants as because
 use Rattle.lang_tree.specs.declared.command.Reply.{Reply}
+use Rattle.lang_tree.specs.declared.command.Reply.TheVariants.{Synced, DurableAt}
 use Rattle.lang_tree.specs.Step.{Session, step}
 use Rattle.engine_blocks.specs.declared.refusals.SyncRefusal.{SyncRefusal}
 use Rattle.engine_blocks.specs.declared.refusals.SyncRefusal.TheVariants as sync
@@ -28,10 +30,17 @@ abbrev pub refusal_of_sync : SyncRefusal → Refusal
 refusal_of_sync sync.DiskFault = because.DiskFault
 refusal_of_sync sync.NoMemory = because.NoMemory
 
+-- the reply to a sync that is done, by the last point
+abbrev pub reply_of_sync : Cmd → ℕ → Reply
+reply_of_sync Dsync point = DurableAt point
+reply_of_sync cmd point = Synced point
+
 -- The sync is done as the session does it, or refused by the disk or out of memory, and then the session is as it was. Time goes on; where a point came, the map is its, and the writes are those of its record.
 -- Where the record fits the free ring places, or there is nothing to commit, one that only orders doesn't wait, and one that waits does so for records' writes alone.
 pub record SyncsSession (tells orders : Bool) (cmd : Cmd) (result : Result Reply Refusal) (old new : State) : Type 0 where
   pub done : IsTrue tells → IfOk result (λ reply. (f : Session) → IsSession old f → (reply ≡ (step f cmd).1) × IsSession new (step f cmd).0)
+  -- also where contents aren't known, it answers the last point
+  pub answers : IfOk result (λ reply. reply ≡ reply_of_sync cmd new.books.point)
   pub kept : IsTrue tells → OnErr result ((f : Session) → IsSession old f → IsSession new f)
   pub refused : IfErr result (λ why. (why ≡ because.DiskFault) ⊎ (why ≡ because.NoMemory))
   -- out of memory, nothing was done, and there was something to commit

@@ -13,6 +13,7 @@ mod points;
 mod space;
 mod syncs;
 mod unused;
+mod without_memory;
 
 pub use disk::{
     a_command_is_answered_in_a_room_that_came_back, a_command_serves_what_is_sure,
@@ -37,3 +38,4 @@ pub use points::{
 pub use space::has_room;
 pub use syncs::{dsync, osync};
 pub use unused::{NodeUse, UnusedNodes};
+pub use without_memory::{a_sync_without_memory_may_be_given_again, what_takes_no_memory_is_done};

@@ -22,7 +22,7 @@ use Rattle.fs_files.specs.Finish.{MayGoOn}
 use Rattle.fs_session.specs.Commands.{is_disk_fault}
 use Rattle.fs_session.specs.declared.unused.UnusedNodes.{UnusedNodes}
 use Rattle.fs_session.specs.Sessions.{IsSession, IsBetween}
-use Rattle.fs_session.specs.Syncs.{SyncsSession, refusal_of_sync}
+use Rattle.fs_session.specs.Syncs.{SyncsSession, refusal_of_sync, reply_of_sync}
 use Rattle.fs_session.proofs.Logs.{grows_by_none, heard_same}
 use Rattle.fs_session.specs.Staying.{tree_stays, session_stays, between_stays}
 
@@ -130,6 +130,7 @@ waits_so tells s t records = record {
 pub refused_session : (tells orders : Bool) (cmd : Cmd) (s t : State) (why : SyncRefusal) → s.books.stopped ≡ false → Syncs tells (Err why) s t → (s.books.running.weight ≡ 0 → OnNoMemory {T = ℕ} (Err why) ⊥) → Waits tells orders s t → SyncsSession tells orders cmd (Err (refusal_of_sync why)) s t
 refused_session tells orders cmd s t sync.DiskFault going syncs idle waits = record {
   done = λ told. tt;
+  answers = tt;
   kept = λ told f h. sync_refused tells s t f sync.DiskFault told going syncs h;
   refused = inl refl;
   unspent = λ none. absurd (no_memory_fault (Err because.DiskFault) refl none);
@@ -155,6 +156,7 @@ refused_session tells orders cmd s t sync.DiskFault going syncs idle waits = rec
 }
 refused_session tells orders cmd s t sync.NoMemory going syncs idle waits = record {
   done = λ told. tt;
+  answers = tt;
   kept = λ told f h. sync_refused tells s t f sync.NoMemory told going syncs h;
   refused = inr refl;
   unspent = λ none. (syncs.none.books, some_weighed s.books.running.weight idle);
@@ -180,10 +182,11 @@ refused_session tells orders cmd s t sync.NoMemory going syncs idle waits = reco
 }
 
 -- a sync that is done so
-done_session : (tells orders : Bool) (cmd : Cmd) (s t : State) (p : ℕ) (reply : Reply) → Syncs tells (Ok p) s t → (IsTrue tells → (f : Session) → IsSession s f → (reply ≡ (step f cmd).1) × IsSession t (step f cmd).0)
+done_session : (tells orders : Bool) (cmd : Cmd) (s t : State) (p : ℕ) (reply : Reply) → Syncs tells (Ok p) s t → reply ≡ reply_of_sync cmd t.books.point → (IsTrue tells → (f : Session) → IsSession s f → (reply ≡ (step f cmd).1) × IsSession t (step f cmd).0)
     → Waits tells orders s t → (IsTrue tells → EndsFrees s t) → (IsTrue tells → WritesItsRecord s t) → SyncsSession tells orders cmd (Ok reply) s t
-done_session tells orders cmd s t p reply syncs done waits frees written = record {
+done_session tells orders cmd s t p reply syncs answers done waits frees written = record {
   done = done;
+  answers = answers;
   kept = λ told. tt;
   refused = tt;
   unspent = λ none. absurd (ok_err reply because.NoMemory none);
@@ -210,7 +213,7 @@ done_session tells orders cmd s t p reply syncs done waits frees written = recor
 
 -- A sync that was done, as its session sees it.
 pub synced_session : (tells : Bool) (s t : State) (p : ℕ) → s.books.stopped ≡ false → Syncs tells (Ok p) s t → p < 2 ^ 64 → Waits tells true s t → (IsTrue tells → EndsFrees s t) → (IsTrue tells → WritesItsRecord s t) → SyncsSession tells true Osync (Ok (Synced p)) s t
-synced_session tells s t p going syncs low waits frees written = done_session tells true Osync s t p (Synced p) syncs (λ told f h. synced tells s t f p told going syncs low h) waits frees written
+synced_session tells s t p going syncs low waits frees written = done_session tells true Osync s t p (Synced p) syncs (ap (λ n. Synced n) syncs.point) (λ told f h. synced tells s t f p told going syncs low h) waits frees written
 
 pub dsynced_session : (tells : Bool) (s t : State) (p : ℕ) → s.books.stopped ≡ false → Syncs tells (Ok p) s t → p < 2 ^ 64 → t.books.floor ≡ t.books.point → Waits tells false s t → (IsTrue tells → EndsFrees s t) → (IsTrue tells → WritesItsRecord s t) → SyncsSession tells false Dsync (Ok (DurableAt p)) s t
-dsynced_session tells s t p going syncs low floor waits frees written = done_session tells false Dsync s t p (DurableAt p) syncs (λ told f h. dsynced tells s t f p told going syncs low h floor syncs.disk.stopped) waits frees written
+dsynced_session tells s t p going syncs low floor waits frees written = done_session tells false Dsync s t p (DurableAt p) syncs (ap (λ n. DurableAt n) syncs.point) (λ told f h. dsynced tells s t f p told going syncs low h floor syncs.disk.stopped) waits frees written
