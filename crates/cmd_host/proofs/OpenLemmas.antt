@@ -3,7 +3,6 @@ use Rattle.std.proofs.Common.{◌≡◌, ℕ, ◌+◌, ◌*◌, ◌/◌, ◌%◌
 use Rattle.std.proofs.lemmas.Bool.{and_from, cond-true, le-leb, lt-ltb, le-ltb}
 use Rattle.std.specs.Int.{bit_at}
 use Rattle.base_types.specs.Seal.{Blocks}
-use Rattle.disk_contract.specs.declared.disk.Disk.{Ghosts}
 use Rattle.disk_contract.specs.declared.event.Event.{Event}
 use Rattle.disk_contract.specs.Cell.{cell_of, notices, has_lost}
 use Rattle.disk_contract.specs.Disk as disk
@@ -27,23 +26,13 @@ use Rattle.engine_blocks.specs.State.{Bookkeeping, State, Ticking}
 use Rattle.fs_files.specs.Effects.{LooksOnly}
 use Rattle.fs_session.specs.Memory.{HasNoBlocks, room_of}
 use Rattle.fs_session.specs.Room.{IsFirstRoom}
-use Rattle.engine_store.specs.declared.store.Store.{Store}
-use Rattle.engine_store.specs.StoreOf.{state_of}
 use Rattle.cmd_session.specs.Budget.{KeepsBudget}
 use Rattle.cmd_session.specs.Going.{IsOfMount}
-use Rattle.cmd_session.specs.Serving.{HasServed, IsDrawn, IsMountedWith}
+use Rattle.cmd_session.specs.Serving.{HasServed, IsMountedWith}
 use Rattle.cmd_host.specs.Disks.{IsMounted, IsOpened, ShowsRoot}
 use Rattle.cmd_host.specs.Behaving.{session_by}
 use Rattle.cmd_host.specs.Mounts.{MountsOnce}
 use Rattle.cmd_host.proofs.Mounts.{header_by, once_by}
-
--- the view of crashes of a store is drawn from its disk
-pub drawn : {D : Type 0} {k : Ghosts D} (known : D → disk.State) (s : Store D k) → IsDrawn (state_of known s)
-drawn known s = record {
-  left = λ since k img from upto honest. record { moment = k; from = from; within = upto; honest = honest };
-  holds = λ img m h. h;
-  issued = λ m h. h;
-}
 
 -- The bitmap of the formatted disk's live blocks.
 module _ (g : Geometry) (limits : IsGeometry g) (bits : (b : ℕ) → b < 8192 * bitmap_blocks g → is_set g (formatted g) b ≡ nat_lt b (data_start g)) where

@@ -3,7 +3,6 @@ use Rattle.std.proofs.Common.{◌≡◌, ℕ, ◌+◌, ◌-◌, Bool, false, tru
 use mathlib.Core.Path.{fun_ext}
 use Rattle.base_types.specs.Seal.{Blocks}
 use Rattle.disk_contract.specs.declared.bay.Mark.{Mark}
-use Rattle.disk_contract.specs.declared.disk.Disk.{Ghosts}
 use Rattle.disk_contract.specs.declared.event.Event.{Event}
 use Rattle.disk_contract.specs.Cell.{has_lost}
 use Rattle.disk_contract.specs.Crash.{Window}
@@ -20,8 +19,6 @@ use Rattle.crash_stands.specs.Stands.{IsTreeOf}
 use Rattle.engine_blocks.specs.Calls.{IsSound}
 use Rattle.engine_blocks.specs.Crashes.{HasLiveBlocks, HasMapOfPoint, IsBegun}
 use Rattle.engine_blocks.specs.State.{Bookkeeping, State, Ticking, reusable_blocks}
-use Rattle.engine_store.specs.StoreOf.{state_of}
-use Rattle.engine_store.specs.declared.store.Store.{Store}
 use Rattle.fs_files.specs.Calls.{places_of}
 use Rattle.fs_files.specs.Effects.{LooksOnly}
 use Rattle.fs_session.specs.DiskRoom.{IsRoomOf}
@@ -32,20 +29,12 @@ use Rattle.fs_session.specs.Space.{left_of}
 use Rattle.cmd_session.specs.Budget.{KeepsBudget, SpendsByMarks}
 use Rattle.cmd_session.specs.Going.{BeginsByLog, GoesByLog, pace_of, session_at}
 use Rattle.cmd_session.specs.Pacing.{Pace}
-use Rattle.cmd_session.specs.Serving.{HasServed, IsDrawn, IsMountedWith}
+use Rattle.cmd_session.specs.Serving.{HasServed, IsMountedWith}
 use Rattle.cmd_session.specs.Taking.{nothing_taken}
 use Rattle.cmd_image.specs.Runs.{IsRoomAtMount}
 use Rattle.cmd_image.specs.Serves.{pace_at_mount}
 use Rattle.cmd_image.specs.Steps.{IsJustMounted, KnownSoFar, SoFar, mark_in}
 use Rattle.cmd_image.proofs.Rooms.{mount_stays}
-
--- the view of crashes of a store is drawn from its disk
-pub drawn : {D : Type 0} {k : Ghosts D} (known : D → disk.State) (s : Store D k) → IsDrawn (state_of known s)
-drawn known s = record {
-  left = λ since k img from upto honest. record { moment = k; from = from; within = upto; honest = honest };
-  holds = λ img m h. h;
-  issued = λ m h. h;
-}
 
 module _ (tells : Bool) (told : IsTrue tells) (first : disk.State) (s : State) (h : IsJustMounted tells first s) where
   -- the store has the map of its image, and so has each image so far

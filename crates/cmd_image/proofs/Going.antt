@@ -26,12 +26,13 @@ use Rattle.cmd_session.specs.Going.{GoesByLog, session_at}
 use Rattle.cmd_session.specs.Histories.{session_after}
 use Rattle.cmd_session.specs.Pacing.{Pace}
 use Rattle.cmd_session.specs.Serving.{HasServed}
+use Rattle.cmd_session.specs.Shared.{get_split_at}
 use Rattle.cmd_image.specs.Refusals.{is_failed, is_unread}
 use Rattle.cmd_image.specs.Runs.{HasReason, HaveReasons, IsSpentByNumbers, Marks, MarksGo}
 use Rattle.cmd_image.specs.Serves.{pace_at_mount}
 use Rattle.cmd_image.specs.Steps.{AreWithin, KnownSoFar, SoFar, mark_in}
 use Rattle.cmd_image.proofs.Counting.{Counted, over_by}
-use Rattle.cmd_image.proofs.Lists.{get_behind, get_split_at}
+use Rattle.cmd_image.proofs.Lists.{get_behind}
 
 -- marks with one more
 marks_on : (before mid now : Mark) (replies : List Reply) (moments : List ℕ) (marks : List Mark) (reply : Reply) (moment : ℕ)

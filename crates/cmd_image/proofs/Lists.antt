@@ -1,15 +1,5 @@
 -- Lists with one thing more behind.
-use Rattle.std.proofs.Common.{◌≡◌, ◌⊎◌, inl, inr, ℕ, zero, suc, ◌+◌, List, [], ◌∷◌, ◌++◌, length, take, slice_get, Some, unwrap_or, refl, ap, ◌∙◌, arith}
-
-pub get_split_at : {A : Type 0} (xs : List A) (x y : A) (i : ℕ) → slice_get (xs ++ x ∷ []) i ≡ Some y → (slice_get xs i ≡ Some y) ⊎ ((x ≡ y) × (i ≡ length xs))
-get_split_at [] x y zero is = inr (ap (λ o. unwrap_or o x) is, refl)
-get_split_at [] x y (suc i) is = inl is
-get_split_at (z ∷ xs) x y zero is = inl is
-get_split_at (z ∷ xs) x y (suc i) is = by (get_split_at xs x y i is)
-  where
-    by : (slice_get xs i ≡ Some y) ⊎ ((x ≡ y) × (i ≡ length xs)) → (slice_get (z ∷ xs) (suc i) ≡ Some y) ⊎ ((x ≡ y) × (suc i ≡ length (z ∷ xs)))
-    by (inl earlier) = inl earlier
-    by (inr last) = inr (last.0, ap suc last.1)
+use Rattle.std.proofs.Common.{◌≡◌, ◌⊎◌, ℕ, suc, ◌+◌, List, [], ◌∷◌, ◌++◌, length, take, slice_get, Some, refl, ap, ◌∙◌, arith}
 
 -- the thing behind
 pub get_behind : {A : Type 0} (xs : List A) (x : A) → slice_get (xs ++ x ∷ []) (length xs) ≡ Some x

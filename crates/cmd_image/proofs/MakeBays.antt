@@ -12,17 +12,12 @@ use Rattle.engine_mount.specs.Mount.{IsIdle}
 use Rattle.engine_store.specs.declared.formatting.MkfsRefusal.{MkfsRefusal}
 use Rattle.engine_store.specs.declared.formatting.MkfsRefusal.TheVariants as mkfs
 use Rattle.engine_store.specs.Formatting.{AddsFormatting, fails_formatting, IsFormattedOver, MkfsSpends, WritesBelow}
+use Rattle.cmd_image.specs.Staying.{is_make_fault}
 use Rattle.cmd_image.specs.Shows.{CountsFault, HasImage}
 use Rattle.cmd_image.specs.declared.make_refusal.MakeRefusal.{MakeRefusal}
 use Rattle.cmd_image.specs.declared.make_refusal.MakeRefusal.TheVariants.{Fault, NoMemory}
 use Rattle.cmd_image.specs.Makes.{HasMakeCause, HasMakeReason, IsFormattedImage, MakeHandsBack, make_answer_of}
 use Rattle.cmd_image.proofs.Images.{FormattedLaws, rests, under}
-
--- whether the answer is a fault
-is_make_fault : Result (Unit {0}) MakeRefusal → Bool
-is_make_fault (Ok x) = false
-is_make_fault (Err Fault) = true
-is_make_fault (Err NoMemory) = false
 
 -- whether a formatting failed by a call of the disk
 fails : Result (Unit {0}) MkfsRefusal → Bool

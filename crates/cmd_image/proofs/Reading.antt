@@ -5,7 +5,7 @@ use Rattle.std.proofs.lemmas.Result.{err_from_is_err_and}
 use Rattle.std.specs.Result.{IsErrAnd}
 use Rattle.std.proofs.KnownBytes.{Appends-nil, Appends-trans, Consumes-nil, Consumes-trans}
 use Rattle.std.specs.Io.KnownBytes.{Appends, Consumes}
-use Rattle.base_types.specs.Counts.{after_call, Rose}
+use Rattle.base_types.specs.Counts.{after_call}
 use Rattle.base_io.specs.Prefix.{TakesPrefix}
 use Rattle.disk_contract.specs.declared.bay.Mark.{Mark}
 use Rattle.disk_contract.specs.Disk as disk
@@ -15,6 +15,7 @@ use Rattle.engine_blocks.specs.State.{State}
 use Rattle.lang_lines.specs.declared.next.Next.TheVariants as next
 use Rattle.lang_lines.specs.Lines.{commands_of, longest, whole_commands}
 use Rattle.lang_lines.specs.Reading.{HasGiven, HoldsOn, KnowsEnd, ReaderState, ReadsOn, first_state}
+use Rattle.cmd_image.specs.Staying.{rose_before}
 use Rattle.cmd_image.specs.declared.ending.Ending.{Ending}
 use Rattle.cmd_image.specs.declared.ending.Ending.TheVariants.{End, SourceFault, LongInput}
 use Rattle.cmd_image.specs.declared.ending.RunRefusal.{RunRefusal}
@@ -61,9 +62,6 @@ lines_more (r ∷ replies) reply = ap (λ (xs : List ℕ). reply_line r ++ xs) (
 
 all_taken : (before after : Option (List ℕ)) (bytes : List ℕ) → Appends before after bytes → TakesPrefix before after bytes
 all_taken before after bytes took = (length bytes, subst (λ (xs : List ℕ). Appends before after xs) (sym (take_all (length bytes) bytes (omega arith))) took)
-
-rose_before : (first before now : ℕ) → first ≤ before → Rose before now → Rose first now
-rose_before first before now le rose = omega (arith, le, rose)
 
 -- From one command to the next.
 

@@ -10,14 +10,11 @@ use Rattle.disk_contract.specs.declared.bay.BayFault.TheVariants as bay
 use Rattle.disk_contract.specs.Bay.{BayState, BeginsWith, Closes, HasBlocks, Kept, Opens, has_faults}
 use Rattle.disk_contract.specs.Disk.{State, HasFailed}
 use Rattle.lang_tree.specs.Listing.{listing}
+use Rattle.cmd_image.specs.Staying.{keeps}
 use Rattle.cmd_image.specs.declared.show_refusal.ShowRefusal.{ShowRefusal}
 use Rattle.cmd_image.specs.declared.show_refusal.ShowRefusal.TheVariants.{Fault, Damaged, Spent, SinkFault, NoMemory}
 use Rattle.cmd_image.specs.Mounted.{IsFresh, ShowsDisk, answer_of, is_fault, of_bay}
 use Rattle.cmd_image.specs.Shows.{CountsFault, FailedByManner, HandsBack, HandsOutNone, HasFaultReason, HasImage, HasMarks, HasShowCause, LeavesBay, Lists, ListsFront, MayFailToOpen, Refuses, RefusesOn, fails_pushing, says_nothing}
-
-keeps : (taken : Option (List ℕ)) → Keeps taken taken
-keeps None = tt
-keeps (Some xs) = refl
 
 -- another refusal isn't a fault
 not_fault : (why : ShowRefusal) → is_fault {T = Unit {0}} (Err why) ≡ false → why ≡ Fault → ⊥

@@ -1,6 +1,6 @@
 -- What each step of a showing leaves: the mount, the opening, and the listing.
-use Rattle.std.proofs.Common.{◌≡◌, ◌⊎◌, inl, inr, ℕ, ◌+◌, ◌<◌, ◌≤◌, nat_lt, ◌||◌, Bool, true, false, true≢false, IsTrue, List, [], ◌∷◌, ◌++◌, length, Option, Some, None, Result, Ok, Err, OnOk, OnErr, refl, sym, ap, ap₂, ◌∙◌, subst, arith}
-use Rattle.std.specs.Io.KnownBytes.{Appends, Keeps}
+use Rattle.std.proofs.Common.{◌≡◌, ◌⊎◌, inl, inr, ℕ, ◌+◌, ◌<◌, ◌≤◌, nat_lt, ◌||◌, Bool, true, false, true≢false, IsTrue, List, [], ◌∷◌, ◌++◌, length, Option, Result, Ok, Err, OnOk, OnErr, refl, sym, ap, ap₂, ◌∙◌, subst, arith}
+use Rattle.std.specs.Io.KnownBytes.{Appends}
 use Rattle.base_types.specs.Counts.{after_call}
 use Rattle.base_types.specs.Seal.{Blocks}
 use Rattle.base_io.specs.Prefix.{TakesPrefix}
@@ -33,6 +33,7 @@ use Rattle.fs_check.specs.declared.checking.CheckRefusal.{CheckRefusal}
 use Rattle.fs_check.specs.declared.checking.CheckRefusal.TheVariants as check
 use Rattle.fs_check.specs.Whole.{IsDamaged, OnDamage, fails_by}
 use Rattle.fs_session.specs.Sessions.{IsSession}
+use Rattle.cmd_image.specs.Staying.{keeps}
 use Rattle.cmd_image.specs.declared.show_refusal.ShowRefusal.{ShowRefusal}
 use Rattle.cmd_image.specs.declared.show_refusal.ShowRefusal.TheVariants.{Fault, Damaged, Spent, SinkFault, NoMemory}
 use Rattle.cmd_session.specs.declared.images.ImageDamage.{ImageDamage}
@@ -41,10 +42,6 @@ use Rattle.cmd_session.specs.Images.{CanBeMounted, HasDamage, StandsForNone, Sta
 use Rattle.cmd_image.specs.Mounted.{HasSession, HoldsThroughout, IsFresh, IsMarkOf, IsMountedOn, MarksFor, SaysOn, ShowsDisk, is_fault, of_check, of_store}
 use Rattle.cmd_image.specs.Shows.{HasMark, ListsFront, RefusesOn, fails_pushing, says_nothing}
 use Rattle.cmd_image.proofs.Standing.{HoldsSome, StandsAsBase, StandingLaws, all_alike, all_held, bad_image, holds_some, mountable_image, settled_is, throughout, tree_in, tree_out}
-
-keeps : (taken : Option (List ℕ)) → Keeps taken taken
-keeps None = tt
-keeps (Some xs) = refl
 
 none_below : {n : ℕ} → n ≡ 0 → 0 < n → ⊥
 none_below is some = omega (arith, is, some)
@@ -305,13 +302,6 @@ module _ (laws : StandingLaws) where
       subst (λ (xs : List Mark). ShowsDisk {T = Unit {0}} tells first new xs taken taken (Err answer)) (sym none)
       (subst (λ (w : ShowRefusal). ShowsDisk {T = Unit {0}} tells first new [] taken taken (Err w)) (sym answer_is)
       (unmounted tells first new taken why fresh (damaged first.blocks first.base) says leaves))
-
--- what is said of the damage where blocks were only read, of the blocks as they are now
-pub damage_stays : (g k : Geometry) (m q : Blocks) (why : CheckRefusal) → k ≡ g → q ≡ m → OnDamage why (IsDamaged g m) → OnDamage why (IsDamaged k q)
-damage_stays g k m q why geom map damage = subst (λ (x : Geometry). OnDamage why (IsDamaged x q)) (sym geom) (subst (λ (x : Blocks). OnDamage why (IsDamaged g x)) (sym map) damage)
-
-pub none_stays : (g k : Geometry) (m q : Blocks) (why : CheckRefusal) → k ≡ g → q ≡ m → OnDamage why (λ _. (t : Tree) → IsTreeOf g m t → ⊥) → OnDamage why (λ _. (t : Tree) → IsTreeOf k q t → ⊥)
-none_stays g k m q why geom map none = subst (λ (x : Geometry). OnDamage why (λ _. (t : Tree) → IsTreeOf x q t → ⊥)) (sym geom) (subst (λ (x : Blocks). OnDamage why (λ _. (t : Tree) → IsTreeOf g x t → ⊥)) (sym map) none)
 
 -- a check pushes nothing
 pub check_silent : (why : CheckRefusal) (answer : ShowRefusal) → answer ≡ of_check why → fails_pushing {T = Unit {0}} (Err answer) ≡ false

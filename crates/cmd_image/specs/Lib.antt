@@ -6,3 +6,4 @@ pub mod Refusals
 pub mod Runs
 pub mod Serves
 pub mod Steps
+pub mod Staying

@@ -1,9 +1,11 @@
--- Which refusal of a run comes of which of the layers below, and how a run is answered once its disk went back; and which replies come of a call of the disk that failed.
-use Rattle.std.specs.Prelude.{Bool, true, false, Result, Ok, Err}
+-- Which refusal of a run comes of which of the layers below, and how a run is answered once its disk went back; and which replies come of a call of the disk that failed, and what was counted then.
+use Rattle.std.specs.Prelude.{◌≡◌, Bool, true, false, Result, Ok, Err}
+use Rattle.base_types.specs.Counts.{after_call}
 use Rattle.disk_contract.specs.declared.bay.BayFault.{BayFault}
 use Rattle.disk_contract.specs.declared.bay.BayFault.TheVariants as bay
 use Rattle.lang_tree.specs.declared.command.Reply.{Reply}
 use Rattle.lang_tree.specs.declared.command.Reply.TheVariants.{Refused}
+use Rattle.engine_blocks.specs.State.{Counts}
 use Rattle.fs_session.specs.Commands.{is_disk_fault, is_read_fault}
 use Rattle.cmd_image.specs.declared.show_refusal.ShowRefusal.{ShowRefusal}
 use Rattle.cmd_image.specs.declared.show_refusal.ShowRefusal.TheVariants as show
@@ -57,3 +59,8 @@ is_unread _ = false
 abbrev pub is_failed : Reply → Bool
 is_failed (Refused why) = is_disk_fault (Err why)
 is_failed _ = false
+
+-- A failed read was counted once where the reply is ReadFault, and another call that failed once where it is DiskFault; and none else was.
+pub record CountsByReply (reply : Reply) (old new : Counts) : Type 0 where
+  pub read_faults : new.read_faults ≡ after_call (is_unread reply) old.read_faults
+  pub faults : new.faults ≡ after_call (is_failed reply) old.faults

@@ -87,7 +87,7 @@ pub fn run_refusal_of_bay(fault: BayFault) -> RunRefusal
 }
 
 /// The refusal for a mount, or for the opening of the file system.
-pub(crate) fn of_show(why: ShowRefusal) -> RunRefusal
+pub fn of_show(why: ShowRefusal) -> RunRefusal
     ensures { result ≡ of_show why }
 {
     match why {

@@ -1,18 +1,22 @@
 //! Laws of mounted blocks and of runs, empty functions whose clauses say them.
 
-ghost use Rattle.std.specs.Prelude.{◌≡◌, Bool, false, true, List};
+ghost use Rattle.std.specs.Prelude.{◌≡◌, Bool, false, true, IsTrue, List};
 ghost use Rattle.disk_contract.specs.declared.bay.Mark.{Mark};
 ghost use Rattle.disk_contract.specs.Disk.{State};
 ghost use Rattle.lang_tree.specs.declared.command.Cmd.{Cmd};
 ghost use Rattle.lang_tree.specs.declared.command.Reply.{Reply};
-ghost use Rattle.lang_tree.specs.Step.{session_on};
+ghost use Rattle.lang_tree.specs.Step.{Session, session_on};
 ghost use Rattle.fs_files.specs.Effects.{LooksOnly};
+ghost use Rattle.fs_session.specs.Applying.{Applies};
+ghost use Rattle.fs_session.specs.Sessions.{IsSession};
 ghost use Rattle.cmd_session.specs.Accepted.{AcceptsLast};
 ghost use Rattle.cmd_image.specs.Mounted.{IsMountedOn};
+ghost use Rattle.cmd_image.specs.Refusals.{CountsByReply};
 ghost use Rattle.cmd_image.specs.Runs.{RunsDisk};
 
 use cmd_session::what_was_issued_was_accepted;
 use engine_blocks::Blocks;
+use lang_tree::a_tree_in_memory_refuses_for_no_disk;
 
 /// A store that was mounted, or any other blocks, are so still where they were only read; a read that failed is counted.
 pub fn what_is_read_stays_mounted<S: Blocks>()
@@ -28,4 +32,13 @@ pub fn a_run_stands_where_accepted_writes_do()
         → AcceptsLast r.geom.n last.base (session_on r.geom.i r.tree) last.log r.mounted cmds replies r.moments }
 {
     what_was_issued_was_accepted();
+}
+
+/// The reply to a command of a session tells which call of the disk failed in it: a read that failed was counted once
+/// where the reply is ReadFault, and another call that failed once where it is DiskFault, and none else was.
+pub fn a_reply_tells_which_call_failed<S: Blocks>()
+    ensures { IsTrue S.tells → (old new : S) (f : Session) (cmd : Cmd) (reply : Reply) → IsSession (S.state old) f
+        → Applies S.tells S.state cmd reply old new → CountsByReply reply (S.state old).counts (S.state new).counts }
+{
+    a_tree_in_memory_refuses_for_no_disk();
 }

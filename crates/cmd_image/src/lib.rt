@@ -22,9 +22,12 @@ mod show;
 mod show_refusal;
 mod store_laws;
 
-pub use ending::{Ending, RunRefusal, run_refusal_of_bay};
+pub use ending::{Ending, RunRefusal, of_show, run_refusal_of_bay};
 pub use formatted_laws::a_formatted_image_can_be_mounted;
-pub use image_laws::{a_run_stands_where_accepted_writes_do, what_is_read_stays_mounted};
+pub use image_laws::{
+    a_reply_tells_which_call_failed, a_run_stands_where_accepted_writes_do,
+    what_is_read_stays_mounted,
+};
 pub use lent::LentDisk;
 pub use make::make_image;
 pub use make_refusal::{MakeRefusal, make_refusal_of_bay};
@@ -32,5 +35,6 @@ pub use mounting::{
     close_lent, disk_back, mark_of, mount_lent, open_lent, room_for_a_mark, unopened,
 };
 pub use run::{Left, run_disk, run_script};
+pub use running::Stop;
 pub use show::show_tree;
 pub use show_refusal::ShowRefusal;

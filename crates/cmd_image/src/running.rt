@@ -26,7 +26,7 @@ use std::alloc::{AllocError, AllocFailed, Global};
 
 /// Why a run stops before its input ends.
 #[derive(Clone, Copy, Debug, PartialEq, Eq)]
-pub(crate) enum Stop {
+pub enum Stop {
     /// No memory was found.
     NoMemory,
     /// The sink failed.

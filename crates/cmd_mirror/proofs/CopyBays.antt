@@ -14,6 +14,7 @@ use Rattle.disk_contract.specs.Disk.{State}
 use Rattle.cmd_image.specs.declared.make_refusal.MakeRefusal.{MakeRefusal}
 use Rattle.cmd_image.specs.declared.make_refusal.MakeRefusal.TheVariants.{Fault, NoMemory}
 use Rattle.cmd_image.specs.Makes.{HasMakeCause, make_refusal_of_bay}
+use Rattle.cmd_image.specs.Staying.{is_make_fault}
 use Rattle.cmd_mirror.specs.declared.copying.CopyFault.{CopyFault}
 use Rattle.cmd_mirror.specs.declared.copying.CopyFault.TheVariants.{Read, Write}
 use Rattle.cmd_mirror.specs.Copies.{AreCopied, AreCopiesOf, CopiesBlocks, HasPart, HaveOneImage, copy_answer_of, fails_reading, fails_writing}
@@ -112,18 +113,12 @@ or_false : (b : Bool) → (b || false) ≡ b
 or_false true = refl
 or_false false = refl
 
--- whether an answer is a fault
-is_fault : Result (Unit {0}) MakeRefusal → Bool
-is_fault (Ok x) = false
-is_fault (Err Fault) = true
-is_fault (Err NoMemory) = false
-
 -- The bay.
 
 module _ {D : Type 0} (state : D → State) (tells : Bool) (name other : List ℕ) (apart : name ≢ other) (old : BayState) where
   -- no disk was opened
   pub none : (fault : BayFault) (new : BayState) → Opens tells state name (Err fault) old new → Copied tells name other (Err (make_refusal_of_bay fault)) old new
-  unfolding is_fault
+  unfolding is_make_fault
   none fault new opens = record {
     copied = λ t. tt;
     part = λ t. inl (ap image_of (opens.kept t other));
@@ -131,7 +126,7 @@ module _ {D : Type 0} (state : D → State) (tells : Bool) (name other : List �
     others = λ t each aside beside. opens.kept t each;
     comes = inl (record { fault = fault; opens = unopened; answer = refl });
     cause = cause fault opens;
-    reason = λ t is. reason fault opens t (ap is_fault is);
+    reason = λ t is. reason fault opens t (ap is_make_fault is);
   }
     where
       unopened : Opens tells (λ (d : State). d) name (Err fault) old new
@@ -141,7 +136,7 @@ module _ {D : Type 0} (state : D → State) (tells : Bool) (name other : List �
       cause bay.Fault is = inl is.cause.1
       cause bay.NoMemory is = is.disk_faults
 
-      reason : (f : BayFault) → Opens tells state name (Err f) old new → IsTrue tells → is_fault (Err (make_refusal_of_bay f)) ≡ true → HasCopyReason tells name other (Err (make_refusal_of_bay f)) old new
+      reason : (f : BayFault) → Opens tells state name (Err f) old new → IsTrue tells → is_make_fault (Err (make_refusal_of_bay f)) ≡ true → HasCopyReason tells name other (Err (make_refusal_of_bay f)) old new
       reason bay.Fault is t same = inl (is.fails t)
       reason bay.NoMemory is t same = absurd (false≢true same)
 
@@ -167,7 +162,7 @@ module _ {D : Type 0} (state : D → State) (tells : Bool) (name other : List �
 
     -- no disk was made under the other name, and the first went back
     pub one : (made new : BayState) (fault : BayFault) (back : Result (Unit {0}) BayFault) → Makes tells state other (state first).blocks (Err fault) opened made → Closes tells name (state first) [] back made new → Copied tells name other (Err (make_refusal_of_bay fault)) old new
-    unfolding is_fault
+    unfolding is_make_fault
     one made new fault back makes closes = record {
       copied = λ t. tt;
       part = λ t. inl (ap image_of (closes.others t other (λ same. apart (sym same))) ∙ makes.image t ∙ ap image_of (opens.kept t other));
@@ -175,7 +170,7 @@ module _ {D : Type 0} (state : D → State) (tells : Bool) (name other : List �
       others = λ t each aside beside. closes.others t each aside ∙ makes.others t each beside ∙ opens.kept t each;
       comes = inr (inl (record { first = state first; opened = opened; between = made; fault = fault; back = back; opens = by_state; makes = unmade; closes = closes; answer = refl }));
       cause = cause fault makes;
-      reason = λ t is. reason fault makes t (ap is_fault is);
+      reason = λ t is. reason fault makes t (ap is_make_fault is);
     }
       where
         unmade : Makes tells (λ (d : State). d) other (state first).blocks (Err fault) opened made
@@ -186,7 +181,7 @@ module _ {D : Type 0} (state : D → State) (tells : Bool) (name other : List �
         cause bay.NoMemory is =
             closes.disk_faults ∙ ap (λ (failed : Bool). if failed then next_count made.disk_faults else made.disk_faults) (faulty false false (state first) opens.counts.read_faults opens.counts.faults) ∙ is.disk_faults ∙ opens.disk_faults
 
-        reason : (f : BayFault) → Makes tells state other (state first).blocks (Err f) opened made → IsTrue tells → is_fault (Err (make_refusal_of_bay f)) ≡ true → HasCopyReason tells name other (Err (make_refusal_of_bay f)) old new
+        reason : (f : BayFault) → Makes tells state other (state first).blocks (Err f) opened made → IsTrue tells → is_make_fault (Err (make_refusal_of_bay f)) ≡ true → HasCopyReason tells name other (Err (make_refusal_of_bay f)) old new
         reason bay.Fault is t same = inl (inl (sym opens.same.may_fail ∙ is.fails t))
         reason bay.NoMemory is t same = absurd (false≢true same)
 
@@ -283,9 +278,9 @@ module _ {D : Type 0} (state : D → State) (tells : Bool) (name other : List �
       may : IsTrue tells → IsTrue made.may_fail → IsTrue old.may_fail
       may t is = sym opens.same.may_fail ∙ sym makes.same.may_fail ∙ is
 
-      reason : IsTrue tells → (c : Result (Unit {0}) CopyFault) (x y : Result (Unit {0}) BayFault) → copied ≡ c → Closes tells name first_last [] x made closes.between → Closes tells other second_last [] y closes.between new → is_fault (copy_answer_of c x y) ≡ true
+      reason : IsTrue tells → (c : Result (Unit {0}) CopyFault) (x y : Result (Unit {0}) BayFault) → copied ≡ c → Closes tells name first_last [] x made closes.between → Closes tells other second_last [] y closes.between new → is_make_fault (copy_answer_of c x y) ≡ true
           → HasCopyReason tells name other result old new
-      unfolding is_fault both
+      unfolding is_make_fault both
       reason t (Err Read) x y is one two fault =
           let some : 0 < first_last.read_faults = omega (arith, copies.reads.read_faults ∙ ap (λ (c : Result (Unit {0}) CopyFault). after_call (fails_reading c) (state first).read_faults) is) in
           inr (both, inl (inl (some, may_fail t some)))
@@ -307,7 +302,7 @@ module _ {D : Type 0} (state : D → State) (tells : Bool) (name other : List �
       copied_by t (Ok u) (Ok v) (Ok w) is taken = whole t is taken
 
       pub two : Copied tells name other result old new
-      unfolding is_fault
+      unfolding is_make_fault
       two = record {
         copied = λ t. subst (λ (r : Result (Unit {0}) MakeRefusal). OnOk r (HaveOneImage (old.kept name) (new.kept other))) (sym closes.answer) (copied_by t copied closes.back_first closes.back_second (copies.whole t) (closes.closes_second.kept t));
         part = λ t. inr (part t);
@@ -315,5 +310,5 @@ module _ {D : Type 0} (state : D → State) (tells : Bool) (name other : List �
         others = λ t each aside beside. closes.closes_second.others t each beside ∙ closes.closes_first.others t each aside ∙ makes.others t each beside ∙ opens.kept t each;
         comes = inr (inr both);
         cause = subst (λ (r : Result (Unit {0}) MakeRefusal). HasMakeCause r old new) (sym closes.answer) (cause copied closes.back_first closes.back_second refl closes.closes_first closes.closes_second);
-        reason = λ t fault. reason t copied closes.back_first closes.back_second refl closes.closes_first closes.closes_second (ap is_fault (sym closes.answer ∙ fault));
+        reason = λ t fault. reason t copied closes.back_first closes.back_second refl closes.closes_first closes.closes_second (ap is_make_fault (sym closes.answer ∙ fault));
       }

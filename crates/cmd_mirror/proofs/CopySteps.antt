@@ -8,6 +8,7 @@ use Rattle.disk_contract.specs.declared.event.Event.{Event}
 use Rattle.disk_contract.specs.declared.event.Event.TheVariants.{Wrote, Lost, Noticed}
 use Rattle.disk_contract.specs.Cell.{Cell, Write, accepted, cell_of, from_ticket, is_lost, IsAccepted, IsNoticed, notices, settle, with_write}
 use Rattle.disk_contract.specs.Disk.{AddsNotices, AddsWrite, HasFailed, OnlyReads, OnlyWaits, OnlyWrites, Reads, Spends, State}
+use Rattle.cmd_mirror.proofs.Readings.{untouched}
 use Rattle.cmd_mirror.specs.declared.copying.CopyFault.{CopyFault}
 use Rattle.cmd_mirror.specs.declared.copying.CopyFault.TheVariants.{Write as Written}
 use Rattle.cmd_mirror.specs.Copies.{AreCopied, AreCopiesOf, AreGiven, CopiesBlocks, CopiesPart, CopiesRange, IsSent, IsStretch, SendsStretch, WaitsForStretch, WritesAndWaits, fails_reading, fails_writing}
@@ -154,10 +155,6 @@ module _ (laws : CellLaws) (base : Blocks) where
 -- a disk with no event has no copies
 pub no_copies : (at : Blocks) (log : List Event) → log ≡ [] → AreCopiesOf at log
 no_copies at log empty = subst (AreCopiesOf at) (sym empty) tt
-
--- what a disk spends that isn't called
-pub reads_nothing : (s : State) → OnlyReads false s s
-reads_nothing s = record { same = record { blocks = refl; base = refl; manner = refl }; faults = refl; read_faults = refl; waits = refl; polls = refl }
 
 pub writes_nothing : (s : State) → WritesAndWaits false 0 s s
 writes_nothing s = (0, omega arith, record { same = record { blocks = refl; base = refl; manner = refl }; faults = refl; read_faults = refl; waits = refl; polls = refl })
@@ -315,7 +312,7 @@ idle_after at base a b old new idle range x =
 -- no block was copied
 pub part_none : (tells : Bool) (a : ℕ) (from to : State) → CopiesPart tells a a (Ok tt) from from to to
 part_none tells a from to = record {
-  reads = reads_nothing from;
+  reads = untouched from;
   unwritten = λ t. refl;
   spends = at_most false 0 (a - a) to to (omega arith) (writes_nothing to);
   copies = λ t empty before. before;

@@ -9,12 +9,8 @@ use Rattle.cmd_trace.specs.Line.{geometry_line, event_lines, command_line, reply
 use Rattle.cmd_trace.specs.Trace.{Ascend, between, entries, entry}
 use Rattle.lang_tree.specs.declared.command.Cmd.{Cmd}
 use Rattle.lang_tree.specs.declared.command.Reply.{Reply}
+use Rattle.cmd_trace.specs.Shared.{from_le}
 use Rattle.cmd_record.specs.Traces.{says}
-
--- marks that ascend are none past the last event
-within : (from : ℕ) (marks : List ℕ) (events : ℕ) → Ascend from marks events → from ≤ events
-within from [] events is = omega (arith, is)
-within from (mark ∷ marks) events is = omega (arith, is.0, within mark marks events is.1)
 
 -- The entries of a run that goes on are those so far, and behind them those that are new.
 pub entries_on : (all log more : List Event) (from : ℕ) (cmds : List Cmd) (replies : List Reply) (marks : List ℕ) (next : List Cmd) (later : List Reply) (others : List ℕ) → all ≡ log ++ more → length cmds ≡ length replies → length marks ≡ length replies → Ascend from marks (length log)
@@ -25,7 +21,7 @@ entries_on all log more from [] (reply ∷ replies) marks next later others is a
 entries_on all log more from (cmd ∷ cmds) [] marks next later others is answered marked ascend = absurd (omega (arith, answered))
 entries_on all log more from (cmd ∷ cmds) (reply ∷ replies) [] next later others is answered marked ascend = absurd (omega (arith, marked))
 entries_on all log more from (cmd ∷ cmds) (reply ∷ replies) (mark ∷ marks) next later others is answered marked ascend =
-    let below = within mark marks (length log) ascend.1 in
+    let below = from_le mark marks (length log) ascend.1 in
     let same : between from mark all ≡ between from mark log =
     ap (between from mark) is ∙ ap (λ (es : List Event). take (mark - from) es) (drop-append-le from log more (omega (arith, ascend.0, below)))
     ∙ take-append-le (mark - from) (drop from log) more (omega (arith, length-drop from log, ascend.0, below)) in
@@ -37,7 +33,7 @@ entries_on all log more from (cmd ∷ cmds) (reply ∷ replies) (mark ∷ marks)
 pub front_on : (g : Geometry) (all log more : List Event) (mounted : ℕ) (cmds : List Cmd) (replies : List Reply) (marks : List ℕ) (next : List Cmd) (later : List Reply) (others : List ℕ) → all ≡ log ++ more → length cmds ≡ length replies → length marks ≡ length replies → Ascend mounted marks (length log)
     → front_of (says g all mounted (cmds ++ next) (replies ++ later) (marks ++ others)) ≡ front_of (says g log mounted cmds replies marks) ++ entries all (length log) next later others
 front_on g all log more mounted cmds replies marks next later others is answered marked ascend =
-    let mount : take mounted all ≡ take mounted log = ap (λ (es : List Event). take mounted es) is ∙ take-append-le mounted log more (within mounted marks (length log) ascend) in
+    let mount : take mounted all ≡ take mounted log = ap (λ (es : List Event). take mounted es) is ∙ take-append-le mounted log more (from_le mounted marks (length log) ascend) in
     ap (λ (es : List Event). geometry_line g ++ event_lines es ++ entries all mounted (cmds ++ next) (replies ++ later) (marks ++ others)) mount
     ∙ ap (λ (xs : List ℕ). geometry_line g ++ event_lines (take mounted log) ++ xs) (entries_on all log more mounted cmds replies marks next later others is answered marked ascend)
     ∙ simp append_assoc

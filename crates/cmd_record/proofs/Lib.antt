@@ -1,7 +1,6 @@
 pub mod Entries
 pub mod EventLines
 mod Sureness
-mod Views
 mod Weights
 mod WrongTraces
 pub mod Runs

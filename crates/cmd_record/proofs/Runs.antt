@@ -1,5 +1,5 @@
 -- A run so far as a trace: what is served by it, and how it may go on, whatever commands come.
-use Rattle.std.proofs.Common.{◌≡◌, ◌⊎◌, inl, inr, ℕ, zero, suc, ◌-◌, ◌^◌, ◌<◌, ◌≤◌, nat_le, Bool, true, false, if◌then◌else◌, List, [], ◌∷◌, ◌++◌, length, take, take_all, drop, Option, None, Some, unwrap_or, refl, sym, ap, ap₂, ◌∙◌, subst, arith, append_assoc, append-nil}
+use Rattle.std.proofs.Common.{◌≡◌, ◌⊎◌, inl, inr, ℕ, ◌-◌, ◌^◌, ◌<◌, ◌≤◌, nat_le, Bool, true, false, if◌then◌else◌, List, [], ◌∷◌, ◌++◌, length, take, take_all, drop, Option, None, Some, refl, sym, ap, ap₂, ◌∙◌, subst, arith, append_assoc, append-nil}
 use Rattle.std.proofs.Math.Logic.{∥∥₁_map}
 use Rattle.std.proofs.lemmas.List.{length-append, take-append-le}
 use Rattle.std.proofs.lemmas.Option.{none-some}
@@ -47,6 +47,8 @@ use Rattle.cmd_session.specs.Pacing.{Pace}
 use Rattle.cmd_session.specs.Taking.{nothing_taken}
 use Rattle.cmd_host.specs.Disks.{IsOpened}
 use Rattle.cmd_host.specs.Behaving.{session_by, Setting}
+use Rattle.cmd_trace.specs.Shared.{each_append}
+use Rattle.cmd_session.specs.Shared.{get_split_at}
 use Rattle.cmd_record.specs.Behaving.{pace_at_first, room_at_first}
 use Rattle.cmd_host.specs.Mounts.{MountsOnce}
 use Rattle.cmd_record.specs.Traces.{Serves, ServesBy, says}
@@ -61,10 +63,6 @@ runs_on g f t u r q v [] [] more later run next = subst (λ x. RunsOn g x r more
 runs_on g f t u r q v [] (x ∷ replies) more later run next = absurd run
 runs_on g f t u r q v (c ∷ cmds) [] more later run next = absurd run
 runs_on g f t u r q v (c ∷ cmds) (x ∷ replies) more later run next = (run.0, run.1, run.2, runs_on g run.0 t u run.1 q v cmds replies more later run.3 next)
-
-pub each_append : {A : Type 0} (P : A → Type 0) (xs ys : List A) → Each P xs → Each P ys → Each P (xs ++ ys)
-each_append P [] ys h k = k
-each_append P (x ∷ xs) ys h k = (h.0, each_append P xs ys h.1 k)
 
 -- A run that ends at once, in its room.
 
@@ -329,16 +327,6 @@ module _ (cmd : Cmd) (reply : Reply) (old new : State) (a : IsAnswered cmd reply
       }
 
 -- Lists with one element more.
-
-pub get_split_at : {A : Type 0} (xs : List A) (x y : A) (i : ℕ) → slice_get (xs ++ x ∷ []) i ≡ Some y → (slice_get xs i ≡ Some y) ⊎ ((x ≡ y) × (i ≡ length xs))
-get_split_at [] x y zero is = inr (ap (λ o. unwrap_or o x) is, refl)
-get_split_at [] x y (suc i) is = inl is
-get_split_at (z ∷ xs) x y zero is = inl is
-get_split_at (z ∷ xs) x y (suc i) is = by (get_split_at xs x y i is)
-  where
-    by : (slice_get xs i ≡ Some y) ⊎ ((x ≡ y) × (i ≡ length xs)) → (slice_get (z ∷ xs) (suc i) ≡ Some y) ⊎ ((x ≡ y) × (suc i ≡ length (z ∷ xs)))
-    by (inl earlier) = inl earlier
-    by (inr last) = inr (last.0, ap suc last.1)
 
 -- numbers that are used up are far
 spent_far : (k : Bookkeeping) → is_spent k ≡ true → 2 ^ 63 - 8 ≤ k.turns

@@ -3,7 +3,7 @@ use Rattle.std.proofs.Common.{◌≡◌, ◌≢◌, ◌⊎◌, inl, inr, ⊎_eli
 use Rattle.std.proofs.Props.{props}
 use Rattle.std.proofs.Math.Logic.{∥∥₁_elim, ∥∥₁_map}
 use Rattle.std.proofs.Math.Seq.{take-take}
-use Rattle.std.proofs.lemmas.Bool.{cases_Bool, false≢true, or_left, or_right, true≢false}
+use Rattle.std.proofs.lemmas.Bool.{cases_Bool, false≢true, true≢false}
 use Rattle.std.proofs.lemmas.List.{take-append-drop}
 use Rattle.std.specs.List.{slice_get}
 use Rattle.base_types.specs.Seal.{Blocks}
@@ -34,21 +34,12 @@ use Rattle.cmd_session.specs.Pacing.{FailsSince, OrdersAtOnce, Pace, StepsBy, Te
 use Rattle.cmd_session.specs.Records.{own_records}
 use Rattle.cmd_session.specs.Taking.{CameIn, Span, makes_point, places_wanted}
 use Rattle.cmd_host.specs.Behaving.{session_by}
+use Rattle.cmd_session.specs.Shared.{accepted_on, get_split_at}
 use Rattle.cmd_record.specs.Behaving.{pace_at_first}
 use Rattle.cmd_record.specs.WrongTraces.{Goes, IsHeard, IsUnwritten, LosesOwn, WaitsForNothing}
-use Rattle.cmd_record.proofs.Runs.{get_split_at}
 use Rattle.cmd_record.proofs.Weights.{none_written}
 
 -- A log that goes on.
-
-accepted_on : (t : ℕ) (xs ys : List Event) → is_accepted t xs ≡ true → is_accepted t (xs ++ ys) ≡ true
-accepted_on t [] ys is = absurd (false≢true is)
-accepted_on t (Wrote ticket block bytes ∷ xs) ys is =
-    ⊎_elim (λ here. or_left (ticket == t) (is_accepted t (xs ++ ys)) here)
-    (λ not. or_right (ticket == t) (is_accepted t (xs ++ ys)) (accepted_on t xs ys (sym (ap (λ (b : Bool). b || is_accepted t xs) not) ∙ is)))
-    (cases_Bool (ticket == t))
-accepted_on t (Lost block bytes ∷ xs) ys is = accepted_on t xs ys is
-accepted_on t (Noticed ticket ∷ xs) ys is = accepted_on t xs ys is
 
 -- Lost writes.
 

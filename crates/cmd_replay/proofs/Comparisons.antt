@@ -6,8 +6,9 @@ use Rattle.std.proofs.lemmas.Bool.{both_ways, false_from_ne_true, eqb-true, eq-e
 use Rattle.std.proofs.lemmas.List.{append-nil, length-take-le}
 use Rattle.std.proofs.lemmas.Slice.Eq.{bytes_eq-Decides}
 use Rattle.std.proofs.lemmas.Option.{same_Some}
+use Rattle.cmd_session.specs.Shared.{get_behind}
 use Rattle.cmd_replay.specs.Comparing.{ComparingState, IsComparing, Differs, FailsBehind, byte_of, came, taken_by}
-use Rattle.cmd_replay.proofs.Lists.{get_behind, get_of_take, same_behind}
+use Rattle.cmd_replay.proofs.Lists.{get_of_take, same_behind}
 
 -- bytes that come next are the next ones of the text
 pub next_came : (text piece : List ℕ) (done : ℕ) → bytes_eq (take (length piece) (drop done text)) piece ≡ true → take (done + length piece) text ≡ take done text ++ piece

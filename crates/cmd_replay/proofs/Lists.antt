@@ -14,11 +14,6 @@ get_front [] ys i x low is = absurd (omega (arith, low))
 get_front (y ∷ xs) ys zero x low is = is
 get_front (y ∷ xs) ys (suc i) x low is = get_front xs ys i x (omega (arith, low)) is
 
--- behind a list comes the next
-pub get_behind : {A : Type 0} (xs : List A) (y : A) (ys : List A) → slice_get (xs ++ y ∷ ys) (length xs) ≡ Some y
-get_behind [] y ys = refl
-get_behind (x ∷ xs) y ys = get_behind xs y ys
-
 -- what stands among the first of a list stands in it
 pub get_of_take : {A : Type 0} (n : ℕ) (xs : List A) (i : ℕ) (x : A) → slice_get (take n xs) i ≡ Some x → slice_get xs i ≡ Some x
 get_of_take (suc n) (y ∷ xs) zero x is = is

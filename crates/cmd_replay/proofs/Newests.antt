@@ -7,10 +7,11 @@ use Rattle.std.proofs.lemmas.Slice.Eq.{bytes_eq-Decides}
 use Rattle.lang_tree.specs.Listing.{listing}
 use Rattle.lang_tree.specs.Points.{Point}
 use Rattle.lang_tree.specs.Tree.{Tree}
+use Rattle.cmd_session.specs.Shared.{get_behind}
 use Rattle.cmd_replay.specs.Newest.{IsNewest, IsSuch}
 use Rattle.cmd_replay.specs.Walking.{AreCounted, IsListedAs, is_sought, with_point}
 use Rattle.cmd_replay.specs.declared.walk.Tally.{Tally}
-use Rattle.cmd_replay.proofs.Lists.{get_before, get_behind, get_front}
+use Rattle.cmd_replay.proofs.Lists.{get_before, get_front}
 
 -- ---- more points behind
 

@@ -8,6 +8,7 @@ use Rattle.lang_tree.specs.Points.{Point, after_reply, begun_by, floor, made_by,
 use Rattle.lang_tree.specs.Step.{Session, start}
 use Rattle.cmd_trace.specs.Contents.{Contents}
 use Rattle.cmd_trace.specs.Trace.{Ascend}
+use Rattle.cmd_session.specs.Shared.{begun_append}
 use Rattle.cmd_replay.specs.declared.walk.Walk.{Walk}
 use Rattle.cmd_replay.specs.Newest.{IsNewest}
 use Rattle.cmd_replay.specs.Points.{IsMarked, points_in, top_at}
@@ -15,10 +16,6 @@ use Rattle.cmd_replay.specs.Walking.{AreCounted, HasCome, IsListedAs, WalksOn, f
 use Rattle.cmd_replay.proofs.Newests.{counted_more, newest_first, newest_longer}
 
 -- ---- how many points began by a moment
-
-begun_append : (k : ℕ) (xs ys : List Point) → begun_by k (xs ++ ys) ≡ begun_by k xs + begun_by k ys
-begun_append k [] ys = omega arith
-begun_append k (x ∷ xs) ys = omega (arith, begun_append k xs ys)
 
 began : (k : ℕ) (x : Point) → x.begun ≤ k → ◌≡◌ {A = ℕ} (if nat_le x.begun k then 1 else 0) 1
 began k x early = cond-true {A = ℕ} (nat_le x.begun k) 1 0 (le-leb x.begun k early)

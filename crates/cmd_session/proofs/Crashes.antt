@@ -15,10 +15,11 @@ use Rattle.lang_tree.specs.Points.{Point, made_by, points_after, points_of, begu
 use Rattle.lang_tree.specs.Step.{Session}
 use Rattle.lang_tree.specs.Tree.{Tree}
 use Rattle.cmd_trace.specs.Trace.{Ascend}
+use Rattle.cmd_session.specs.Shared.{begun_append}
 use Rattle.cmd_session.specs.Crashes.{StandsForOne, LeavesPoints}
 use Rattle.cmd_session.specs.Histories.{session_after, last_mark}
 use Rattle.cmd_session.specs.Serving.{HasTree}
-use Rattle.cmd_session.proofs.Histories.{points_more, floor_more, last_is, begun_append, begun_all, points_begun, made_begun, all_append, get_before}
+use Rattle.cmd_session.proofs.Histories.{points_more, floor_more, last_is, begun_all, points_begun, made_begun, all_append, get_before}
 
 -- The image stands for one of these trees, with a number from `low` to `high`.
 pub record StandsForTree (n : ℕ) (img : Blocks) (trees : ℕ → Tree) (low high : ℕ) : Type 0 where

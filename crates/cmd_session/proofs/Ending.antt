@@ -16,13 +16,14 @@ use Rattle.lang_tree.specs.Run.{Answers, Run, StopsAfterFault, is_of_disk}
 use Rattle.lang_tree.specs.Step.{Session, session_on}
 use Rattle.lang_tree.specs.Tree.{Tree}
 use Rattle.engine_blocks.specs.State.{State}
+use Rattle.cmd_session.specs.Shared.{has_run, begun_append, get_behind}
 use Rattle.cmd_session.specs.Budget.{budget_of, weight_by}
 use Rattle.cmd_session.specs.Crashes.{StandsForOne, LeavesPoints}
 use Rattle.cmd_session.specs.Ending.{HasRun, is_none, over_after, ending_reply, ending_replies, ending_marks}
 use Rattle.cmd_session.specs.Histories.{session_after, last_mark, HasNoFault}
 use Rattle.cmd_session.specs.Issued.{StandsForLast}
 use Rattle.cmd_session.specs.Serving.{HasServed}
-use Rattle.cmd_session.proofs.Histories.{points_more, session_more, run_more, floor_more, last_is, ascend_more, begun_append, get_before, get_behind, get_split}
+use Rattle.cmd_session.proofs.Histories.{points_more, session_more, run_more, floor_more, last_is, ascend_more, get_before, get_split}
 use Rattle.cmd_session.proofs.Issuing.{issues_more}
 
 -- a line that is no command is the one that there is
@@ -150,10 +151,6 @@ ends_all : EndLaws → (g : Geometry) (t : Tree) (base : Blocks) (log : List Eve
     → HasRun g t base log mounted (cmds ++ more) (replies ++ ending_replies over more) (marks ++ ending_marks (length log) more)
 ends_all laws g t base log mounted over cmds replies marks [] may = grind (arith, append-nil, may.is)
 ends_all laws g t base log mounted over cmds replies marks (cmd ∷ more) may = grind (arith, ends_all laws g t base log mounted (over_after over cmd) (cmds ++ cmd ∷ []) (replies ++ ending_reply over cmd ∷ []) (marks ++ length log ∷ []) more (ends_one laws g t base log mounted over cmds replies marks cmd may), append_assoc, ends_one)
-
--- what is served has run
-pub has_run : (g : Geometry) (t : Tree) (mounted : ℕ) (cmds : List Cmd) (replies : List Reply) (marks : List ℕ) (s : State) → HasServed g t mounted cmds replies marks s → HasRun g t s.crash.base s.crash.log mounted cmds replies marks
-has_run g t mounted cmds replies marks s served = record { run = served.run; stops = served.stops; answered = served.answered; marked = served.marked; ascend = served.ascend; crashes = served.crashes; issued = served.issued }
 
 pub ends_so : EndLaws → (g : Geometry) (t : Tree) (mounted : ℕ) (cmds : List Cmd) (replies : List Reply) (marks : List ℕ) (s : State) (more : List Cmd) → HasServed g t mounted cmds replies marks s
     → HasRun g t s.crash.base s.crash.log mounted (cmds ++ more) (replies ++ ending_replies s.books.stopped more) (marks ++ ending_marks (length s.crash.log) more)

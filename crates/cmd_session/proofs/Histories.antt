@@ -11,6 +11,7 @@ use Rattle.lang_tree.specs.Points.{Point, after_reply, is_sync, may_have_written
 use Rattle.lang_tree.specs.Run.{Answers, Run}
 use Rattle.lang_tree.specs.Step.{Session}
 use Rattle.cmd_trace.specs.Trace.{Ascend}
+use Rattle.cmd_trace.specs.Shared.{from_le}
 use Rattle.cmd_session.specs.Histories.{session_after, last_mark}
 
 -- how many there are of one thing as there are of another
@@ -66,15 +67,7 @@ pub ascend_more : (from : ℕ) (marks : List ℕ) (events mark : ℕ) → Ascend
 ascend_more from [] events mark up le = (omega (arith, up, le), refl)
 ascend_more from (m ∷ marks) events mark up le = (up.0, ascend_more m marks events mark up.1 le)
 
-pub from_le : (from : ℕ) (marks : List ℕ) (events : ℕ) → Ascend from marks events → from ≤ events
-from_le from [] events up = omega (arith, up)
-from_le from (m ∷ marks) events up = omega (arith, up.0, from_le m marks events up.1)
-
 -- How many points began by a moment.
-
-pub begun_append : (k : ℕ) (xs ys : List Point) → begun_by k (xs ++ ys) ≡ begun_by k xs + begun_by k ys
-begun_append k [] ys = omega arith
-begun_append k (x ∷ xs) ys = omega (arith, begun_append k xs ys)
 
 -- a point, where there is one, and nothing else
 all_if : (P : Point → Type 0) (c : Bool) (p : Point) → P p → Each P (if c then p ∷ [] else [])
@@ -109,10 +102,6 @@ pub get_before : {A : Type 0} (xs ys : List A) (i : ℕ) (x : A) → slice_get x
 get_before [] ys i x is = absurd (none_is i x is)
 get_before (y ∷ xs) ys zero x is = is
 get_before (y ∷ xs) ys (suc i) x is = get_before xs ys i x is
-
-pub get_behind : {A : Type 0} (xs : List A) (y : A) (ys : List A) → slice_get (xs ++ y ∷ ys) (length xs) ≡ Some y
-get_behind [] y ys = refl
-get_behind (x ∷ xs) y ys = get_behind xs y ys
 
 some_is : {A : Type 0} (x y : A) → Some x ≡ Some y → x ≡ y
 some_is x y e = ap (λ o. unwrap_or o x) e

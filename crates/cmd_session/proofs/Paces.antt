@@ -24,6 +24,7 @@ use Rattle.lang_tree.specs.declared.command.Reply.TheVariants.{Refused}
 use Rattle.lang_tree.specs.Points.{after_reply, is_refusal, is_sync}
 use Rattle.lang_tree.specs.Step.{Session}
 use Rattle.engine_blocks.specs.State.{State}
+use Rattle.cmd_trace.specs.Shared.{from_le}
 use Rattle.cmd_session.specs.Histories.{HasNoFault}
 use Rattle.fs_session.specs.Memory.{room_of}
 use Rattle.fs_session.specs.Sessions.{IsSession}
@@ -33,7 +34,7 @@ use Rattle.cmd_session.specs.Going.{pace_of}
 use Rattle.cmd_session.specs.Pacing.{AnswersBy, DoesBehind, FailsSince, FindsPlaces, FindsRoom, HearsIn, KnowsUpTo, LosesSince, OrdersAtOnce, Pace, PacesBy, StepsBy, TellsRing, WritesRecordBy, is_fault}
 use Rattle.cmd_session.specs.Places.{LiesAt}
 use Rattle.cmd_session.specs.Taking.{Span, Taken, is_done_sync, places_wanted, taken_by}
-use Rattle.cmd_session.proofs.Histories.{from_le, get_split}
+use Rattle.cmd_session.proofs.Histories.{get_split}
 use Rattle.cmd_session.proofs.Rooms.{answered_longer, own_longer}
 
 -- Lost writes.

@@ -23,13 +23,14 @@ use Rattle.engine_blocks.specs.State.{State}
 use Rattle.fs_session.specs.Applying.{Applies, AnswersSession, PassesTime}
 use Rattle.fs_session.specs.Points.{KnowsPoints, LeavesTree, TellsPoints, trees_after, with_tree}
 use Rattle.fs_session.specs.Sessions.{IsSession}
+use Rattle.cmd_session.specs.Shared.{get_behind}
 use Rattle.cmd_session.specs.Crashes.{LeavesPoints}
 use Rattle.cmd_session.specs.Histories.{session_after, last_mark, HasNoFault}
 use Rattle.cmd_session.specs.Issued.{StandsForLast, IssuesLast}
 use Rattle.cmd_session.specs.Serving.{HasTree, GoesOn, HasServed, IsDrawn}
 use Rattle.cmd_session.proofs.Crashes.{StandsForTree, crashes_more}
 use Rattle.cmd_session.proofs.Issuing.{issued_now, issues_more}
-use Rattle.cmd_session.proofs.Histories.{none_some, points_more, session_more, run_more, floor_more, ascend_more, get_before, get_behind, get_split}
+use Rattle.cmd_session.proofs.Histories.{none_some, points_more, session_more, run_more, floor_more, ascend_more, get_before, get_split}
 
 -- What lang_tree promises of replies, and fs_session of points.
 pub record ServingLaws {S : Type 0} (tells : Bool) (state : S → State) : Type 1 where

@@ -42,6 +42,7 @@ use Rattle.fs_session.specs.Commands.{figures_on}
 use Rattle.fs_session.specs.Memory.{room_of}
 use Rattle.fs_session.specs.Room.{figures_in}
 use Rattle.fs_session.specs.Sessions.{IsSession}
+use Rattle.cmd_session.specs.Shared.{accepted_on}
 use Rattle.cmd_session.specs.Budget.{commits, sync_budget, sync_places, weight_after, weight_by, writes_of}
 use Rattle.cmd_session.specs.Histories.{last_mark, session_after}
 use Rattle.cmd_session.specs.Serving.{HasServed}
@@ -54,12 +55,6 @@ use Rattle.cmd_session.proofs.Histories.{points_more}
 use Rattle.cmd_session.proofs.Rooms.{sync_is_meant}
 
 -- Accepted and noticed tickets of a log, and of its fronts.
-
-pub accepted_on : (t : ℕ) (xs ys : List Event) → is_accepted t xs ≡ true → is_accepted t (xs ++ ys) ≡ true
-accepted_on t [] ys is = absurd (false≢true is)
-accepted_on t (Wrote ticket block bytes ∷ xs) ys is = grind (arith, accepted_on t xs ys, cases_Bool (ticket == t), or_left, or_right)
-accepted_on t (Lost block bytes ∷ xs) ys is = accepted_on t xs ys is
-accepted_on t (Noticed ticket ∷ xs) ys is = accepted_on t xs ys is
 
 accepted_front : (t n : ℕ) (xs ys : List Event) → is_accepted t (take n xs) ≡ true → is_accepted t (take n (xs ++ ys)) ≡ true
 accepted_front t zero xs ys is = absurd (false≢true is)

@@ -12,3 +12,4 @@ pub mod Taking
 pub mod Pacing
 pub mod Going
 pub mod Answered
+pub mod Shared

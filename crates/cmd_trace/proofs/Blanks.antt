@@ -9,8 +9,8 @@ use Rattle.std.proofs.lemmas.Fmt.{digits_decimal}
 use Rattle.std.proofs.lemmas.List.{take_all, length-append, length-drop}
 use Rattle.std.proofs.lemmas.List.Quantifiers.{position-Some}
 use Rattle.std.proofs.Math.Seq.{drop-append-add, drop-cons, take-append_seam}
+use Rattle.lang_script.specs.Shared.{own, weaker}
 use Rattle.cmd_trace.specs.ReadFields.{is_blank, parts_at, cut}
-use Rattle.cmd_trace.proofs.Bytes.{own, weaker}
 
 -- whether a byte is no blank
 abbrev pub is_dark : ℕ → Bool

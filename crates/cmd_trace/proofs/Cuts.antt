@@ -11,8 +11,9 @@ use Rattle.hex.proofs.HexLemmas.{decode_of-encode_lower}
 use Rattle.disk_contract.specs.declared.event.Event.{Event}
 use Rattle.disk_contract.specs.declared.event.Event.TheVariants.{Wrote, Lost, Noticed}
 use Rattle.disk_contract.specs.Lawful.{IsEventOf, AreEventsOf}
+use Rattle.lang_script.specs.Shared.{own, weaker}
 use Rattle.cmd_trace.specs.Line.{event_line, event_lines}
-use Rattle.cmd_trace.proofs.Bytes.{own, weaker, block_is_bytes}
+use Rattle.cmd_trace.proofs.Bytes.{block_is_bytes}
 
 -- Two texts that begin with parts of bytes above m, and go on with nothing or a byte that isn't above it.
 

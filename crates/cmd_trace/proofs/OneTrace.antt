@@ -1,5 +1,5 @@
 -- The text of a trace has one contents.
-use Rattle.std.proofs.Common.{◌≡◌, sym, ap, ap₂, refl, ◌∙◌, arith, subst, ℕ, zero, suc, ◌+◌, ◌-◌, ◌<◌, ◌≤◌, ◌^◌, ◌==◌, ◌||◌, Bool, true, List, [], ◌∷◌, ◌++◌, take, drop, length, decimal, codes, append_assoc, append-nil, take-append-drop}
+use Rattle.std.proofs.Common.{◌≡◌, sym, ap, ap₂, refl, ◌∙◌, arith, subst, ℕ, ◌+◌, ◌-◌, ◌<◌, ◌≤◌, ◌^◌, ◌==◌, ◌||◌, Bool, true, List, [], ◌∷◌, ◌++◌, take, drop, length, decimal, codes, append_assoc, append-nil, take-append-drop}
 use Rattle.std.proofs.lemmas.Bool.{or_parts, false≢true}
 use Rattle.std.proofs.lemmas.List.{length-take-le, drop_all}
 use Rattle.std.proofs.Math.Seq.{drop-drop}
@@ -10,6 +10,7 @@ use Rattle.lang_tree.specs.declared.command.Cmd.{Cmd}
 use Rattle.lang_tree.specs.declared.command.Reply.{Reply}
 use Rattle.lang_script.specs.Text.{command_text, text_of_reply}
 use Rattle.lang_script.specs.Values.{IsCommand, IsReply, has_no_feed}
+use Rattle.cmd_trace.specs.Shared.{drop_events, take_events, from_le}
 use Rattle.cmd_trace.specs.Line.{geometry_line, event_lines, command_line, reply_line, end_line}
 use Rattle.cmd_trace.specs.Trace.{between, entry, entries, Ascend}
 use Rattle.cmd_trace.specs.Contents.{Contents, Each, AreLawful, front_of, text_of}
@@ -24,15 +25,6 @@ pub record OneValue : Type 0 where
 
 -- Parts of a log.
 
-drop_events : (n k : ℕ) (log : List Event) → AreEventsOf n log → AreEventsOf n (drop k log)
-drop_events n zero log h = h
-drop_events n (suc k) [] h = tt
-drop_events n (suc k) (x ∷ log) h = drop_events n k log h.1
-
-take_events : (n k : ℕ) (log : List Event) → AreEventsOf n log → AreEventsOf n (take k log)
-take_events n (suc k) (x ∷ log) h = (h.0, take_events n k log h.1)
-take_events n other log h = tt
-
 -- the events from one mark on are those up to the next one and those from there on
 from_mark : (before mark : ℕ) (log : List Event) → before ≤ mark → drop before log ≡ between before mark log ++ drop mark log
 from_mark before mark log up =
@@ -41,10 +33,6 @@ from_mark before mark log up =
   where
     there : before + (mark - before) ≡ mark
     there = omega (arith, up)
-
-ascend_below : (from : ℕ) (marks : List ℕ) (events : ℕ) → Ascend from marks events → from ≤ events
-ascend_below from [] events a = omega (arith, a)
-ascend_below from (mark ∷ marks) events a = omega (arith, a.0, ascend_below mark marks events a.1)
 
 -- One entry behind the other.
 
@@ -113,7 +101,7 @@ entries_cut v m n log more before earlier (cmd ∷ cmds) (other ∷ asked) (repl
     let two = events_cut m n (between before mark log) (between earlier moment more) (reply_line mark (text_of_reply reply) ++ (mine ++ r)) (reply_line moment (text_of_reply answer) ++ (theirs ++ s))
     big large (take_events m (mark - before) (drop before log) (drop_events m before log h)) (take_events n (moment - earlier) (drop earlier more) (drop_events n earlier more k)) refl refl one.1 in
     let reply_is = reply_cut v mark moment reply answer (mine ++ r) (theirs ++ s)
-    (omega (arith, few, ascend_below mark marks (length log) a.1)) (omega (arith, less, ascend_below moment moments (length more) b.1)) p.0 q.0 two.1 in
+    (omega (arith, few, from_le mark marks (length log) a.1)) (omega (arith, less, from_le moment moments (length more) b.1)) p.0 q.0 two.1 in
     let rest = entries_cut v m n log more mark moment cmds asked replies answered marks moments r s big large h k few less c.1 d.1 p.1 q.1
     (omega (arith, lc)) (omega (arith, ld)) (omega (arith, lm)) (omega (arith, ln)) a.1 b.1 stop halt reply_is.2 in
     record {
@@ -147,8 +135,8 @@ front_text c r = simp append_assoc
 -- a mount has as many events as the log has up to there
 mounts : (c d : Contents) → AreLawful c → AreLawful d → take c.mounted c.log ≡ take d.mounted d.log → c.mounted ≡ d.mounted
 mounts c d h k e =
-    let mine = length-take-le c.mounted c.log (ascend_below c.mounted c.marks (length c.log) h.ascend) in
-    let theirs = length-take-le d.mounted d.log (ascend_below d.mounted d.marks (length d.log) k.ascend) in
+    let mine = length-take-le c.mounted c.log (from_le c.mounted c.marks (length c.log) h.ascend) in
+    let theirs = length-take-le d.mounted d.log (from_le d.mounted d.marks (length d.log) k.ascend) in
     omega (arith, mine, theirs, ap length e)
 
 all_same : (c d : Contents) → c.geometry ≡ d.geometry → c.log ≡ d.log → c.mounted ≡ d.mounted → c.cmds ≡ d.cmds → c.replies ≡ d.replies → c.marks ≡ d.marks → c ≡ d

@@ -4,3 +4,4 @@ pub mod Contents
 pub mod ReadFields
 pub mod ReadLines
 pub mod ReadsAs
+pub mod Shared

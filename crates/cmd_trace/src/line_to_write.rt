@@ -15,6 +15,12 @@ pub const LONGEST: usize = 2 + 20 + 1 + 20 + 1 + 2048 + 1;
 /// The line so far.
 pub type Line = ArrayVec<u8, LONGEST>;
 
+/// The bytes of the longest head of a reply's line, which is what stands before its text, with 20 digits for the number.
+pub const LONGEST_HEAD: usize = 2 + 20 + 1;
+
+/// The head of a reply so far. It is short, since one is made for each reply.
+pub type Head = ArrayVec<u8, LONGEST_HEAD>;
+
 /// Adds a text at the end.
 pub fn put(line: &mut Line, text: &[u8])
     requires { array_vec_len line.old + length text.now ≤ 2093 }
@@ -22,6 +28,15 @@ pub fn put(line: &mut Line, text: &[u8])
     ensures length { array_vec_len line.new ≡ array_vec_len line.old + length text.now }
 {
     line.try_extend_from_slice(text).unwrap();
+}
+
+/// Adds a text at the end of the head of a reply.
+pub fn put_to_head(head: &mut Head, text: &[u8])
+    requires { array_vec_len head.old + length text.now ≤ 23 }
+    ensures text { head.new.items ≡ head.old.items ++ text.now }
+    ensures length { array_vec_len head.new ≡ array_vec_len head.old + length text.now }
+{
+    head.try_extend_from_slice(text).unwrap();
 }
 
 /// Adds a number in decimal digits.

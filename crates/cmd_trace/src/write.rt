@@ -9,10 +9,11 @@ ghost use Rattle.base_types.specs.Counts.{HasCause};
 ghost use Rattle.disk_contract.specs.declared.event.Event.TheVariants.{Wrote, Lost, Noticed};
 ghost use Rattle.cmd_trace.specs.Line.{geometry_line, event_line, command_line, reply_line, end_line};
 
-use crate::line_to_write::{Line, put, put_digits, put_number};
+use crate::line_to_write::{Head, Line, put, put_digits, put_number, put_to_head};
 use base_io::{Sink, SinkFault, prefixes_join, push_all};
 use base_types::Block;
 use disk_contract::Event;
+use itoa::Buffer;
 use layout_geometry::Geom;
 
 /// Writes the first line, with the numbers of the geometry.
@@ -179,10 +180,10 @@ pub fn write_reply<K: Sink>(out: &mut K, moment: u64, text: &[u8]) -> Result<(),
     ensures front { OnErr result ((n : ℕ) × Appends (K.taken out.old) (K.taken out.new) (take n (reply_line moment text.now))) }
     ensures cause { HasCause result (K.faults out.old) (K.faults out.new) }
 {
-    let mut head = Line::new();
-    put(&mut head, b"r ");
-    put_number(&mut head, moment);
-    put(&mut head, b" ");
+    let mut head = Head::new();
+    put_to_head(&mut head, b"r ");
+    put_to_head(&mut head, Buffer::new().format(moment).as_bytes());
+    put_to_head(&mut head, b" ");
     write_behind(out, head.as_slice(), text)?;
     Ok(())
 }

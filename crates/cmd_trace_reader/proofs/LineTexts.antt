@@ -1,29 +1,24 @@
 -- Lists of lines: where a line ends, and which fronts their text has.
-use Rattle.std.proofs.Common.{◌≡◌, sym, ap, ap₂, refl, ◌∙◌, arith, rules, tests, ℕ, zero, suc, ◌<◌, ◌^◌, ◌/◌, ◌%◌, ◌==◌, Bool, true, false, not, List, [], ◌∷◌, ◌++◌, length, get_or, drop, decimal, slice_index, nat_lt, append_assoc}
+use Rattle.std.proofs.Common.{◌≡◌, sym, ap, ap₂, refl, ◌∙◌, arith, tests, ℕ, zero, suc, ◌<◌, ◌^◌, ◌/◌, ◌%◌, ◌==◌, true, false, not, List, [], ◌∷◌, ◌++◌, length, get_or, drop, decimal, slice_index, nat_lt, append_assoc}
 use Rattle.std.specs.Prelude.{slice_index_or}
-use Rattle.std.specs.List.{list_all}
 use Rattle.std.specs.Char.{is_ascii_digit}
-use Rattle.std.specs.Str.Parse.{digits_value}
 use Rattle.std.proofs.lemmas.Bool.{and_parts, false≢true, and_right}
 use Rattle.std.proofs.lemmas.Fmt.{digits_decimal}
 use Rattle.std.proofs.lemmas.List.{append-nil}
-use Rattle.std.proofs.lemmas.Str.Parse.{IsNumeralModel, numerals_by_value}
-use Rattle.std.proofs.lemmas.List.Sums.{AllPass-from_list_all, list_all-from_AllPass}
+use Rattle.std.proofs.lemmas.List.Sums.{AllPass-from_list_all}
 use Rattle.hex.specs.Hex.{encode_lower, encode_with, lower_digits}
 use Rattle.disk_contract.specs.Lawful.{IsBlock}
 use Rattle.lang_script.specs.Values.{has_no_feed}
 use Rattle.cmd_trace.specs.Contents.{Each}
 use Rattle.cmd_trace.specs.ReadsAs.{fed}
+use Rattle.cmd_trace.specs.Shared.{each_append}
+use Rattle.lang_script.specs.Shared.{own, weaker}
 use Rattle.cmd_trace_reader.specs.Traces.{is_line, AreLines, text_of_lines}
 
 -- ---- lists
 
-pub each_join : {A : Type 0} (P : A → Type 0) (xs ys : List A) → Each P xs → Each P ys → Each P (xs ++ ys)
-each_join P [] ys h k = k
-each_join P (x ∷ xs) ys h k = (h.0, each_join P xs ys h.1 k)
-
 pub each_push : {A : Type 0} (P : A → Type 0) (xs : List A) (x : A) → Each P xs → P x → Each P (xs ++ x ∷ [])
-each_push P xs x h k = each_join P xs (x ∷ []) h (k, tt)
+each_push P xs x h k = each_append P xs (x ∷ []) h (k, tt)
 
 -- ---- where a line ends
 
@@ -93,12 +88,6 @@ line_join [] ys h k = k
 line_join (x ∷ xs) ys h k =
     let parts = and_parts (not (x == 10)) (is_line xs) h in
     rw parts.0 (line_join xs ys parts.1 k)
-
-weaker : (p q : ℕ → Bool) → ((b : ℕ) → p b ≡ true → q b ≡ true) → (xs : List ℕ) → list_all p xs ≡ true → list_all q xs ≡ true
-weaker p q more xs h = list_all-from_AllPass q xs (λ k d low. more (get_or xs k d) (AllPass-from_list_all p xs h k d low))
-
-own : IsNumeralModel (λ ds. list_all is_ascii_digit ds ≡ true) (digits_value 10)
-own = numerals_by_value _ (search rules)
 
 digit_is_none : (b : ℕ) → is_ascii_digit b ≡ true → not (b == 10) ≡ true
 digit_is_none b h = grind (arith, tests)

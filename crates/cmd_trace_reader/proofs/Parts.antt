@@ -1,5 +1,5 @@
 -- The lines of a trace as a list, without their line feeds.
-use Rattle.std.proofs.Common.{◌≡◌, sym, ap, ap₂, refl, ◌∙◌, arith, ℕ, zero, suc, ◌-◌, ◌<◌, ◌≤◌, ◌^◌, true, List, [], ◌∷◌, ◌++◌, length, take, drop, codes, decimal, append_assoc}
+use Rattle.std.proofs.Common.{◌≡◌, sym, ap, ap₂, refl, ◌∙◌, arith, ℕ, ◌-◌, ◌<◌, ◌≤◌, ◌^◌, true, List, [], ◌∷◌, ◌++◌, length, take, drop, codes, decimal, append_assoc}
 use Rattle.std.proofs.lemmas.List.{append-nil}
 use Rattle.hex.specs.Hex.{encode_lower}
 use Rattle.layout_geometry.specs.Geometry.{Geometry, IsGeometry}
@@ -14,8 +14,9 @@ use Rattle.cmd_trace.specs.Line.{geometry_line, event_line, event_lines, command
 use Rattle.cmd_trace.specs.Trace.{between, entry, entries, Ascend}
 use Rattle.cmd_trace.specs.Contents.{Contents, Each, AreLawful, text_of}
 use Rattle.cmd_trace.specs.ReadsAs.{fed}
+use Rattle.cmd_trace.specs.Shared.{each_append, drop_events, take_events, from_le}
 use Rattle.cmd_trace_reader.specs.Traces.{is_line, AreLines, text_of_lines}
-use Rattle.cmd_trace_reader.proofs.LineTexts.{each_join, text_join, line_join, number_line, text_line, block_line}
+use Rattle.cmd_trace_reader.proofs.LineTexts.{text_join, line_join, number_line, text_line, block_line}
 
 -- ---- the lines
 
@@ -102,19 +103,6 @@ events_ones : (n : ℕ) (events : List Event) → n ≤ 1048576 → AreEventsOf 
 events_ones n [] small h = tt
 events_ones n (e ∷ events) small h = (event_one n e small h.0, events_ones n events small h.1)
 
-pub drop_events : (n k : ℕ) (log : List Event) → AreEventsOf n log → AreEventsOf n (drop k log)
-drop_events n zero log h = h
-drop_events n (suc k) [] h = tt
-drop_events n (suc k) (x ∷ log) h = drop_events n k log h.1
-
-pub take_events : (n k : ℕ) (log : List Event) → AreEventsOf n log → AreEventsOf n (take k log)
-take_events n (suc k) (x ∷ log) h = (h.0, take_events n k log h.1)
-take_events n other log h = tt
-
-pub ascend_below : (from : ℕ) (marks : List ℕ) (events : ℕ) → Ascend from marks events → from ≤ events
-ascend_below from [] events a = omega (arith, a)
-ascend_below from (mark ∷ marks) events a = omega (arith, a.0, ascend_below mark marks events a.1)
-
 reply_one : NoFeed → (mark : ℕ) (reply : Reply) → mark < 2 ^ 64 → IsReply reply → is_line (reply_part mark reply) ≡ true
 reply_one l mark reply low h =
     two (codes "r " ++ decimal mark) (text_of_reply reply) (line_join (codes "r ") (decimal mark) refl (number_line mark low)) (text_line (text_of_reply reply) (l.reply_line reply h))
@@ -122,7 +110,7 @@ reply_one l mark reply low h =
 entries_ones : NoFeed → (n : ℕ) (log : List Event) (before : ℕ) (cmds : List Cmd) (replies : List Reply) (marks : List ℕ) → n ≤ 1048576 → AreEventsOf n log → length log < 2 ^ 64
     → Each IsCommand cmds → Each IsReply replies → Ascend before marks (length log) → AreLines (entries_parts log before cmds replies marks)
 entries_ones l n log before (cmd ∷ cmds) (reply ∷ replies) (mark ∷ marks) small events few c r a =
-    (line_join (codes "c ") (command_text cmd) refl (text_line (command_text cmd) (l.command_line cmd c.0)), each_join (λ line. is_line line ≡ true) (event_parts (between before mark log) ++ reply_part mark reply ∷ []) (entries_parts log mark cmds replies marks) (each_join (λ line. is_line line ≡ true) (event_parts (between before mark log)) (reply_part mark reply ∷ []) (events_ones n (between before mark log) small (take_events n (mark - before) (drop before log) (drop_events n before log events))) (reply_one l mark reply (omega (arith, few, ascend_below mark marks (length log) a.1)) r.0, tt)) (entries_ones l n log mark cmds replies marks small events few c.1 r.1 a.1))
+    (line_join (codes "c ") (command_text cmd) refl (text_line (command_text cmd) (l.command_line cmd c.0)), each_append (λ line. is_line line ≡ true) (event_parts (between before mark log) ++ reply_part mark reply ∷ []) (entries_parts log mark cmds replies marks) (each_append (λ line. is_line line ≡ true) (event_parts (between before mark log)) (reply_part mark reply ∷ []) (events_ones n (between before mark log) small (take_events n (mark - before) (drop before log) (drop_events n before log events))) (reply_one l mark reply (omega (arith, few, from_le mark marks (length log) a.1)) r.0, tt)) (entries_ones l n log mark cmds replies marks small events few c.1 r.1 a.1))
 entries_ones l n log before other replies marks small events few c r a = tt
 
 geometry_one : (g : Geometry) → IsGeometry g → is_line (geometry_part g) ≡ true
@@ -133,4 +121,4 @@ geometry_one g size =
 
 pub trace_lines : NoFeed → (c : Contents) → IsGeometry c.geometry → AreLawful c → AreLines (trace_parts c)
 trace_lines l c size h =
-    (geometry_one c.geometry size, each_join (λ line. is_line line ≡ true) (event_parts (take c.mounted c.log)) (entries_parts c.log c.mounted c.cmds c.replies c.marks ++ codes "end" ∷ []) (events_ones c.geometry.n (take c.mounted c.log) size.most_blocks (take_events c.geometry.n c.mounted c.log h.log.events)) (each_join (λ line. is_line line ≡ true) (entries_parts c.log c.mounted c.cmds c.replies c.marks) (codes "end" ∷ []) (entries_ones l c.geometry.n c.log c.mounted c.cmds c.replies c.marks size.most_blocks h.log.events h.events h.cmds h.replies h.ascend) (refl, tt)))
+    (geometry_one c.geometry size, each_append (λ line. is_line line ≡ true) (event_parts (take c.mounted c.log)) (entries_parts c.log c.mounted c.cmds c.replies c.marks ++ codes "end" ∷ []) (events_ones c.geometry.n (take c.mounted c.log) size.most_blocks (take_events c.geometry.n c.mounted c.log h.log.events)) (each_append (λ line. is_line line ≡ true) (entries_parts c.log c.mounted c.cmds c.replies c.marks) (codes "end" ∷ []) (entries_ones l c.geometry.n c.log c.mounted c.cmds c.replies c.marks size.most_blocks h.log.events h.events h.cmds h.replies h.ascend) (refl, tt)))

@@ -11,11 +11,12 @@ use Rattle.lang_script.specs.Values.{IsCommand, IsReply}
 use Rattle.cmd_trace.specs.Line.{reply_line}
 use Rattle.cmd_trace.specs.Trace.{between, Ascend}
 use Rattle.cmd_trace.specs.Contents.{Contents, Each}
+use Rattle.cmd_trace.specs.Shared.{drop_events, take_events, from_le}
 use Rattle.cmd_trace_reader.specs.Replies.{MayReply, after}
 use Rattle.cmd_trace_reader.specs.Traces.{MayReplyEach, IsTrace}
 use Rattle.cmd_trace_reader.specs.declared.reader.Place.TheVariants.{Asked, Answered, Ended}
 use Rattle.cmd_trace_reader.specs.Reading.{State, begun, HappensBy, AsksBy, AnswersBy, EndsBy, ComeEach, has_events, is_between, is_ended, mounted_by}
-use Rattle.cmd_trace_reader.proofs.Parts.{event_part, event_parts, event_fed, command_part, reply_part, entry_parts, entries_parts, trace_parts, drop_events, take_events, ascend_below}
+use Rattle.cmd_trace_reader.proofs.Parts.{event_part, event_parts, event_fed, command_part, reply_part, entry_parts, entries_parts, trace_parts}
 
 -- ---- lines in a row
 
@@ -136,7 +137,7 @@ run_entry log before mark cmd cmds reply replies s h here up low =
 pub run_entries : (log : List Event) (before : ℕ) (cmds : List Cmd) (replies : List Reply) (marks : List ℕ) (s : State) → Before log before cmds replies s
     → is_between s.place ≡ true → Ascend before marks (length log) → Reached s (entries_parts log before cmds replies marks)
 run_entries log before (cmd ∷ cmds) (reply ∷ replies) (mark ∷ marks) s h here up =
-    let one = run_entry log before mark cmd cmds reply replies s h here up.0 (ascend_below mark marks (length log) up.1) in
+    let one = run_entry log before mark cmd cmds reply replies s h here up.0 (from_le mark marks (length log) up.1) in
     let now : Before log mark cmds replies one.to = record {
       came = one.came;
       lawful = h.lawful;
@@ -164,7 +165,7 @@ pub record Finished (lines : List (List ℕ)) : Type 0 where
 
 pub run_trace : (c : Contents) → IsTrace c → Finished (trace_parts c)
 run_trace c h =
-    let few : length (take c.mounted c.log) < 2 ^ 64 = omega (arith, length-take-le c.mounted c.log (ascend_below c.mounted c.marks (length c.log) h.lawful.ascend), ascend_below c.mounted c.marks (length c.log) h.lawful.ascend, h.lawful.events) in
+    let few : length (take c.mounted c.log) < 2 ^ 64 = omega (arith, length-take-le c.mounted c.log (from_le c.mounted c.marks (length c.log) h.lawful.ascend), from_le c.mounted c.marks (length c.log) h.lawful.ascend, h.lawful.events) in
     let mount = run_events (take c.mounted c.log) (begun c.geometry) refl (lawful_taken c.log c.mounted h.lawful.log.lawful) (take_events c.geometry.n c.mounted c.log h.lawful.log.events) few in
     let ready : Before c.log c.mounted c.cmds c.replies mount.to = record {
       came = mount.log;

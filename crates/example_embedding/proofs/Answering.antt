@@ -14,11 +14,8 @@ use Rattle.lang_tree.specs.Tree.{Tree}
 use Rattle.engine_blocks.specs.State.{State}
 use Rattle.cmd_session.specs.Ending.{HasRun}
 use Rattle.cmd_session.specs.Serving.{HasServed}
+use Rattle.cmd_session.specs.Shared.{has_run}
 use Rattle.example_embedding.specs.Serving.{Keeps}
-
--- what was served is a run
-pub has_run : (g : Geometry) (t : Tree) (mounted : ℕ) (cmds : List Cmd) (replies : List Reply) (marks : List ℕ) (s : State) → HasServed g t mounted cmds replies marks s → HasRun g t s.crash.base s.crash.log mounted cmds replies marks
-has_run g t mounted cmds replies marks s h = record { run = h.run; stops = h.stops; answered = h.answered; marked = h.marked; ascend = h.ascend; crashes = h.crashes; issued = h.issued }
 
 -- from its mark on, no crash goes back behind the point that the last reply promises
 pub floor_at_last : (k : ℕ) (replies : List Reply) (marks : List ℕ) (reply : Reply) (mark : ℕ) → length marks ≡ length replies → mark ≤ k → promised_by reply ≤ floor k (replies ++ reply ∷ []) (marks ++ mark ∷ [])

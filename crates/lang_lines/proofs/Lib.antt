@@ -4,3 +4,4 @@ mod Giving
 mod Feeds
 mod Calling
 mod Few
+mod Commanding

@@ -1,14 +1,11 @@
--- More bytes of an input: its whole lines, its open line, and the commands that they are.
+-- More bytes of an input: its whole lines, its open line, and what they say.
 use Rattle.std.proofs.Common.{◌≡◌, ℕ, suc, ◌+◌, ◌<◌, ◌≤◌, Bool, true, false, not, ◌==◌, cond, eqb, ltb, List, [], ◌∷◌, ◌++◌, length, take, refl, sym, ap, ◌∙◌, subst, arith, add-one, append_assoc, append-nil, take_all}
 use Rattle.std.specs.List.{onto_first, flat_map, list_all}
 use Rattle.std.proofs.lemmas.Bool.{and_parts, eqb-true, lt-ltb}
 use Rattle.std.proofs.lemmas.Bool.Decides.{nat_tests}
 use Rattle.std.proofs.lemmas.Grind.{flat_map-append}
 use Rattle.std.proofs.lemmas.List.{length-take, length-take-le}
-use Rattle.lang_tree.specs.declared.command.Cmd.TheVariants.{Bad}
-use Rattle.lang_script.specs.Grammar.{command_of}
-use Rattle.lang_tree.specs.declared.command.Cmd.{Cmd}
-use Rattle.lang_lines.specs.Lines.{parts_of, all_but_last, last_of, whole_lines, open_line, commands_of_line, whole_commands, commands_of}
+use Rattle.lang_lines.specs.Lines.{parts_of, all_but_last, last_of, whole_lines, open_line, items_of_line, whole_items, items_of}
 
 -- the parts after one byte that is no line feed
 abbrev grow : ℕ → List (List ℕ) → List (List ℕ)
@@ -84,8 +81,8 @@ open-byte xs b no_feed = ap last_of (parts-byte xs b no_feed) ∙ last_back (who
 whole-byte : (xs : List ℕ) (b : ℕ) → eqb b 10 ≡ false → whole_lines (xs ++ b ∷ []) ≡ whole_lines xs
 whole-byte xs b no_feed = ap all_but_last (parts-byte xs b no_feed) ∙ front_back (whole_lines xs) _
 
-pub commands-byte : (n : ℕ) (xs : List ℕ) (b : ℕ) → eqb b 10 ≡ false → whole_commands n (xs ++ b ∷ []) ≡ whole_commands n xs
-commands-byte n xs b no_feed = ap (flat_map (commands_of_line n)) (whole-byte xs b no_feed)
+pub items-byte : {A : Type 0} (each : List ℕ → List A) (xs : List ℕ) (b : ℕ) → eqb b 10 ≡ false → whole_items each (xs ++ b ∷ []) ≡ whole_items each xs
+items-byte each xs b no_feed = ap (flat_map each) (whole-byte xs b no_feed)
 
 -- a line feed
 
@@ -93,29 +90,29 @@ pub open-feed : (xs : List ℕ) → open_line (xs ++ 10 ∷ []) ≡ []
 open-feed xs = ap last_of (parts-feed xs) ∙ last_back (parts_of xs) []
 
 -- at the end of an input the open line is a line
-pub commands-end : (n : ℕ) (xs : List ℕ) → commands_of n xs ≡ whole_commands n xs ++ commands_of_line n (open_line xs)
-commands-end n xs =
-    ap (flat_map (commands_of_line n)) (parts-split xs) ∙ flat_map-append (commands_of_line n) (whole_lines xs) (open_line xs ∷ [])
-    ∙ ap (λ l. whole_commands n xs ++ l) (append-nil (commands_of_line n (open_line xs)))
+pub items-end : {A : Type 0} (each : List ℕ → List A) (xs : List ℕ) → items_of each xs ≡ whole_items each xs ++ each (open_line xs)
+items-end each xs =
+    ap (flat_map each) (parts-split xs) ∙ flat_map-append each (whole_lines xs) (open_line xs ∷ [])
+    ∙ ap (λ l. whole_items each xs ++ l) (append-nil (each (open_line xs)))
 
-pub commands-feed : (n : ℕ) (xs : List ℕ) → whole_commands n (xs ++ 10 ∷ []) ≡ commands_of n xs
-commands-feed n xs = ap (flat_map (commands_of_line n)) (ap all_but_last (parts-feed xs) ∙ front_back (parts_of xs) [])
+pub items-feed : {A : Type 0} (each : List ℕ → List A) (xs : List ℕ) → whole_items each (xs ++ 10 ∷ []) ≡ items_of each xs
+items-feed each xs = ap (flat_map each) (ap all_but_last (parts-feed xs) ∙ front_back (parts_of xs) [])
 
--- What is read later takes no command away that is there.
+-- What is read later takes no item away that is there.
 
-behind : (n : ℕ) (xs : List ℕ) (b : ℕ) (t : Bool) → eqb b 10 ≡ t → (more : List Cmd) × (whole_commands n (xs ++ b ∷ []) ≡ whole_commands n xs ++ more)
-behind n xs b true e =
-    let P : ℕ → Type 0 = λ c. (more : List Cmd) × (whole_commands n (xs ++ c ∷ []) ≡ whole_commands n xs ++ more) in
-    subst P (sym (eqb-true b 10 e)) (commands_of_line n (open_line xs), commands-feed n xs ∙ commands-end n xs)
-behind n xs b false e = ([], commands-byte n xs b e ∙ sym (append-nil (whole_commands n xs)))
+behind : {A : Type 0} (each : List ℕ → List A) (xs : List ℕ) (b : ℕ) (t : Bool) → eqb b 10 ≡ t → (more : List A) × (whole_items each (xs ++ b ∷ []) ≡ whole_items each xs ++ more)
+behind {A = A} each xs b true e =
+    let P : ℕ → Type 0 = λ c. (more : List A) × (whole_items each (xs ++ c ∷ []) ≡ whole_items each xs ++ more) in
+    subst P (sym (eqb-true b 10 e)) (each (open_line xs), items-feed each xs ∙ items-end each xs)
+behind {A = A} each xs b false e = ([], items-byte each xs b e ∙ sym (append-nil (whole_items each xs)))
 
-pub commands-more : (n : ℕ) (xs ys : List ℕ) → (more : List Cmd) × (commands_of n (xs ++ ys) ≡ whole_commands n xs ++ more)
-commands-more n xs [] =
-    (commands_of_line n (open_line xs), ap (commands_of n) (append-nil xs) ∙ commands-end n xs)
-commands-more n xs (y ∷ ys) =
-    let here = behind n xs y (eqb y 10) refl in
-    let later = commands-more n (xs ++ y ∷ []) ys in
-    (here.0 ++ later.0, ap (commands_of n) (sym (append_assoc xs (y ∷ []) ys)) ∙ later.1 ∙ ap (λ l. l ++ later.0) here.1 ∙ append_assoc (whole_commands n xs) here.0 later.0)
+pub items-more : {A : Type 0} (each : List ℕ → List A) (xs ys : List ℕ) → (more : List A) × (items_of each (xs ++ ys) ≡ whole_items each xs ++ more)
+items-more each xs [] =
+    (each (open_line xs), ap (items_of each) (append-nil xs) ∙ items-end each xs)
+items-more each xs (y ∷ ys) =
+    let here = behind each xs y (eqb y 10) refl in
+    let later = items-more each (xs ++ y ∷ []) ys in
+    (here.0 ++ later.0, ap (items_of each) (sym (append_assoc xs (y ∷ []) ys)) ∙ later.1 ∙ ap (λ l. l ++ later.0) here.1 ∙ append_assoc (whole_items each xs) here.0 later.0)
 
 -- Bytes of which none is a line feed.
 
@@ -132,35 +129,35 @@ open-more xs (y ∷ ys) h =
     ap open_line (sym (append_assoc xs (y ∷ []) ys)) ∙ open-more (xs ++ y ∷ []) ys parts.1 ∙ ap (λ l. l ++ ys) (open-byte xs y (no_feed y parts.0))
     ∙ append_assoc (open_line xs) (y ∷ []) ys
 
-pub whole-more : (n : ℕ) (xs ys : List ℕ) → feedless ys ≡ true → whole_commands n (xs ++ ys) ≡ whole_commands n xs
-whole-more n xs [] h = ap (whole_commands n) (append-nil xs)
-whole-more n xs (y ∷ ys) h =
+pub whole-more : {A : Type 0} (each : List ℕ → List A) (xs ys : List ℕ) → feedless ys ≡ true → whole_items each (xs ++ ys) ≡ whole_items each xs
+whole-more each xs [] h = ap (whole_items each) (append-nil xs)
+whole-more each xs (y ∷ ys) h =
     let parts = and_parts _ _ h in
-    ap (whole_commands n) (sym (append_assoc xs (y ∷ []) ys)) ∙ whole-more n (xs ++ y ∷ []) ys parts.1 ∙ commands-byte n xs y (no_feed y parts.0)
+    ap (whole_items each) (sym (append_assoc xs (y ∷ []) ys)) ∙ whole-more each (xs ++ y ∷ []) ys parts.1 ∙ items-byte each xs y (no_feed y parts.0)
 
 -- a line feed makes the open line a whole one
-pub whole-feed : (n : ℕ) (xs : List ℕ) → whole_commands n (xs ++ 10 ∷ []) ≡ whole_commands n xs ++ commands_of_line n (open_line xs)
-whole-feed n xs = commands-feed n xs ∙ commands-end n xs
+pub whole-feed : {A : Type 0} (each : List ℕ → List A) (xs : List ℕ) → whole_items each (xs ++ 10 ∷ []) ≡ whole_items each xs ++ each (open_line xs)
+whole-feed each xs = items-feed each xs ∙ items-end each xs
 
 -- The line that is kept.
 
 -- one byte more than a line may have decides as the whole line does
-pub line_kept : (n : ℕ) (line : List ℕ) → commands_of_line n (take (n + 1) line) ≡ commands_of_line n line
-line_kept n [] = ap (commands_of_line n) (take_all (n + 1) [] (omega arith))
-line_kept n (b ∷ line) = shown n b line (ltb n (length (b ∷ line))) refl
+pub line_kept : {A : Type 0} (bad : A) (says : List ℕ → A) (n : ℕ) (line : List ℕ) → items_of_line bad says n (take (n + 1) line) ≡ items_of_line bad says n line
+line_kept bad says n [] = ap (items_of_line bad says n) (take_all (n + 1) [] (omega arith))
+line_kept bad says n (b ∷ line) = shown n b line (ltb n (length (b ∷ line))) refl
   where
-    shown : (n b : ℕ) (line : List ℕ) (t : Bool) → ltb n (length (b ∷ line)) ≡ t → commands_of_line n (take (n + 1) (b ∷ line)) ≡ commands_of_line n (b ∷ line)
+    shown : (n b : ℕ) (line : List ℕ) (t : Bool) → ltb n (length (b ∷ line)) ≡ t → items_of_line bad says n (take (n + 1) (b ∷ line)) ≡ items_of_line bad says n (b ∷ line)
     shown n b line true long =
         let more : n < suc (length line) = grind (arith, nat_tests) in
         let cut : length (take n line) ≡ n = length-take-le n line (omega arith) in
         let still : ltb n (length (b ∷ take n line)) ≡ true = rw cut (lt-ltb n (suc n) (omega arith)) in
         let front : take (n + 1) (b ∷ line) ≡ b ∷ take n line = rw add-one refl in
-        ap (commands_of_line n) front
-        ∙ ap (λ t. cond (eqb b 35) [] ((cond t Bad (command_of (b ∷ take n line))) ∷ [])) still
-        ∙ sym (ap (λ t. cond (eqb b 35) [] ((cond t Bad (command_of (b ∷ line))) ∷ [])) long)
+        ap (items_of_line bad says n) front
+        ∙ ap (λ t. cond (eqb b 35) [] ((cond t bad (says (b ∷ take n line))) ∷ [])) still
+        ∙ sym (ap (λ t. cond (eqb b 35) [] ((cond t bad (says (b ∷ line))) ∷ [])) long)
     shown n b line false short =
         let all : suc (length line) ≤ n = grind (arith, nat_tests) in
-        ap (commands_of_line n) (take_all (n + 1) (b ∷ line) (omega arith))
+        ap (items_of_line bad says n) (take_all (n + 1) (b ∷ line) (omega arith))
 
 -- where nothing is kept of a line there is nothing of it
 pub none_kept : (n : ℕ) (line : List ℕ) → [] ≡ take (n + 1) line → line ≡ []

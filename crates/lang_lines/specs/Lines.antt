@@ -1,4 +1,4 @@
--- The lines of an input and the commands that they are. It is described in docs/SCRIPT.md.
+-- The lines of an input, what they say, and the commands that they are. It is described in docs/SCRIPT.md.
 use Rattle.std.specs.Prelude.{ℕ, ◌==◌, Bool, true, if◌then◌else◌, nat_lt, List, [], ◌∷◌, length}
 use Rattle.std.specs.List.{slice_split, flat_map}
 use Rattle.lang_tree.specs.declared.command.Cmd.{Cmd}
@@ -37,15 +37,27 @@ abbrev pub is_skipped : List ℕ → Bool
 is_skipped [] = true
 is_skipped (b ∷ line) = b == 35
 
+module _ {A : Type 0} where
+  -- what a line says, where `says` tells it of the text of one: nothing where it is skipped, and `bad` where it is longer than a line may be
+  abbrev pub items_of_line : A → (List ℕ → A) → ℕ → List ℕ → List A
+  items_of_line bad says longest line = if is_skipped line then [] else ((if nat_lt longest (length line) then bad else says line) ∷ [])
+
+  -- what the lines say whose line feed is in the input, for `each` that tells it of a line
+  abbrev pub whole_items : (List ℕ → List A) → List ℕ → List A
+  whole_items each input = flat_map each (whole_lines input)
+
+  -- what an input says that has been read to its end: the last line may lack its line feed
+  abbrev pub items_of : (List ℕ → List A) → List ℕ → List A
+  items_of each input = flat_map each (parts_of input)
+
 -- the command that a line is: none where it is skipped, and `Bad` where it is longer than a line may be
 abbrev pub commands_of_line : ℕ → List ℕ → List Cmd
-commands_of_line longest line =
-    if is_skipped line then [] else ((if nat_lt longest (length line) then Bad else command_of line) ∷ [])
+commands_of_line longest line = items_of_line Bad command_of longest line
 
 -- the commands of the lines whose line feed is in the input, for lines of at most `longest` bytes
 abbrev pub whole_commands : ℕ → List ℕ → List Cmd
-whole_commands longest input = flat_map (commands_of_line longest) (whole_lines input)
+whole_commands longest input = whole_items (commands_of_line longest) input
 
 -- the commands of an input that has been read to its end: the last line may lack its line feed
 abbrev pub commands_of : ℕ → List ℕ → List Cmd
-commands_of longest input = flat_map (commands_of_line longest) (parts_of input)
+commands_of longest input = items_of (commands_of_line longest) input

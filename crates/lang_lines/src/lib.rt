@@ -1,14 +1,16 @@
-//! The lines of a script: how an input is cut into lines, which command each line is, and a reader that pulls the
-//! commands of an input from a source one by one. What commands do isn't known here.
+//! The lines of an input: how it is cut into lines, what each line says, and a reader that pulls what the lines of an
+//! input say from a source one by one, as the commands of a script. What commands do isn't known here.
 #![tactic(auto)]
 
 mod chunk;
+mod commands;
 mod laws;
 mod lines;
 mod next;
 mod reader;
 
-pub use laws::all_was_given;
-pub use lines::command_of_line;
-pub use next::Next;
-pub use reader::CommandReader;
+pub use commands::CommandReader;
+pub use laws::{all_items_were_given, all_was_given};
+pub use lines::{Commands, LineParser, command_of_line, item_of_line};
+pub use next::{Next, NextItem};
+pub use reader::LineReader;

@@ -1,24 +1,24 @@
-//! The commands of an input, one by one, pulled from a source. Lines that lie whole in the bytes that were pulled are
-//! read where they lie; what begins a line whose line feed didn't come yet is kept.
+//! What the lines of an input say, one by one, pulled from a source. Lines that lie whole in the bytes that were pulled
+//! are read where they lie; what begins a line whose line feed didn't come yet is kept.
 
 ghost use Rattle.std.specs.Prelude.{◌≡◌, ℕ, ◌+◌, ◌^◌, ◌<◌, ◌≤◌, ◌==◌, true, false, not, [], ◌∷◌, length, take, drop, option_to_list, IfOk, IfSome, OnOk, OnErr};
 ghost use Rattle.std.specs.List.{position, list_all};
-ghost use Rattle.lang_lines.specs.Reading.{ReaderState, ReadsOn, HoldsOn, first_state};
+ghost use Rattle.lang_lines.specs.Lines.{longest, items_of_line};
+ghost use Rattle.lang_lines.specs.Reading.{ReaderState, ReadsItem, HoldsItems, first_state};
 ghost use Rattle.lang_lines.specs.Steps.{GoesOn, EndsWith, HasPulled};
 
 use crate::chunk::Chunk;
-use crate::lines::command_of_line;
-use crate::next::Next;
+use crate::lines::{LineParser, item_of_line};
+use crate::next::NextItem;
 use base_io::{Source, SourceFault};
 use base_types::NoMemory;
 use base_types::limits::{LONGEST_INPUT, LONGEST_LINE};
-use lang_tree::Cmd;
 use std::alloc::Global;
 use std::marker::Model;
 
-/// A reader of the commands of one input.
+/// A reader of the lines of one input.
 #[derive(Drop)]
-pub struct CommandReader {
+pub struct LineReader {
     // The bytes that weren't looked at yet.
     chunk: Chunk,
     // What was looked at of a line whose line feed wasn't, up to one byte more than a line may have.
@@ -29,7 +29,7 @@ pub struct CommandReader {
     over: bool,
 }
 
-impl Model for CommandReader {
+impl Model for LineReader {
     ghost use Rattle.std.specs.Prelude.{◌≡◌, ◌≤◌, ◌^◌, true, []};
     ghost use Rattle.lang_lines.specs.Reading.{ReaderState};
 
@@ -53,16 +53,16 @@ pub enum Pulled {
     TooMany,
 }
 
-impl CommandReader {
+impl LineReader {
     /// A reader of an input of which nothing was pulled yet.
     ///
     /// # Errors
     /// Out of memory.
-    pub fn new(alloc: Global) -> Result<CommandReader, NoMemory>
+    pub fn new(alloc: Global) -> Result<LineReader, NoMemory>
         ensures { IfOk result (λ r. r ≡ first_state) }
     {
         let chunk = Chunk::new(alloc)?;
-        Ok(CommandReader {
+        Ok(LineReader {
             chunk,
             line: Vec::new(alloc),
             count: 0,
@@ -70,36 +70,40 @@ impl CommandReader {
         })
     }
 
-    /// What comes next of the input: the command of the next line that isn't skipped, or else why there is none.
-    /// More bytes are pulled only where no whole line is left of those that were. A line that is longer than a line
-    /// may be is `Bad`. The last line of an input may lack its line feed.
+    /// What comes next of the input: what the next line says that isn't skipped, or else why there is none. More bytes
+    /// are pulled only where no whole line is left of those that were. A line that is longer than a line may be says
+    /// `P::bad()`. The last line of an input may lack its line feed.
     ///
     /// # Errors
-    /// Out of memory. No command is lost then, and a later call may go on.
-    pub fn next<S: Source>(&mut self, alloc: Global, input: &mut S) -> Result<Next, NoMemory>
-        ensures ok { IfOk result (λ next. ReadsOn next self.old self.new (S.remaining input.old) (S.remaining input.new) (S.faults input.old)
-            (S.faults input.new)) }
-        ensures err { OnErr result (HoldsOn self.old self.new (S.remaining input.old) (S.remaining input.new)) }
+    /// Out of memory. No line is lost then, and a later call may go on.
+    pub fn next<P: LineParser, S: Source>(
+        &mut self,
+        alloc: Global,
+        input: &mut S,
+    ) -> Result<NextItem<P::Item>, NoMemory>
+        ensures ok { IfOk result (λ next. ReadsItem (items_of_line P.bad P.says longest) next self.old self.new (S.remaining input.old)
+            (S.remaining input.new) (S.faults input.old) (S.faults input.new)) }
+        ensures err { OnErr result (HoldsItems (items_of_line P.bad P.says longest) self.old self.new (S.remaining input.old) (S.remaining input.new)) }
         ensures faults { S.faults input.old ≤ S.faults input.new }
         ensures rest { self.new.over ≡ true → self.new.ahead ≡ [] }
     {
         while !self.is_over() {
-            if let Some(cmd) = self.next_ahead(alloc)? {
-                return Ok(Next::Command(cmd));
+            if let Some(item) = self.next_ahead::<P>(alloc)? {
+                return Ok(NextItem::Item(item));
             }
-            match self.pull(input) {
+            match self.pull::<P, S>(input) {
                 Pulled::Bytes => {}
-                Pulled::Fault => return Ok(Next::SourceFault),
-                Pulled::TooMany => return Ok(Next::LongInput),
+                Pulled::Fault => return Ok(NextItem::SourceFault),
+                Pulled::TooMany => return Ok(NextItem::LongInput),
                 Pulled::Nothing => {
-                    return match self.take_last(alloc)? {
-                        Some(cmd) => Ok(Next::Command(cmd)),
-                        None => Ok(Next::End),
+                    return match self.take_last::<P>(alloc)? {
+                        Some(item) => Ok(NextItem::Item(item)),
+                        None => Ok(NextItem::End),
                     };
                 }
             }
         }
-        Ok(Next::End)
+        Ok(NextItem::End)
     }
 
     // Whether the input is over.
@@ -118,53 +122,53 @@ impl CommandReader {
         self.chunk.bytes().is_empty()
     }
 
-    // The command of the next whole line ahead that is one. Where there is none, all that is ahead is looked at.
-    fn next_ahead(&mut self, alloc: Global) -> Result<Option<Cmd>, NoMemory>
+    // What the next whole line ahead says that isn't skipped. Where there is none, all that is ahead is looked at.
+    fn next_ahead<P: LineParser>(&mut self, alloc: Global) -> Result<Option<P::Item>, NoMemory>
         requires going { self.old.over ≡ false }
-        ensures ok { IfOk result (λ found. GoesOn (option_to_list found) self.old self.new) }
+        ensures ok { IfOk result (λ found. GoesOn (items_of_line P.bad P.says longest) (option_to_list found) self.old self.new) }
         ensures none { IfOk result (λ found. option_to_list found ≡ [] → self.new.ahead ≡ []) }
-        ensures err { OnErr result (GoesOn [] self.old self.new) }
+        ensures err { OnErr result (GoesOn (items_of_line P.bad P.says longest) [] self.old self.new) }
     {
         while !self.has_none_ahead() {
-            if let Some(cmd) = self.take_some(alloc)? {
-                return Ok(Some(cmd));
+            if let Some(item) = self.take_some::<P>(alloc)? {
+                return Ok(Some(item));
             }
         }
         Ok(None)
     }
 
     // Looks at the bytes ahead up to the first line feed, and at it too, or at all where there is none.
-    fn take_some(&mut self, alloc: Global) -> Result<Option<Cmd>, NoMemory>
+    fn take_some<P: LineParser>(&mut self, alloc: Global) -> Result<Option<P::Item>, NoMemory>
         requires going { self.old.over ≡ false }
         requires some { 0 < length self.old.ahead }
-        ensures ok { IfOk result (λ found. GoesOn (option_to_list found) self.old self.new) }
+        ensures ok { IfOk result (λ found. GoesOn (items_of_line P.bad P.says longest) (option_to_list found) self.old self.new) }
         ensures fewer { IfOk result (λ _. length self.new.ahead < length self.old.ahead) }
-        ensures err { OnErr result (GoesOn [] self.old self.new) }
+        ensures err { OnErr result (GoesOn (items_of_line P.bad P.says longest) [] self.old self.new) }
     {
         match feed_in(self.chunk.bytes()) {
             None => {
                 let count = self.chunk.bytes().len();
-                self.keep(count)?;
+                self.keep::<P>(count)?;
                 Ok(None)
             }
             Some(at) => {
                 if self.line.is_empty() {
-                    let found = self.take_whole(alloc, at)?;
+                    let found = self.take_whole::<P>(alloc, at)?;
                     return Ok(found);
                 }
-                self.keep(at)?;
-                let found = self.take_open(alloc)?;
+                self.keep::<P>(at)?;
+                let found = self.take_open::<P>(alloc)?;
                 Ok(found)
             }
         }
     }
 
     // Keeps so many bytes behind the open line, as far as it is kept.
-    fn keep(&mut self, count: usize) -> Result<(), NoMemory>
+    fn keep<P: LineParser>(&mut self, count: usize) -> Result<(), NoMemory>
         requires going { self.old.over ≡ false }
         requires within { count ≤ length self.old.ahead }
         requires no_feed { list_all (λ b. not (b == 10)) (take count self.old.ahead) ≡ true }
-        ensures ok { OnOk result (GoesOn [] self.old self.new) }
+        ensures ok { OnOk result (GoesOn (items_of_line P.bad P.says longest) [] self.old self.new) }
         ensures ahead { OnOk result (self.new.ahead ≡ drop count self.old.ahead) }
         ensures err { OnErr result (self.new ≡ self.old) }
     {
@@ -175,57 +179,62 @@ impl CommandReader {
     }
 
     // Takes the line that lies whole ahead, up to the line feed that is there.
-    fn take_whole(&mut self, alloc: Global, at: usize) -> Result<Option<Cmd>, NoMemory>
+    fn take_whole<P: LineParser>(
+        &mut self,
+        alloc: Global,
+        at: usize,
+    ) -> Result<Option<P::Item>, NoMemory>
         requires going { self.old.over ≡ false }
         requires none { self.old.line ≡ [] }
         requires no_feed { list_all (λ b. not (b == 10)) (take at self.old.ahead) ≡ true }
         requires feed { drop at self.old.ahead ≡ 10 ∷ drop (at + 1) self.old.ahead }
-        ensures ok { IfOk result (λ found. GoesOn (option_to_list found) self.old self.new) }
+        ensures ok { IfOk result (λ found. GoesOn (items_of_line P.bad P.says longest) (option_to_list found) self.old self.new) }
         ensures ahead { IfOk result (λ _. self.new.ahead ≡ drop (at + 1) self.old.ahead) }
         ensures err { OnErr result (self.new ≡ self.old) }
     {
-        let found = command_of_line(alloc, &self.chunk.bytes()[..at])?;
+        let found = item_of_line::<P>(alloc, &self.chunk.bytes()[..at])?;
         self.chunk.pass(at + 1);
         Ok(found)
     }
 
     // Takes the open line, whose line feed comes next.
-    fn take_open(&mut self, alloc: Global) -> Result<Option<Cmd>, NoMemory>
+    fn take_open<P: LineParser>(&mut self, alloc: Global) -> Result<Option<P::Item>, NoMemory>
         requires going { self.old.over ≡ false }
         requires feed { self.old.ahead ≡ 10 ∷ drop 1 self.old.ahead }
-        ensures ok { IfOk result (λ found. GoesOn (option_to_list found) self.old self.new) }
+        ensures ok { IfOk result (λ found. GoesOn (items_of_line P.bad P.says longest) (option_to_list found) self.old self.new) }
         ensures ahead { IfOk result (λ _. self.new.ahead ≡ drop 1 self.old.ahead) }
         ensures err { OnErr result (self.new ≡ self.old) }
     {
-        let found = command_of_line(alloc, self.line.as_slice())?;
+        let found = item_of_line::<P>(alloc, self.line.as_slice())?;
         self.line.clear();
         self.chunk.pass(1);
         Ok(found)
     }
 
     // Takes the last line of an input that is over.
-    fn take_last(&mut self, alloc: Global) -> Result<Option<Cmd>, NoMemory>
+    fn take_last<P: LineParser>(&mut self, alloc: Global) -> Result<Option<P::Item>, NoMemory>
         requires going { self.old.over ≡ false }
         requires none { self.old.ahead ≡ [] }
-        ensures ok { IfOk result (λ found. EndsWith (option_to_list found) self.old self.new) }
+        ensures ok { IfOk result (λ found. EndsWith (items_of_line P.bad P.says longest) (option_to_list found) self.old self.new) }
         ensures err { OnErr result (self.new ≡ self.old) }
     {
-        let found = command_of_line(alloc, self.line.as_slice())?;
+        let found = item_of_line::<P>(alloc, self.line.as_slice())?;
         self.line.clear();
         self.over = true;
         Ok(found)
     }
 
     // Pulls the next bytes, where all before are looked at.
-    fn pull<S: Source>(&mut self, input: &mut S) -> Pulled
+    fn pull<P: LineParser, S: Source>(&mut self, input: &mut S) -> Pulled
         requires going { self.old.over ≡ false }
         requires none { self.old.ahead ≡ [] }
         ensures most { self.new.count ≤ 2 ^ 30 }
-        ensures has { HasPulled result self.old self.new (S.remaining input.old) (S.remaining input.new) (S.faults input.old) (S.faults input.new) }
+        ensures has { HasPulled (items_of_line P.bad P.says longest) result self.old self.new (S.remaining input.old) (S.remaining input.new)
+            (S.faults input.old) (S.faults input.new) }
         ensures faults { S.faults input.old ≤ S.faults input.new }
     {
         if self.count == MOST {
-            return pull_past(input);
+            return pull_past::<P, S>(input);
         }
         match self.chunk.pull(input, MOST - self.count) {
             Err(SourceFault) => Pulled::Fault,
@@ -239,9 +248,10 @@ impl CommandReader {
 }
 
 // Looks whether one byte more comes than an input may have.
-fn pull_past<S: Source>(input: &mut S) -> Pulled
+fn pull_past<P: LineParser, S: Source>(input: &mut S) -> Pulled
     ensures has { (r : ReaderState) → r.count ≡ 2 ^ 30
-        → HasPulled result r r (S.remaining input.old) (S.remaining input.new) (S.faults input.old) (S.faults input.new) }
+        → HasPulled (items_of_line P.bad P.says longest) result r r (S.remaining input.old) (S.remaining input.new) (S.faults input.old)
+        (S.faults input.new) }
     ensures faults { S.faults input.old ≤ S.faults input.new }
 {
     let mut next = [0u8; 1];

@@ -21,11 +21,11 @@ use Rattle.lang_tree.specs.declared.command.Refusal.{Refusal}
 use Rattle.lang_tree.specs.declared.command.Refusal.TheVariants.{NotFound, Exists, NotDir, IsDir, NotEmpty, BelowItself, TooLarge, TooManyLinks, NoNode, Full, TooBig, Scattered, ReadFault, DiskFault, Stopped, Spent, NoMemory}
 use Rattle.lang_tree.specs.Refusals.{refusal_number, refusal_name}
 use Rattle.lang_tree.specs.Listing.{slashed, path_text, digits_behind_blank}
+use Rattle.lang_script.specs.Shared.{name_bytes, own, weaker}
 use Rattle.lang_script.specs.Text.{command_text, text_of_reply, kind_text, names_behind_blanks, refusal_text}
 use Rattle.lang_script.specs.Grammar.{command_of, bytes_of}
 use Rattle.lang_script.specs.Values.{IsCommand, IsReply, HasFigures, has_no_feed}
-use Rattle.lang_script.proofs.Numbers.{own}
-use Rattle.lang_script.proofs.RoundTrip.{weaker, both, name_bytes, bytes_of-encode_lower, round_trip, regroup_three}
+use Rattle.lang_script.proofs.RoundTrip.{both, bytes_of-encode_lower, round_trip, regroup_three}
 
 -- Parts of a line, and what ends them.
 

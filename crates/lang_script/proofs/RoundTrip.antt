@@ -11,13 +11,13 @@ use Rattle.std.specs.Char.{is_ascii_digit}
 use Rattle.std.specs.List.{list_all, slice_split, All}
 use Rattle.hex.specs.Hex.{encode_lower, encode_with, lower_digits}
 use Rattle.hex.proofs.HexLemmas.{decode_of-encode_lower}
-use Rattle.base_types.specs.Name.{is_name, is_name_byte, is_dots}
+use Rattle.base_types.specs.Name.{is_name, is_name_byte}
 use Rattle.lang_tree.specs.declared.command.Cmd.{Cmd}
 use Rattle.lang_tree.specs.declared.command.Cmd.TheVariants.{Mkdir, Create, Write, Fill, Read, Truncate, Link, Unlink, Rmdir, Rename, Stat, List as ListNames, Osync, Dsync, Durable, Poll, Bad}
 use Rattle.lang_tree.specs.Listing.{slashed, path_text}
+use Rattle.lang_script.specs.Shared.{name_bytes, own, weaker}
 use Rattle.lang_script.specs.Text.{command_text}
 use Rattle.lang_script.specs.Grammar.{command_of, command_of_parts, path_of, small_number_of, bytes_of, some_bytes, path_command, paths_command, truncate_of, write_of, read_of, fill_of, fits, is_in_grammar}
-use Rattle.lang_script.proofs.Numbers.{own}
 
 -- ---- lists without a byte
 
@@ -38,12 +38,6 @@ split_at c xs ys h = slice_split_at (λ b. b == c) xs c ys (lacks c xs h) (searc
 split_none : (c : ℕ) (xs : List ℕ) → list_all (other c) xs ≡ true → slice_split (λ b. b == c) xs ≡ xs ∷ []
 split_none c xs h = slice_split_none (λ b. b == c) xs (lacks c xs h)
 
-pub weaker : (p q : ℕ → Bool) → ((b : ℕ) → p b ≡ true → q b ≡ true) → (xs : List ℕ) → list_all p xs ≡ true → list_all q xs ≡ true
-weaker p q more [] h = refl
-weaker p q more (x ∷ xs) h =
-    let parts = and_parts (p x) (list_all p xs) h in
-    rw (more x parts.0) (weaker p q more xs parts.1)
-
 pub both : (p : ℕ → Bool) (xs ys : List ℕ) → list_all p xs ≡ true → list_all p ys ≡ true → list_all p (xs ++ ys) ≡ true
 both p [] ys h k = k
 both p (x ∷ xs) ys h k =
@@ -60,10 +54,10 @@ at p (x ∷ xs) (suc i) h k = at p xs i h (and_parts (p x) (list_all p xs) k).1
 digit_is_other : (b : ℕ) → is_ascii_digit b ≡ true → other 32 b ≡ true
 digit_is_other b h = grind (arith, tests)
 
-decimal_lacks : (n : ℕ) → n < 4294967296 → list_all (other 32) (decimal n) ≡ true
+pub decimal_lacks : (n : ℕ) → n < 4294967296 → list_all (other 32) (decimal n) ≡ true
 decimal_lacks n small = weaker is_ascii_digit (other 32) digit_is_other (decimal n) (digits_decimal own n (omega (arith, small)))
 
-small_number_of-decimal : (n : ℕ) → n < 4294967296 → small_number_of (decimal n) ≡ Some n
+pub small_number_of-decimal : (n : ℕ) → n < 4294967296 → small_number_of (decimal n) ≡ Some n
 small_number_of-decimal n small =
     let digits = digits_decimal own n (omega (arith, small)) in
     let value = digits_value-decimal own n (omega (arith, small)) in
@@ -71,7 +65,7 @@ small_number_of-decimal n small =
     let low = (Decides-ltb n 4294967296).1 small in
     rw digits (rw value (rw low (rw same refl)))
 
-digits_lack : (bytes : List ℕ) → list_all (other 32) (encode_lower bytes) ≡ true
+pub digits_lack : (bytes : List ℕ) → list_all (other 32) (encode_lower bytes) ≡ true
 unfolding encode_with
 digits_lack [] = refl
 digits_lack (b ∷ bytes) =
@@ -89,12 +83,6 @@ no_slash b h = grind (arith, tests)
 
 no_blank : (b : ℕ) → is_name_byte b ≡ true → other 32 b ≡ true
 no_blank b h = grind (arith, tests)
-
-pub name_bytes : (name : List ℕ) → is_name name ≡ true → list_all is_name_byte name ≡ true
-name_bytes name h =
-    let first = and_parts (nat_lt 0 (length name)) _ h in
-    let second = and_parts (nat_le (length name) 59) _ first.1 in
-    (and_parts (list_all is_name_byte name) (not (is_dots name)) second.1).0
 
 split_names : (name : List ℕ) (names : List (List ℕ)) → is_name name ≡ true → list_all is_name names ≡ true
     → slice_split (λ b. b == 47) (name ++ slashed names) ≡ name ∷ names
@@ -124,7 +112,7 @@ path_lacks (name ∷ names) h = slashed_lacks (name ∷ names) h
 
 -- ---- commands
 
-split_two : (xs ys : List ℕ) → list_all (other 32) xs ≡ true → list_all (other 32) ys ≡ true
+pub split_two : (xs ys : List ℕ) → list_all (other 32) xs ≡ true → list_all (other 32) ys ≡ true
     → slice_split (λ b. b == 32) (xs ++ 32 ∷ ys) ≡ xs ∷ ys ∷ []
 split_two xs ys h k = split_at 32 xs ys h ∙ ap (λ rest. xs ∷ rest) (split_none 32 ys k)
 

@@ -11,9 +11,9 @@ use Rattle.base_types.specs.Name.{is_name}
 use Rattle.std.specs.Char.{is_ascii_digit}
 use Rattle.std.specs.List.{list_all}
 use Rattle.std.specs.Str.Parse.{digits_value, ParsesUnsigned}
+use Rattle.lang_script.specs.Shared.{own}
 use Rattle.lang_script.specs.Grammar.{small_number_of, command_of_parts}
 use Rattle.lang_tree.specs.declared.command.Cmd.TheVariants.{Bad}
-use Rattle.lang_script.proofs.Numbers.{own}
 
 -- six parts or more are no command
 pub many_parts : (parts : List (List ℕ)) → 6 ≤ length parts → Bad ≡ command_of_parts parts

@@ -13,9 +13,13 @@ mod pieces;
 mod replies;
 mod text;
 
+pub use arguments::{bytes, number, parts};
 pub use decimal::number_of;
-pub use laws::{a_number_has_one_text, equal_texts_have_equal_values, lines_are_commands};
+pub use laws::{
+    a_number_has_one_text, arguments_are_read_back, equal_texts_have_equal_values,
+    lines_are_commands,
+};
 pub use numbered_line::write_numbered_line;
 pub use parse::parse_line;
-pub use replies::reply_text;
+pub use replies::{bytes_text, reply_text};
 pub use text::cmd_text;

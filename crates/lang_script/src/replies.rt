@@ -5,7 +5,7 @@ ghost use Rattle.std.specs.List.{list_all};
 ghost use Rattle.base_types.specs.Name.{is_name};
 ghost use Rattle.lang_tree.specs.Listing.{digits_behind_blank};
 ghost use Rattle.lang_tree.specs.Refusals.{refusal_number, refusal_name};
-ghost use Rattle.lang_tree.specs.declared.command.Reply.TheVariants.{Stat as StatReply};
+ghost use Rattle.lang_tree.specs.declared.command.Reply.TheVariants.{Bytes, Stat as StatReply};
 ghost use Rattle.lang_script.specs.Text.{kind_text, names_behind_blanks, refusal_text, text_of_reply};
 ghost use Rattle.lang_script.specs.Values.{IsReply, HasFigures};
 
@@ -13,6 +13,9 @@ use crate::pieces::{push, push_behind_blank, push_digits, push_number};
 use base_types::{Name, NoMemory};
 use lang_tree::{Kind, Refusal, Reply, Stat};
 use std::alloc::Global;
+
+/// For how many bytes a reply has room before it grows.
+const SHORT_REPLY: usize = 32;
 
 /// How this reply is written, without a line feed. Its type sees to it that the reply is a lawful one.
 ///
@@ -22,8 +25,21 @@ pub fn reply_text(alloc: Global, reply: &Reply) -> Result<Vec<u8>, NoMemory>
     ensures text { IfOk result (λ text. text.items ≡ text_of_reply reply.now) }
     ensures lawful { IfOk result (λ text. IsReply reply.now) }
 {
-    let mut text = Vec::new(alloc);
+    let mut text = Vec::with_capacity(alloc, SHORT_REPLY)?;
     push_reply(&mut text, reply)?;
+    Ok(text)
+}
+
+/// How a reply with these bytes is written, without a line feed.
+///
+/// # Errors
+/// Out of memory.
+pub fn bytes_text(alloc: Global, bytes: &[u8]) -> Result<Vec<u8>, NoMemory>
+    ensures { IfOk result (λ text. text.items ≡ text_of_reply (Bytes bytes.now)) }
+{
+    let mut text = Vec::new(alloc);
+    push(&mut text, b"hex")?;
+    push_found(&mut text, bytes)?;
     Ok(text)
 }
 

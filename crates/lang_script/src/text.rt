@@ -11,6 +11,9 @@ use base_types::{Name, NoMemory};
 use lang_tree::{Cmd, Path};
 use std::alloc::Global;
 
+/// For how many bytes a line has room before it grows.
+const SHORT_LINE: usize = 64;
+
 /// The line that asks for this command, without a line feed.
 ///
 /// # Errors
@@ -26,7 +29,7 @@ pub fn cmd_text(alloc: Global, cmd: &Cmd) -> Result<Vec<u8>, NoMemory>
 fn text_of_cmd(alloc: Global, cmd: &Cmd) -> Result<Vec<u8>, NoMemory>
     ensures { IfOk result (λ text. text.items ≡ command_text cmd.now) }
 {
-    let mut text = Vec::new(alloc);
+    let mut text = Vec::with_capacity(alloc, SHORT_LINE)?;
     match cmd {
         Cmd::Mkdir(path) => push_word_and_path(&mut text, b"mkdir ", path)?,
         Cmd::Create(path) => push_word_and_path(&mut text, b"create ", path)?,

@@ -11,6 +11,7 @@ use Rattle.lang_tree.specs.declared.command.Reply.{Reply}
 use Rattle.lang_tree.specs.Points.{Point, points_after, made_by, after_reply, is_refusal, is_sync, may_have_written}
 use Rattle.lang_tree.specs.Step.{Session, start, step}
 use Rattle.lang_tree.specs.Tree.{Tree, IsSound}
+use Rattle.cmd_trace.specs.Shared.{each_append}
 use Rattle.cmd_replay.specs.Named.{HasLawfulNames, HasBytes}
 use Rattle.cmd_replay.specs.Points.{points_in}
 use Rattle.cmd_replay.proofs.lawful.Changes.{start_names, start_bytes, step_names, step_bytes}
@@ -25,10 +26,6 @@ each_at : {A : Type 0} (P : A → Type 0) (xs : List A) (i : ℕ) (x : A) → Ea
 each_at P [] i x h e = cc e
 each_at P (y ∷ xs) zero x h e = subst P (same_Some y x e) h.0
 each_at P (y ∷ xs) (suc i) x h e = each_at P xs i x h.1 e
-
-each_join : {A : Type 0} (P : A → Type 0) (xs ys : List A) → Each P xs → Each P ys → Each P (xs ++ ys)
-each_join P [] ys h k = k
-each_join P (x ∷ xs) ys h k = (h.0, each_join P xs ys h.1 k)
 
 -- a session whose tree is all this, with so many numbers at most
 record IsOn (limit : ℕ) (s : Session) : Type 0 where
@@ -61,7 +58,7 @@ module _ (sound_start : (limit : ℕ) → 1 ≤ limit → IsSound limit (start l
   points_are : (s : Session) (begun : ℕ) (cmds : List Cmd) (replies : List Reply) (marks : List ℕ) → Each IsCommand cmds → IsOn limit s
       → Each (λ p. IsListable limit p.tree) (points_after s begun cmds replies marks)
   points_are s begun (cmd ∷ cmds) (reply ∷ replies) (mark ∷ marks) law h =
-      each_join (λ p. IsListable limit p.tree) (made_by s cmd reply begun) (points_after (after_reply s cmd reply) mark cmds replies marks)
+      each_append (λ p. IsListable limit p.tree) (made_by s cmd reply begun) (points_after (after_reply s cmd reply) mark cmds replies marks)
       (made s cmd reply begun h) (points_are (after_reply s cmd reply) mark cmds replies marks law.1 (after s cmd reply law.0 h))
   points_are s begun other replies marks law h = tt
 

@@ -1,14 +1,14 @@
 -- Parts of a listing's line: where each of them ends, and that it tells what it was written from.
-use Rattle.std.proofs.Common.{◌≡◌, sym, ap, refl, ◌∙◌, ◌⊎◌, inl, inr, arith, tests, ℕ, zero, suc, ◌+◌, ◌<◌, ◌≤◌, ◌/◌, ◌%◌, ◌==◌, Bool, true, false, not, if◌then◌else◌, List, [], ◌∷◌, ◌++◌, drop, get_or, length, unwrap_or, decimal, nat_lt, nat_le, codes, slice_index}
-use Rattle.std.proofs.lemmas.List.Sums.{AllPass-from_list_all, list_all-from_AllPass}
+use Rattle.std.proofs.Common.{◌≡◌, sym, ap, refl, ◌∙◌, ◌⊎◌, inl, inr, arith, tests, ℕ, zero, suc, ◌+◌, ◌<◌, ◌≤◌, ◌/◌, ◌%◌, ◌==◌, Bool, true, false, not, if◌then◌else◌, List, [], ◌∷◌, ◌++◌, drop, get_or, unwrap_or, decimal, nat_lt, codes, slice_index}
 use Rattle.std.proofs.lemmas.Bool.{and_parts, false≢true, and_from}
 use Rattle.std.proofs.lemmas.Bool.Decides.{Decides-ltb}
 use Rattle.std.specs.Fmt.{digits, digits_onto, digit_glyph}
 use Rattle.std.specs.List.{list_all}
 use Rattle.std.proofs.lemmas.List.Folds.{list_all-append}
 use Rattle.hex.specs.Hex.{encode_lower, encode_with, lower_digits, hex_digit_value}
-use Rattle.base_types.specs.Name.{is_name, is_name_byte, is_dots}
+use Rattle.base_types.specs.Name.{is_name, is_name_byte}
 use Rattle.lang_tree.specs.Listing.{slashed, path_text, digits_behind_blank}
+use Rattle.lang_script.specs.Shared.{name_bytes, weaker}
 
 -- ---- parts, and what ends them
 
@@ -36,9 +36,6 @@ cut (x ∷ xs) (y ∷ ys) r s p q low down e =
     (rw head (ap (λ l. y ∷ l) rest.0), rest.1)
 cut other rest r s p q low down e = absurd cc
 
-weaker : (p q : ℕ → Bool) → ((b : ℕ) → p b ≡ true → q b ≡ true) → (xs : List ℕ) → list_all p xs ≡ true → list_all q xs ≡ true
-weaker p q more xs h = list_all-from_AllPass q xs (λ k d low. more (get_or xs k d) (AllPass-from_list_all p xs h k d low))
-
 -- ---- numbers
 
 glyph_past : (d : ℕ) → nat_lt 32 (digit_glyph false d) ≡ true
@@ -62,12 +59,6 @@ number_part n = onto_part 64 n [] refl
 
 abbrev no_slash : ℕ → Bool
 no_slash b = not (b == 47)
-
-name_bytes : (name : List ℕ) → is_name name ≡ true → list_all is_name_byte name ≡ true
-name_bytes name h =
-    let first = and_parts (nat_lt 0 (length name)) _ h in
-    let second = and_parts (nat_le (length name) 59) _ first.1 in
-    (and_parts (list_all is_name_byte name) (not (is_dots name)) second.1).0
 
 byte_past : (b : ℕ) → is_name_byte b ≡ true → nat_lt 32 b ≡ true
 byte_past b h = grind (arith, tests)

@@ -13,8 +13,9 @@ use Rattle.fs_commands.specs.Opened.{blocks_in}
 use Rattle.fs_files.specs.Effects.{LooksOnly}
 use Rattle.fs_check.specs.Whole.{OnDamage, fails_by}
 use Rattle.fs_check.specs.declared.checking.CheckRefusal.{CheckRefusal}
+use Rattle.cmd_session.specs.Shared.{drawn}
 use Rattle.cmd_host.specs.Mounting.{Mounts}
-use Rattle.cmd_host.proofs.OpenLemmas.{drawn, has_none, mounted_with, nothing_waits, opened_with, root_stands, still_shows}
+use Rattle.cmd_host.proofs.OpenLemmas.{has_none, mounted_with, nothing_waits, opened_with, root_stands, still_shows}
 use Rattle.cmd_host.proofs.mounting.open.Goals as goal
 
 -- the disk shows what it showed, and a read of it was counted

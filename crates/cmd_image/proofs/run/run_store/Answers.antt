@@ -7,11 +7,12 @@ use Rattle.fs_check.specs.Whole.{fails_by}
 use Rattle.fs_commands.specs.Opened.{blocks_in}
 use Rattle.engine_store.specs.StoreOf.{state_of}
 use Rattle.lang_tree.specs.Step.{session_on}
+use Rattle.cmd_session.specs.Shared.{drawn}
+use Rattle.cmd_image.specs.Staying.{damage_stays, none_stays}
 use Rattle.cmd_image.specs.Steps.{SoFar}
-use Rattle.cmd_image.proofs.Beginning.{drawn, first_so_far, known_first, mounted_with}
+use Rattle.cmd_image.proofs.Beginning.{first_so_far, known_first, mounted_with}
 use Rattle.cmd_image.proofs.Finishing.{unopened_counts, unopened_run_back}
 use Rattle.cmd_image.proofs.Going.{is_mark_in}
-use Rattle.cmd_image.proofs.Steps.{damage_stays, none_stays}
 use Rattle.cmd_image.proofs.run.run_store.Goals as goal
 
 pub returns-in-Ok-clause-comes : goal.returns-in-Ok-clause-comes

@@ -6,8 +6,9 @@ use Rattle.fs_check.specs.Whole.{fails_by}
 use Rattle.fs_commands.specs.Opened.{blocks_in}
 use Rattle.engine_store.specs.StoreOf.{state_of}
 use Rattle.lang_tree.specs.Step.{session_on}
+use Rattle.cmd_image.specs.Staying.{damage_stays, none_stays}
 use Rattle.cmd_image.specs.Mounted.{ShowsDisk}
-use Rattle.cmd_image.proofs.Steps.{damage_stays, none_stays, still_mounted}
+use Rattle.cmd_image.proofs.Steps.{still_mounted}
 use Rattle.cmd_image.proofs.show.show_store.Goals as goal
 
 pub returns-in-Ok-clause-shows : goal.returns-in-Ok-clause-shows

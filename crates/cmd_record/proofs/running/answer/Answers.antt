@@ -2,7 +2,7 @@
 use Rattle.std.proofs.Common.{refl}
 use Rattle.disk_memory.specs.MemDisk.{state_of as disk_state}
 use Rattle.fs_commands.specs.Opened.{blocks_in}
-use Rattle.cmd_record.proofs.Views.{drawn}
+use Rattle.cmd_session.specs.Shared.{drawn}
 use Rattle.cmd_record.proofs.running.answer.Goals as goal
 
 pub returns : goal.returns

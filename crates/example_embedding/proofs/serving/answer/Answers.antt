@@ -2,7 +2,7 @@ use Rattle.std.proofs.Common.{◌++◌, ◌∷◌, [], List, ℕ, length, sym, a
 use Rattle.engine_store.specs.StoreOf.{disk_in, state_of}
 use Rattle.fs_commands.specs.Opened.{blocks_in}
 use Rattle.cmd_session.specs.Serving.{HasServed}
-use Rattle.example_embedding.proofs.Mounting.{drawn}
+use Rattle.cmd_session.specs.Shared.{drawn}
 use Rattle.example_embedding.proofs.serving.answer.Goals as goal
 
 pub returns-clause-mark : goal.returns-clause-mark

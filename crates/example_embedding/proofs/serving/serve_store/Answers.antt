@@ -2,7 +2,9 @@ use Rattle.std.proofs.Common.{None, ap, length, ◌∙◌}
 use Rattle.engine_blocks.specs.State.{Bookkeeping}
 use Rattle.engine_store.specs.StoreOf.{state_of}
 use Rattle.fs_check.specs.Whole.{fails_by}
-use Rattle.example_embedding.proofs.Mounting.{damage_stays, drawn, mounted_with, none_stays, refused_so, stood_for, stood_size}
+use Rattle.cmd_session.specs.Shared.{drawn}
+use Rattle.cmd_image.specs.Staying.{damage_stays, none_stays}
+use Rattle.example_embedding.proofs.Mounting.{mounted_with, refused_so, stood_for, stood_size}
 use Rattle.example_embedding.proofs.serving.serve_store.Goals as goal
 
 pub returns-in-Ok-open-clause-answered : goal.returns-in-Ok-open-clause-answered

@@ -3,8 +3,8 @@ use Rattle.std.proofs.Common.{[], ◌∷◌, ◌++◌, List, length, subst, sym,
 use Rattle.disk_contract.specs.declared.bay.Mark.{Mark}
 use Rattle.fs_commands.specs.Opened.{blocks_in}
 use Rattle.engine_store.specs.StoreOf.{disk_in, state_of}
+use Rattle.cmd_session.specs.Shared.{drawn}
 use Rattle.cmd_image.specs.Steps.{SoFar}
-use Rattle.cmd_image.proofs.Beginning.{drawn}
 use Rattle.cmd_image.proofs.Counting.{counts_by_reply, moved}
 use Rattle.cmd_image.proofs.Going.{is_mark_in, more_so_far}
 use Rattle.cmd_image.proofs.running.Running.answer.Goals as goal
