@@ -1,7 +1,7 @@
 //! The commands by which a name comes to be: mkdir, create and link. Each finds its refusal from reads alone,
 //! weighs what it needs, and plans a draft. Nothing of that is made here.
 
-ghost use Rattle.std.specs.Prelude.{◌≡◌, ◌≢◌, ◌<◌, ◌≤◌, ◌+◌, ◌++◌, ◌∷◌, [], ℕ, IsTrue, true, false, List, length, None, Some, Ok as Fine};
+ghost use Rattle.std.specs.Prelude.{◌≡◌, ◌≢◌, ◌<◌, ◌≤◌, ◌+◌, ◌^◌, ◌++◌, ◌∷◌, [], ℕ, IsTrue, true, false, List, length, None, Some, Ok as Fine};
 ghost use Rattle.std.specs.Prelude.{Err as Failed, IfOk, IfErr, IfSome};
 ghost use Rattle.layout_bytes.specs.declared.node.NodeKind.TheVariants.{Free};
 ghost use Rattle.layout_bytes.specs.declared.slot.Slot.{Slot as SlotValue};
@@ -26,6 +26,7 @@ ghost use Rattle.fs_files.specs.Content.{fails_reading, fails_settling};
 ghost use Rattle.fs_files.specs.Drafts.{nothing_drafted};
 ghost use Rattle.fs_files.specs.Effects.{LooksAndSettles, LooksOnly};
 ghost use Rattle.fs_files.specs.Sound.{IsDraftOf};
+ghost use Rattle.fs_dirs.specs.Changing.{HasCount};
 ghost use Rattle.fs_dirs.specs.Directories.{IsNumber};
 ghost use Rattle.fs_commands.specs.declared.paths.NodeFound.{NodeFound as FoundValue};
 ghost use Rattle.fs_commands.specs.declared.making.Vacancy.{Vacancy as VacancyValue};
@@ -98,6 +99,8 @@ fn make_in<S: Blocks>(
     requires above { 1 ≤ first_unused }
     requires below { IsTrue S.tells → AreUsedBelow (files_in (S.state blocks.old) nothing_drafted) first_unused }
     requires dir { IsNumber (S.state blocks.old).books.geom.i vacancy.now.dir }
+    requires few { vacancy.now.count < 2 ^ 24 }
+    requires there { IsTrue S.tells → HasCount (S.state blocks.old) nothing_drafted vacancy.now.dir vacancy.now.count }
     ensures plans { (path : List (List ℕ)) → (IsTrue S.tells → MayAppear (files_in (S.state blocks.old) nothing_drafted) path (Fine vacancy.now))
         → Plans S.tells (make_cmd kind path) result (S.state blocks.old) (S.state blocks.new) }
     ensures made { OnChange result (λ draft cost nodes. MayBeMade S.tells draft cost nodes (S.state blocks.new)) }
@@ -125,6 +128,8 @@ fn make_node<S: Blocks>(
     requires may { MayPlan S.tells (S.state blocks.old) }
     requires below { IsTrue S.tells → AreUsedBelow (files_in (S.state blocks.old) nothing_drafted) node }
     requires dir { IsNumber (S.state blocks.old).books.geom.i vacancy.now.dir }
+    requires few { vacancy.now.count < 2 ^ 24 }
+    requires there { IsTrue S.tells → HasCount (S.state blocks.old) nothing_drafted vacancy.now.dir vacancy.now.count }
     requires node { IsNumber (S.state blocks.old).books.geom.i node }
     ensures plans { (path : List (List ℕ)) → (IsTrue S.tells → MayAppear (files_in (S.state blocks.old) nothing_drafted) path (Fine vacancy.now))
         → (IsTrue S.tells → least_free (S.state blocks.old).books.geom.i (inodes (S.state blocks.old)) ≡ Some node)
@@ -143,7 +148,7 @@ fn make_node<S: Blocks>(
         node,
         name: vacancy.name.copy(),
     };
-    match draft_node(alloc, blocks, kind, vacancy.dir, &slot) {
+    match draft_node(alloc, blocks, kind, vacancy.dir, vacancy.count, &slot) {
         Ok(draft) => Ok(Plan::Change {
             draft,
             cost: figures.cost,
@@ -214,6 +219,8 @@ fn link_in<S: Blocks>(
 ) -> Result<Plan, Refusal>
     requires may { MayPlan S.tells (S.state blocks.old) }
     requires dir { IsNumber (S.state blocks.old).books.geom.i vacancy.now.dir }
+    requires few { vacancy.now.count < 2 ^ 24 }
+    requires there { IsTrue S.tells → HasCount (S.state blocks.old) nothing_drafted vacancy.now.dir vacancy.now.count }
     requires number { IsNumber (S.state blocks.old).books.geom.i found.now.number }
     requires used { IsTrue S.tells → IsUsed (files_in (S.state blocks.old) nothing_drafted) found.now.number }
     ensures plans { (path other : List (List ℕ)) → (IsTrue S.tells → LeadsToFound (files_in (S.state blocks.old) nothing_drafted) path (Fine found.now))
@@ -250,6 +257,8 @@ fn link_file<S: Blocks>(
 ) -> Result<Plan, Refusal>
     requires may { MayPlan S.tells (S.state blocks.old) }
     requires dir { IsNumber (S.state blocks.old).books.geom.i vacancy.now.dir }
+    requires few { vacancy.now.count < 2 ^ 24 }
+    requires there { IsTrue S.tells → HasCount (S.state blocks.old) nothing_drafted vacancy.now.dir vacancy.now.count }
     requires node { IsNumber (S.state blocks.old).books.geom.i slot.now.node }
     requires used { IsTrue S.tells → IsUsed (files_in (S.state blocks.old) nothing_drafted) slot.now.node }
     requires some { 1 ≤ links }
@@ -266,7 +275,7 @@ fn link_file<S: Blocks>(
         Ok(()) => {}
         Err(why) => return Err(why),
     }
-    match draft_link(alloc, blocks, vacancy.dir, slot, links) {
+    match draft_link(alloc, blocks, vacancy.dir, vacancy.count, slot, links) {
         Ok(draft) => Ok(Plan::Change {
             draft,
             cost: figures.cost,
@@ -365,6 +374,7 @@ pub(crate) fn find_vacancy<S: Blocks>(
     ensures vacancy { IsTrue S.tells → IfOk result (λ vacancy. (t : Tree) → IsTreeOf (S.state blocks.old).books.geom (S.state blocks.old).map t
         → MayAppear (files_in (S.state blocks.old) nothing_drafted) path.now vacancy) }
     ensures dir { IfOk result (λ vacancy. IfOk vacancy (λ v. IsNumber (S.state blocks.old).books.geom.i v.dir)) }
+    ensures few { IfOk result (λ vacancy. IfOk vacancy (λ v. v.count < 2 ^ 24)) }
     ensures refused { IfErr result LookRefused }
     ensures looks { LooksOnly S.tells (fails_reading result) (S.state blocks.old) (S.state blocks.new) }
 {
@@ -384,6 +394,7 @@ fn vacancy_in(spot: &Spot, name: &Name) -> Result<Vacancy, Refusal>
     ensures appears { (files : Files) (path up : List (List ℕ)) → ComesTo files path (Fine spot.now) → path ≡ up ++ name.now ∷ []
         → MayAppear files path result }
     ensures dir { (limit : ℕ) → IsWithin limit spot.now → IfOk result (λ v. IsNumber limit v.dir) }
+    ensures few { (limit : ℕ) → IsWithin limit spot.now → IfOk result (λ v. v.count < 2 ^ 24) }
 {
     what_a_path_comes_to_gives_the_walk();
     match *spot {
@@ -400,7 +411,8 @@ fn vacancy_in(spot: &Spot, name: &Name) -> Result<Vacancy, Refusal>
 }
 
 /// The least number that no node has. All below `first_unused` are in use. `None` where all numbers of the
-/// node table are. The node is made in a draft that is thrown away, since only its number is asked.
+/// node table are. Most often it is `first_unused`, so that is looked at first. Else the node is made in a draft
+/// that is thrown away, since only its number is asked.
 ///
 /// # Errors
 /// As `find_vacancy`.
@@ -421,8 +433,33 @@ fn least_unused<S: Blocks>(
 {
     a_draft_begins(blocks);
     blocks_have_a_map();
+    calls_compose::<S>();
     let mut draft = Draft::new(alloc);
+    let unused = is_unused(&draft, blocks, first_unused)?;
+    if unused {
+        return Ok(Some(first_unused));
+    }
     draft.new_node(alloc, blocks, NodeKind::File, first_unused)
+}
+
+/// Whether this is a number of the node table that no node has.
+///
+/// # Errors
+/// A read of the disk failed, which the disk has counted.
+fn is_unused<S: Blocks>(draft: &Draft, blocks: &mut S, number: u32) -> Result<bool, FileRefusal>
+    requires going { (S.state blocks.old).books.stopped ≡ false }
+    requires draft { IsDraftOf S.tells (S.state blocks.old) draft.now }
+    requires above { 1 ≤ number }
+    ensures unused { IsTrue S.tells → IfOk result (λ unused. IsTrue unused → files_in (S.state blocks.old) draft.now number ≡ None) }
+    ensures number { IfOk result (λ unused. IsTrue unused → IsNumber (S.state blocks.old).books.geom.i number) }
+    ensures refused { IfErr result LookRefused }
+    ensures looks { LooksOnly S.tells (fails_reading result) (S.state blocks.old) (S.state blocks.new) }
+{
+    if blocks.geom().i() < number {
+        return Ok(false);
+    }
+    let facts = draft.look(blocks, number)?;
+    Ok(facts.is_none())
 }
 
 /// A draft of a new node of this kind, and this slot for it in directory `dir`. All nodes of a number below
@@ -436,11 +473,14 @@ fn draft_node<S: Blocks>(
     blocks: &mut S,
     kind: Kind,
     dir: u32,
+    count: u32,
     slot: &Slot,
 ) -> Result<Draft, FileRefusal>
     requires may { MayPlan S.tells (S.state blocks.old) }
     requires below { IsTrue S.tells → AreUsedBelow (files_in (S.state blocks.old) nothing_drafted) slot.now.node }
     requires dir { IsNumber (S.state blocks.old).books.geom.i dir }
+    requires few { count < 2 ^ 24 }
+    requires there { IsTrue S.tells → HasCount (S.state blocks.old) nothing_drafted dir count }
     requires node { IsNumber (S.state blocks.old).books.geom.i slot.now.node }
     ensures draft { IfOk result (λ draft. IsDraftOf S.tells (S.state blocks.new) draft) }
     ensures used { IsTrue S.tells → IfOk result (λ draft. KeepsUsed (Taken slot.now.node) (files_in (S.state blocks.old) nothing_drafted)
@@ -462,7 +502,7 @@ fn draft_node<S: Blocks>(
     files_have_one_map();
     a_file_reads_as_itself();
     let mut draft = Draft::new(alloc);
-    match add_slot(&mut draft, alloc, blocks, dir, slot) {
+    match add_slot(&mut draft, alloc, blocks, dir, count, slot) {
         Ok(()) => {}
         Err(why) => return Err(why),
     }
@@ -491,12 +531,15 @@ fn draft_link<S: Blocks>(
     alloc: Global,
     blocks: &mut S,
     dir: u32,
+    count: u32,
     slot: &Slot,
     links: u32,
 ) -> Result<Draft, FileRefusal>
     requires begin { MayBegin S.tells (S.state blocks.old) }
     requires turns { HasTurns (S.state blocks.old).books }
     requires dir { IsNumber (S.state blocks.old).books.geom.i dir }
+    requires few { count < 2 ^ 24 }
+    requires there { IsTrue S.tells → HasCount (S.state blocks.old) nothing_drafted dir count }
     requires node { IsNumber (S.state blocks.old).books.geom.i slot.now.node }
     requires used { IsTrue S.tells → IsUsed (files_in (S.state blocks.old) nothing_drafted) slot.now.node }
     requires some { 1 ≤ links }
@@ -521,7 +564,7 @@ fn draft_link<S: Blocks>(
     files_have_one_map();
     a_file_reads_as_itself();
     let mut draft = Draft::new(alloc);
-    match add_slot(&mut draft, alloc, blocks, dir, slot) {
+    match add_slot(&mut draft, alloc, blocks, dir, count, slot) {
         Ok(()) => {}
         Err(why) => return Err(why),
     }

@@ -1,7 +1,7 @@
 //! The command rename: a name moves, with all that lies below it. It finds its refusal from reads alone, weighs
 //! what it needs, and plans a draft. Nothing of that is made here.
 
-ghost use Rattle.std.specs.Prelude.{◌≡◌, ◌≢◌, ◌≤◌, ◌+◌, [], ℕ, IsTrue, List, length, take, Option, None, Some, IfSome, IfOk, IfErr};
+ghost use Rattle.std.specs.Prelude.{◌≡◌, ◌≢◌, ◌<◌, ◌≤◌, ◌+◌, ◌^◌, [], ℕ, IsTrue, List, length, take, Option, None, Some, IfSome, IfOk, IfErr};
 ghost use Rattle.lang_tree.specs.declared.command.Cmd.TheVariants.{Rename};
 ghost use Rattle.lang_tree.specs.Figures.{growth, release};
 ghost use Rattle.lang_tree.specs.Tree.{Tree};
@@ -166,6 +166,7 @@ fn draft_across<S: Blocks>(
     blocks: &mut S,
     source: &Named,
     into: u32,
+    count: u32,
     other: &Name,
 ) -> Result<Draft, FileRefusal>
     requires begin { MayBegin S.tells (S.state blocks.old) }
@@ -174,19 +175,20 @@ fn draft_across<S: Blocks>(
     requires dir { IsNumber (S.state blocks.old).books.geom.i source.now.dir }
     requires entry { MayBeEntry (S.state blocks.old).books.geom.i source.now.entry }
     requires into { IsNumber (S.state blocks.old).books.geom.i into }
-    requires moves { IsTrue S.tells → (count : ℕ) × (name : List ℕ) × MayMoveAway (S.state blocks.old) source.now into count name other.now }
+    requires few { count < 2 ^ 24 }
+    requires moves { IsTrue S.tells → (name : List ℕ) × MayMoveAway (S.state blocks.old) source.now into count name other.now }
     ensures draft { IfOk result (λ draft. IsDraftOf S.tells (S.state blocks.new) draft) }
-    ensures moves { IsTrue S.tells → IfOk result (λ draft. (count : ℕ) (name : List ℕ) → MayMoveAway (S.state blocks.old) source.now into count name other.now
+    ensures moves { IsTrue S.tells → IfOk result (λ draft. (name : List ℕ) → MayMoveAway (S.state blocks.old) source.now into count name other.now
         → MovesName (S.state blocks.old) (S.state blocks.new) draft source.now.dir into source.now.entry.node.number name other.now 5
         (take (growth count) (reusable_blocks (S.state blocks.new).books)) (release source.now.count) Stays) }
-    ensures rests { IsTrue S.tells → IfOk result (λ draft. (count : ℕ) (name : List ℕ) → MayMoveAway (S.state blocks.old) source.now into count name other.now
+    ensures rests { IsTrue S.tells → IfOk result (λ draft. (name : List ℕ) → MayMoveAway (S.state blocks.old) source.now into count name other.now
         → growth count ≤ length (reusable_blocks (S.state blocks.old).books) → (S.state blocks.new).books ≡ (S.state blocks.old).books) }
-    ensures grows { IsTrue S.tells → IfOk result (λ draft. (count : ℕ) (name : List ℕ)
+    ensures grows { IsTrue S.tells → IfOk result (λ draft. (name : List ℕ)
         → MayMoveAway (S.state blocks.old) source.now into count name other.now
         → GrowsInRuns (S.state blocks.old) (S.state blocks.new).books into (growth count)) }
-    ensures refused { IsTrue S.tells → IfErr result (λ why. (count : ℕ) (name : List ℕ) → MayMoveAway (S.state blocks.old) source.now into count name other.now
+    ensures refused { IsTrue S.tells → IfErr result (λ why. (name : List ℕ) → MayMoveAway (S.state blocks.old) source.now into count name other.now
         → GrowthRefused (growth count) (places_of (S.state blocks.old) into) (S.state blocks.old).books (S.state blocks.new).books why) }
-    ensures quiet { IsTrue S.tells → (count : ℕ) (name : List ℕ) → MayMoveAway (S.state blocks.old) source.now into count name other.now
+    ensures quiet { IsTrue S.tells → (name : List ℕ) → MayMoveAway (S.state blocks.old) source.now into count name other.now
         → IsCalm (growth count) (S.state blocks.old) (S.state blocks.new) }
     ensures settles { LooksAndSettles S.tells (fails_reading result) (fails_settling result) (S.state blocks.old) (S.state blocks.new) }
 {
@@ -201,7 +203,7 @@ fn draft_across<S: Blocks>(
         node: source.entry.node.number,
         name: other.copy(),
     };
-    match add_slot(&mut draft, alloc, blocks, into, &slot) {
+    match add_slot(&mut draft, alloc, blocks, into, count, &slot) {
         Ok(()) => {}
         Err(why) => return Err(why),
     }
@@ -228,6 +230,7 @@ pub(crate) fn plan_move<S: Blocks>(
     requires dir { IsNumber (S.state blocks.old).books.geom.i source.now.dir }
     requires entry { MayBeEntry (S.state blocks.old).books.geom.i source.now.entry }
     requires into { IsNumber (S.state blocks.old).books.geom.i spot.now.dir }
+    requires few { spot.now.count < 2 ^ 24 }
     requires found { IfSome spot.now.found (MayBeEntry (S.state blocks.old).books.geom.i) }
     requires known { IsTrue S.tells → (from : List (List ℕ)) × (to : List (List ℕ))
         × IsMove (files_in (S.state blocks.old) nothing_drafted) from to source.now spot.now.dir spot.now.count spot.now.found other.now }
@@ -376,6 +379,7 @@ fn plan_across<S: Blocks>(
     requires dir { IsNumber (S.state blocks.old).books.geom.i source.now.dir }
     requires entry { MayBeEntry (S.state blocks.old).books.geom.i source.now.entry }
     requires into { IsNumber (S.state blocks.old).books.geom.i into }
+    requires few { count < 2 ^ 24 }
     requires apart { source.now.dir ≢ into }
     requires known { IsTrue S.tells → (from : List (List ℕ)) × (to : List (List ℕ))
         × IsMove (files_in (S.state blocks.old) nothing_drafted) from to source.now into count None other.now }
@@ -404,7 +408,7 @@ fn plan_across<S: Blocks>(
         Ok(()) => {}
         Err(why) => return Err(why),
     }
-    match draft_across(alloc, blocks, source, into, other) {
+    match draft_across(alloc, blocks, source, into, count, other) {
         Ok(draft) => Ok(Plan::Change {
             draft,
             cost: figures.cost,

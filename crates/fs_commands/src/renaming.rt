@@ -1,7 +1,7 @@
 //! What a rename comes upon: both paths are looked up, and the tree's refusal is found from reads alone. How a
 //! move that the tree accepts is drafted is described elsewhere.
 
-ghost use Rattle.std.specs.Prelude.{◌≡◌, ◌≢◌, ◌++◌, ◌∷◌, [], ℕ, IsTrue, true, false, List, Option, None, Some, IfSome, option_map, Ok as Fine};
+ghost use Rattle.std.specs.Prelude.{◌≡◌, ◌≢◌, ◌<◌, ◌^◌, ◌++◌, ◌∷◌, [], ℕ, IsTrue, true, false, List, Option, None, Some, IfSome, option_map, Ok as Fine};
 ghost use Rattle.lang_tree.specs.declared.command.Cmd.TheVariants.{Rename};
 ghost use Rattle.lang_tree.specs.declared.command.Refusal.TheVariants.{BelowItself};
 ghost use Rattle.lang_tree.specs.Conditions.{first_reason, when};
@@ -213,6 +213,7 @@ fn plan_entry_move<S: Blocks>(
     requires dir { IsNumber (S.state blocks.old).books.geom.i ends.now.source.dir }
     requires entry { MayBeEntry (S.state blocks.old).books.geom.i ends.now.source.entry }
     requires into { IsNumber (S.state blocks.old).books.geom.i ends.now.goal.dir }
+    requires few { ends.now.goal.count < 2 ^ 24 }
     requires found { IfSome ends.now.goal.found (MayBeEntry (S.state blocks.old).books.geom.i) }
     requires last { to.now ≡ parent to.now ++ name.now ∷ [] }
     requires comes { IsTrue S.tells → ComesTo (files_in (S.state blocks.old) nothing_drafted) from.now

@@ -20,6 +20,10 @@ use Rattle.fs_dirs.specs.Directories.{inodes_in}
 abbrev pub HasPlace : State → DraftState → ℕ → ℕ → Type 0
 HasPlace s d k place = (slots : List Slot) × (inodes_in s d k ≡ Some (ADir slots)) × (place < length slots)
 
+-- node k is a directory with so many slots
+abbrev pub HasCount : State → DraftState → ℕ → ℕ → Type 0
+HasCount s d k count = (slots : List Slot) × (inodes_in s d k ≡ Some (ADir slots)) × (count ≡ length slots)
+
 -- Node k is a directory with these slots now, and no other node changed.
 pub record IsWithSlots (old new : Files) (k : ℕ) (slots : List Slot) : Type 0 where
   pub inodes : Sets (inodes_of old) (inodes_of new) k (Some (ADir slots))

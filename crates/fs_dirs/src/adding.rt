@@ -1,22 +1,19 @@
 //! Slots added to a directory of a draft, behind the last one. One slot is written, and never a whole
 //! directory. This is the one call here by which a directory grows.
 
-ghost use Rattle.std.specs.Prelude.{◌≡◌, IsTrue, []};
+ghost use Rattle.std.specs.Prelude.{◌≡◌, ◌<◌, ◌^◌, IsTrue, []};
 ghost use Rattle.engine_blocks.specs.Calls.{HasTurns};
 ghost use Rattle.fs_files.specs.Asks.{MayLook};
-ghost use Rattle.fs_dirs.specs.Changing.{AddsSlot};
+ghost use Rattle.fs_dirs.specs.Changing.{AddsSlot, HasCount};
 
 use crate::changing::slot_text;
-use crate::lookup::count_slots;
-use engine_blocks::{Blocks, calls_compose};
-use fs_files::{
-    Draft, FileRefusal, a_directory_has_whole_slots, a_file_has_its_blocks, settlings_add_up,
-};
+use engine_blocks::Blocks;
+use fs_files::{Draft, FileRefusal, a_directory_has_whole_slots, a_file_has_its_blocks};
 use fs_inodes::slots_follow_the_bytes;
 use layout_bytes::{SLOT_LENGTH, Slot};
 use std::alloc::Global;
 
-/// Adds a slot to directory `dir`, behind the last one.
+/// Adds a slot to directory `dir`, which has `count` slots, behind the last one.
 ///
 /// # Errors
 /// Where the directory grows by a block: none may be taken; its blocks would lie in more than 28 runs; or the
@@ -27,21 +24,19 @@ pub fn add_slot<S: Blocks>(
     alloc: Global,
     blocks: &mut S,
     dir: u32,
+    count: u32,
     slot: &Slot,
 ) -> Result<(), FileRefusal>
     requires look { MayLook S.tells (S.state blocks.old) draft.old dir }
+    requires few { count < 2 ^ 24 }
+    requires there { IsTrue S.tells → HasCount (S.state blocks.old) draft.old dir count }
     requires turns { HasTurns (S.state blocks.old).books }
     requires once { IsTrue S.tells → draft.old.taken ≡ [] }
     ensures { AddsSlot S.tells dir slot.now result (S.state blocks.old) (S.state blocks.new) draft.old draft.new }
 {
-    calls_compose::<S>();
     a_directory_has_whole_slots::<S>();
     a_file_has_its_blocks::<S>();
     slots_follow_the_bytes();
-    settlings_add_up::<S>();
-    let Some(count) = count_slots(draft, blocks, dir)? else {
-        return Ok(());
-    };
     let text = slot_text(slot);
     let offset = SLOT_LENGTH as u64 * u64::from(count);
     draft.write_at(alloc, blocks, dir, offset, text.as_slice())

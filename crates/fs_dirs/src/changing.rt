@@ -1,7 +1,7 @@
 //! Slots of a directory of a draft changed in place and taken out. One slot is written at a time, and never a
 //! whole directory; and no call here grows it.
 
-ghost use Rattle.std.specs.Prelude.{◌≡◌, ◌<◌, ◌-◌, ◌^◌, IsTrue, List, length, slice_get, Some, IfOk, IfSome, IfErr};
+ghost use Rattle.std.specs.Prelude.{◌≡◌, ◌<◌, ◌-◌, ◌^◌, IsTrue, false, List, length, slice_get, Some, IfOk, IfSome, IfErr};
 ghost use Rattle.layout_bytes.specs.declared.slot.Slot.{Slot as SlotValue};
 ghost use Rattle.layout_bytes.specs.Slot.{slot_spelling};
 ghost use Rattle.layout_directory.specs.Slots.{IsLawful};
@@ -10,13 +10,14 @@ ghost use Rattle.fs_files.specs.Asks.{MayLook};
 ghost use Rattle.fs_files.specs.Content.{fails_reading};
 ghost use Rattle.fs_files.specs.Effects.{LooksOnly};
 ghost use Rattle.fs_files.specs.Calls.{LookRefused};
+ghost use Rattle.fs_files.specs.Sound.{IsDraftOf};
 ghost use Rattle.fs_dirs.specs.Directories.{inodes_in};
-ghost use Rattle.fs_dirs.specs.Reading.{MayRead};
+ghost use Rattle.fs_dirs.specs.Reading.{IsOpened};
 ghost use Rattle.fs_dirs.specs.Changing.{CutsSlots, SetsSlot, TakesSlot};
 ghost use Rattle.fs_dirs.specs.Changing.{HasPlace};
 
 use crate::block::{SLOTS_IN_BLOCK, ZEROS, read_slots, slot_in};
-use crate::lookup::{count_slots, open_directory};
+use crate::lookup::{Directory, open_directory};
 use engine_blocks::{Blocks, calls_compose};
 use fs_files::{
     Draft, FileRefusal, a_directory_has_whole_slots, a_file_has_its_blocks, bytes_lie_in_blocks,
@@ -71,10 +72,13 @@ pub fn take_slot<S: Blocks>(
     ensures { TakesSlot S.tells dir place result (S.state blocks.old) (S.state blocks.new) draft.old draft.new }
 {
     calls_compose::<S>();
-    let Some(last) = last_place(draft, blocks, dir)? else {
+    let Some(directory) = open_directory(draft, blocks, dir)? else {
         return Ok(());
     };
-    let Some(moved) = slot_at(draft, blocks, dir, last)? else {
+    let Some(last) = last_place(&directory) else {
+        return Ok(());
+    };
+    let Some(moved) = slot_at(draft, blocks, &directory, last)? else {
         return Ok(());
     };
     set_slot(draft, alloc, blocks, dir, place, &moved)?;
@@ -82,56 +86,39 @@ pub fn take_slot<S: Blocks>(
     Ok(())
 }
 
-/// The place of the last slot of a directory that has one.
-///
-/// # Errors
-/// A read of the disk failed, which the disk has counted.
-fn last_place<S: Blocks>(
-    draft: &Draft,
-    blocks: &mut S,
-    dir: u32,
-) -> Result<Option<u32>, FileRefusal>
-    requires { MayLook S.tells (S.state blocks.old) draft.now dir }
-    ensures last { IsTrue S.tells → IfOk result (λ last. (slots : List SlotValue) → inodes_in (S.state blocks.old) draft.now dir ≡ Some (ADir slots)
-        → 0 < length slots → last ≡ Some (length slots - 1)) }
-    ensures low { IfOk result (λ last. IfSome last (λ n. n < 2 ^ 24)) }
-    ensures read { IfOk result (λ last. IfSome last (λ n. MayRead S.tells (S.state blocks.new) draft.now dir)) }
-    ensures refused { IfErr result LookRefused }
-    ensures looks { LooksOnly S.tells (fails_reading result) (S.state blocks.old) (S.state blocks.new) }
+/// The place of the last slot of a directory that was read, or `None` where it has none.
+fn last_place(dir: &Directory) -> Option<u32>
+    ensures last { 0 < dir.now.count → result ≡ Some (dir.now.count - 1) }
+    ensures low { dir.now.count < 2 ^ 24 → IfSome result (λ n. n < 2 ^ 24) }
 {
-    let Some(count) = count_slots(draft, blocks, dir)? else {
-        return Ok(None);
-    };
-    if count == 0 {
-        return Ok(None);
+    if dir.count == 0 {
+        return None;
     }
-    Ok(Some(count - 1))
+    Some(dir.count - 1)
 }
 
-/// The slot at `place` of directory `dir`, or `None` where its bytes are none.
+/// The slot at `place` of a directory that was read, or `None` where its bytes are none.
 ///
 /// # Errors
 /// A read of the disk failed, which the disk has counted.
 fn slot_at<S: Blocks>(
     draft: &Draft,
     blocks: &mut S,
-    dir: u32,
+    dir: &Directory,
     place: u32,
 ) -> Result<Option<Slot>, FileRefusal>
-    requires { MayRead S.tells (S.state blocks.old) draft.now dir }
-    ensures slot { IsTrue S.tells → IfOk result (λ found. (slots : List SlotValue) → inodes_in (S.state blocks.old) draft.now dir ≡ Some (ADir slots)
+    requires going { (S.state blocks.old).books.stopped ≡ false }
+    requires draft { IsDraftOf S.tells (S.state blocks.old) draft.now }
+    requires opened { IsOpened S.tells (S.state blocks.old) draft.now dir.now }
+    ensures slot { IsTrue S.tells → IfOk result (λ found. (slots : List SlotValue) → inodes_in (S.state blocks.old) draft.now dir.now.number ≡ Some (ADir slots)
         → place < length slots → found ≡ slice_get slots place) }
     ensures refused { IfErr result LookRefused }
     ensures looks { LooksOnly S.tells (fails_reading result) (S.state blocks.old) (S.state blocks.new) }
 {
-    calls_compose::<S>();
-    let Some(directory) = open_directory(draft, blocks, dir)? else {
-        return Ok(None);
-    };
     let within = place % SLOTS_IN_BLOCK;
     let first = place - within;
     let mut block = ZEROS;
-    read_slots(draft, blocks, &directory.blocks, first, &mut block)?;
+    read_slots(draft, blocks, &dir.blocks, first, &mut block)?;
     Ok(slot_in(&block, within))
 }
 

@@ -1,5 +1,5 @@
 -- The least number that no node has, from a search of the node table.
-use Rattle.std.proofs.Common.{◌≡◌, ◌≢◌, ◌⊎◌, inl, inr, ℕ, zero, suc, ◌+◌, ◌≤◌, ◌<◌, Bool, true, false, cond, is_none, find, List, [], ◌∷◌, Option, None, Some, option_and_then, Result, Ok, Err, IfOk, IfSome, sym, refl, ap, ◌∙◌, arith}
+use Rattle.std.proofs.Common.{◌≡◌, ◌≢◌, ◌⊎◌, inl, inr, ℕ, zero, suc, ◌+◌, ◌≤◌, ◌<◌, Bool, true, false, cond, is_none, is_some, not, find, List, [], ◌∷◌, Option, None, Some, option_map, option_and_then, Result, Ok, Err, IfOk, IfSome, sym, refl, ap, ◌∙◌, arith}
 use Rattle.std.specs.Prelude.{IfNone}
 use Rattle.std.specs.List.{range_with_len}
 use Rattle.std.proofs.lemmas.Bool.{cases_eq}
@@ -8,7 +8,9 @@ use Rattle.crash_stands.specs.Files.{FileNode, Files}
 use Rattle.crash_stands.specs.Inodes.{Inode, Inodes, inode_of, inodes_of}
 use Rattle.fs_inodes.specs.Lookups.{least_free}
 use Rattle.fs_files.specs.declared.refusal.FileRefusal.{FileRefusal}
-use Rattle.fs_files.specs.Calls.{IsUsed, IsLeastUnused}
+use Rattle.fs_files.specs.declared.look.FileFacts.{FileFacts}
+use Rattle.fs_files.specs.Calls.{facts_of, IsUsed, IsLeastUnused}
+use Rattle.fs_dirs.specs.Directories.{IsNumber}
 use Rattle.fs_session.specs.Sessions.{AreUsedBelow}
 
 -- the first number of a range that passes a test
@@ -51,6 +53,20 @@ module _ (limit : ℕ) (files : Files) (reads : (k : ℕ) (file : FileNode) → 
   least_of P Q (Err why) some none = tt
   least_of P Q (Ok None) some none = none_is none.0
   least_of P Q (Ok (Some n)) some none = least_is n some.0
+
+-- a number at which nothing is seen is that of no node in use
+pub none_there : (o : Option FileNode) (facts : Option FileFacts) (unused : Bool) → facts ≡ option_map facts_of o → is_some facts ≡ not unused → unused ≡ true → o ≡ None
+none_there None facts unused same seen none = refl
+none_there (Some file) facts unused same seen none = absurd (clash (facts_of file) (ap is_some (sym same) ∙ seen ∙ ap not none))
+  where
+    clash : (f : FileFacts) → is_some (Some f) ≡ false → ⊥
+    clash f e = absurd cc
+
+-- it is a number of the table
+pub number_of_table : (limit bound : ℕ) (r : Result (Option ℕ) FileRefusal) → limit ≡ bound → IfOk r (λ found. IfSome found (λ n. (1 ≤ n) × (n ≤ limit))) → IfOk r (λ found. IfSome found (IsNumber bound))
+number_of_table limit bound (Err why) same h = tt
+number_of_table limit bound (Ok None) same h = tt
+number_of_table limit bound (Ok (Some n)) same h = record { from = h.0; upto = omega (arith, h.1, same) }
 
 -- all below it are in use
 pub used_before : (limit : ℕ) (files : Files) (P : ℕ → Type 0) (r : Result (Option ℕ) FileRefusal) → IfOk r (λ found. IfSome found (λ n. IsLeastUnused limit files n × P n)) → IfOk r (λ found. IfSome found (AreUsedBelow files))

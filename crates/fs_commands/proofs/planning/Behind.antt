@@ -1,8 +1,9 @@
 -- What may be planned still may behind reads, and what was looked up is there still.
-use Rattle.std.proofs.Common.{◌≡◌, ℕ, Bool, false, IsTrue, List, Some, Result, Ok, sym, subst, ap, ap₂, ◌∙◌}
+use Rattle.std.proofs.Common.{◌≡◌, ℕ, Bool, false, IsTrue, List, length, Some, Result, Ok, sym, subst, ap, ap₂, ◌∙◌}
+use Rattle.layout_bytes.specs.declared.slot.Slot.{Slot}
 use Rattle.lang_tree.specs.declared.command.Refusal.{Refusal}
 use Rattle.crash_stands.specs.Files.{Files}
-use Rattle.crash_stands.specs.Inodes.{inodes_of}
+use Rattle.crash_stands.specs.Inodes.{ADir, inodes_of}
 use Rattle.fs_inodes.specs.Lookups.{least_free, walk_on}
 use Rattle.engine_blocks.specs.Calls.{HasTurns}
 use Rattle.engine_blocks.specs.Running.{HasNoBare}
@@ -10,6 +11,7 @@ use Rattle.engine_blocks.specs.State.{Bookkeeping, State}
 use Rattle.fs_files.specs.Calls.{files_in, IsUsed}
 use Rattle.fs_files.specs.Drafts.{nothing_drafted}
 use Rattle.fs_files.specs.Effects.{LooksOnly}
+use Rattle.fs_dirs.specs.Changing.{HasCount}
 use Rattle.fs_commands.specs.declared.making.Vacancy.{Vacancy}
 use Rattle.fs_commands.specs.declared.paths.NodeFound.{NodeFound}
 use Rattle.fs_commands.specs.declared.paths.Spot.{Spot}
@@ -47,11 +49,21 @@ module _ (tells : Bool) (s t : State) (looks : LooksOnly tells false s t) where
     pub may_appear_still : (path : List (List ℕ)) (v : Result Vacancy Refusal) → MayAppear (files_in s nothing_drafted) path v → MayAppear (files_in t nothing_drafted) path v
     may_appear_still path v may = subst (λ (files : Files). MayAppear files path v) (sym files_still) may
 
+    -- a directory in which a name may come to be has as many slots as were counted
+    pub counted_still : (path : List (List ℕ)) (v : Vacancy) → MayAppear (files_in s nothing_drafted) path (Ok v) → HasCount t nothing_drafted v.dir v.count
+    counted_still path v may = by (may_appear_still path (Ok v) may)
+      where
+        by : MayAppear (files_in t nothing_drafted) path (Ok v) → HasCount t nothing_drafted v.dir v.count
+        by ((up, name, is, at, h), last) = (h.slots, h.dir, h.count)
+
     pub found_still : (path : List (List ℕ)) (r : Result NodeFound Refusal) → LeadsToFound (files_in s nothing_drafted) path r → LeadsToFound (files_in t nothing_drafted) path r
     found_still path r found = subst (λ (files : Files). LeadsToFound files path r) (sym files_still) found
 
     pub used_still : (k : ℕ) → IsUsed (files_in s nothing_drafted) k → IsUsed (files_in t nothing_drafted) k
     used_still k used = subst (λ (files : Files). IsUsed files k) (sym files_still) used
+
+    pub count_still : (dir count : ℕ) → HasCount s nothing_drafted dir count → HasCount t nothing_drafted dir count
+    count_still dir count has = subst (λ (files : Files). (slots : List Slot) × (inodes_of files dir ≡ Some (ADir slots)) × (count ≡ length slots)) (sym files_still) has
 
     pub below_still : (first : ℕ) → AreUsedBelow (files_in s nothing_drafted) first → AreUsedBelow (files_in t nothing_drafted) first
     below_still first used = subst (λ (files : Files). AreUsedBelow files first) (sym files_still) used

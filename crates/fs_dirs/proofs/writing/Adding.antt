@@ -60,11 +60,11 @@ pub room_behind : (k : Bookkeeping) (slots : List Slot) (x : FileNode) (hi : ℕ
 room_behind k slots x hi places new_places d e grows long high = omega (arith, grows.enough, long, high)
 
 -- its blocks and those that come behind them lie in few runs
-pub runs_behind : (k : Bookkeeping) (slots : List Slot) (x : FileNode) (hi : ℕ) (places before new_places : List ℕ) (d e : DraftState) → Grows k x places new_places hi d e → length x.bytes ≡ 64 * length slots → hi ≡ 64 * length slots + 64 → places ≡ before
-    → stretches (before ++ take (figures.growth (length slots)) (reusable_blocks k)) ≤ 28
-runs_behind k slots x hi places before new_places d e grows long high same =
+pub runs_behind : (k : Bookkeeping) (slots : List Slot) (x : FileNode) (hi : ℕ) (places new_places : List ℕ) (d e : DraftState) → Grows k x places new_places hi d e → length x.bytes ≡ 64 * length slots → hi ≡ 64 * length slots + 64
+    → stretches (places ++ take (figures.growth (length slots)) (reusable_blocks k)) ≤ 28
+runs_behind k slots x hi places new_places d e grows long high =
     let grown : growth (length x.bytes) hi ≡ figures.growth (length slots) = omega (arith, long, high) in
-    subst (λ ps. stretches ps ≤ 28) (grows.behind ∙ ap₂ (λ ps n. ps ++ take n (reusable_blocks k)) same grown) grows.runs
+    subst (λ ps. stretches ps ≤ 28) (grows.behind ∙ ap (λ n. places ++ take n (reusable_blocks k)) grown) grows.runs
 
 -- What a write behind the last slot alters. `lo` is where it begins, and `hi` where it ends.
 module _ (k : Bookkeeping) (g : Geometry) (dir lo hi : ℕ) (slots : List Slot) (x : FileNode) (places new_places : List ℕ) (d e : DraftState) (grows : Grows k x places new_places hi d e) (dir_kind : x.kind ≡ Dir) (long : length x.bytes ≡ 64 * length slots)
@@ -116,14 +116,13 @@ module _ (k : Bookkeeping) (g : Geometry) (dir lo hi : ℕ) (slots : List Slot) 
     fresh = omega (arith, grows.fresh, ap (λ q. if is_dir q then 0 else growth (length x.bytes) hi) dir_kind);
   }
 
--- Its places, from those before the look.
-pub placed_behind : (old was new : ℕ → List ℕ) (k n m : ℕ) (more ps : List ℕ) → ((l : ℕ) → old l ≡ was l) → n ≡ m → new k ≡ old k ++ take n more → IsWithPlaces old new k ps → IsWithPlaces was new k (was k ++ take m more)
-placed_behind old was new k n m more ps same count behind w = record { own = behind ∙ (λ i. same k i ++ take (count i) more); others = λ l off. w.others l off ∙ same l }
+-- its places
+pub placed_behind : (old new : ℕ → List ℕ) (k n m : ℕ) (more ps : List ℕ) → n ≡ m → new k ≡ old k ++ take n more → IsWithPlaces old new k ps → IsWithPlaces old new k (old k ++ take m more)
+placed_behind old new k n m more ps count behind w = record { own = behind ∙ ap (λ i. old k ++ take i more) count; others = w.others }
 
--- Why it was refused, from the bookkeeping and the draft before the look.
-pub refused_behind : (n m : ℕ) (ps qs : List ℕ) (old mid new : Bookkeeping) (why : FileRefusal) → n ≡ m → ps ≡ qs → mid ≡ old → GrowthRefused n ps mid new why → GrowthRefused m qs old new why
-refused_behind n m ps qs old mid new why count places books h =
-    subst (λ i. GrowthRefused i qs old new why) count (subst (λ rs. GrowthRefused n rs old new why) places (subst (λ (k : Bookkeeping). GrowthRefused n ps k new why) books h))
+-- why it was refused
+pub refused_behind : (n m : ℕ) (ps : List ℕ) (old new : Bookkeeping) (why : FileRefusal) → n ≡ m → GrowthRefused n ps old new why → GrowthRefused m ps old new why
+refused_behind n m ps old new why count h = subst (λ i. GrowthRefused i ps old new why) count h
 
 -- What an answer or a refusal says, another way.
 

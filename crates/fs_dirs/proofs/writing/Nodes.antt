@@ -47,6 +47,10 @@ bytes_over off at text spelling xs here same size = ap (λ n. if n == 0 then xs 
 pub place_of_slots : (o : Option Inode) (place : ℕ) (slots : List Slot) → ((xs : List Slot) × (o ≡ Some (ADir xs)) × (place < length xs)) → o ≡ Some (ADir slots) → place < length slots
 place_of_slots o place slots (xs, has, low) is = subst (λ ys. place < length ys) (dir_slots xs slots (sym has ∙ is)) low
 
+-- and a count that it has is that of its slots
+pub count_of_slots : (o : Option Inode) (count : ℕ) (slots : List Slot) → ((xs : List Slot) × (o ≡ Some (ADir xs)) × (count ≡ length xs)) → o ≡ Some (ADir slots) → count ≡ length slots
+count_of_slots o count slots (xs, has, many) is = subst (λ ys. count ≡ length ys) (dir_slots xs slots (sym has ∙ is)) many
+
 -- what has an inode reads as it
 reads_here : (o : Option FileNode) (x : Inode) → option_and_then inode_of o ≡ Some x → IsInodeOf o (option_and_then inode_of o)
 reads_here None x e = refl

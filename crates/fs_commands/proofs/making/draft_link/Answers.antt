@@ -6,7 +6,7 @@ use Rattle.crash_stands.specs.Inodes.{Inode, ADir, AFile, inode_of}
 use Rattle.engine_blocks.specs.State.{reusable_blocks}
 use Rattle.fs_files.specs.Calls.{files_in, places_in, IsUsed, IsWithPlaces, GrowthRefused, with_links}
 use Rattle.fs_files.specs.Drafts.{nothing_drafted}
-use Rattle.fs_dirs.specs.Changing.{Alters, IsWithSlots}
+use Rattle.fs_dirs.specs.Changing.{Alters, HasCount, IsWithSlots}
 use Rattle.fs_dirs.specs.Directories.{inodes_in}
 use Rattle.fs_session.specs.Sessions.{inodes}
 use Rattle.fs_commands.proofs.Placing.{placed_kept}
@@ -79,6 +79,9 @@ returns-in-Ok-set_links-clause-quiet g c = λ told slots at enough.
 pub returns-in-Err-set_links-clause-quiet : goal.returns-in-Err-set_links-clause-quiet
 returns-in-Err-set_links-clause-quiet g c = λ told slots at enough.
     calm_on (g.S.Blocks.state c.args.blocks.now) (g.S.Blocks.state c.add_slot.new.blocks) (g.S.Blocks.state c.set_links.new.blocks) (looked_calmly g.S.Blocks.tells _ (g.S.Blocks.state c.args.blocks.now) (g.S.Blocks.state c.add_slot.new.blocks) (c.in-Ok.ensures.looks told slots (ap (λ d. inodes_in (g.S.Blocks.state c.args.blocks.now) d c.args.dir) c.new-draft.ensures ∙ at) enough) told) (looked_calmly g.S.Blocks.tells _ (g.S.Blocks.state c.add_slot.new.blocks) (g.S.Blocks.state c.set_links.new.blocks) c.in-Err-set_links.ensures.looks told)
+
+pub add_slot-requires-clause-there : goal.add_slot-requires-clause-there
+add_slot-requires-clause-there g c = λ told. subst (λ d. HasCount (g.S.Blocks.state c.args.blocks.now) d c.args.dir c.args.count) (sym c.new-draft.ensures) (c.requires.there told)
 
 pub add_slot-requires-clause-look : goal.add_slot-requires-clause-look
 add_slot-requires-clause-look g c = look_begins g.S.Blocks.tells _ _ _ c.new-draft.ensures c.requires.begin c.requires.dir c.a_draft_begins.ensures.draft

@@ -9,7 +9,7 @@ use Rattle.fs_inodes.specs.Changes.{new_inode}
 use Rattle.engine_blocks.specs.State.{reusable_blocks}
 use Rattle.fs_files.specs.Calls.{files_in, places_in, IsUsed, IsWithPlaces, GrowthRefused, SetsNode}
 use Rattle.fs_files.specs.Drafts.{ChangesSome, nothing_drafted}
-use Rattle.fs_dirs.specs.Changing.{Alters, IsWithSlots}
+use Rattle.fs_dirs.specs.Changing.{Alters, HasCount, IsWithSlots}
 use Rattle.fs_dirs.specs.Directories.{inodes_in}
 use Rattle.fs_commands.specs.Making.{first_thing}
 use Rattle.fs_session.specs.Sessions.{inodes}
@@ -88,6 +88,9 @@ returns-in-Ok-new_node-clause-quiet g c = λ told slots at enough.
 pub returns-in-Err-new_node-clause-quiet : goal.returns-in-Err-new_node-clause-quiet
 returns-in-Err-new_node-clause-quiet g c = λ told slots at enough.
     calm_on (g.S.Blocks.state c.args.blocks.now) (g.S.Blocks.state c.add_slot.new.blocks) (g.S.Blocks.state c.new_node.new.blocks) (looked_calmly g.S.Blocks.tells _ (g.S.Blocks.state c.args.blocks.now) (g.S.Blocks.state c.add_slot.new.blocks) (c.in-Ok.ensures.looks told slots (ap (λ d. inodes_in (g.S.Blocks.state c.args.blocks.now) d c.args.dir) c.new-draft.ensures ∙ at) enough) told) (looked_calmly g.S.Blocks.tells _ (g.S.Blocks.state c.add_slot.new.blocks) (g.S.Blocks.state c.new_node.new.blocks) c.in-Err-new_node.ensures.looks told)
+
+pub add_slot-requires-clause-there : goal.add_slot-requires-clause-there
+add_slot-requires-clause-there g c = λ told. subst (λ d. HasCount (g.S.Blocks.state c.args.blocks.now) d c.args.dir c.args.count) (sym c.new-draft.ensures) (c.requires.there told)
 
 pub add_slot-requires-clause-look : goal.add_slot-requires-clause-look
 add_slot-requires-clause-look g c = look_begins g.S.Blocks.tells _ _ _ c.new-draft.ensures c.requires.may.begin c.requires.dir c.a_draft_begins.ensures.draft

@@ -27,3 +27,8 @@ pub returns-clause-dir : goal.returns-clause-dir
 returns-clause-dir g c =
     let limit = (g.S.Blocks.state c.args.blocks.now).books.geom.i in
     c.vacancy_in.ensures.dir limit (subst (λ r. IfOk r (IsWithin limit)) c.in-Ok.is c.in_ok-spot.ensures.within)
+
+pub returns-clause-few : goal.returns-clause-few
+returns-clause-few g c =
+    let limit = (g.S.Blocks.state c.args.blocks.now).books.geom.i in
+    c.vacancy_in.ensures.few limit (subst (λ r. IfOk r (IsWithin limit)) c.in-Ok.is c.in_ok-spot.ensures.within)

@@ -1,7 +1,7 @@
 use Rattle.std.proofs.Common.{Ok, subst}
 use Rattle.lang_tree.specs.declared.command.Cmd.TheVariants.{Link}
 use Rattle.fs_commands.specs.Making.{MayAppear}
-use Rattle.fs_commands.proofs.planning.Behind.{may_plan_still, may_appear_still, found_still, used_still}
+use Rattle.fs_commands.proofs.planning.Behind.{counted_still, may_plan_still, may_appear_still, found_still, used_still}
 use Rattle.fs_commands.proofs.planning.Before.{looked_first}
 use Rattle.fs_commands.proofs.planning.Looking.{refusal_plan, cut_short}
 use Rattle.fs_files.specs.Calls.{files_in}
@@ -10,6 +10,11 @@ use Rattle.fs_commands.proofs.making.link_to.Goals as goal
 
 pub link_in-requires-clause-may : goal.link_in-requires-clause-may
 link_in-requires-clause-may g c = may_plan_still g.S.Blocks.tells _ _ c.in-Ok-Ok.ensures.looks c.requires.may
+
+pub link_in-requires-clause-there : goal.link_in-requires-clause-there
+link_in-requires-clause-there g c = λ told.
+    let t = c.requires.may.stands told in
+    counted_still g.S.Blocks.tells _ _ c.in-Ok-Ok.ensures.looks told c.args.other.now c.in-Ok-Ok.vacancy (subst (MayAppear (files_in (g.S.Blocks.state c.args.blocks.now) nothing_drafted) c.args.other.now) c.in-Ok-Ok.field-0-is (c.in-Ok-Ok.ensures.vacancy told t.0 t.1))
 
 pub link_in-requires-clause-used : goal.link_in-requires-clause-used
 link_in-requires-clause-used g c = λ told. used_still g.S.Blocks.tells _ _ c.in-Ok-Ok.ensures.looks told c.args.found.now.number (c.requires.used told)

@@ -4,13 +4,16 @@ use Rattle.fs_files.specs.Calls.{files_in}
 use Rattle.fs_files.specs.Drafts.{nothing_drafted}
 use Rattle.fs_commands.specs.Making.{make_cmd}
 use Rattle.fs_session.specs.Sessions.{AreUsedBelow}
-use Rattle.fs_commands.proofs.planning.Behind.{below_still, may_plan_still, may_appear_still, least_still}
+use Rattle.fs_commands.proofs.planning.Behind.{below_still, count_still, may_plan_still, may_appear_still, least_still}
 use Rattle.fs_commands.proofs.planning.Before.{looked_first}
 use Rattle.fs_commands.proofs.planning.Looking.{refusal_plan, cut_short}
 use Rattle.fs_commands.proofs.making.make_in.Goals as goal
 
 pub make_node-requires-clause-may : goal.make_node-requires-clause-may
 make_node-requires-clause-may g c = may_plan_still g.S.Blocks.tells _ _ c.in-Ok-Some.ensures.looks c.requires.may
+
+pub make_node-requires-clause-there : goal.make_node-requires-clause-there
+make_node-requires-clause-there g c = λ told. count_still g.S.Blocks.tells _ _ c.in-Ok-Some.ensures.looks told c.args.vacancy.now.dir c.args.vacancy.now.count (c.requires.there told)
 
 pub make_node-requires-clause-below : goal.make_node-requires-clause-below
 make_node-requires-clause-below g c = λ told.

@@ -1,6 +1,6 @@
 use Rattle.std.proofs.Common.{Ok, subst}
 use Rattle.fs_commands.specs.Making.{MayAppear, make_cmd}
-use Rattle.fs_commands.proofs.planning.Behind.{below_still, may_plan_still, may_appear_still}
+use Rattle.fs_commands.proofs.planning.Behind.{below_still, counted_still, may_plan_still, may_appear_still}
 use Rattle.fs_commands.proofs.planning.Before.{looked_first}
 use Rattle.fs_commands.proofs.planning.Looking.{refusal_plan, cut_short}
 use Rattle.fs_files.specs.Calls.{files_in}
@@ -9,6 +9,11 @@ use Rattle.fs_commands.proofs.making.plan_node.Goals as goal
 
 pub make_in-requires-clause-below : goal.make_in-requires-clause-below
 make_in-requires-clause-below g c = λ told. below_still g.S.Blocks.tells _ _ c.in-Ok-Ok.ensures.looks told c.args.first_unused (c.requires.below told)
+
+pub make_in-requires-clause-there : goal.make_in-requires-clause-there
+make_in-requires-clause-there g c = λ told.
+    let t = c.requires.may.stands told in
+    counted_still g.S.Blocks.tells _ _ c.in-Ok-Ok.ensures.looks told c.args.path.now c.in-Ok-Ok.vacancy (subst (MayAppear (files_in (g.S.Blocks.state c.args.blocks.now) nothing_drafted) c.args.path.now) c.in-Ok-Ok.field-0-is (c.in-Ok-Ok.ensures.vacancy told t.0 t.1))
 
 pub make_in-requires-clause-may : goal.make_in-requires-clause-may
 make_in-requires-clause-may g c = may_plan_still g.S.Blocks.tells _ _ c.in-Ok-Ok.ensures.looks c.requires.may

@@ -22,15 +22,14 @@ use Rattle.fs_commands.proofs.moving.draft_across.Goals as goal
 pub take_slot-requires-clause-there : goal.take_slot-requires-clause-there
 take_slot-requires-clause-there g c = λ told.
     let s = g.S.Blocks.state c.args.blocks.now in
-    let count = (c.requires.moves told).0 in
-    let name = (c.requires.moves told).1 in
-    let may = (c.requires.moves told).2 in
+    let name = (c.requires.moves told).0 in
+    let may = (c.requires.moves told).1 in
     let at = ap (λ d. inodes_in s d c.args.into) c.new-draft.ensures ∙ may.into.dir_is in
     let one = c.in-Ok.ensures.slots told may.into.slots at in
     (may.from.slots, one.inodes.others c.args.source.now.dir may.apart ∙ ap (λ d. inodes_in s d c.args.source.now.dir) c.new-draft.ensures ∙ may.from.dir, place_within (inodes_in s nothing_drafted) name c.args.source.now may.from)
 
 pub returns-in-Err-clause-refused : goal.returns-in-Err-clause-refused
-returns-in-Err-clause-refused g c = λ told count name may.
+returns-in-Err-clause-refused g c = λ told name may.
     let s = g.S.Blocks.state c.args.blocks.now in
     let t = g.S.Blocks.state c.add_slot.new.blocks in
     let at = ap (λ d. inodes_in s d c.args.into) c.new-draft.ensures ∙ may.into.dir_is in
@@ -45,29 +44,29 @@ returns-in-Err-take_slot-clause-settles g c =
     settled_cut g.S.Blocks.tells g.S.Blocks.state c.calls_compose.ensures.rests c.calls_compose.ensures.advances c.args.blocks.now c.add_slot.new.blocks c.take_slot.new.blocks c.in-Ok.ensures.settles c.in-Err-take_slot.why c.in-Err-take_slot.ensures.refused c.in-Err-take_slot.ensures.looks
 
 pub returns-in-Err-take_slot-clause-refused : goal.returns-in-Err-take_slot-clause-refused
-returns-in-Err-take_slot-clause-refused g c = λ told count name may.
-    cut_growth (growth count) (places_of (g.S.Blocks.state c.args.blocks.now) c.args.into) (g.S.Blocks.state c.args.blocks.now).books (g.S.Blocks.state c.take_slot.new.blocks).books c.in-Err-take_slot.why c.in-Err-take_slot.ensures.refused
+returns-in-Err-take_slot-clause-refused g c = λ told name may.
+    cut_growth (growth c.args.count) (places_of (g.S.Blocks.state c.args.blocks.now) c.args.into) (g.S.Blocks.state c.args.blocks.now).books (g.S.Blocks.state c.take_slot.new.blocks).books c.in-Err-take_slot.why c.in-Err-take_slot.ensures.refused
 
 pub returns-in-Ok-take_slot-clause-grows : goal.returns-in-Ok-take_slot-clause-grows
-returns-in-Ok-take_slot-clause-grows g c = λ told count name may.
+returns-in-Ok-take_slot-clause-grows g c = λ told name may.
     let s = g.S.Blocks.state c.args.blocks.now in
     let t = g.S.Blocks.state c.add_slot.new.blocks in
     let at = ap (λ d. inodes_in s d c.args.into) c.new-draft.ensures ∙ may.into.dir_is in
-    subst (λ (k : Bookkeeping). GrowsInRuns s k c.args.into (growth count)) (sym c.in-Ok-take_slot.ensures.looks.books)
+    subst (λ (k : Bookkeeping). GrowsInRuns s k c.args.into (growth c.args.count)) (sym c.in-Ok-take_slot.ensures.looks.books)
     (subst (λ n. GrowsInRuns s t.books c.args.into (growth n)) (sym may.into.many_are) (record {
       enough = c.in-Ok.ensures.room told may.into.slots at;
       runs = subst (λ d. stretches (places_in s d c.args.into ++ take (growth (length may.into.slots)) (reusable_blocks t.books)) ≤ 28) c.new-draft.ensures (c.in-Ok.ensures.runs told may.into.slots at);
     }))
 
 pub returns-in-Ok-take_slot-clause-rests : goal.returns-in-Ok-take_slot-clause-rests
-returns-in-Ok-take_slot-clause-rests g c = λ told count name may enough.
+returns-in-Ok-take_slot-clause-rests g c = λ told name may enough.
     let s = g.S.Blocks.state c.args.blocks.now in
     let at = ap (λ d. inodes_in s d c.args.into) c.new-draft.ensures ∙ may.into.dir_is in
     c.in-Ok-take_slot.ensures.looks.books
     ∙ (c.in-Ok.ensures.looks told may.into.slots at (subst (λ n. growth n ≤ length (reusable_blocks s.books)) may.into.many_are enough)).books
 
 pub returns-in-Ok-take_slot-clause-moves : goal.returns-in-Ok-take_slot-clause-moves
-returns-in-Ok-take_slot-clause-moves g c = λ told count name may.
+returns-in-Ok-take_slot-clause-moves g c = λ told name may.
     let s = g.S.Blocks.state c.args.blocks.now in
     let t = g.S.Blocks.state c.add_slot.new.blocks in
     let u = g.S.Blocks.state c.take_slot.new.blocks in
@@ -96,28 +95,33 @@ returns-in-Ok-take_slot-clause-moves g c = λ told count name may.
     let cut = placed_cut p1 p2 c.args.source.now.dir (directory_blocks (length may.from.slots - 1)) [] (c.in-Ok-take_slot.ensures.places told may.from.slots from_at) in
     let placed = subst (λ n. ArePlaced p0 p2 (take (growth n) (reusable_blocks t.books))) (sym may.into.many_are) (placed_then p0 p1 p2 takes grown cut) in
     record {
-      moves = moves_across f0 f1 f2 c.args.source.now c.args.into count name c.args.other.now may.from may.into may.apart named two;
+      moves = moves_across f0 f1 f2 c.args.source.now c.args.into c.args.count name c.args.other.now may.from may.into may.apart named two;
       reads = c.directories_are_read.ensures f1 f2 c.args.source.now.dir (without_at c.args.source.now.entry.place may.from.slots) two
           (c.directories_are_read.ensures f0 f1 c.args.into (may.into.slots ++ slot_of c.args.source.now.entry.node.number c.args.other.now ∷ []) named reads);
-      alters = subst (λ (k : Bookkeeping). Alters 5 (take (growth count) (reusable_blocks k)) (release c.args.source.now.count) nothing_drafted c.take_slot.new.draft) (sym c.in-Ok-take_slot.ensures.looks.books) counted;
-      placed = subst (λ (k : Bookkeeping). ArePlaced p0 p2 (take (growth count) (reusable_blocks k))) (sym c.in-Ok-take_slot.ensures.looks.books) placed;
-      used = used_across f0 f1 f2 c.args.source.now c.args.into count name c.args.other.now may.from may.into may.apart named two;
+      alters = subst (λ (k : Bookkeeping). Alters 5 (take (growth c.args.count) (reusable_blocks k)) (release c.args.source.now.count) nothing_drafted c.take_slot.new.draft) (sym c.in-Ok-take_slot.ensures.looks.books) counted;
+      placed = subst (λ (k : Bookkeeping). ArePlaced p0 p2 (take (growth c.args.count) (reusable_blocks k))) (sym c.in-Ok-take_slot.ensures.looks.books) placed;
+      used = used_across f0 f1 f2 c.args.source.now c.args.into c.args.count name c.args.other.now may.from may.into may.apart named two;
     }
 
 pub returns-in-Err-clause-quiet : goal.returns-in-Err-clause-quiet
-returns-in-Err-clause-quiet g c = λ told count name may enough.
+returns-in-Err-clause-quiet g c = λ told name may enough.
     looked_calmly g.S.Blocks.tells _ (g.S.Blocks.state c.args.blocks.now) (g.S.Blocks.state c.add_slot.new.blocks) (c.in-Err.ensures.looks told may.into.slots (ap (λ d. inodes_in (g.S.Blocks.state c.args.blocks.now) d c.args.into) c.new-draft.ensures ∙ may.into.dir_is)
     (subst (λ n. growth n ≤ length (reusable_blocks (g.S.Blocks.state c.args.blocks.now).books)) may.into.many_are enough)) told
 
 pub returns-in-Ok-take_slot-clause-quiet : goal.returns-in-Ok-take_slot-clause-quiet
-returns-in-Ok-take_slot-clause-quiet g c = λ told count name may enough.
+returns-in-Ok-take_slot-clause-quiet g c = λ told name may enough.
     calm_on (g.S.Blocks.state c.args.blocks.now) (g.S.Blocks.state c.add_slot.new.blocks) (g.S.Blocks.state c.take_slot.new.blocks) (looked_calmly g.S.Blocks.tells _ (g.S.Blocks.state c.args.blocks.now) (g.S.Blocks.state c.add_slot.new.blocks) (c.in-Ok.ensures.looks told may.into.slots (ap (λ d. inodes_in (g.S.Blocks.state c.args.blocks.now) d c.args.into) c.new-draft.ensures ∙ may.into.dir_is)
     (subst (λ n. growth n ≤ length (reusable_blocks (g.S.Blocks.state c.args.blocks.now).books)) may.into.many_are enough)) told) (looked_calmly g.S.Blocks.tells _ (g.S.Blocks.state c.add_slot.new.blocks) (g.S.Blocks.state c.take_slot.new.blocks) c.in-Ok-take_slot.ensures.looks told)
 
 pub returns-in-Err-take_slot-clause-quiet : goal.returns-in-Err-take_slot-clause-quiet
-returns-in-Err-take_slot-clause-quiet g c = λ told count name may enough.
+returns-in-Err-take_slot-clause-quiet g c = λ told name may enough.
     calm_on (g.S.Blocks.state c.args.blocks.now) (g.S.Blocks.state c.add_slot.new.blocks) (g.S.Blocks.state c.take_slot.new.blocks) (looked_calmly g.S.Blocks.tells _ (g.S.Blocks.state c.args.blocks.now) (g.S.Blocks.state c.add_slot.new.blocks) (c.in-Ok.ensures.looks told may.into.slots (ap (λ d. inodes_in (g.S.Blocks.state c.args.blocks.now) d c.args.into) c.new-draft.ensures ∙ may.into.dir_is)
     (subst (λ n. growth n ≤ length (reusable_blocks (g.S.Blocks.state c.args.blocks.now).books)) may.into.many_are enough)) told) (looked_calmly g.S.Blocks.tells _ (g.S.Blocks.state c.add_slot.new.blocks) (g.S.Blocks.state c.take_slot.new.blocks) c.in-Err-take_slot.ensures.looks told)
 
 pub add_slot-requires-clause-look : goal.add_slot-requires-clause-look
 add_slot-requires-clause-look g c = look_begins g.S.Blocks.tells _ _ _ c.new-draft.ensures c.requires.begin c.requires.into c.a_draft_begins.ensures.draft
+
+pub add_slot-requires-clause-there : goal.add_slot-requires-clause-there
+add_slot-requires-clause-there g c = λ told.
+    let may = (c.requires.moves told).1 in
+    (may.into.slots, ap (λ d. inodes_in (g.S.Blocks.state c.args.blocks.now) d c.args.into) c.new-draft.ensures ∙ may.into.dir_is, may.into.many_are)

@@ -41,7 +41,7 @@ pub draft_across-requires-clause-moves : goal.draft_across-requires-clause-moves
 draft_across-requires-clause-moves g c = λ told.
     let m = c.requires.known told in
     let known = c.a_move_is_known.ensures.knows told m.0 m.1 c.args.source.now c.args.into c.args.count None c.args.other.now m.2 in
-    (c.args.count, known.name, may_move_away (g.S.Blocks.state c.args.blocks.now) m.0 m.1 c.args.source.now c.args.into c.args.count c.args.other.now c.requires.apart known)
+    (known.name, may_move_away (g.S.Blocks.state c.args.blocks.now) m.0 m.1 c.args.source.now c.args.into c.args.count c.args.other.now c.requires.apart known)
 
 pub returns-in-Err-clause-plans : goal.returns-in-Err-clause-plans
 returns-in-Err-clause-plans g c = λ from to move.
@@ -60,17 +60,17 @@ returns-in-Ok-draft_across-clause-plans g c = λ from to move.
       is = λ told f h.
           let a = weighs told f h in
           let may = may_move_away s from to source c.args.into c.args.count c.args.other.now c.requires.apart a.known in
-          let grows = c.in-Ok-draft_across.ensures.grows told c.args.count a.known.name may in
+          let grows = c.in-Ok-draft_across.ensures.grows told a.known.name may in
           planned_move s now f from to source c.args.into c.args.count None c.args.other.now 5 (release source.count) (growth c.args.count) fs (take (growth c.args.count) (reusable_blocks now.books)) c.in-Ok-draft_across.draft Stays a
-          (c.in-Ok-draft_across.ensures.moves told c.args.count a.known.name may) c.in-Ok.ensures.room
-          (omega arith) refl grows.enough (c.in-Ok-draft_across.ensures.rests told c.args.count a.known.name may) settles.pipeline.geom
+          (c.in-Ok-draft_across.ensures.moves told a.known.name may) c.in-Ok.ensures.room
+          (omega arith) refl grows.enough (c.in-Ok-draft_across.ensures.rests told a.known.name may) settles.pipeline.geom
           (λ k some grown. subst (λ n. GrowsInRuns s now.books k n) (sym (ap (λ (n : Figures). n.need) a.counted))
           (subst (λ l. GrowsInRuns s now.books l (growth c.args.count)) (same_Some c.args.into k (sym (grown_into (inodes s) from to source.dir c.args.into a.known.name c.args.other.now a.known.paths) ∙ grown)) grows))
           c.a_move_is_mapped.ensures.rename c.the_map_gives_the_reply.ensures.reply c.alterations_add_up.ensures.price;
       going = c.requires.may.begin.going;
       quiet = λ told f h.
           let a = weighs told f h in
-          subst (λ n. IsCalm n s now) (sym (ap (λ (n : Figures). n.need) a.counted)) (c.in-Ok-draft_across.ensures.quiet told c.args.count a.known.name (may_move_away s from to source c.args.into c.args.count c.args.other.now c.requires.apart a.known));
+          subst (λ n. IsCalm n s now) (sym (ap (λ (n : Figures). n.need) a.counted)) (c.in-Ok-draft_across.ensures.quiet told a.known.name (may_move_away s from to source c.args.into c.args.count c.args.other.now c.requires.apart a.known));
       settles = settles;
     }
 
@@ -84,7 +84,7 @@ returns-in-Ok-draft_across-clause-made g c =
     (λ told.
     let m = c.requires.known told in
     let known = c.a_move_is_known.ensures.knows told m.0 m.1 source c.args.into c.args.count None c.args.other.now m.2 in
-    (c.in-Ok-draft_across.ensures.moves told c.args.count known.name (may_move_away s m.0 m.1 source c.args.into c.args.count c.args.other.now c.requires.apart known)).used)
+    (c.in-Ok-draft_across.ensures.moves told known.name (may_move_away s m.0 m.1 source c.args.into c.args.count c.args.other.now c.requires.apart known)).used)
 
 pub returns-in-Err-draft_across-clause-plans : goal.returns-in-Err-draft_across-clause-plans
 returns-in-Err-draft_across-clause-plans g c = λ from to move.
@@ -100,8 +100,8 @@ returns-in-Err-draft_across-clause-plans g c = λ from to move.
     growth_refused s now f (Rename from to) c.args.into (g.met.S.Blocks.is_sound c.draft_across.new.blocks) c.in-Err-draft_across.ensures.settles.pipeline c.a_disk_is_small.ensures.disk a.accepted (subst (λ (n : Figures). HasRoom s.books n) (sym a.figures) c.in-Ok.ensures.room)
     (grown_into (inodes s) from to source.dir c.args.into a.known.name c.args.other.now a.known.paths) (c.a_disk_is_small.ensures.places told c.requires.may.begin c.args.into) why
     (subst (λ n. GrowthRefused n (places_of s c.args.into) s.books now.books why) (sym (ap (λ (n : Figures). n.need) a.counted))
-    (c.in-Err-draft_across.ensures.refused told c.args.count a.known.name (may_move_away s from to source c.args.into c.args.count c.args.other.now c.requires.apart a.known))))
+    (c.in-Err-draft_across.ensures.refused told a.known.name (may_move_away s from to source c.args.into c.args.count c.args.other.now c.requires.apart a.known))))
     (λ told f h.
     let a = weighs told f h in
-    subst (λ n. IsCalm n s now) (sym (ap (λ (n : Figures). n.need) a.counted)) (c.in-Err-draft_across.ensures.quiet told c.args.count a.known.name (may_move_away s from to source c.args.into c.args.count c.args.other.now c.requires.apart a.known)))
+    subst (λ n. IsCalm n s now) (sym (ap (λ (n : Figures). n.need) a.counted)) (c.in-Err-draft_across.ensures.quiet told a.known.name (may_move_away s from to source c.args.into c.args.count c.args.other.now c.requires.apart a.known)))
     c.in-Err-draft_across.ensures.settles)
