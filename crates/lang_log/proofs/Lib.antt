@@ -1,0 +1,17 @@
+mod Maps
+mod Walks
+mod Rows
+mod Making
+mod Removing
+mod Changes
+mod OneLog
+mod Made
+mod Digits
+mod Spelled
+mod NoLog
+mod Listed
+mod Rising
+mod Questions
+mod ShortRuns
+mod Runs
+mod Calls
