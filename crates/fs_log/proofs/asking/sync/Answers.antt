@@ -1,0 +1,36 @@
+use Rattle.std.proofs.Common.{refl}
+use Rattle.lang_tree.specs.declared.command.Cmd.TheVariants.{Dsync}
+use Rattle.fs_commands.specs.Opened.{blocks_in}
+use Rattle.fs_session.specs.Memory.{room_of}
+use Rattle.fs_log.specs.Causes.{AsksToSync}
+use Rattle.fs_log.specs.Refusals.{is_of_none}
+use Rattle.fs_log.proofs.Causes.{caused, was_asked}
+use Rattle.fs_log.proofs.Holding.{session_of}
+use Rattle.fs_log.proofs.Rooms.{sync_late}
+use Rattle.fs_log.proofs.Syncing.{promised, waited}
+use Rattle.fs_log.proofs.Writing.{no_time}
+use Rattle.fs_log.proofs.asking.sync.Goals as goal
+
+pub returns-clause-rests : goal.returns-clause-rests
+returns-clause-rests g c = λ told.
+    waited g.S.Blocks.tells g.S.Blocks.state (blocks_in c.args.fs.now) (blocks_in c.ask-reply.new.fs) c.ask-reply.result (c.requires.follows.stands told) (c.ask-reply.ensures.asked told)
+
+pub returns-clause-promised : goal.returns-clause-promised
+returns-clause-promised g c = λ told point done.
+    promised g.S.Blocks.tells g.S.Blocks.state (blocks_in c.args.fs.now) (blocks_in c.ask-reply.new.fs) c.ask-reply.result (c.requires.follows.stands told) (c.ask-reply.ensures.asked told) point done
+
+pub returns-clause-cause : goal.returns-clause-cause
+returns-clause-cause g c = λ none.
+    let old = blocks_in c.args.fs.now in
+    let new = blocks_in c.ask-reply.new.fs in
+    caused g.S.Blocks.tells g.S.Blocks.state is_of_none AsksToSync old new c.ask-reply.result
+    (was_asked g.S.Blocks.tells g.S.Blocks.state c.calls_compose.ensures.advances (λ told s. no_time g.S.Blocks.state (c.calls_compose.ensures.rests told) s) AsksToSync Dsync c.ask-reply.result old new refl
+    (record {
+      applies = c.ask-reply.ensures.applies;
+      asked = c.ask-reply.ensures.asked;
+      session = λ told. session_of (g.S.Blocks.state old) (c.requires.follows.stands told);
+    }))
+    (λ told.
+    let f = session_of (g.S.Blocks.state old) (c.requires.follows.stands told) in
+    let x = c.a_command_is_answered_in_a_room_that_came_back.ensures.answers told old new f.0 Dsync c.ask-reply.result f.1 c.ask-reply.ensures.applies in
+    sync_late (g.S.Blocks.state old).books.geom f.0 x.0 (room_of (g.S.Blocks.state old)) (room_of (g.S.Blocks.state new)) c.ask-reply.result x.3 none)

@@ -1,0 +1,95 @@
+use Rattle.std.proofs.Common.{inl, inr, ⊎_elim, ◌∙◌, ◌⊎◌, ◌≡◌, ◌<◌, ◌+◌, ◌-◌, Some, length, slice_get, subst, sym, arith}
+use Rattle.fs_commands.specs.Opened.{blocks_in}
+use Rattle.lang_log.specs.History.{appended}
+use Rattle.lang_tree.specs.declared.command.Cmd.TheVariants.{Osync}
+use Rattle.lang_tree.specs.declared.command.Refusal.TheVariants.{NoMemory}
+use Rattle.fs_log.specs.declared.refusal.LogRefusal.TheVariants.{Fs as FsRefused}
+use Rattle.fs_log.specs.Causes.{AsksToWrite, HasCallCause}
+use Rattle.fs_log.specs.Keeping.{TakesLog, as_before}
+use Rattle.fs_log.specs.Open.{Open, state_in}
+use Rattle.fs_log.specs.Refusals.{is_of_none}
+use Rattle.fs_log.proofs.Appending.{wrote}
+use Rattle.fs_log.proofs.Causes.{caused, lacking, passed_on, was_so}
+use Rattle.fs_log.proofs.Mirroring.{on_err, same_firsts, same_most, same_next, same_size}
+use Rattle.fs_log.proofs.Writing.{resting}
+use Rattle.fs_log.proofs.log.AppLog.write.Goals as goal
+
+pub invariant_of-self : goal.invariant_of-self
+invariant_of-self g c = record {
+  follows = c.change_log-reply.ensures.follows;
+  least = c.self.invariant.least;
+  most = c.self.invariant.most;
+  kept = c.self.invariant.kept;
+  mirrors = λ told.
+      let l = c.self.inside in
+      (wrote g.S.Blocks.state l.firsts.items l.size l.next (blocks_in l.fs) (blocks_in c.change_log-reply.new.fs) c.change_log-reply.result (c.self.invariant.mirrors told)
+      c.last_of-first.result c.args.bytes.now c.in_ok-cmd.cmd (subst (λ q. 0 < length q) (sym (same_firsts c.self.view_is)) c.requires.some)
+      (subst (λ q. slice_get q (length q - 1) ≡ Some c.last_of-first.result) c.as_slice.ensures.value c.last_of-first.ensures) c.in_ok-cmd.ensures c.requires.short
+      (omega (arith, c.requires.room, same_size c.self.view_is, same_most c.self.view_is, c.self.invariant.most)) (omega (arith, c.requires.left, same_next c.self.view_is))
+      (c.change_log-reply.ensures.written told)).same c.in_err-done.ensures.not;
+}
+
+pub returns-in_err-cmd-clause-refused : goal.returns-in_err-cmd-clause-refused
+returns-in_err-cmd-clause-refused g c = λ told. on_err c.from_residual.result _
+    (resting g.S.Blocks.state (blocks_in c.args.self.now.fs) (c.calls_compose.ensures.rests told) (λ s trees img known left. c.a_crash_leaves_the_tree_of_a_point.ensures.now s trees img told known left)).takes
+
+pub returns-in_err-done-clause-refused : goal.returns-in_err-done-clause-refused
+returns-in_err-done-clause-refused g c = λ told. on_err c.from_residual-in_err-done.result _ (
+    let l = c.self.inside in
+    subst (λ q. TakesLog as_before (state_in g.S.Blocks.state q) (g.S.Blocks.state (blocks_in c.change_log-reply.new.fs))) c.self.view_is
+    ((wrote g.S.Blocks.state l.firsts.items l.size l.next (blocks_in l.fs) (blocks_in c.change_log-reply.new.fs) c.change_log-reply.result (c.self.invariant.mirrors told)
+    c.last_of-first.result c.args.bytes.now c.in_ok-cmd.cmd (subst (λ q. 0 < length q) (sym (same_firsts c.self.view_is)) c.requires.some)
+    (subst (λ q. slice_get q (length q - 1) ≡ Some c.last_of-first.result) c.as_slice.ensures.value c.last_of-first.ensures) c.in_ok-cmd.ensures c.requires.short
+    (omega (arith, c.requires.room, same_size c.self.view_is, same_most c.self.view_is, c.self.invariant.most)) (omega (arith, c.requires.left, same_next c.self.view_is))
+    (c.change_log-reply.ensures.written told)).rests c.in_err-done.ensures.not))
+
+pub invariant_of-self-2 : goal.invariant_of-self-2
+invariant_of-self-2 g c = record {
+  follows = c.change_log-reply.ensures.follows;
+  least = c.self.invariant.least;
+  most = c.self.invariant.most;
+  kept = omega (arith, c.self.invariant.kept);
+  mirrors = λ told.
+      let l = c.self.inside in
+      (wrote g.S.Blocks.state l.firsts.items l.size l.next (blocks_in l.fs) (blocks_in c.change_log-reply.new.fs) c.change_log-reply.result (c.self.invariant.mirrors told)
+      c.last_of-first.result c.args.bytes.now c.in_ok-cmd.cmd (subst (λ q. 0 < length q) (sym (same_firsts c.self.view_is)) c.requires.some)
+      (subst (λ q. slice_get q (length q - 1) ≡ Some c.last_of-first.result) c.as_slice.ensures.value c.last_of-first.ensures) c.in_ok-cmd.ensures c.requires.short
+      (omega (arith, c.requires.room, same_size c.self.view_is, same_most c.self.view_is, c.self.invariant.most)) (omega (arith, c.requires.left, same_next c.self.view_is))
+      (c.change_log-reply.ensures.written told)).mirrors c.in_ok-done.ensures.done;
+}
+
+pub returns-clause-done : goal.returns-clause-done
+returns-clause-done g c = λ told.
+    let l = c.self.inside in
+    subst (λ q. TakesLog (appended c.args.bytes.now) (state_in g.S.Blocks.state q) (g.S.Blocks.state (blocks_in c.change_log-reply.new.fs))) c.self.view_is
+    ((wrote g.S.Blocks.state l.firsts.items l.size l.next (blocks_in l.fs) (blocks_in c.change_log-reply.new.fs) c.change_log-reply.result (c.self.invariant.mirrors told)
+    c.last_of-first.result c.args.bytes.now c.in_ok-cmd.cmd (subst (λ q. 0 < length q) (sym (same_firsts c.self.view_is)) c.requires.some)
+    (subst (λ q. slice_get q (length q - 1) ≡ Some c.last_of-first.result) c.as_slice.ensures.value c.last_of-first.ensures) c.in_ok-cmd.ensures c.requires.short
+    (omega (arith, c.requires.room, same_size c.self.view_is, same_most c.self.view_is, c.self.invariant.most)) (omega (arith, c.requires.left, same_next c.self.view_is))
+    (c.change_log-reply.ensures.written told)).takes c.in_ok-done.ensures.done)
+
+pub returns-in_err-cmd-clause-cause : goal.returns-in_err-cmd-clause-cause
+returns-in_err-cmd-clause-cause g c =
+    passed_on c.from_residual.result (FsRefused NoMemory) _ c.from_residual.ensures.1
+    (lacking g.S.Blocks.tells g.S.Blocks.state is_of_none (AsksToWrite c.args.self.now c.args.bytes.now) (blocks_in c.args.self.now.fs) (blocks_in c.args.self.now.fs))
+
+pub returns-in_err-done-clause-cause : goal.returns-in_err-done-clause-cause
+returns-in_err-done-clause-cause g c =
+    let l = c.self.inside in
+    let open_now : Open g.row.S.Denot = record { fs = l.fs; most = l.most; firsts = l.firsts.items; size = l.size; next = l.next; kept = l.kept } in
+    let new = blocks_in c.change_log-reply.new.fs in
+    passed_on c.from_residual-in_err-done.result c.in_err-done.field-0.0 _ c.from_residual-in_err-done.ensures.1
+    (subst (λ q. HasCallCause g.S.Blocks.tells g.S.Blocks.state is_of_none (AsksToWrite q c.args.bytes.now) c.in_err-done.field-0.0 (blocks_in q.fs) new) c.self.view_is
+    (subst (λ w. HasCallCause g.S.Blocks.tells g.S.Blocks.state is_of_none (AsksToWrite open_now c.args.bytes.now) w (blocks_in l.fs) new) (sym c.in_err-done.ensures.is)
+    (caused g.S.Blocks.tells g.S.Blocks.state is_of_none (AsksToWrite open_now c.args.bytes.now) (blocks_in l.fs) new c.change_log-reply.result
+    (was_so g.S.Blocks.tells g.S.Blocks.state (λ cmd. (cmd ≡ c.in_ok-cmd.cmd) ⊎ (cmd ≡ Osync)) (AsksToWrite open_now c.args.bytes.now) c.change_log-reply.result (blocks_in l.fs) new
+    (λ cmd asked. ⊎_elim (λ is. inl (record {
+      first = c.last_of-first.result;
+      last = subst (λ q. slice_get q (length q - 1) ≡ Some c.last_of-first.result) c.as_slice.ensures.value c.last_of-first.ensures;
+      is = is ∙ c.in_ok-cmd.ensures;
+    })) (λ is. inr is) asked) c.change_log-reply.ensures.was)
+    (λ told. (wrote g.S.Blocks.state l.firsts.items l.size l.next (blocks_in l.fs) new c.change_log-reply.result (c.self.invariant.mirrors told)
+    c.last_of-first.result c.args.bytes.now c.in_ok-cmd.cmd (subst (λ q. 0 < length q) (sym (same_firsts c.self.view_is)) c.requires.some)
+    (subst (λ q. slice_get q (length q - 1) ≡ Some c.last_of-first.result) c.as_slice.ensures.value c.last_of-first.ensures) c.in_ok-cmd.ensures c.requires.short
+    (omega (arith, c.requires.room, same_size c.self.view_is, same_most c.self.view_is, c.self.invariant.most)) (omega (arith, c.requires.left, same_next c.self.view_is))
+    (c.change_log-reply.ensures.written told)).late c.in_err-done.ensures.not))))

@@ -1,0 +1,9 @@
+pub mod Keeping
+pub mod Asked
+pub mod Open
+pub mod Refusals
+pub mod Trimming
+pub mod Reading
+pub mod Causes
+pub mod Opening
+pub mod Finding
