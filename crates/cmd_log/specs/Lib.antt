@@ -1,0 +1,5 @@
+pub mod Answering
+pub mod Serving
+pub mod Moments
+pub mod Logs
+pub mod Steps
