@@ -3,3 +3,5 @@ mod Requests
 mod Scripts
 mod Calm
 mod Pairs
+mod LogEndings
+mod LeftLogs

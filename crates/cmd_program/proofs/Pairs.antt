@@ -32,14 +32,14 @@ use Rattle.cmd_program.specs.declared.status.Status.TheVariants.{Done, NoMemory,
 
 -- The answer behind which a run ends as it should.
 
-not_sink : Done ≡ SinkFault → ⊥
+pub not_sink : Done ≡ SinkFault → ⊥
 not_sink is = cc
 
-not_short : Done ≡ NoMemory → ⊥
+pub not_short : Done ≡ NoMemory → ⊥
 not_short is = cc
 
 -- a run that ended as it should didn't end behind the line of another status
-not_behind : (X : Status) (line : List ℕ) (told out : Option (List ℕ)) → (Done ≡ X → ⊥) → EndsBehind X line Done told out → ⊥
+pub not_behind : (X : Status) (line : List ℕ) (told out : Option (List ℕ)) → (Done ≡ X → ⊥) → EndsBehind X line Done told out → ⊥
 not_behind X line told out other (inl t) = other t.0
 not_behind X line told out other (inr t) = not_sink t.0
 
@@ -128,7 +128,7 @@ began_with None d b = absurd b
 began_with (Some old) d b = (old, refl, b.base)
 
 -- what is under a name behind a return that was answered so
-taken_back : (disk : State) (marks : List Mark) (before after : Option Kept) (old : Kept) → before ≡ Some old → TakesBack disk marks before after → (new : Kept) × (after ≡ Some new) × IsKeptOf disk marks new
+pub taken_back : (disk : State) (marks : List Mark) (before after : Option Kept) (old : Kept) → before ≡ Some old → TakesBack disk marks before after → (new : Kept) × (after ≡ Some new) × IsKeptOf disk marks new
 taken_back disk marks None after old is t = absurd (none old is)
 taken_back disk marks (Some before) None old is t = absurd t
 taken_back disk marks (Some before) (Some new) old is t = (new, refl, t)
@@ -143,7 +143,7 @@ kept_points n limit cmds replies disk own new k size l =
     (subst (λ (blocks : ℕ). LeavesByMarks blocks limit cmds replies disk.base disk.log own) size l)))
 
 -- what must hold of an answer that is Ok
-on_ok : (back : Result (Unit {0}) BayFault) (x : Unit {0}) (P : Type 0) → back ≡ Ok x → OnOk back P → P
+pub on_ok : (back : Result (Unit {0}) BayFault) (x : Unit {0}) (P : Type 0) → back ≡ Ok x → OnOk back P → P
 on_ok back x P is on = subst (λ (b : Result (Unit {0}) BayFault). OnOk b P) is on
 
 -- what is under a name after a disk went back that began with what was there

@@ -19,6 +19,8 @@ use Rattle.cmd_host.specs.Behaving.{Setting}
 use Rattle.cmd_record.specs.Traces.{IsFront, IsTrace, ServesBy}
 use Rattle.cmd_record.specs.Reading.{AtEnding, Halted, ReadsAll, ReadsSome, ReadsTooMuch}
 use Rattle.lang_lines.specs.Lines.{longest, commands_of_line, commands_of, whole_commands, whole_lines, parts_of}
+use Rattle.cmd_trace.specs.Shared.{each_append}
+use Rattle.cmd_image.specs.Staying.{rose_before}
 use Rattle.cmd_program.specs.Output.{IsWhole, FailsToMount, IsCutShort, Recorded}
 use Rattle.cmd_program.specs.Endings.{HasFault, Tells, disk_line, source_line, long_line}
 use Rattle.cmd_program.specs.Program.{RecordsTo, Reads, ReadsPast, ReadsWithin}
@@ -32,10 +34,6 @@ use Rattle.cmd_program.specs.declared.status.Status.TheVariants.{Done, NoMemory,
 -- each line is a command with lawful arguments
 abbrev pub AreCommands : Type 0
 AreCommands = (line : List ℕ) → IsCommand (command_of line)
-
-each_append : {A : Type 0} (P : A → Type 0) (xs ys : List A) → Each P xs → Each P ys → Each P (xs ++ ys)
-each_append P [] ys h k = k
-each_append P (x ∷ xs) ys h k = (h.0, each_append P xs ys h.1 k)
 
 line_read : AreCommands → (n : ℕ) (line : List ℕ) → Each IsCommand (commands_of_line n line)
 line_read read n [] = tt
@@ -127,9 +125,6 @@ closes_long set read ending result source source_now left now told mid out sink 
     tells_long set read result left now told mid out source source_now sink sink_now line is (subst P at h) t
 
 -- The faults of a status whose line was told.
-
-pub rose_before : (first before now : ℕ) → first ≤ before → Rose before now → Rose first now
-rose_before first before now le rose = omega arith
 
 pub tells_fault : (status result : Status) (line : List ℕ) (told out : Option (List ℕ)) (source source_now first sink sink_now : ℕ) → first ≤ sink → HasFault status source source_now first sink_now
     → Tells status result line told out sink sink_now → HasFault result source source_now first sink_now

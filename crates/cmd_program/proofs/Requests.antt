@@ -33,22 +33,25 @@ use Rattle.cmd_image.specs.declared.ending.RunRefusal.TheVariants as run
 use Rattle.cmd_image.specs.Runs.{HasRunCause}
 use Rattle.cmd_mirror.specs.declared.refusal.MirroredRefusal.{MirroredRefusal}
 use Rattle.cmd_mirror.specs.declared.refusal.MirroredRefusal.TheVariants as mirrored
+use Rattle.cmd_log.specs.declared.refusal.LogRunRefusal.{LogRunRefusal}
+use Rattle.cmd_log.specs.declared.refusal.LogRunRefusal.TheVariants as logs
 use Rattle.cmd_words.specs.declared.request.Request.{Request}
-use Rattle.cmd_words.specs.declared.request.Request.TheVariants.{Record, Replay, Tree, Make, Run, RunMirrored, Copy, Load}
+use Rattle.cmd_words.specs.declared.request.Request.TheVariants.{Record, Replay, Tree, Make, Run, RunMirrored, Copy, Load, AppLog}
 use Rattle.cmd_host.specs.declared.disk.Behaviour.{Behaviour}
 use Rattle.cmd_host.specs.Behaving.{MountFails, fails_of, rule_of}
 use Rattle.cmd_host.specs.Disks.{setting_on}
 use Rattle.cmd_program.specs.Copying.{CopiesTo}
-use Rattle.cmd_program.specs.Endings.{EndsBehind, HasFault, Met, Tells, met, usage_line, disk_line, damaged_line, spent_line, no_prefix_line, long_line, choice_line, unlike_line}
+use Rattle.cmd_program.specs.Endings.{EndsBehind, HasFault, Met, Tells, met, usage_line, disk_line, damaged_line, spent_line, no_prefix_line, long_line, choice_line, room_line, unlike_line, log_line}
 use Rattle.cmd_program.specs.Loading.{LoadsTo}
+use Rattle.cmd_program.specs.Logging.{EndsServing, LogsTo}
 use Rattle.cmd_program.specs.Making.{EndsMaking}
 use Rattle.cmd_program.specs.Mirroring.{EndsMirrored, RunsMirroredTo}
-use Rattle.cmd_program.specs.Program.{Completes, Does, EndsLoad, EndsMake, EndsReplay, EndsRun, EndsRunOnTwo, EndsShow, EndsSo, MakesWhere, RecordsWhere, RecordsTo, Refuses, setting_of, shape_of}
+use Rattle.cmd_program.specs.Program.{Completes, Does, EndsLoad, EndsLog, EndsMake, EndsReplay, EndsRun, EndsRunOnTwo, EndsShow, EndsSo, MakesWhere, RecordsWhere, RecordsTo, Refuses, setting_of, shape_of}
 use Rattle.cmd_program.specs.Replaying.{EndsAt, EndsCrash, EndsFound, EndsReading, ReplaysTo, trace_line}
 use Rattle.cmd_program.specs.Scripting.{EndsScript, RunsTo}
 use Rattle.cmd_program.specs.Showing.{EndsShowing, ShowsTo}
 use Rattle.cmd_program.specs.declared.status.Status.{Status}
-use Rattle.cmd_program.specs.declared.status.Status.TheVariants.{Done, Usage, BadTrace, NoMemory, DiskFault, Damaged, SourceFault, SinkFault, Spent, NoPrefix, LongInput, BadChoice, Unlike}
+use Rattle.cmd_program.specs.declared.status.Status.TheVariants.{Done, Usage, BadTrace, NoMemory, DiskFault, Damaged, SourceFault, SinkFault, Spent, NoPrefix, LongInput, BadChoice, NoRoom, Unlike, BadLog}
 use Rattle.cmd_program.proofs.ProgramLemmas.{never_begun}
 
 -- a line that was told ends the run
@@ -113,6 +116,9 @@ unrun answer is other = cc
 
 unmirrored : (answer : Result Ending MirroredRefusal) → answer ≡ Err (mirrored.Run run.NoMemory) → answer ≡ Err (mirrored.Run run.Fault) → ⊥
 unmirrored answer is other = cc
+
+unlogged : (answer : Result Ending LogRunRefusal) → answer ≡ Err (logs.Run run.NoMemory) → answer ≡ Err (logs.Run run.Fault) → ⊥
+unlogged answer is other = cc
 
 -- Where no memory is found before anything was read or written, that may be so for every request.
 pub does_memory : (tells : Bool) (request : Option Request) (left told : Option (List ℕ)) (source sink : ℕ) (bay : BayState)
@@ -232,6 +238,24 @@ does_memory tells (Some (Copy image other)) left told source sink bay = record {
   ends = (refl, refl);
 }
 does_memory tells (Some (Load seed count)) left told source sink bay = inr (refl, refl)
+does_memory tells (Some (AppLog image)) left told source sink bay = record {
+  answer = Err (logs.Run run.NoMemory);
+  between = told;
+  sink_between = sink;
+  comes = inl (record {
+    why = run.NoMemory;
+    unlent = record {
+      none = record { kept = λ known each. refl; faults = omega arith; disk_faults = refl; handed = refl; closed = refl };
+      same = refl;
+      answer = inr refl;
+    };
+    answered = refl;
+  });
+  counts = record { source = omega arith; rises = omega arith; sink = refl };
+  cause = tt;
+  reason = λ known fault. absurd (unlogged (Err (logs.Run run.NoMemory)) refl fault);
+  ends = (refl, refl);
+}
 
 pub completes_memory : (request : Option Request) (m : Met) → Completes request NoMemory m
 completes_memory None m = tt
@@ -354,3 +378,23 @@ completes_mirrored tells image other status m r fault no_source no_sink = by r.a
     by (Err (mirrored.Run run.SinkFault)) e = absurd (no_sink (subst (λ (x : Status). HasFault x m.source m.source_now m.sink m.sink_now) e.0 fault))
     by (Err (mirrored.Run run.NoMemory)) e = subst EndsRunOnTwo (sym e.0) tt
     by (Err mirrored.Unlike) e = behind_line Unlike unlike_line tt e
+
+pub completes_log : (tells : Bool) (image : List ℕ) (status : Status) (m : Met) → LogsTo tells image status m → HasFault status m.source m.source_now m.sink m.sink_now
+    → ¬ Rose m.source m.source_now → ¬ Rose m.sink m.sink_now → EndsLog status
+completes_log tells image status m l fault no_source no_sink = by l.answer l.ends
+  where
+    behind_line : (X : Status) (line : List ℕ) → EndsLog X → EndsBehind X line status l.between m.taken_now → EndsLog status
+    behind_line X line may e = ends_so_behind EndsLog X status line l.between m.taken_now m.source m.source_now m.sink m.sink_now may e fault no_sink
+
+    by : (answer : Result Ending LogRunRefusal) → EndsServing answer status l.between m.taken_now → EndsLog status
+    by (Ok script.End) e = subst EndsLog (sym e.0) tt
+    by (Ok script.SourceFault) (inl t) = absurd (no_source (subst (λ (s : Status). HasFault s m.source m.source_now m.sink m.sink_now) t.0 fault))
+    by (Ok script.SourceFault) (inr t) = absurd (no_sink (subst (λ (s : Status). HasFault s m.source m.source_now m.sink m.sink_now) t.0 fault))
+    by (Ok script.LongInput) e = behind_line LongInput long_line tt e
+    by (Err (logs.Run run.Fault)) e = behind_line DiskFault disk_line tt e
+    by (Err (logs.Run (run.Damaged damage))) e = behind_line (Damaged damage) damaged_line tt e
+    by (Err (logs.Run run.Spent)) e = behind_line Spent spent_line tt e
+    by (Err (logs.Run run.SinkFault)) e = absurd (no_sink (subst (λ (x : Status). HasFault x m.source m.source_now m.sink m.sink_now) e.0 fault))
+    by (Err (logs.Run run.NoMemory)) e = subst EndsLog (sym e.0) tt
+    by (Err (logs.NoRoom why)) e = behind_line NoRoom room_line tt e
+    by (Err logs.BadLog) e = behind_line BadLog log_line tt e

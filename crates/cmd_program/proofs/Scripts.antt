@@ -14,12 +14,12 @@ use Rattle.cmd_image.specs.Runs.{ComesOf, ComesOfDisk, CountsFaults, Streams}
 use Rattle.cmd_mirror.specs.declared.refusal.MirroredRefusal.{MirroredRefusal}
 use Rattle.cmd_mirror.specs.declared.refusal.MirroredRefusal.TheVariants as mirrored
 use Rattle.cmd_mirror.specs.Mirrored.{ComesOfBoth, CountsMirrored, RunsOverTwo, marked_answer_of, mirrored_answer_of}
+use Rattle.cmd_image.specs.Staying.{rose_before}
 use Rattle.cmd_program.specs.Endings.{HasFault, Tells, disk_line, damaged_line, source_line, spent_line, long_line, unlike_line}
 use Rattle.cmd_program.specs.Mirroring.{EndsMirrored, TellsMirrored}
 use Rattle.cmd_program.specs.Scripting.{EndsScript, TellsScript}
 use Rattle.cmd_program.specs.declared.status.Status.{Status}
 use Rattle.cmd_program.specs.declared.status.Status.TheVariants.{NoMemory, DiskFault, Damaged, SourceFault, SinkFault, Spent, LongInput, Unlike}
-use Rattle.cmd_program.proofs.ProgramLemmas.{rose_before}
 use Rattle.cmd_program.proofs.Requests.{behind}
 
 -- what was told is how the program ends
@@ -32,11 +32,11 @@ script_ends (Err run.Spent) status told out sink sink_now t = behind Spent statu
 script_ends other status told out sink sink_now t = t
 
 -- the answer of a run that came to this end
-abbrev ended : Ending → Result Ending RunRefusal
+abbrev pub ended : Ending → Result Ending RunRefusal
 ended ending = Ok ending
 
 -- an answer is one alone
-no_err : (e : Ending) (why : RunRefusal) → Ok e ≡ Err why → ⊥
+pub no_err : (e : Ending) (why : RunRefusal) → Ok e ≡ Err why → ⊥
 no_err e why is = cc
 
 not_end : ended script.SourceFault ≡ Ok script.End → ⊥
@@ -61,14 +61,14 @@ source_rose tells image old new before after (inr h) = by h.answer h.back h.come
     by (Err why) back c is = absurd (no_err script.SourceFault why is)
 
 -- a line that was told after the count had gone so far
-told_after : (X status : Status) (line : List ℕ) (told out : Option (List ℕ)) (source source_now sink between sink_now : ℕ) → HasFault X source source_now sink sink_now → sink ≤ between
+pub told_after : (X status : Status) (line : List ℕ) (told out : Option (List ℕ)) (source source_now sink between sink_now : ℕ) → HasFault X source source_now sink sink_now → sink ≤ between
     → Tells X status line told out between sink_now → HasFault status source source_now sink sink_now
 told_after X status line told out source source_now sink between sink_now fault le (inl t) = subst (λ (s : Status). HasFault s source source_now sink sink_now) (sym t.0) fault
 told_after X status line told out source source_now sink between sink_now fault le (inr t) =
     subst (λ (s : Status). HasFault s source source_now sink sink_now) (sym t.0) (rose_before sink between sink_now le t.2)
 
 -- the fault with which the program ends is one that was counted, whatever came of the disks
-fault_of : (answer : Result Ending RunRefusal) (status : Status) (before after : Streams) (out : Option (List ℕ)) (sink_now : ℕ) → (answer ≡ Ok script.SourceFault → Rose before.source_faults after.source_faults)
+pub fault_of : (answer : Result Ending RunRefusal) (status : Status) (before after : Streams) (out : Option (List ℕ)) (sink_now : ℕ) → (answer ≡ Ok script.SourceFault → Rose before.source_faults after.source_faults)
     → after.sink_faults ≡ after_call (run_fails_pushing answer) before.sink_faults → TellsScript answer status after.taken out after.sink_faults sink_now → after.sink_faults ≤ sink_now
     → HasFault status before.source_faults after.source_faults before.sink_faults sink_now
 fault_of answer status before after out sink_now rose sink t le = by answer rose sink t

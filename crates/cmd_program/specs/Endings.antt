@@ -84,5 +84,11 @@ long_line = codes "error 12 long input\n"
 abbrev pub choice_line : List ℕ
 choice_line = codes "error 13 choice\n"
 
+abbrev pub room_line : List ℕ
+room_line = codes "error 14 room\n"
+
 abbrev pub unlike_line : List ℕ
 unlike_line = codes "error 15 unlike\n"
+
+abbrev pub log_line : List ℕ
+log_line = codes "error 17 log\n"

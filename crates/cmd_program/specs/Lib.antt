@@ -7,7 +7,9 @@ pub mod Loading
 pub mod Scripting
 pub mod Mirroring
 pub mod Copying
+pub mod Logging
 pub mod Pairs
+pub mod Logs
 pub mod Program
 pub mod Statuses
 pub mod Recordings

@@ -5,13 +5,14 @@ use Rattle.base_types.specs.Counts.{Rose}
 use Rattle.layout_geometry.specs.Geometry.{Geometry, geometry_fits}
 use Rattle.cmd_words.specs.declared.request.Notices.{Notices}
 use Rattle.cmd_words.specs.declared.request.Request.{Request}
-use Rattle.cmd_words.specs.declared.request.Request.TheVariants.{Record, Replay, Tree, Make, Run, RunMirrored, Copy, Load}
+use Rattle.cmd_words.specs.declared.request.Request.TheVariants.{Record, Replay, Tree, Make, Run, RunMirrored, Copy, Load, AppLog}
 use Rattle.disk_memory.specs.MemDisk.{manner_by}
 use Rattle.cmd_image.specs.Shows.{CountsFault}
 use Rattle.cmd_host.specs.Behaving.{fails_of, rule_of, Setting}
 use Rattle.cmd_program.specs.Copying.{CopiesTo}
 use Rattle.cmd_program.specs.Endings.{Met, EndsBehind, EndsSilent, usage_line, shape_line}
 use Rattle.cmd_program.specs.Loading.{LoadsTo}
+use Rattle.cmd_program.specs.Logging.{LogsTo}
 use Rattle.cmd_program.specs.Making.{MakesTo}
 use Rattle.cmd_program.specs.Mirroring.{RunsMirroredTo}
 use Rattle.cmd_program.specs.Output.{Recorded}
@@ -19,7 +20,7 @@ use Rattle.cmd_program.specs.Replaying.{ReplaysTo}
 use Rattle.cmd_program.specs.Scripting.{RunsTo}
 use Rattle.cmd_program.specs.Showing.{ShowsTo}
 use Rattle.cmd_program.specs.declared.status.Status.{Status}
-use Rattle.cmd_program.specs.declared.status.Status.TheVariants.{Done, Usage, NoMemory, DiskFault, Damaged, SourceFault, SinkFault, Spent, BadShape, LongInput, Unlike}
+use Rattle.cmd_program.specs.declared.status.Status.TheVariants.{Done, Usage, NoMemory, DiskFault, Damaged, SourceFault, SinkFault, Spent, BadShape, LongInput, NoRoom, Unlike, BadLog}
 
 -- these bytes were read, which are no more than an input may have
 abbrev pub ReadsWithin : List ℕ → Option (List ℕ) → Option (List ℕ) → Type 0
@@ -68,7 +69,7 @@ shape_of blocks journal nodes = record { n = blocks; j = journal; i = nodes }
 abbrev pub setting_of : ℕ → ℕ → ℕ → Notices → ℕ → Option ℕ → Setting
 setting_of blocks journal nodes notices room fail = record { shape = shape_of blocks journal nodes; manner = manner_by room (fails_of fail) (rule_of notices) }
 
--- What the program does for what its words ask, over a bay that tells or doesn't. It records on a disk of the geometry, where that fits, and else says so. It replays a crash of the trace that is its input. It shows the tree of an image of the bay. It makes an image under a name of the bay, where its geometry fits. It serves the load of a seed. It runs the script that is its input on an image of the bay, or on two that are kept alike. It copies an image to another name. Words that ask for nothing are told the usage.
+-- What the program does for what its words ask, over a bay that tells or doesn't. It records on a disk of the geometry, where that fits, and else says so. It replays a crash of the trace that is its input. It shows the tree of an image of the bay. It makes an image under a name of the bay, where its geometry fits. It serves the load of a seed. It runs the script that is its input on an image of the bay, or on two that are kept alike. It copies an image to another name. It serves the log of an application that an image of the bay keeps. Words that ask for nothing are told the usage.
 abbrev pub Does : Bool → Option Request → Status → Met → Type 0
 Does tells None status m = Refuses Usage usage_line status m.taken m.taken_now
 Does tells (Some (Record blocks journal nodes notices room fail)) status m =
@@ -80,8 +81,9 @@ Does tells (Some (Run image)) status m = RunsTo tells image status m
 Does tells (Some (RunMirrored image other)) status m = RunsMirroredTo tells image other status m
 Does tells (Some (Copy image other)) status m = CopiesTo tells image other status m
 Does tells (Some (Load seed count)) status m = LoadsTo seed count status m.taken m.taken_now
+Does tells (Some (AppLog image)) status m = LogsTo tells image status m
 
--- the words ask for something that reads the input: a recording on a disk of a geometry that fits, a replay, or a run
+-- the words ask for something that reads the input: a recording on a disk of a geometry that fits, a replay, a run, or a log
 abbrev pub reads_input : Option Request → Bool
 reads_input None = false
 reads_input (Some (Record blocks journal nodes notices room fail)) = geometry_fits (shape_of blocks journal nodes)
@@ -92,6 +94,7 @@ reads_input (Some (Run image)) = true
 reads_input (Some (RunMirrored image other)) = true
 reads_input (Some (Copy image other)) = false
 reads_input (Some (Load seed count)) = false
+reads_input (Some (AppLog image)) = true
 
 -- they ask for something that opens the bay: they name an image of it, with a geometry that fits where one is to be made
 abbrev pub opens_bay : Option Request → Bool
@@ -104,6 +107,7 @@ opens_bay (Some (Run image)) = true
 opens_bay (Some (RunMirrored image other)) = true
 opens_bay (Some (Copy image other)) = true
 opens_bay (Some (Load seed count)) = false
+opens_bay (Some (AppLog image)) = true
 
 -- how a recording may end where neither source nor sink failed and this write is to be lost: as it should, out of memory, or behind an input that is too long; and by a fault of the disk exactly where the first write is lost
 abbrev pub EndsSo : Option ℕ → Status → Type 0
@@ -113,13 +117,16 @@ EndsSo fail LongInput = (fail ≡ Some 1) → ⊥
 EndsSo fail DiskFault = fail ≡ Some 1
 EndsSo fail _ = ⊥
 
--- how a replay may end where neither source nor sink failed: not by words, by a geometry, by a fault of a disk, or by one of them
+-- how a replay may end where neither source nor sink failed: not by words, by a geometry, by a fault of a disk or by one of them, and not as only a run on an image may
 abbrev pub EndsReplay : Status → Type 0
 EndsReplay Usage = ⊥
 EndsReplay BadShape = ⊥
 EndsReplay DiskFault = ⊥
 EndsReplay SourceFault = ⊥
 EndsReplay SinkFault = ⊥
+EndsReplay NoRoom = ⊥
+EndsReplay Unlike = ⊥
+EndsReplay BadLog = ⊥
 EndsReplay _ = ⊤
 
 -- how a showing may end where the sink didn't fail: by a fault of the disk only where the bay counted one
@@ -159,7 +166,13 @@ abbrev pub EndsRunOnTwo : Status → Type 0
 EndsRunOnTwo Unlike = ⊤
 EndsRunOnTwo other = EndsRun ⊤ other
 
--- Completeness: unless the source or the sink failed, a recording on a disk of a geometry that fits ends so, and so do a replay, a showing, a making of such a geometry, a copying, a load, and a run on an image or on two.
+-- how a log may end where neither source nor sink failed: as a run on an image, without room for its directory, or where the image keeps none; from what these two and a fault of the disk come is said of the log
+abbrev pub EndsLog : Status → Type 0
+EndsLog NoRoom = ⊤
+EndsLog BadLog = ⊤
+EndsLog other = EndsRun ⊤ other
+
+-- Completeness: unless the source or the sink failed, a recording on a disk of a geometry that fits ends so, and so do a replay, a showing, a making of such a geometry, a copying, a load, a run on an image or on two, and a log.
 abbrev pub Completes : Option Request → Status → Met → Type 0
 Completes None status m = ⊤
 Completes (Some (Record blocks journal nodes notices room fail)) status m =
@@ -172,3 +185,4 @@ Completes (Some (Run image)) status m = ¬ Rose m.source m.source_now → ¬ Ros
 Completes (Some (RunMirrored image other)) status m = ¬ Rose m.source m.source_now → ¬ Rose m.sink m.sink_now → EndsRunOnTwo status
 Completes (Some (Copy image other)) status m = ¬ Rose m.sink m.sink_now → EndsMake (CountsFault m.bay m.bay_now) status
 Completes (Some (Load seed count)) status m = ¬ Rose m.sink m.sink_now → EndsLoad status
+Completes (Some (AppLog image)) status m = ¬ Rose m.source m.source_now → ¬ Rose m.sink m.sink_now → EndsLog status

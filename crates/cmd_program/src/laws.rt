@@ -15,10 +15,16 @@ ghost use Rattle.cmd_trace.specs.Contents.{Contents, text_of};
 ghost use Rattle.cmd_trace_reader.specs.Traces as reader;
 ghost use Rattle.cmd_image.specs.Runs.{RunsDisk};
 ghost use Rattle.cmd_image.specs.declared.ending.RunRefusal.TheVariants as run;
+ghost use Rattle.lang_log.specs.declared.call.LogCall.{LogCall};
+ghost use Rattle.lang_log.specs.declared.call.LogReply.{LogReply};
+ghost use Rattle.lang_log.specs.declared.call.LogReply.TheVariants as log_reply;
+ghost use Rattle.cmd_log.specs.Logs.{LogsDisk};
+ghost use Rattle.cmd_log.specs.declared.refusal.LogRunRefusal.TheVariants as logs;
 ghost use Rattle.cmd_image.specs.declared.make_refusal.MakeRefusal.TheVariants as make;
 ghost use Rattle.cmd_image.specs.declared.show_refusal.ShowRefusal.TheVariants as show;
 ghost use Rattle.cmd_program.specs.Calm.{IsCalm, NothingFails, is_for_a_call};
 ghost use Rattle.cmd_program.specs.Endings.{Met};
+ghost use Rattle.cmd_program.specs.Logging.{LogsTo};
 ghost use Rattle.cmd_program.specs.Making.{MakesTo};
 ghost use Rattle.cmd_record.specs.Traces.{Serves, IsTrace};
 ghost use Rattle.cmd_program.specs.Recordings.{IsHonestCrash, IsPlaced};
@@ -42,8 +48,8 @@ pub fn a_crash_of_a_recording_is_found()
 }
 
 /// Where a bay tells, no call of it fails of itself, something is under a name and the disks there fail nothing by their
-/// manner, no showing of the image is answered by a fault, and no run over it is; and over such a disk no command of a run is
-/// refused for a call that failed. No making is answered by a fault there, whatever is under the name.
+/// manner, no showing of the image is answered by a fault, and no run or log over it is; and over such a disk no command of a
+/// run and no call of a log is refused for a call that failed. No making is answered by a fault there, whatever is under the name.
 pub fn no_fault_is_made_where_nothing_fails()
     ensures shows { (tells : Bool) (image : List ℕ) (status : Status) (m : Met) → IsTrue tells → IsCalm image m.bay
         → (s : ShowsTo tells image status m) → s.answer ≢ Err show.Fault }
@@ -52,6 +58,11 @@ pub fn no_fault_is_made_where_nothing_fails()
     ensures replies { (first last : State) (marks : List Mark) (cmds : List Cmd) (replies : List Reply) → NothingFails first.manner
         → RunsDisk first last marks cmds replies
         → (i : ℕ) (why : Refusal) → slice_get replies i ≡ Some (Refused why) → is_for_a_call why ≡ false }
+    ensures logs { (tells : Bool) (image : List ℕ) (status : Status) (m : Met) → IsTrue tells → IsCalm image m.bay → (l : LogsTo tells image status m)
+        → l.answer ≢ Err (logs.Run run.Fault) }
+    ensures log_replies { (first last : State) (marks : List Mark) (calls : List LogCall) (replies : List LogReply) → NothingFails first.manner
+        → LogsDisk first last marks calls replies
+        → (i : ℕ) (why : Refusal) → slice_get replies i ≡ Some (log_reply.Refused why) → is_for_a_call why ≡ false }
     ensures makes { (tells : Bool) (image : List ℕ) (g : Geometry) (status : Status) (m : Met) → IsTrue tells → m.bay.may_fail ≡ false
         → NothingFails (m.bay.manner image) → (x : MakesTo tells image g status m) → x.answer ≢ Err make.Fault }
 {}

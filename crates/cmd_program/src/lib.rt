@@ -6,6 +6,8 @@
 mod copying;
 mod laws;
 mod loading;
+mod log_laws;
+mod logging;
 mod making;
 mod mirroring;
 mod pair_laws;
@@ -18,6 +20,7 @@ mod telling;
 
 pub use cmd_session::ImageDamage;
 pub use laws::{a_crash_of_a_recording_is_found, no_fault_is_made_where_nothing_fails};
+pub use log_laws::former_logs_are_left;
 pub use pair_laws::two_images_are_left;
 pub use program::optfs;
 pub use status::Status;

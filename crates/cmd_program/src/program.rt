@@ -17,6 +17,7 @@ ghost use Rattle.cmd_program.specs.Program.{Completes, Does, EndsSo, RecordsTo, 
 
 use crate::copying::copy;
 use crate::loading::load;
+use crate::logging::log;
 use crate::making::make;
 use crate::mirroring::run_mirrored;
 use crate::replaying::replay;
@@ -52,6 +53,8 @@ use std::alloc::Global;
 /// - `run IMAGE --mirror OTHER` does the same on two images of the bay that have the same blocks, and keeps them alike. Where
 ///   a disk of one fails it goes on with the other.
 /// - `copy IMAGE OTHER` has the bay make a disk under the other name, and makes it a copy of the image.
+/// - `applog IMAGE` mounts the image of the bay, opens the log that it keeps, or a new one, and reads calls from `input`. It
+///   answers them by the log, and writes their replies to `out`.
 pub fn optfs<S: Source, K: Sink, Y: Bay>(
     alloc: Global,
     words: &[String],
@@ -129,6 +132,7 @@ fn serve<S: Source, K: Sink, Y: Bay>(
         }
         Request::Copy { image, other } => copy(alloc, image.as_str(), other.as_str(), out, bay),
         Request::Load { seed, count } => load(alloc, *seed, *count, out),
+        Request::AppLog { image } => log(alloc, image.as_str(), input, out, bay),
     }
 }
 

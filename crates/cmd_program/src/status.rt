@@ -35,8 +35,12 @@ pub enum Status {
     LongInput,
     /// 13: the moment is past the log, or a write that is named isn't pending at it.
     BadChoice,
-    /// 15: two images that are to be run as one don't have the same blocks. No status has the number 14.
+    /// 14: there was no room for what was to be made before anything else, as the line before the last one says.
+    NoRoom,
+    /// 15: two images that are to be run as one don't have the same blocks.
     Unlike,
+    /// 17: what the image keeps as the log of an application is none. No status has the number 16.
+    BadLog,
 }
 
 impl Status {
@@ -58,7 +62,9 @@ impl Status {
             Status::BadShape => 11,
             Status::LongInput => 12,
             Status::BadChoice => 13,
+            Status::NoRoom => 14,
             Status::Unlike => 15,
+            Status::BadLog => 17,
         }
     }
 }

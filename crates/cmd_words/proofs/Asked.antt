@@ -7,11 +7,11 @@ use Rattle.std.proofs.lemmas.Slice.Eq.{bytes_eq-Decides}
 use Rattle.clap.specs.Walk.{Row, Text, first_of}
 use Rattle.disk_memory.specs.Choice.{ChoiceState}
 use Rattle.cmd_words.specs.ChoiceTexts.{choice_of}
-use Rattle.cmd_words.specs.declared.request.Request.TheVariants.{Copy, RunMirrored, Tree}
+use Rattle.cmd_words.specs.declared.request.Request.TheVariants.{AppLog, Copy, RunMirrored, Tree}
 use Rattle.cmd_words.specs.declared.request.Notices.{Notices}
 use Rattle.cmd_words.specs.declared.request.Notices.TheVariants.{Silent, Fifo, Seed}
 use Rattle.cmd_words.specs.Program.{kept}
-use Rattle.cmd_words.specs.Words.{Command, to_record, to_replay, to_show, to_make, to_run, to_load, to_copy, words_of, options_of, command_of, HasSeedInRange, IsInRange, Named, are_apart, copy_of, copy_with, has_name, load_of, load_with, make_of, make_with, named, notices_of, number_in, record_of, recording_of, replay_at, run_with, asked, asked_apart, asked_with, request_of_texts, seed_of, text_of, value_or}
+use Rattle.cmd_words.specs.Words.{Command, to_record, to_replay, to_show, to_make, to_run, to_load, to_copy, to_log, words_of, options_of, command_of, HasSeedInRange, IsInRange, Named, are_apart, copy_of, copy_with, has_name, load_of, load_with, make_of, make_with, named, notices_of, number_in, record_of, recording_of, replay_at, run_with, asked, asked_apart, asked_with, request_of_texts, seed_of, text_of, value_or}
 use Rattle.cmd_words.proofs.Apart.{rows}
 use Rattle.cmd_words.proofs.Steps.{AsksNothing, Refused, has_needed}
 use Rattle.cmd_words.proofs.Texts.{number_range, seed_range}
@@ -189,6 +189,7 @@ asked_range (name ∷ words) = elim (command_of name) as (λ o. IsInRange (optio
     text_range to_load text = load_range (option_and_then (number_in 0 4294967295) (text (codes "seed"))) (option_and_then (number_in 0 2000) (text (codes "count")))
         (given_range 0 4294967295 (text (codes "seed"))) (given_range 0 2000 (text (codes "count")))
     text_range to_copy text = copy_range (text (codes "image")) (text (codes "other"))
+    text_range to_log text = elim (text (codes "image")) as (λ o. IsInRange (option_map (λ image. AppLog image) o)) [ None ↦ tt | Some image ↦ tt ]
 
     apart_range : (k : Command) (b : Bool) (texts : List Named) → IsInRange (if b then asked k (text_of texts) else None)
     apart_range k true texts = text_range k (text_of texts)

@@ -13,7 +13,7 @@ use Rattle.clap.specs.Walk.{Held, Row, Rule, Step, Text, Waiting, Walk, bundle_m
 use Rattle.clap.specs.declared.builder.value_parser.Reading.TheVariants.{AsWritten}
 use Rattle.clap.specs.declared.error.kind.ErrorKind.TheVariants.{TooManyValues}
 use Rattle.clap.specs.declared.parser.matches.ValueSource.TheVariants.{CommandLine}
-use Rattle.cmd_words.specs.Words.{Command, to_record, to_replay, to_show, to_make, to_run, to_load, to_copy, words_of, options_of, Named, is_flag, before, with_next, with_option, with_word, placed, named, are_apart}
+use Rattle.cmd_words.specs.Words.{Command, to_record, to_replay, to_show, to_make, to_run, to_load, to_copy, to_log, words_of, options_of, Named, is_flag, before, with_next, with_option, with_word, placed, named, are_apart}
 use Rattle.cmd_words.proofs.Apart.{rows}
 use Rattle.cmd_words.proofs.Steps.{is_clean, unclean_first, unclean_second, clean_first, or_else_nil, or_else_assoc, shape, rules, held_at, at, pends, listed, IsArg, is_arg, at_place, by_name, rule_as, IsKept, IsRepeated, settles, end_faults, Refused, Fate, behind, ends}
 
@@ -121,6 +121,7 @@ at_each to_make fourth = inr record { name = codes "nodes"; next = past; is = is
 at_each to_run first = inr record { name = codes "image"; next = second; is = is_arg to_run (codes "image") (at_place 1) refl; there = refl; names = refl; leads = refl }
 at_each to_copy first = inr record { name = codes "image"; next = second; is = is_arg to_copy (codes "image") (at_place 1) refl; there = refl; names = refl; leads = refl }
 at_each to_copy second = inr record { name = codes "other"; next = third; is = is_arg to_copy (codes "other") (at_place 2) refl; there = refl; names = refl; leads = refl }
+at_each to_log first = inr record { name = codes "image"; next = second; is = is_arg to_log (codes "image") (at_place 1) refl; there = refl; names = refl; leads = refl }
 at_each other place = inl record { there = refl; names = refl }
 
 -- the faults of such a word, by the test whether the last word was this one's too, and where it leads

@@ -50,6 +50,10 @@ loading = with_rule (with_rule (new_app (codes "load")) (needed (codes "seed")))
 abbrev pub copying : App
 copying = with_rule (with_rule (new_app (codes "copy")) (word (codes "image"))) (word (codes "other"))
 
+-- `applog` with its word
+abbrev pub logging : App
+logging = with_rule (new_app (codes "applog")) (word (codes "image"))
+
 -- words behind the program's name, of which the first is a subcommand; and no help
 abbrev pub bare : Shape
 bare = record (new_app (codes "optfs")).top {
@@ -61,8 +65,8 @@ bare = record (new_app (codes "optfs")).top {
 
 -- the whole command line
 abbrev pub program : App
-program = with_subcommand (with_subcommand (with_subcommand (with_subcommand (with_subcommand (with_subcommand (with_subcommand (record { top = bare; subs = [] })
-    recording.top) replaying.top) showing.top) making.top) running.top) loading.top) copying.top
+program = with_subcommand (with_subcommand (with_subcommand (with_subcommand (with_subcommand (with_subcommand (with_subcommand (with_subcommand (record { top = bare; subs = [] })
+    recording.top) replaying.top) showing.top) making.top) running.top) loading.top) copying.top) logging.top
 
 -- what `clap` keeps of a text with a name
 abbrev pub kept : Named → Row

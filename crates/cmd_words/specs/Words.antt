@@ -9,7 +9,7 @@ use Rattle.clap.specs.Lexer.{long_of}
 use Rattle.disk_memory.specs.Choice.{ChoiceState}
 use Rattle.cmd_words.specs.ChoiceTexts.{choice_of}
 use Rattle.cmd_words.specs.declared.request.Request.{Request}
-use Rattle.cmd_words.specs.declared.request.Request.TheVariants.{Record, Replay, Tree, Make, Run, RunMirrored, Copy, Load}
+use Rattle.cmd_words.specs.declared.request.Request.TheVariants.{Record, Replay, Tree, Make, Run, RunMirrored, Copy, Load, AppLog}
 use Rattle.cmd_words.specs.declared.request.Notices.{Notices}
 use Rattle.cmd_words.specs.declared.request.Notices.TheVariants.{Silent, Fifo, Seed}
 
@@ -38,7 +38,7 @@ notices_of text =
 
 -- ---- the commands
 
--- what a run is asked for: to record a script, to replay a trace, to show the tree of an image, to make an image, to run a script on one or two, a load, or to copy an image
+-- what a run is asked for: to record a script, to replay a trace, to show the tree of an image, to make an image, to run a script on one or two, a load, to copy an image, or to serve the log in one
 pub data Command : Type 0 where
   to_record : Command
   to_replay : Command
@@ -47,6 +47,7 @@ pub data Command : Type 0 where
   to_run : Command
   to_load : Command
   to_copy : Command
+  to_log : Command
 
 -- the word that names the command
 abbrev pub name_of : Command → List ℕ
@@ -57,6 +58,7 @@ name_of to_make = codes "mkfs"
 name_of to_run = codes "run"
 name_of to_load = codes "load"
 name_of to_copy = codes "copy"
+name_of to_log = codes "applog"
 
 -- the words that must stand behind it, in their order
 abbrev pub words_of : Command → List (List ℕ)
@@ -67,6 +69,7 @@ words_of to_make = codes "image" ∷ codes "blocks" ∷ codes "journal" ∷ code
 words_of to_run = codes "image" ∷ []
 words_of to_load = []
 words_of to_copy = codes "image" ∷ codes "other" ∷ []
+words_of to_log = codes "image" ∷ []
 
 -- its options
 abbrev pub options_of : Command → List (List ℕ)
@@ -77,6 +80,7 @@ options_of to_make = []
 options_of to_run = codes "mirror" ∷ []
 options_of to_load = codes "seed" ∷ codes "count" ∷ []
 options_of to_copy = []
+options_of to_log = []
 
 -- the command that a word names
 abbrev pub command_of : List ℕ → Option Command
@@ -87,7 +91,8 @@ command_of word =
     else if bytes_eq (codes "mkfs") word then Some to_make
     else if bytes_eq (codes "run") word then Some to_run
     else if bytes_eq (codes "load") word then Some to_load
-    else if bytes_eq (codes "copy") word then Some to_copy else None
+    else if bytes_eq (codes "copy") word then Some to_copy
+    else if bytes_eq (codes "applog") word then Some to_log else None
 
 -- ---- which texts stand behind the command
 
@@ -229,6 +234,10 @@ load_of text = load_with
     (option_and_then (number_in 0 4294967295) (text (codes "seed")))
     (option_and_then (number_in 0 2000) (text (codes "count")))
 
+-- the log that is kept in the image with this name
+abbrev pub log_of : (List ℕ → Option (List ℕ)) → Option Request
+log_of text = option_map (λ image. AppLog image) (text (codes "image"))
+
 -- what a command asks for, by the texts of its words and options
 abbrev pub asked : Command → (List ℕ → Option (List ℕ)) → Option Request
 asked to_record = recording_of
@@ -238,6 +247,7 @@ asked to_make = make_of
 asked to_run = run_of
 asked to_load = load_of
 asked to_copy = copy_of
+asked to_log = log_of
 
 -- the same of the command that a word names
 abbrev pub asked_by : List ℕ → (List ℕ → Option (List ℕ)) → Option Request
@@ -279,3 +289,4 @@ IsInRange (Some (Run image)) = ⊤
 IsInRange (Some (RunMirrored image other)) = image ≢ other
 IsInRange (Some (Copy image other)) = image ≢ other
 IsInRange (Some (Load seed count)) = (seed ≤ 4294967295) × (count ≤ 2000)
+IsInRange (Some (AppLog image)) = ⊤

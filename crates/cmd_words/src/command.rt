@@ -4,7 +4,7 @@
 ghost use Rattle.std.specs.Prelude.{◌≡◌, IfOk, false};
 ghost use Rattle.clap.specs.Words.{app_of, rule_of, with_rule, with_subcommand};
 ghost use Rattle.clap.specs.declared.builder.command.Command.TheViews.{out-Command as fields_of};
-ghost use Rattle.cmd_words.specs.Program.{copying, loading, making, needed, option, program, recording, replaying, running, showing, word};
+ghost use Rattle.cmd_words.specs.Program.{copying, loading, logging, making, needed, option, program, recording, replaying, running, showing, word};
 
 use base_types::NoMemory;
 use clap::{Arg, ArgAction, Command};
@@ -73,6 +73,9 @@ pub const SEED: &str = "seed";
 /// The name of its number of commands.
 pub const COUNT: &str = "count";
 
+/// The name of the command that serves the log of an application.
+pub const APPLOG: &str = "applog";
+
 /// The whole command line. It has no help, since `clap` is never to print.
 ///
 /// # Errors
@@ -92,6 +95,7 @@ pub fn program<'a>(alloc: Global) -> Result<Command<'a>, NoMemory>
     let line = with_run(alloc, line)?;
     let line = with_load(alloc, line)?;
     let line = with_copy(alloc, line)?;
+    let line = with_applog(alloc, line)?;
     Ok(line)
 }
 
@@ -155,6 +159,15 @@ fn with_copy<'a>(alloc: Global, line: Command<'a>) -> Result<Command<'a>, NoMemo
 {
     let copying = copy_command(alloc)?;
     let command = line.subcommand(copying)?;
+    Ok(command)
+}
+
+/// This command line with `applog`.
+fn with_applog<'a>(alloc: Global, line: Command<'a>) -> Result<Command<'a>, NoMemory>
+    ensures { IfOk result (λ command. app_of command ≡ with_subcommand (app_of line.entry) logging.top) }
+{
+    let logging = applog_command(alloc)?;
+    let command = line.subcommand(logging)?;
     Ok(command)
 }
 
@@ -238,6 +251,16 @@ fn copy_command<'a>(alloc: Global) -> Result<Command<'a>, NoMemory>
     let command = Command::new(alloc, COPY);
     let command = with_word(alloc, command, IMAGE)?;
     let command = with_word(alloc, command, OTHER)?;
+    Ok(command)
+}
+
+/// The command `applog`.
+fn applog_command<'a>(alloc: Global) -> Result<Command<'a>, NoMemory>
+    ensures app { IfOk result (λ command. app_of command ≡ logging) }
+    ensures local { IfOk result (λ command. (fields_of command).has_globals ≡ false) }
+{
+    let command = Command::new(alloc, APPLOG);
+    let command = with_word(alloc, command, IMAGE)?;
     Ok(command)
 }
 

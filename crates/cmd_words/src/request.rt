@@ -3,13 +3,13 @@
 
 ghost use Rattle.std.specs.Prelude.{◌≡◌, IfOk, bytes_eq, option_and_then};
 ghost use Rattle.clap.specs.Words.{first_value, found_of};
-ghost use Rattle.cmd_words.specs.Words.{IsInRange, asked_by, copy_of, load_of, make_of, number_in, recording_of, replay_of, request_of, run_of, tree_of};
+ghost use Rattle.cmd_words.specs.Words.{IsInRange, asked_by, copy_of, load_of, log_of, make_of, number_in, recording_of, replay_of, request_of, run_of, tree_of};
 
 use crate::choice_parse::parse_choice;
 use crate::choice_refusal::ChoiceRefusal;
 use crate::command::{
-    AT, BLOCKS, COPY, COUNT, FAIL, IMAGE, JOURNAL, LOAD, MIRROR, MKFS, NODES, NOTICES, OTHER,
-    RECORD, REPLAY, ROOM, RUN, SEED, STAND, TEAR, TREE, program,
+    APPLOG, AT, BLOCKS, COPY, COUNT, FAIL, IMAGE, JOURNAL, LOAD, MIRROR, MKFS, NODES, NOTICES,
+    OTHER, RECORD, REPLAY, ROOM, RUN, SEED, STAND, TEAR, TREE, program,
 };
 use crate::values::{notices_of, number_in};
 use crate::word::Word;
@@ -86,6 +86,10 @@ pub enum Request {
         /// How many commands the load has, from 0 to 2,000.
         count: u32,
     },
+    /// Serve the log of an application that is kept in the image with this name.
+    AppLog {
+        image: Word,
+    },
 }
 
 /// The room for writes that a recording has without the option.
@@ -152,6 +156,10 @@ fn requested(alloc: Global, name: &str, found: &ArgMatches) -> Result<Option<Req
     }
     if COPY == name {
         let request = copying(alloc, found)?;
+        return Ok(request);
+    }
+    if APPLOG == name {
+        let request = logging(alloc, found)?;
         return Ok(request);
     }
     Ok(None)
@@ -302,4 +310,14 @@ fn loading(found: &ArgMatches) -> Option<Request>
     let seed = number(found, SEED, 0, u32::MAX)?;
     let count = number(found, COUNT, 0, MOST_COUNT)?;
     Some(Request::Load { seed, count })
+}
+
+/// The log whose image was found.
+fn logging(alloc: Global, found: &ArgMatches) -> Result<Option<Request>, NoMemory>
+    ensures { IfOk result (λ request. request ≡ log_of (first_value (found_of found.now))) }
+{
+    match word_in(alloc, found, IMAGE)? {
+        Some(image) => Ok(Some(Request::AppLog { image })),
+        None => Ok(None),
+    }
 }

@@ -1,5 +1,5 @@
-//! Which image the words name that is judged, and what a run on two images says on standard error beside what the system
-//! said: which one was lost, and how one goes on.
+//! Which image the words name that is judged, what is said on standard error of one in which no log can be opened, and what
+//! a run on two images says there beside what the system said: which one was lost, and how one goes on.
 
 use cmd_program::Status;
 use cmd_words::{Request, read_words};
@@ -14,13 +14,28 @@ pub(crate) fn request_in(rt: &HostRuntime, words: &[String]) -> Option<Request> 
     }
 }
 
-/// The image that is judged where a tree is to be shown, or a script to be run.
+/// The image that is judged where a tree is to be shown, a script to be run, or a log to be served.
 pub(crate) fn image_of(request: Option<&Request>) -> Option<&str> {
     match request? {
-        Request::Tree { image } | Request::Run { image } => Some(image.as_str()),
+        Request::Tree { image } | Request::Run { image } | Request::AppLog { image } => {
+            Some(image.as_str())
+        }
         Request::RunMirrored { image, other: _ } => Some(image.as_str()),
         _ => None,
     }
+}
+
+/// Says of an image in which no log could be opened, so that its run ended with this status, what is wrong with it.
+pub(crate) fn say_of_log(rt: &HostRuntime, status: Status, request: Option<&Request>) {
+    let image = image_of(request).unwrap_or("the image");
+    let _ = match status {
+        Status::NoRoom => eprintln!(rt;
+            "optfs: {image} has no room for a directory /log, as the refusal says in the line before the last"
+        ),
+        _ => eprintln!(rt;
+            "optfs: {image}: /log is no log: it is a file, or something in it is no segment, or none that follows the one before"
+        ),
+    };
 }
 
 /// Says of a run on two images that ended with this status what is to be done, where one was lost or they differ, or where

@@ -37,7 +37,8 @@ fn main(rt: HostRuntime) -> ExitCode {
 /// Out of memory.
 fn run(rt: &HostRuntime) -> io::Result<Status> {
     let words = words_of(rt)?;
-    let replies = is_command(&words, "run").then(Replies::new);
+    let serves = is_command(&words, "run") || is_command(&words, "applog");
+    let replies = serves.then(Replies::new);
     let streams = RefCell::new(Streams::new(rt.alloc(), rt.stdout(), replies)?);
     let mut input = ReadSource::new(PromptInput::new(rt.stdin(), &streams));
     let mut out = WriteSink::new(BufferedOutput::new(&streams));

@@ -1,7 +1,7 @@
 //! What a run says on standard error: why its status isn't 0, and what the system said. Standard output has what the
 //! pages promise, and none of this; no contract reads it.
 
-use crate::images::{image_of, request_in, say_of_two};
+use crate::images::{image_of, request_in, say_of_log, say_of_two};
 use crate::streams::Streams;
 use cmd_program::Status;
 use cmd_words::{Request, complaint};
@@ -11,6 +11,7 @@ use std::rt::HostRuntime;
 /// The commands and their words.
 const USAGE: &str = "usage: optfs mkfs IMAGE N J I
        optfs run IMAGE [--mirror OTHER] < SCRIPT > REPLIES
+       optfs applog IMAGE < CALLS > REPLIES
        optfs copy IMAGE OTHER
        optfs tree IMAGE > LISTING
        optfs record N J I [--notices none|fifo|SEED] [--room R] [--fail W] < SCRIPT > TRACE
@@ -29,7 +30,7 @@ pub(crate) fn say_why(
         let _ = eprintln!(rt; "optfs: {why}");
     }
     let request = request_in(rt, words);
-    let failed = first_failed(streams);
+    let failed = streams.failed();
     if let Some(reply) = failed {
         let _ = eprintln!(rt;
             "optfs: the disk failed: from reply {reply} on, which is refused 14, nothing was done"
@@ -57,6 +58,7 @@ fn say_status(
                 None => eprintln!(rt; "optfs: the crash leaves no tree: {damage}"),
             };
         }
+        Status::NoRoom | Status::BadLog => say_of_log(rt, status, request),
         Status::SourceFault => say_of(rt, "the input can't be read", streams.input_error),
         Status::SinkFault => say_of(rt, "the output can't be written", streams.output_error()),
         status => {
@@ -67,11 +69,6 @@ fn say_status(
     }
 }
 
-// The first reply by which the disk failed.
-fn first_failed(streams: &Streams) -> Option<u64> {
-    streams.replies.as_ref()?.failed()
-}
-
 // What a status means that has nothing more to tell.
 fn meaning(status: Status) -> Option<&'static str> {
     match status {
@@ -80,7 +77,9 @@ fn meaning(status: Status) -> Option<&'static str> {
         | Status::Damaged(_)
         | Status::SourceFault
         | Status::SinkFault
-        | Status::Unlike => None,
+        | Status::NoRoom
+        | Status::Unlike
+        | Status::BadLog => None,
         Status::BadTrace => Some(
             "the input is no trace, as the line shows that standard output names",
         ),

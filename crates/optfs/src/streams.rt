@@ -15,8 +15,8 @@ use std::mem;
 pub(crate) struct Streams {
     /// The output, or what the system said when it failed.
     output: Result<BufWriter<Stdout>, io::Error>,
-    /// The replies that go through, where those of a script are looked at.
-    pub(crate) replies: Option<Replies>,
+    /// The replies that go through, where those of a script or a log are looked at.
+    replies: Option<Replies>,
     /// What the system said when the input failed.
     pub(crate) input_error: Option<io::Error>,
 }
@@ -44,6 +44,11 @@ impl Streams {
             Ok(_) => None,
             Err(why) => Some(*why),
         }
+    }
+
+    /// The first reply by which the disk failed.
+    pub(crate) fn failed(&self) -> Option<u64> {
+        self.replies.as_ref()?.failed()
     }
 
     // Takes bytes into the buffer, unless the output failed before.

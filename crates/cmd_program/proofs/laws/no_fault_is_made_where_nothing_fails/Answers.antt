@@ -13,8 +13,10 @@ use Rattle.cmd_image.specs.Shows.{HasFaultReason}
 use Rattle.cmd_image.specs.declared.ending.Ending.{Ending}
 use Rattle.cmd_image.specs.declared.ending.RunRefusal.{RunRefusal}
 use Rattle.cmd_image.specs.Runs.{HasRunReason, Streams}
+use Rattle.cmd_log.specs.declared.refusal.LogRunRefusal.{LogRunRefusal}
+use Rattle.cmd_log.specs.Logs.{HasLogRunReason}
 use Rattle.cmd_program.specs.Calm.{IsCalm, NothingFails}
-use Rattle.cmd_program.proofs.Calm.{no_call_failed, no_reply, one_manner, opens_calmly}
+use Rattle.cmd_program.proofs.Calm.{never_failed, no_call_failed, no_log_reply, no_reply, one_log_manner, one_manner, opens_calmly}
 use Rattle.cmd_program.proofs.laws.no_fault_is_made_where_nothing_fails.Goals as goal
 
 shows_none : (tells : Bool) (image : List ℕ) (old new : BayState) → IsTrue tells → IsCalm image old → HasFaultReason tells image old new → ⊥
@@ -25,6 +27,11 @@ runs_none : (tells : Bool) (image : List ℕ) (answer : Result Ending RunRefusal
 runs_none tells image answer old new before after t calm (inl may) = opens_calmly image old calm may
 runs_none tells image answer old new before after t calm (inr (back, failed)) =
     no_call_failed back.last (subst NothingFails (sym (one_manner tells back.first back.last back.marks back.answer before after t back.comes ∙ back.opens.manner t)) calm.disks) failed
+
+logs_none : (tells : Bool) (image : List ℕ) (answer : Result Ending LogRunRefusal) (old new : BayState) (before after : Streams) → IsTrue tells → IsCalm image old → HasLogRunReason tells image answer old new before after → ⊥
+logs_none tells image answer old new before after t calm (inl may) = opens_calmly image old calm may
+logs_none tells image answer old new before after t calm (inr (back, failed)) =
+    never_failed back.last (subst NothingFails (sym (one_log_manner tells back.first back.last back.marks back.answer before after t back.comes ∙ back.opens.manner t)) calm.disks) failed
 
 -- a formatting leaves the disk's manner
 same_manner : (written : Result (Unit {0}) MkfsRefusal) (count : ℕ) (first last : State) → MkfsSpends written count first last → last.manner ≡ first.manner
@@ -47,3 +54,9 @@ returns-clause-replies c = λ first last marks cmds replies calm r i why at. no_
 
 pub returns-clause-makes : goal.returns-clause-makes
 returns-clause-makes c = λ tells image g status m t calls calm x fault. makes_none tells image g x.answer m.bay m.bay_now t calls calm (x.reason t fault)
+
+pub returns-clause-logs : goal.returns-clause-logs
+returns-clause-logs c = λ tells image status m t calm l fault. logs_none tells image l.answer m.bay m.bay_now _ _ t calm (l.reason t fault)
+
+pub returns-clause-log_replies : goal.returns-clause-log_replies
+returns-clause-log_replies c = λ first last marks calls replies calm l i why at. no_log_reply first.manner calm last.log replies l.moments l.reasons i why at

@@ -4,7 +4,7 @@ use Rattle.cmd_words.specs.declared.request.Request.{Request}
 use Rattle.cmd_words.specs.Words.{IsInRange}
 use Rattle.cmd_program.specs.Endings.{Met, met}
 use Rattle.cmd_program.specs.Program.{Completes}
-use Rattle.cmd_program.proofs.Requests.{completes_copy, completes_load, completes_make, completes_mirrored, completes_replay, completes_run, completes_show}
+use Rattle.cmd_program.proofs.Requests.{completes_copy, completes_load, completes_log, completes_make, completes_mirrored, completes_replay, completes_run, completes_show}
 use Rattle.cmd_program.proofs.program.serve.Goals as goal
 
 pub returns-in-Record-clause-completes : goal.returns-in-Record-clause-completes
@@ -48,3 +48,7 @@ returns-in-RunMirrored-clause-completes g c =
 pub returns-in-Copy-clause-completes : goal.returns-in-Copy-clause-completes
 returns-in-Copy-clause-completes g c =
     rw c.in-Copy.is (completes_copy _ _ _ c.copy.result _ (c.copy.ensures.copies (g.S.Source.remaining c.args.input.now) (g.S.Source.faults c.args.input.now)) (c.copy.ensures.faults (g.S.Source.faults c.args.input.now)))
+
+pub returns-in-AppLog-clause-completes : goal.returns-in-AppLog-clause-completes
+returns-in-AppLog-clause-completes g c =
+    rw c.in-AppLog.is (completes_log _ _ c.log.result _ c.log.ensures.logs c.log.ensures.faults)
