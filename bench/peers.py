@@ -11,6 +11,7 @@ import pathlib
 import tempfile
 
 import programs
+import workloads
 
 ORDER, DURABLE = "order", "durable"
 LEAST_EXT4 = 64 << 20
@@ -21,13 +22,14 @@ class Peer:
 
     name = about = promise = reason = ""
     has_device = False
+    language = workloads.TREE
 
     def __init__(self, tools):
         self.tools = tools
 
     def serves(self, job):
         """Whether the peer can keep what the workload asks for."""
-        return True
+        return job.workload.language == self.language
 
     def image(self, folder):
         """The path of the image."""
@@ -52,7 +54,9 @@ class Peer:
         return "" if output == job.replies else "it has another number of replies than the script has commands"
 
     def tree(self, folder):
-        """The tree in the image: the bytes of each path, or `None` for a directory."""
+        """The tree in the image: the bytes of each path, or `None` for a directory. Of a log the bytes of each append under
+        its number.
+        """
         raise NotImplementedError
 
     def end(self, folder):
@@ -194,7 +198,7 @@ class SqliteNormal(Database):
 
     def serves(self, job):
         """It has no sync for each transaction: such a workload is one for the mode FULL."""
-        return not job.asks_durable
+        return super().serves(job) and not job.asks_durable
 
 
 class SqliteFull(Database):
@@ -216,6 +220,57 @@ class LmdbNoMetaSync(Database):
 
     name, about, promise = "lmdb-nometasync", "LMDB, NOMETASYNC", ORDER
     driver, header, mode = "lmdb_tree", "lmdb.h", "nometasync"
+
+
+class OptfsLog(Optfs):
+    """The program of this repository, which keeps a log in an image."""
+
+    about, language = "`optfs applog`", workloads.LOG
+
+    def command(self, folder):
+        return [self.program, "applog", self.image(folder)]
+
+    def ask(self, folder, script):
+        """The replies to calls of the log."""
+        return programs.succeed(self.command(folder), self.name, input=script).splitlines()
+
+    def tree(self, folder):
+        low, behind = map(int, self.ask(folder, "count\n")[0].removeprefix("count ").split(" "))
+        replies = self.ask(folder, "".join(f"get {number}\n" for number in range(low, behind)))
+        return {str(low + place): bytes.fromhex(reply.removeprefix("hex")) for place, reply in enumerate(replies)}
+
+
+class DatabaseLog(Database):
+    """A log in a database."""
+
+    driver, language = "sqlite_log", workloads.LOG
+
+    def tree(self, folder):
+        return log_of(programs.succeed(self.call(folder, "show"), self.name))
+
+
+class SqliteNormalLog(DatabaseLog, SqliteNormal):
+    """SQLite, which keeps the order of transactions and syncs where its log is full."""
+
+
+class SqliteFullLog(DatabaseLog, SqliteFull):
+    """SQLite, which syncs each transaction."""
+
+
+class FileLog(Peer):
+    """A file of the host, to which appends are written, with an fdatasync behind each."""
+
+    name, about, promise, language = "file", "a file, write and fdatasync", DURABLE, workloads.LOG
+
+    def __init__(self, tools):
+        super().__init__(tools)
+        self.reason = programs.reason_without()
+
+    def command(self, folder):
+        return [programs.build("file_log", self.tools), self.image(folder), "run"]
+
+    def tree(self, folder):
+        return log_of(programs.succeed([programs.build("file_log", self.tools), self.image(folder), "show"], self.name))
 
 
 class Floor(Peer):
@@ -260,7 +315,12 @@ def tree_of(listing, columns):
     return tree
 
 
+def log_of(listing):
+    """The bytes of each append that a listing shows, under its number."""
+    return {number: bytes.fromhex(digits) for number, digits in (line.split(" ") for line in listing.splitlines())}
+
+
 def all_peers(program, tools):
-    """All peers; drivers are built into the folder of tools."""
-    others = (Ext4, SqliteNormal, SqliteFull, LmdbNoMetaSync, LmdbSync, Floor)
-    return [Optfs(tools, program), *(peer(tools) for peer in others)]
+    """All peers; drivers are built into the folder of tools. Those of logs have the names of those of trees."""
+    others = (Ext4, SqliteNormal, SqliteFull, LmdbNoMetaSync, LmdbSync, Floor, SqliteNormalLog, SqliteFullLog, FileLog)
+    return [Optfs(tools, program), OptfsLog(tools, program), *(peer(tools) for peer in others)]

@@ -1,8 +1,9 @@
 """The workloads: what is done in each, and what every peer must make of it.
 
 A workload is a list of operations, drawn from a seed. Its script has a line for each operation, in the language of
-docs/SCRIPT.md, and all peers but the floor read that script. `Outcome` is a model of what comes of it, which knows of no
-peer: the replies and the tree at the end. What the floor writes for it is said in floor_plan.py.
+docs/SCRIPT.md, or of docs/LOG.md where it is one of a log, and all peers but the floor read that script. `Outcome` is a
+model of what comes of it, which knows of no peer: the replies and the tree at the end; `LogOutcome` is that of a log. What
+the floor writes for a workload of a tree is said in floor_plan.py.
 """
 
 import pathlib
@@ -14,10 +15,13 @@ import floor_plan
 MIB = 1 << 20
 SEED = 1
 SYNCS = ("osync", "dsync")
+TREE, LOG = "tree", "log"
 
 
 class Operation(NamedTuple):
-    """A command of a script. The data are what a write or a fill puts at the offset; `other` is a rename's new path."""
+    """A command of a script. The data are what a write or a fill puts at the offset, or what is appended to a log;
+    `other` is a rename's new path.
+    """
 
     word: str
     path: str = ""
@@ -31,16 +35,18 @@ class Operation(NamedTuple):
             return f"write {self.path} {self.offset} {self.data.hex()}"
         if self.word == "fill":
             return f"fill {self.path} {self.offset} {len(self.data)} {self.data[0]}"
-        return " ".join(part for part in (self.word, self.path, self.other) if part)
+        return " ".join(part for part in (self.word, self.path, self.other, self.data.hex()) if part)
 
 
 OSYNC, DSYNC = Operation("osync"), Operation("dsync")
+ORDER, SYNC = Operation("order"), Operation("sync")
 
 
 class Workload(NamedTuple):
     """How a workload is made: its operations for so many units, and the geometry of its image.
 
-    `units` is how many it has by default, `short` how many where trees are compared; both are multiples of `group`.
+    `units` is how many it has by default, `short` how many where trees are compared; both are multiples of `group`. Its
+    script asks a tree or a log.
     """
 
     name: str
@@ -50,6 +56,7 @@ class Workload(NamedTuple):
     short: int
     group: int
     geometry: floor_plan.Geometry
+    language: str = TREE
 
     def long_form(self, scale):
         """The workload with so many times the units that it has by default."""
@@ -114,9 +121,17 @@ def replacements(count, draw):
         yield OSYNC
 
 
+def appends(count, draw):
+    """Appends of 100 bytes to a log, with an order after each."""
+    for _ in range(count):
+        yield Operation("append", data=draw.randbytes(100))
+        yield ORDER
+
+
 MANY_NODES = floor_plan.Geometry(65536, 4096, 8192)
 LARGE = floor_plan.Geometry(131072, 4096, 64)
 SMALL = floor_plan.Geometry(8192, 4096, 64)
+MANY_BLOCKS = floor_plan.Geometry(65536, 4096, 64)
 SHORT = floor_plan.Geometry(8192, 384, 512)
 
 WORKLOADS = {
@@ -128,6 +143,7 @@ WORKLOADS = {
         Workload("seq", "MiB put into four files, an osync after each", large_files, 64, 4, 4, LARGE),
         Workload("over", "overwrites of 1 KiB, an osync after each", overwrites, 2000, 100, 1, SMALL),
         Workload("repl", "files replaced, two osyncs for each", replacements, 1000, 60, 1, SMALL),
+        Workload("log", "appends of 100 bytes to a log, an order after each", appends, 100_000, 200, 1, MANY_BLOCKS, LOG),
     )
 }
 
@@ -160,6 +176,28 @@ class Outcome:
         return "ok"
 
 
+class LogOutcome:
+    """What comes of operations on a log: the replies, and as the tree the bytes of each append under its number."""
+
+    def __init__(self, operations):
+        self.tree, self.replies, self.point, self.has_changed = {}, [], 0, False
+        for operation in operations:
+            self.replies.append(self.append(operation) if operation.word == "append" else self.sync(operation.word))
+
+    def append(self, operation):
+        """The number is that of the appends before."""
+        number = len(self.tree)
+        self.tree[str(number)] = operation.data
+        self.has_changed = True
+        return f"ok {number}"
+
+    def sync(self, word):
+        """A sync makes a new point where something has changed, and its reply has the last one's number."""
+        self.point += self.has_changed
+        self.has_changed = False
+        return f"{'synced' if word == 'order' else 'durable'} {self.point}"
+
+
 class Job(NamedTuple):
     """A workload that is written down: its script and its plan for the floor, and what comes of it."""
 
@@ -175,12 +213,16 @@ class Job(NamedTuple):
 
 
 def job_of(workload, folder):
-    """Writes a workload into a folder. The last command of each is a dsync."""
-    operations = [*workload.operations(workload.units, Random(SEED)), DSYNC]
+    """Writes a workload into a folder. The last command of each is a dsync, and of a log a sync. The floor has a plan for
+    trees alone.
+    """
+    is_log = workload.language == LOG
+    operations = [*workload.operations(workload.units, Random(SEED)), SYNC if is_log else DSYNC]
     script, plan = folder / f"{workload.name}.script", folder / f"{workload.name}.plan"
     script.write_text("".join(f"{operation.line()}\n" for operation in operations))
-    plan.write_text("".join(f"{line}\n" for line in floor_plan.lines_of(operations, workload.geometry)))
-    outcome = Outcome(operations)
+    if not is_log:
+        plan.write_text("".join(f"{line}\n" for line in floor_plan.lines_of(operations, workload.geometry)))
+    outcome = LogOutcome(operations) if is_log else Outcome(operations)
     return Job(
         workload,
         script,

@@ -68,14 +68,14 @@ static unsigned char *room_for(size_t length) {
     return room;
 }
 
-static void read_write(struct command *command, const char *digits) {
+const unsigned char *bytes_of(const char *digits, size_t *length) {
     if (strlen(digits) % 2 != 0)
         refuse("bytes aren't pairs of hexadecimal digits");
-    command->length = strlen(digits) / 2;
-    unsigned char *data = room_for(command->length);
-    for (size_t place = 0; place < command->length; place++)
+    *length = strlen(digits) / 2;
+    unsigned char *data = room_for(*length);
+    for (size_t place = 0; place < *length; place++)
         data[place] = (unsigned char)(digit_of(digits[2 * place]) << 4 | digit_of(digits[2 * place + 1]));
-    command->data = data;
+    return data;
 }
 
 static void read_fill(struct command *command, const char *length, const char *byte) {
@@ -108,7 +108,7 @@ static void read_parts(struct command *command, char *parts[], size_t count) {
     if (command->word == WRITE || command->word == FILL)
         command->offset = number_of(parts[2]);
     if (command->word == WRITE)
-        read_write(command, parts[3]);
+        command->data = bytes_of(parts[3], &command->length);
     if (command->word == FILL)
         read_fill(command, parts[3], parts[4]);
     if (command->path != NULL && command->path[0] != '/')

@@ -39,7 +39,10 @@ bool next_command(FILE *script, struct command *command);
 /* Writes the reply to a command that was done; `point` is the number of the last sync point. */
 void reply_to(const struct command *command, uint64_t point);
 
-/* Writes the bytes of a file as pairs of hexadecimal digits. */
+/* The bytes that pairs of hexadecimal digits are, and how many these are. They are valid up to the next call. */
+const unsigned char *bytes_of(const char *digits, size_t *length);
+
+/* Writes bytes as pairs of hexadecimal digits. */
 void write_hex(const unsigned char *data, size_t length);
 
 /* Hands on what was written to standard output. */
