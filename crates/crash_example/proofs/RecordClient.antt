@@ -1,28 +1,21 @@
 -- One record over a disk: what its writer has after each block, and what is known once its tickets are waited for.
 use Rattle.std.proofs.Common.{◌≡◌, ◌⊎◌, ⊎_elim, ℕ, zero, suc, ◌+◌, ◌<◌, ◌≤◌, List, [], ◌∷◌, ◌++◌, length, take, slice_get, slice_index_or, Some, Result, Ok, Err, IsErr, sym, ◌∙◌, ap, subst, arith, length-append, take_all}
-use Rattle.std.proofs.lemmas.Bool.{or_cases, false≢true, or_left, or_right}
+use Rattle.std.proofs.lemmas.Bool.{false≢true}
 use Rattle.base_types.specs.Seal.{Blocks}
 use Rattle.disk_contract.specs.declared.event.Event.{Event}
-use Rattle.disk_contract.specs.declared.event.Event.TheVariants.{Wrote, Lost, Noticed}
 use Rattle.disk_contract.specs.declared.disk.DiskFault.{DiskFault}
 use Rattle.disk_contract.specs.Cell.{cell_of, IsNoticed}
 use Rattle.disk_contract.specs.Disk.{State, AddsNotices}
+pub use Rattle.disk_contract.specs.Logs.{IsNoticed-more as noticed_stays}
 use Rattle.layout_journal.specs.Run.{places}
 use Rattle.crash_example.specs.declared.one_record.OneRecord.{OneRecord}
-use Rattle.crash_argument.specs.Ledger.{Ledger, WrittenRecord, next_number}
+use Rattle.crash_argument.specs.Ledger.{Ledger, WrittenRecord}
 use Rattle.crash_example.specs.OneRecord.{IsWrittenAs, IsSafeSomehow, RecordLeaves, KnownLeaves}
 use Rattle.crash_argument.specs.PipelineData.{PipelineData, DataAgree, AllNoticed, AreAllNoticed, with_committed}
 use Rattle.crash_argument.specs.Points.{MountedSession, IsSafe}
 use Rattle.crash_argument.specs.Recording.{IsPartlyWritten}
 use Rattle.crash_argument.specs.Steps.{NoneIsBeingWritten, IsBeingWritten, with_record}
 use Rattle.crash_example.proofs.SettlingSteps.{somehow}
-
--- what is noticed stays so in a longer log
-pub noticed_stays : (t : ℕ) (log more : List Event) → IsNoticed t log → IsNoticed t (log ++ more)
-noticed_stays t [] more h = absurd (false≢true h)
-noticed_stays t (Wrote u b x ∷ log) more h = noticed_stays t log more h
-noticed_stays t (Lost b x ∷ log) more h = noticed_stays t log more h
-noticed_stays t (Noticed u ∷ log) more h = ⊎_elim (λ e. or_left _ _ e) (λ r. or_right _ _ (noticed_stays t log more r)) (or_cases _ _ h)
 
 -- and so do several
 pub all_stay : (ts : List ℕ) (log more : List Event) → AllNoticed log ts → AllNoticed (log ++ more) ts

@@ -1,26 +1,17 @@
 -- Laws of cells.
-use Rattle.std.proofs.Common.{◌≡◌, ◌≢◌, ◌⊎◌, inl, inr, ⊎_elim, ℕ, ◌<◌, max, Bool, true, false, ◌==◌, ◌||◌, if◌then◌else◌, List, [], ◌∷◌, ◌++◌, length, Some, None, refl, sym, ◌∙◌, ap, subst, arith}
-use Rattle.std.proofs.lemmas.Bool.{eqb-true, eqb-false, eq-eqb, or_cases, false≢true, cond-true, cond-false, or_left, or_right, ne_eqb}
-use Rattle.std.proofs.Math.Bool.{or_assoc}
+use Rattle.std.proofs.Common.{◌≡◌, ◌≢◌, ◌⊎◌, inl, inr, ⊎_elim, ℕ, ◌<◌, Bool, true, false, ◌==◌, ◌||◌, if◌then◌else◌, List, [], ◌∷◌, ◌++◌, length, Some, None, refl, sym, ◌∙◌, ap, subst, arith}
+use Rattle.std.proofs.lemmas.Bool.{eqb-true, eqb-false, eq-eqb, or_cases, false≢true, cond-true}
 use Rattle.base_types.specs.Seal.{Blocks}
 use Rattle.disk_contract.specs.declared.event.Event.{Event}
 use Rattle.disk_contract.specs.declared.event.Event.TheVariants.{Wrote, Lost, Noticed}
-use Rattle.disk_contract.specs.Cell.{Write, Cell, is_ticket, from_ticket, settle, with_write, after, after_all, cell_of, accepted_from, greatest_ticket, is_noticed, IsNoticed, IsWritten, notices}
+use Rattle.disk_contract.specs.Cell.{Write, Cell, is_ticket, from_ticket, settle, with_write, after, after_all, cell_of, IsNoticed, notices}
 use Rattle.disk_contract.specs.Crash.{AreBytesOf, MayHold, IsTorn}
+use Rattle.disk_contract.specs.Logs.{cell_of-append}
 
 -- both ways of a test
 pub by_test : {A R : Type 0} (P : A → Type 0) (b : Bool) (x y : A) → P (if b then x else y) → (b ≡ true → P x → R) → (b ≡ false → P y → R) → R
 by_test P true x y h f g = f refl h
 by_test P false x y h f g = g refl h
-
--- a cell goes through two lists of events one after the other
-pub after_all-append : (b : ℕ) (c : Cell) (xs ys : List Event) → after_all b c (xs ++ ys) ≡ after_all b (after_all b c xs) ys
-after_all-append b c [] ys = refl
-after_all-append b c (x ∷ xs) ys = after_all-append b (after b c x) xs ys
-
--- the cell after a longer log is the cell of the log, gone through what came behind
-pub cell_of-append : (base : Blocks) (log more : List Event) (b : ℕ) → cell_of base (log ++ more) b ≡ after_all b (cell_of base log b) more
-cell_of-append base log more b = after_all-append b _ log more
 
 -- what a notice leaves pending was pending
 from_ticket-part : (t : ℕ) (ws : List Write) (x : List ℕ) → AreBytesOf (from_ticket t ws) x → AreBytesOf ws x
@@ -65,13 +56,6 @@ IsTorn-notice b t c x h =
       not_written = λ w. h.not_written (settle-bytes c (from_ticket t c.pending) x part w);
     }
 
--- what was written stays so in a longer log
-pub IsWritten-append : (x : List ℕ) (xs ys : List Event) → IsWritten x xs → IsWritten x (xs ++ ys)
-IsWritten-append x [] ys h = absurd h
-IsWritten-append x (Wrote t b y ∷ xs) ys h = ⊎_elim inl (λ r. inr (IsWritten-append x xs ys r)) h
-IsWritten-append x (Lost b y ∷ xs) ys h = ⊎_elim inl (λ r. inr (IsWritten-append x xs ys r)) h
-IsWritten-append x (Noticed t ∷ xs) ys h = IsWritten-append x xs ys h
-
 -- a block with nothing pending stays as it is, whatever is noticed
 pub idle-notices : (b : ℕ) (c : Cell) (ts : List ℕ) → c.pending ≡ [] → after_all b c (notices ts) ≡ c
 idle-notices b c [] e = refl
@@ -88,22 +72,6 @@ waited b t old x (u ∷ ts) h =
       | true ↦ λ e. idle-notices b _ ts refl
       | false ↦ λ e. waited b t old x ts (⊎_elim (λ is. absurd (eqb-false t u e (sym (eqb-true u t is)))) (λ r. r) (or_cases _ _ h))
     ] refl
-
--- a notice in two lists is in one of them
-pub IsNoticed-append : (t : ℕ) (xs ys : List Event) → IsNoticed t (xs ++ ys) → IsNoticed t xs ⊎ IsNoticed t ys
-IsNoticed-append t [] ys h = inr h
-IsNoticed-append t (Wrote u b y ∷ xs) ys h = IsNoticed-append t xs ys h
-IsNoticed-append t (Lost b y ∷ xs) ys h = IsNoticed-append t xs ys h
-IsNoticed-append t (Noticed u ∷ xs) ys h =
-    ⊎_elim (λ e. inl (or_left _ _ e)) (λ r. ⊎_elim (λ p. inl (or_right _ _ p)) inr (IsNoticed-append t xs ys r)) (or_cases _ _ h)
-
--- an event on another block
-pub other_wrote : (base : Blocks) (log : List Event) (t a b : ℕ) (x : List ℕ) → a ≢ b → cell_of base (log ++ Wrote t a x ∷ []) b ≡ cell_of base log b
-other_wrote base log t a b x apart = cell_of-append base log _ b ∙ cond-false (a == b) _ _ (ne_eqb a b apart)
-
--- and a lost write to another block changes nothing either
-pub other_lost : (base : Blocks) (log : List Event) (a b : ℕ) (x : List ℕ) → a ≢ b → cell_of base (log ++ Lost a x ∷ []) b ≡ cell_of base log b
-other_lost base log a b x apart = cell_of-append base log _ b ∙ cond-false (a == b) _ _ (ne_eqb a b apart)
 
 -- a write to the block is pending on it
 pub own_wrote : (base : Blocks) (log : List Event) (t a : ℕ) (x : List ℕ) → cell_of base (log ++ Wrote t a x ∷ []) a ≡ with_write (cell_of base log a) (Some t) x
@@ -124,24 +92,3 @@ same_noticed base log b ts idle = cell_of-append base log _ b ∙ idle-notices b
 -- a block with nothing pending holds what is settled, in each image
 pub idle-holds : (c : Cell) (x : List ℕ) → c.pending ≡ [] → MayHold c x → x ≡ c.settled
 idle-holds c x idle h = ⊎_elim (λ e. e) (λ r. absurd (⊎_elim (λ w. subst (λ l. AreBytesOf l x) idle w) (λ torn. omega (arith, (subst (λ (l : List Write). 0 < length l) idle torn.0))) r)) h
-
--- laws of the tests on a longer log
-pub is_noticed-append : (t : ℕ) (xs ys : List Event) → is_noticed t (xs ++ ys) ≡ (is_noticed t xs || is_noticed t ys)
-is_noticed-append t [] ys = refl
-is_noticed-append t (Wrote u b y ∷ xs) ys = is_noticed-append t xs ys
-is_noticed-append t (Lost b y ∷ xs) ys = is_noticed-append t xs ys
-is_noticed-append t (Noticed u ∷ xs) ys = ap (λ r. (u == t) || r) (is_noticed-append t xs ys) ∙ sym (or_assoc (u == t) (is_noticed t xs) (is_noticed t ys))
-
--- the greatest ticket of two lists is the greater of theirs
-pub greatest-append : (xs ys : List Event) → greatest_ticket (xs ++ ys) ≡ max (greatest_ticket xs) (greatest_ticket ys)
-greatest-append [] ys = omega arith
-greatest-append (Wrote u b y ∷ xs) ys = omega (arith, greatest-append xs ys)
-greatest-append (Lost b y ∷ xs) ys = greatest-append xs ys
-greatest-append (Noticed u ∷ xs) ys = greatest-append xs ys
-
--- the last accepted bytes go through two lists one after the other
-pub accepted_from-append : (b : ℕ) (x : List ℕ) (xs ys : List Event) → accepted_from b x (xs ++ ys) ≡ accepted_from b (accepted_from b x xs) ys
-accepted_from-append b x [] ys = refl
-accepted_from-append b x (Wrote u c y ∷ xs) ys = accepted_from-append b (if c == b then y else x) xs ys
-accepted_from-append b x (Lost c y ∷ xs) ys = accepted_from-append b x xs ys
-accepted_from-append b x (Noticed u ∷ xs) ys = accepted_from-append b x xs ys

@@ -7,21 +7,7 @@ use Rattle.disk_contract.specs.declared.event.Event.TheVariants.{Wrote, Lost, No
 use Rattle.disk_contract.specs.Cell.{Write, Cell, from_ticket, settle, with_write, after, cell_of, greatest_ticket, IsAccepted, IsNoticed, notices}
 use Rattle.disk_contract.specs.Disk.{AddsWrite, AddsPoll, AddsNotices, AreOpen}
 use Rattle.disk_contract.specs.Lawful.{MayCome, AreLawfulAfter, IsLawful, writes_to, IsWriteOf, IsNewestNoticed, HasNoneNoticed}
-use Rattle.disk_contract.proofs.Cells.{cell_of-append, greatest-append, IsNoticed-append, is_noticed-append}
-
--- lawful events behind lawful ones are lawful together
-lawful_more : (before xs ys : List Event) → AreLawfulAfter before xs → AreLawfulAfter (before ++ xs) ys → AreLawfulAfter before (xs ++ ys)
-lawful_more before [] ys h k = subst (λ (l : List Event). AreLawfulAfter l ys) (append-nil before) k
-lawful_more before (x ∷ xs) ys h k = (h.0, lawful_more (before ++ x ∷ []) xs ys h.1 (subst (λ (l : List Event). AreLawfulAfter l ys) (sym (append_assoc before (x ∷ []) xs)) k))
-
--- the later part of lawful events is lawful behind the earlier one
-lawful_behind : (before xs ys : List Event) → AreLawfulAfter before (xs ++ ys) → AreLawfulAfter (before ++ xs) ys
-lawful_behind before [] ys h = subst (λ (l : List Event). AreLawfulAfter l ys) (sym (append-nil before)) h
-lawful_behind before (x ∷ xs) ys h = subst (λ (l : List Event). AreLawfulAfter l ys) (append_assoc before (x ∷ []) xs) (lawful_behind (before ++ x ∷ []) xs ys h.1)
-
--- one more event that may come
-pub lawful_event : (log : List Event) (e : Event) → IsLawful log → MayCome log e → IsLawful (log ++ e ∷ [])
-lawful_event log e h may = lawful_more [] log (e ∷ []) h (may, tt)
+use Rattle.disk_contract.specs.Logs.{accepted_low, cell_of-append, greatest-append, IsNoticed-append, is_noticed-append, lawful_behind, lawful_event, lawful_more, write_parts, writes_append}
 
 -- the rules of a disk keep its log lawful
 pub lawful_write : {E : Type 0} (b : ℕ) (x : List ℕ) (r : Result ℕ E) (old new : List Event) → IsLawful old → AddsWrite b x r old new → IsLawful new
@@ -42,13 +28,6 @@ open_lawful (t ∷ ts) old o = (o.0, open_lawful ts (old ++ Noticed t ∷ []) o.
 -- and a wait adds only such
 pub lawful_wait : (old new : List Event) → IsLawful old → AddsNotices old new → IsLawful new
 lawful_wait old new h adds = subst IsLawful (sym adds.log) (lawful_more [] old (notices adds.tickets) h (open_lawful adds.tickets old adds.open_before))
-
--- tickets in a lawful log
-accepted_low : (t : ℕ) (xs : List Event) → IsAccepted t xs → t ≤ greatest_ticket xs
-accepted_low t [] a = absurd (false≢true a)
-accepted_low t (Wrote u b x ∷ xs) a = ⊎_elim (λ e. let same = eqb-true u t e in omega arith) (λ r. let low = accepted_low t xs r in omega arith) (or_cases _ _ a)
-accepted_low t (Lost b x ∷ xs) a = accepted_low t xs a
-accepted_low t (Noticed u ∷ xs) a = accepted_low t xs a
 
 -- a noticed ticket is at most the greatest, since it was given
 noticed_low : (before xs : List Event) (t : ℕ) → AreLawfulAfter before xs → IsNoticed t xs → t ≤ greatest_ticket (before ++ xs)
@@ -73,28 +52,12 @@ write_above before (Wrote t d x ∷ xs) u b h w = ⊎_elim (λ p. let low = h.0 
 write_above before (Lost d x ∷ xs) u b h w = let low = write_above (before ++ Lost d x ∷ []) xs u b h.1 w in let all = greatest-append before (Lost d x ∷ []) in omega arith
 write_above before (Noticed t ∷ xs) u b h w = let low = write_above (before ++ Noticed t ∷ []) xs u b h.1 w in let all = greatest-append before (Noticed t ∷ []) in omega arith
 
--- a write that is in two lists is in one of them
-write_parts : (u b : ℕ) (xs ys : List Event) → IsWriteOf u b (xs ++ ys) → IsWriteOf u b xs ⊎ IsWriteOf u b ys
-write_parts u b [] ys w = inr w
-write_parts u b (Wrote t d x ∷ xs) ys w = ⊎_elim (λ p. inl (inl p)) (λ r. ⊎_elim (λ l. inl (inr l)) inr (write_parts u b xs ys r)) w
-write_parts u b (Lost d x ∷ xs) ys w = write_parts u b xs ys w
-write_parts u b (Noticed t ∷ xs) ys w = write_parts u b xs ys w
-
 -- and one of the second list is in both
 write_right : (u b : ℕ) (xs ys : List Event) → IsWriteOf u b ys → IsWriteOf u b (xs ++ ys)
 write_right u b [] ys w = w
 write_right u b (Wrote t d x ∷ xs) ys w = inr (write_right u b xs ys w)
 write_right u b (Lost d x ∷ xs) ys w = write_right u b xs ys w
 write_right u b (Noticed t ∷ xs) ys w = write_right u b xs ys w
-
--- the writes to a block in two lists are those of the first and those of the second
-writes_append : (b : ℕ) (xs ys : List Event) → writes_to b (xs ++ ys) ≡ writes_to b xs ++ writes_to b ys
-writes_append b [] ys = refl
-writes_append b (Wrote t d x ∷ xs) ys = elim (d == b) as (λ v. (if v then record { ticket = Some t; bytes = x } ∷ writes_to b (xs ++ ys) else writes_to b (xs ++ ys)) ≡ (if v then record { ticket = Some t; bytes = x } ∷ writes_to b xs else writes_to b xs) ++ writes_to b ys)
-    [ true ↦ ap (λ (l : List Write). record { ticket = Some t; bytes = x } ∷ l) (writes_append b xs ys) | false ↦ writes_append b xs ys ]
-writes_append b (Lost d x ∷ xs) ys = elim (d == b) as (λ v. (if v then record { ticket = None; bytes = x } ∷ writes_to b (xs ++ ys) else writes_to b (xs ++ ys)) ≡ (if v then record { ticket = None; bytes = x } ∷ writes_to b xs else writes_to b xs) ++ writes_to b ys)
-    [ true ↦ ap (λ (l : List Write). record { ticket = None; bytes = x } ∷ l) (writes_append b xs ys) | false ↦ writes_append b xs ys ]
-writes_append b (Noticed t ∷ xs) ys = writes_append b xs ys
 
 -- the first write with a ticket among those to a block, or none
 record Found (n b : ℕ) (es : List Event) : Type 0 where

@@ -6,7 +6,8 @@ use Rattle.disk_contract.specs.declared.event.Event.{Event}
 use Rattle.disk_contract.specs.declared.event.Event.TheVariants.{Wrote, Lost}
 use Rattle.disk_contract.specs.Cell.{accepted, Cell, Write, after_all, cell_of, IsNoticed, notices}
 use Rattle.disk_contract.specs.Crash.{IsHonest, Window}
-use Rattle.disk_contract.proofs.Cells.{accepted_from-append, cell_of-append, other_wrote, other_lost, own_wrote, same_noticed, idle-holds, waited, IsNoticed-append}
+use Rattle.disk_contract.specs.Logs.{accepted_from-append, cell_of-append, other_wrote, other_lost, IsNoticed-append}
+use Rattle.disk_contract.proofs.Cells.{own_wrote, same_noticed, idle-holds, waited}
 use Rattle.disk_contract.proofs.Windows.{window_start, window_more, window_notices}
 
 abbrev pub InOrder : ℕ → ℕ → List ℕ → List ℕ → Blocks → Type 0

@@ -8,7 +8,8 @@ use Rattle.disk_contract.specs.declared.event.Event.{Event}
 use Rattle.disk_contract.specs.declared.event.Event.TheVariants.{Noticed}
 use Rattle.disk_contract.specs.Cell.{notices}
 use Rattle.disk_contract.specs.Crash.{IsImage, IsHonest, Window, MayHold, IsTorn}
-use Rattle.disk_contract.proofs.Cells.{cell_of-append, MayHold-notice, IsTorn-notice, IsWritten-append}
+use Rattle.disk_contract.specs.Logs.{cell_of-append, IsWritten-append}
+use Rattle.disk_contract.proofs.Cells.{MayHold-notice, IsTorn-notice}
 
 -- an image after a notice is one before it
 pub image_notice : (n : ℕ) (base : Blocks) (log : List Event) (t : ℕ) (img : Blocks) → IsImage n base (log ++ Noticed t ∷ []) img → IsImage n base log img

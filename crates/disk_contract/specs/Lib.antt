@@ -3,4 +3,5 @@ pub mod Cell
 pub mod Crash
 pub mod Disk
 pub mod Lawful
+pub mod Logs
 pub mod Manner

@@ -10,15 +10,9 @@ use Rattle.disk_contract.specs.Cell.{accepted, accepted_from, notices}
 use Rattle.disk_contract.specs.Disk.{State, AddsWrite, AddsPoll, AddsNotices}
 use Rattle.disk_contract.specs.Lawful.{IsSoundDisk, IsBlock, AreEventsOf, IsLogOf}
 use Rattle.disk_contract.specs.declared.bay.Mark.{Mark}
+use Rattle.disk_contract.specs.Logs.{accepted_from-append}
 use Rattle.disk_memory_bay.specs.Shelves.{IsSoundHeld}
 use Rattle.disk_memory.specs.MemDisk.{MemDiskState, state_of}
-
--- the last accepted bytes go through two lists one after the other
-accepted_from-append : (b : ℕ) (x : List ℕ) (xs ys : List Event) → accepted_from b x (xs ++ ys) ≡ accepted_from b (accepted_from b x xs) ys
-accepted_from-append b x [] ys = refl
-accepted_from-append b x (Wrote u c y ∷ xs) ys = accepted_from-append b (if c == b then y else x) xs ys
-accepted_from-append b x (Lost c y ∷ xs) ys = accepted_from-append b x xs ys
-accepted_from-append b x (Noticed u ∷ xs) ys = accepted_from-append b x xs ys
 
 module _ (old new : State) (image : List (List ℕ)) (size : new.blocks ≡ old.blocks) (base : new.base ≡ old.base) where
   -- where the last accepted bytes are the same, the image stays

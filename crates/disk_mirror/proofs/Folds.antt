@@ -1,11 +1,12 @@
 -- A block after a lawful log, by the writes to it and by which of them were noticed.
 use Rattle.std.proofs.Common.{◌≡◌, ◌⊎◌, inl, inr, ⊎_elim, ℕ, ◌≤◌, ◌==◌, ◌||◌, Bool, true, false, if◌then◌else◌, List, [], ◌∷◌, ◌++◌, Option, Some, None, refl, sym, ◌∙◌, ap, subst, arith, append-nil, append_assoc}
-use Rattle.std.proofs.lemmas.Bool.{eqb-true, eq-eqb, or_cases, false≢true}
+use Rattle.std.proofs.lemmas.Bool.{eqb-true, eq-eqb, false≢true}
 use Rattle.base_types.specs.Seal.{Blocks}
 use Rattle.disk_contract.specs.declared.event.Event.{Event}
 use Rattle.disk_contract.specs.declared.event.Event.TheVariants.{Wrote, Lost, Noticed}
-use Rattle.disk_contract.specs.Cell.{Write, Cell, is_ticket, from_ticket, settle, with_write, after_all, cell_of, greatest_ticket, is_noticed, IsAccepted}
+use Rattle.disk_contract.specs.Cell.{Write, Cell, is_ticket, from_ticket, settle, with_write, after_all, cell_of, greatest_ticket, is_noticed}
 use Rattle.disk_contract.specs.Lawful.{AreLawfulAfter, IsLawful, writes_to}
+use Rattle.disk_contract.specs.Logs.{accepted_low}
 use Rattle.disk_mirror.specs.Twin.{has}
 use Rattle.std.proofs.lemmas.Bool.{cond-true, cond-false}
 use Rattle.disk_mirror.proofs.Logs.{greatest-append}
@@ -114,12 +115,6 @@ found_or u (w ∷ ws) = by (is_ticket u w.ticket) refl (found_or u ws)
 apart_part : (xs ys : List Write) → AreApart (xs ++ ys) → AreApart ys
 apart_part [] ys h = h
 apart_part (x ∷ xs) ys h = apart_part xs ys h.1
-
-accepted_low : (t : ℕ) (xs : List Event) → IsAccepted t xs → t ≤ greatest_ticket xs
-accepted_low t [] a = absurd (false≢true a)
-accepted_low t (Wrote u b x ∷ xs) a = ⊎_elim (λ e. let same = eqb-true u t e in omega (arith, same)) (λ r. let low = accepted_low t xs r in omega (arith, low)) (or_cases _ _ a)
-accepted_low t (Lost b x ∷ xs) a = accepted_low t xs a
-accepted_low t (Noticed u ∷ xs) a = accepted_low t xs a
 
 has_none : (o : Option ℕ) → has (λ t. false) o ≡ false
 has_none None = refl

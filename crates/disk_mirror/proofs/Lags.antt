@@ -6,6 +6,7 @@ use Rattle.disk_contract.specs.declared.event.Event.{Event}
 use Rattle.disk_contract.specs.declared.event.Event.TheVariants.{Wrote, Lost, Noticed}
 use Rattle.disk_contract.specs.Cell.{Cell, Write, with_write, after, cell_of, is_noticed, IsWritten, notices}
 use Rattle.disk_contract.specs.Lawful.{IsLawful, writes_to}
+use Rattle.disk_contract.specs.Logs.{IsWritten-behind as written_right}
 use Rattle.disk_mirror.proofs.Logs.{cell_of-append, IsWritten-append}
 use Rattle.disk_mirror.specs.declared.entry.Side.{Side}
 use Rattle.disk_mirror.specs.declared.entry.Pair.{Pair}
@@ -53,12 +54,6 @@ written_parts x [] ys w = inr w
 written_parts x (Wrote t b y ∷ xs) ys w = ⊎_elim (λ e. inl (inl e)) (λ r. ⊎_elim (λ l. inl (inr l)) inr (written_parts x xs ys r)) w
 written_parts x (Lost b y ∷ xs) ys w = ⊎_elim (λ e. inl (inl e)) (λ r. ⊎_elim (λ l. inl (inr l)) inr (written_parts x xs ys r)) w
 written_parts x (Noticed t ∷ xs) ys w = written_parts x xs ys w
-
-written_right : (x : List ℕ) (xs ys : List Event) → IsWritten x ys → IsWritten x (xs ++ ys)
-written_right x [] ys w = w
-written_right x (Wrote t b y ∷ xs) ys w = inr (written_right x xs ys w)
-written_right x (Lost b y ∷ xs) ys w = inr (written_right x xs ys w)
-written_right x (Noticed t ∷ xs) ys w = written_right x xs ys w
 
 -- what is written in longer logs
 pub written_more : (log events : List Event) (e f : Event) → ((x : List ℕ) → IsWritten x log → IsWritten x events) → ((x : List ℕ) → IsWritten x (e ∷ []) → IsWritten x (f ∷ [])) → (x : List ℕ) → IsWritten x (log ++ e ∷ []) → IsWritten x (events ++ f ∷ [])

@@ -5,6 +5,7 @@ use Rattle.disk_contract.specs.declared.event.Event.{Event}
 use Rattle.disk_contract.specs.declared.event.Event.TheVariants.{Wrote, Lost, Noticed}
 use Rattle.disk_contract.specs.Disk.{writes_in}
 use Rattle.disk_contract.specs.Manner.{MayAllComeBy}
+use Rattle.disk_contract.specs.Logs.{writes_in-append as writes-append}
 use Rattle.disk_mirror.specs.declared.entry.Came.{Came}
 use Rattle.disk_mirror.specs.declared.entry.Entry.{Entry}
 use Rattle.disk_mirror.specs.declared.entry.Entry.TheVariants.{Accepted, Failed, Reported}
@@ -28,12 +29,6 @@ made-append [] ys = omega (arith)
 made-append (Accepted t first second ∷ xs) ys = omega (arith, made-append xs ys)
 made-append (Failed side ∷ xs) ys = omega (arith, made-append xs ys)
 made-append (Reported t ∷ xs) ys = made-append xs ys
-
-writes-append : (xs ys : List Event) → writes_in (xs ++ ys) ≡ writes_in xs + writes_in ys
-writes-append [] ys = omega (arith)
-writes-append (Wrote t b x ∷ xs) ys = omega (arith, writes-append xs ys)
-writes-append (Lost b x ∷ xs) ys = omega (arith, writes-append xs ys)
-writes-append (Noticed t ∷ xs) ys = writes-append xs ys
 
 -- none were made of a new mirror
 pub keeps_new : (room : ℕ) → KeepsRoom room (record { events = []; times = []; pairs = []; heard = []; room = room })

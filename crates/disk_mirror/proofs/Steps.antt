@@ -5,6 +5,7 @@ use Rattle.disk_contract.specs.declared.event.Event.{Event}
 use Rattle.disk_contract.specs.declared.event.Event.TheVariants.{Wrote, Lost, Noticed}
 use Rattle.disk_contract.specs.Cell.{Write, accepted_from, is_lost_from, is_lost, is_noticed, IsWritten, greatest_ticket, notices}
 use Rattle.disk_contract.specs.Lawful.{writes_to}
+pub use Rattle.disk_contract.specs.Logs.{writes_append as writes-append}
 use Rattle.disk_mirror.proofs.Logs.{is_noticed-append, accepted_from-append, greatest-append, IsWritten-append}
 use Rattle.disk_mirror.specs.declared.entry.Side.{Side}
 use Rattle.disk_mirror.specs.declared.entry.Side.TheVariants.{First, Second}
@@ -71,15 +72,6 @@ over_then s pairs p log more i e =
   where
     parted_next : (k n : ℕ) → (k ≤ n) ⊎ (n < k)
     parted_next k n = grind arith
-
--- the writes to a block in two lists
-pub writes-append : (b : ℕ) (xs ys : List Event) → writes_to b (xs ++ ys) ≡ writes_to b xs ++ writes_to b ys
-writes-append b [] ys = refl
-writes-append b (Wrote t d x ∷ xs) ys = elim (d == b) as (λ v. (if v then record { ticket = Some t; bytes = x } ∷ writes_to b (xs ++ ys) else writes_to b (xs ++ ys)) ≡ (if v then record { ticket = Some t; bytes = x } ∷ writes_to b xs else writes_to b xs) ++ writes_to b ys)
-    [ true ↦ ap (λ (l : List Write). record { ticket = Some t; bytes = x } ∷ l) (writes-append b xs ys) | false ↦ writes-append b xs ys ]
-writes-append b (Lost d x ∷ xs) ys = elim (d == b) as (λ v. (if v then record { ticket = None; bytes = x } ∷ writes_to b (xs ++ ys) else writes_to b (xs ++ ys)) ≡ (if v then record { ticket = None; bytes = x } ∷ writes_to b xs else writes_to b xs) ++ writes_to b ys)
-    [ true ↦ ap (λ (l : List Write). record { ticket = None; bytes = x } ∷ l) (writes-append b xs ys) | false ↦ writes-append b xs ys ]
-writes-append b (Noticed t ∷ xs) ys = writes-append b xs ys
 
 writes-notices : (b : ℕ) (ts : List ℕ) → writes_to b (notices ts) ≡ []
 writes-notices b [] = refl

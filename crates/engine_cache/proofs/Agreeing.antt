@@ -11,6 +11,7 @@ use Rattle.disk_contract.specs.declared.event.Event.TheVariants.{Wrote, Lost, No
 use Rattle.disk_contract.specs.declared.disk.DiskFault.{DiskFault}
 use Rattle.disk_contract.specs.Cell.{accepted_from, accepted, is_lost_from, is_lost, lost_from, IsOneOf}
 use Rattle.disk_contract.specs.Disk.{State, Reads, SameDisk, AddsWrite}
+use Rattle.disk_contract.specs.Logs.{accepted_from-append as accepted-append}
 use Rattle.engine_cache.specs.Cache.{Cache, empty_cache, without, IsKept, IsTheDisks, Agrees, ComesIn}
 
 -- what a read may give of a block: its last accepted bytes, or, where `lost` says that writes were lost since, those of one of these
@@ -47,13 +48,6 @@ gives_on n (Lost b y ∷ more) none last lost others x g = elim (cases_eq b n) [
   }))
   | inr apart ↦ rw (ne_eqb b n apart) (gives_on n more (rest n (Lost b y) more none) last lost others x g)
 ]
-
--- what the log says of a block is what its front says, gone through what came behind
-accepted-append : (n : ℕ) (last : List ℕ) (log more : List Event) → accepted_from n last (log ++ more) ≡ accepted_from n (accepted_from n last log) more
-accepted-append n last [] more = refl
-accepted-append n last (Wrote t b y ∷ log) more = accepted-append n (if b == n then y else last) log more
-accepted-append n last (Lost b y ∷ log) more = accepted-append n last log more
-accepted-append n last (Noticed t ∷ log) more = accepted-append n last log more
 
 is_lost-append : (n : ℕ) (lost : Bool) (log more : List Event) → is_lost_from n lost (log ++ more) ≡ is_lost_from n (is_lost_from n lost log) more
 is_lost-append n lost [] more = refl

@@ -6,6 +6,7 @@ use Rattle.disk_contract.specs.declared.event.Event.{Event}
 use Rattle.disk_contract.specs.declared.event.Event.TheVariants.{Wrote, Lost, Noticed}
 use Rattle.disk_contract.specs.Cell.{Cell, Write, with_write, settle, from_ticket, is_ticket, after, cell_of, IsWritten}
 use Rattle.disk_contract.specs.Crash.{AreBytesOf}
+use Rattle.disk_contract.specs.Logs.{IsWritten-behind as written_behind}
 use Rattle.crash_argument.proofs.log.Events.{cell_of-append, IsWritten-append, other_wrote, other_lost}
 use Rattle.crash_argument.specs.Ledger.{StandsIn, IsOnDisk, latest, last_of}
 
@@ -45,13 +46,6 @@ bytes-append (v ∷ ws) w y h = ⊎_elim (λ e. inl (inl e)) (λ r. ⊎_elim (λ
 -- so what stands after a write stood before, or is what was written
 with_write-stands : (c : Cell) (t : Option ℕ) (x y : List ℕ) → StandsIn (with_write c t x) y → StandsIn c y ⊎ (y ≡ x)
 with_write-stands c t x y h = ⊎_elim (λ e. inl (inl e)) (λ r. ⊎_elim (λ p. inl (inr p)) inr (bytes-append c.pending _ y r)) h
-
--- what comes last is written
-written_behind : (x : List ℕ) (xs ys : List Event) → IsWritten x ys → IsWritten x (xs ++ ys)
-written_behind x [] ys h = h
-written_behind x (Wrote t b y ∷ xs) ys h = inr (written_behind x xs ys h)
-written_behind x (Lost b y ∷ xs) ys h = inr (written_behind x xs ys h)
-written_behind x (Noticed t ∷ xs) ys h = written_behind x xs ys h
 
 pub last_written : (log : List Event) (t b : ℕ) (x : List ℕ) → IsWritten x (log ++ Wrote t b x ∷ [])
 last_written log t b x = written_behind x log (Wrote t b x ∷ []) (inl refl)

@@ -5,6 +5,7 @@ use Rattle.disk_contract.specs.declared.event.Event.{Event}
 use Rattle.disk_contract.specs.declared.event.Event.TheVariants.{Wrote, Lost, Noticed}
 use Rattle.disk_contract.specs.Cell.{notices}
 use Rattle.disk_contract.specs.Disk.{AddsWrite, AddsPoll, AddsNotices, writes_in}
+pub use Rattle.disk_contract.specs.Logs.{writes_in-append as writes_behind}
 use Rattle.crash_argument.specs.Counts.{WriteCounts, AreCounted, AreAtMost, AreWithinSum, counts_at_mount, with_point, with_part, with_home_write, without_payloads, with_header_write, MovesOn}
 
 pub counts_begin : (last : ℕ) → AreWithinSum (counts_at_mount last)
@@ -24,13 +25,6 @@ counts_fewer c count w = record { sure = w.sure; start = w.start; bound = omega 
 
 pub counts_header : (c : WriteCounts) (sure start : ℕ) → MovesOn c sure start → AreWithinSum c → AreWithinSum (with_header_write c sure start)
 counts_header c sure start on w = record { sure = on.sure_upto; start = on.start_upto; bound = ⊎_elim (λ lt. omega (arith, lt, on.sure_from, on.sure_upto, on.start_from, on.start_upto, w.bound, w.sure, w.start)) (λ lt. omega (arith, lt, on.sure_from, on.sure_upto, on.start_from, on.start_upto, w.bound, w.sure, w.start)) on.one }
-
--- the writes of two logs one behind the other
-pub writes_behind : (xs ys : List Event) → writes_in (xs ++ ys) ≡ writes_in xs + writes_in ys
-writes_behind [] ys = omega arith
-writes_behind (Wrote t b x ∷ xs) ys = omega (arith, writes_behind xs ys)
-writes_behind (Lost b x ∷ xs) ys = omega (arith, writes_behind xs ys)
-writes_behind (Noticed t ∷ xs) ys = writes_behind xs ys
 
 no_writes : (ts : List ℕ) → writes_in (notices ts) ≡ 0
 no_writes [] = refl

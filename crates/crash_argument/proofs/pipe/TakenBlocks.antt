@@ -1,10 +1,9 @@
 -- Blocks that may be written fresh stay so: what a crash may leave loses maps and gains none, and a checkpoint write goes to a live block.
 use Rattle.std.proofs.Common.{◌≡◌, ◌⊎◌, inl, inr, ⊎_elim, ℕ, ◌+◌, ◌<◌, ◌≤◌, false, List, [], ◌∷◌, ◌++◌, Some, refl, sym, ◌∙◌, ap, arith}
-use Rattle.std.proofs.lemmas.Bool.{or_cases, false≢true, or_left, or_right}
+use Rattle.std.proofs.lemmas.Bool.{false≢true}
 use Rattle.base_types.specs.Seal.{Blocks}
 use Rattle.disk_contract.specs.declared.event.Event.{Event}
-use Rattle.disk_contract.specs.declared.event.Event.TheVariants.{Wrote, Lost, Noticed}
-use Rattle.disk_contract.specs.Cell.{IsNoticed}
+use Rattle.disk_contract.specs.Logs.{IsNoticed-more as noticed_stays}
 use Rattle.layout_journal.specs.declared.header.Header.{Header}
 use Rattle.layout_journal.specs.Run.{is_live}
 use Rattle.crash_argument.specs.Ledger.{Ledger, WrittenRecord, IsConsistentWith, next_number}
@@ -13,13 +12,6 @@ use Rattle.crash_argument.specs.OnePending.{MayWriteAllFresh}
 use Rattle.crash_argument.specs.PipelineData.{PipelineData, NeedsCheckpoint, with_home}
 use Rattle.crash_argument.proofs.log.Lists.{last_or}
 use Rattle.crash_argument.proofs.pipe.BetweenSteps.{same_next}
-
--- what is noticed stays so in a longer log
-noticed_stays : (t : ℕ) (log more : List Event) → IsNoticed t log → IsNoticed t (log ++ more)
-noticed_stays t [] more h = absurd (false≢true h)
-noticed_stays t (Wrote u b x ∷ log) more h = noticed_stays t log more h
-noticed_stays t (Lost b x ∷ log) more h = noticed_stays t log more h
-noticed_stays t (Noticed u ∷ log) more h = ⊎_elim (λ e. or_left _ _ e) (λ r. or_right _ _ (noticed_stays t log more r)) (or_cases _ _ h)
 
 pub stay_by_events : (log more : List Event) (l : Ledger) (p : PipelineData) (taken : List ℕ) → MayWriteAllFresh log l p taken → MayWriteAllFresh (log ++ more) l p taken
 stay_by_events log more l p taken free b own = let f = free b own in (f.0, λ k t is. noticed_stays t log more (f.1 k t is))

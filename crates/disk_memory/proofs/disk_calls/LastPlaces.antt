@@ -5,16 +5,10 @@ use Rattle.std.proofs.lemmas.List.{length-set, get_or-set_same, get_or-set_other
 use Rattle.base_types.specs.Seal.{Blocks, blocks_of}
 use Rattle.disk_contract.specs.declared.event.Event.{Event}
 use Rattle.disk_contract.specs.declared.event.Event.TheVariants.{Wrote, Lost, Noticed}
-use Rattle.disk_contract.specs.Cell.{accepted_from, accepted}
+use Rattle.disk_contract.specs.Cell.{accepted}
+use Rattle.disk_contract.specs.Logs.{accepted_from-append as accepted_behind}
 use Rattle.disk_memory.specs.MemDisk.{IsLast, AreLast}
 use Rattle.disk_memory.proofs.log_rows.Events.{get_before, get_next}
-
--- the last accepted bytes of a block after more events follow from those before them
-accepted_behind : (b : ℕ) (x : List ℕ) (log more : List Event) → accepted_from b x (log ++ more) ≡ accepted_from b (accepted_from b x log) more
-accepted_behind b x [] more = refl
-accepted_behind b x (Wrote t c y ∷ log) more = accepted_behind b (if c == b then y else x) log more
-accepted_behind b x (Lost c y ∷ log) more = accepted_behind b x log more
-accepted_behind b x (Noticed t ∷ log) more = accepted_behind b x log more
 
 -- a place stays right where the last accepted bytes stay
 place_stays : (base : Blocks) (log : List Event) (e : Event) (b place : ℕ) → accepted base (log ++ e ∷ []) b ≡ accepted base log b → IsLast base log b place → IsLast base (log ++ e ∷ []) b place

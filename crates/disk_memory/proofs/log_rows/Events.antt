@@ -1,8 +1,6 @@
 -- Small facts on logs of events: two logs one behind the other, what is at a place, which logs are lawful, and which blocks are written.
 use Rattle.std.proofs.Common.{◌≡◌, ◌⊎◌, ⊎_elim, ℕ, zero, suc, ◌+◌, ◌<◌, ◌≤◌, ◌==◌, ◌||◌, true, false, List, [], ◌∷◌, ◌++◌, length, take, drop, Some, refl, sym, ◌∙◌, ap, subst, arith, append-nil, append_assoc, length-take}
-use Rattle.std.specs.Prelude.{max}
 use Rattle.std.specs.List.{slice_get}
-use Rattle.std.proofs.Math.Bool.{or_assoc}
 use Rattle.std.proofs.lemmas.Bool.{eqb-true, eq-eqb, or_cases, or_left, or_right, false≢true, false_from_ne_true}
 use Rattle.std.proofs.lemmas.List.{take-append-drop, take_more}
 use Rattle.std.proofs.lemmas.Option.{none-some, slice_get_within, get_or_from_slice_get}
@@ -10,6 +8,7 @@ use Rattle.disk_contract.specs.declared.event.Event.{Event}
 use Rattle.disk_contract.specs.declared.event.Event.TheVariants.{Wrote, Lost, Noticed}
 use Rattle.disk_contract.specs.Cell.{greatest_ticket, is_accepted, is_noticed, IsAccepted, IsNoticed}
 use Rattle.disk_contract.specs.Lawful.{MayCome, AreLawfulAfter, IsLawful, IsEventOf, AreEventsOf}
+pub use Rattle.disk_contract.specs.Logs.{greatest-append, lawful_behind, lawful_front, IsNoticed-append as noticed_parts, IsNoticed-more as noticed_before, accepted_low, is_noticed-append as noticed-append}
 use Rattle.disk_memory.specs.Log.{tickets, write_count, AreWithin}
 
 -- the tickets of two logs, one behind the other, are those of the first and those of the second
@@ -25,13 +24,6 @@ write_count-append [] ys = omega arith
 write_count-append (Wrote t b x ∷ xs) ys = let rest = write_count-append xs ys in omega arith
 write_count-append (Lost b x ∷ xs) ys = let rest = write_count-append xs ys in omega arith
 write_count-append (Noticed t ∷ xs) ys = write_count-append xs ys
-
--- the greatest ticket is the greater one of both
-pub greatest-append : (xs ys : List Event) → greatest_ticket (xs ++ ys) ≡ max (greatest_ticket xs) (greatest_ticket ys)
-greatest-append [] ys = omega arith
-greatest-append (Wrote t b x ∷ xs) ys = let rest = greatest-append xs ys in omega arith
-greatest-append (Lost b x ∷ xs) ys = greatest-append xs ys
-greatest-append (Noticed t ∷ xs) ys = greatest-append xs ys
 
 -- so it is at least that of the first
 pub greatest_before : (xs ys : List Event) → greatest_ticket xs ≤ greatest_ticket (xs ++ ys)
@@ -53,31 +45,9 @@ greatest_lost log b x = omega (arith, greatest-append log (Lost b x ∷ []))
 pub greatest_noticed : (log : List Event) (t : ℕ) → greatest_ticket (log ++ Noticed t ∷ []) ≡ greatest_ticket log
 greatest_noticed log t = omega (arith, greatest-append log (Noticed t ∷ []))
 
--- a ticket is noticed in two logs where it is in one of them
-pub noticed-append : (u : ℕ) (xs ys : List Event) → is_noticed u (xs ++ ys) ≡ (is_noticed u xs || is_noticed u ys)
-noticed-append u [] ys = refl
-noticed-append u (Wrote t b x ∷ xs) ys = noticed-append u xs ys
-noticed-append u (Lost b x ∷ xs) ys = noticed-append u xs ys
-noticed-append u (Noticed t ∷ xs) ys = ap (λ v. (t == u) || v) (noticed-append u xs ys) ∙ sym (or_assoc (t == u) (is_noticed u xs) (is_noticed u ys))
-
--- so it stays noticed in a longer log
-pub noticed_before : (u : ℕ) (xs ys : List Event) → IsNoticed u xs → IsNoticed u (xs ++ ys)
-noticed_before u xs ys n = noticed-append u xs ys ∙ or_left (is_noticed u xs) (is_noticed u ys) n
-
--- and what is noticed in both is noticed in one of them
-pub noticed_parts : (u : ℕ) (xs ys : List Event) → IsNoticed u (xs ++ ys) → IsNoticed u xs ⊎ IsNoticed u ys
-noticed_parts u xs ys n = or_cases (is_noticed u xs) (is_noticed u ys) (sym (noticed-append u xs ys) ∙ n)
-
 -- a notice that comes last is of its ticket
 pub noticed_last : (u : ℕ) (log : List Event) → IsNoticed u (log ++ Noticed u ∷ [])
 noticed_last u log = noticed-append u log (Noticed u ∷ []) ∙ or_right (is_noticed u log) ((u == u) || false) (or_left (u == u) false (eq-eqb u u refl))
-
--- an accepted ticket is at most the greatest
-pub accepted_low : (u : ℕ) (log : List Event) → IsAccepted u log → u ≤ greatest_ticket log
-accepted_low u [] a = absurd (false≢true a)
-accepted_low u (Wrote t b x ∷ log) a = ⊎_elim (λ (is : (t == u) ≡ true). omega (arith, eqb-true t u is)) (λ more. omega (arith, accepted_low u log more)) (or_cases (t == u) (is_accepted u log) a)
-accepted_low u (Lost b x ∷ log) a = accepted_low u log a
-accepted_low u (Noticed t ∷ log) a = accepted_low u log a
 
 -- the ticket of a write that is at a place is accepted
 pub accepted_there : (log : List Event) (p t b : ℕ) (x : List ℕ) → slice_get log p ≡ Some (Wrote t b x) → IsAccepted t log
@@ -118,16 +88,6 @@ pub split_at : (log : List Event) (p : ℕ) (e : Event) → slice_get log p ≡ 
 split_at [] p e at = absurd cc
 split_at (x ∷ log) zero e at = let same : x ≡ e = cc in ap (λ y. y ∷ log) same
 split_at (x ∷ log) (suc p) e at = ap (λ (l : List Event). x ∷ l) (split_at log p e at)
-
--- the first of lawful events are lawful
-pub lawful_front : (before xs ys : List Event) → AreLawfulAfter before (xs ++ ys) → AreLawfulAfter before xs
-lawful_front before [] ys h = tt
-lawful_front before (x ∷ xs) ys h = (h.0, lawful_front (before ++ x ∷ []) xs ys h.1)
-
--- and the others are so behind them
-pub lawful_behind : (before xs ys : List Event) → AreLawfulAfter before (xs ++ ys) → AreLawfulAfter (before ++ xs) ys
-lawful_behind before [] ys h = subst (λ (l : List Event). AreLawfulAfter l ys) (sym (append-nil before)) h
-lawful_behind before (x ∷ xs) ys h = subst (λ (l : List Event). AreLawfulAfter l ys) (append_assoc before (x ∷ []) xs) (lawful_behind (before ++ x ∷ []) xs ys h.1)
 
 -- a front of a lawful log is lawful
 pub lawful_taken : (log : List Event) (k : ℕ) → IsLawful log → IsLawful (take k log)

@@ -6,14 +6,8 @@ use Rattle.disk_contract.specs.declared.event.Event.{Event}
 use Rattle.disk_contract.specs.declared.event.Event.TheVariants.{Wrote, Lost, Noticed}
 use Rattle.disk_contract.specs.Cell.{greatest_ticket, IsAccepted}
 use Rattle.disk_contract.specs.Lawful.{AreLawfulAfter, IsLawful, IsWriteOf}
+pub use Rattle.disk_contract.specs.Logs.{write_parts}
 use Rattle.disk_memory.proofs.log_rows.Events.{greatest_before, greatest_behind, lawful_behind}
-
--- a write that is in two lists is in one of them
-pub write_parts : (u b : ℕ) (xs ys : List Event) → IsWriteOf u b (xs ++ ys) → IsWriteOf u b xs ⊎ IsWriteOf u b ys
-write_parts u b [] ys w = inr w
-write_parts u b (Wrote t d x ∷ xs) ys w = ⊎_elim (λ is. inl (inl is)) (λ more. ⊎_elim (λ old. inl (inr old)) inr (write_parts u b xs ys more)) w
-write_parts u b (Lost d x ∷ xs) ys w = write_parts u b xs ys w
-write_parts u b (Noticed t ∷ xs) ys w = write_parts u b xs ys w
 
 -- the write at a place
 pub record StandsAt (u b : ℕ) (log : List Event) : Type 0 where

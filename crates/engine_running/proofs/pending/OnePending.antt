@@ -8,7 +8,8 @@ use Rattle.std.proofs.lemmas.Option.{same_Some, none-some, slice_get_within, sli
 use Rattle.base_types.specs.Seal.{Blocks}
 use Rattle.disk_contract.specs.declared.event.Event.{Event}
 use Rattle.disk_contract.specs.declared.event.Event.TheVariants.{Wrote, Lost}
-use Rattle.disk_contract.specs.Cell.{Cell, cell_of, after, after_all}
+use Rattle.disk_contract.specs.Cell.{cell_of}
+use Rattle.disk_contract.specs.Logs.{other_wrote}
 use Rattle.layout_geometry.specs.Geometry.{Geometry, ring_block, bitmap_start}
 use Rattle.layout_journal.specs.Spelling.{commit_block}
 use Rattle.layout_journal.specs.Run.{heads, places, commit_says}
@@ -23,15 +24,6 @@ use Rattle.engine_running.specs.Writes.{fresh_write, ring_writes, record_writes}
 use Rattle.engine_running.proofs.spelling.Forms.{get_map}
 use Rattle.engine_running.proofs.logs.Logs.{length_ring_writes}
 use Rattle.engine_running.proofs.spelling.Spelled.{length_descriptor_blocks}
-
--- events after others
-after_all-append : (b : ℕ) (c : Cell) (xs ys : List Event) → after_all b c (xs ++ ys) ≡ after_all b (after_all b c xs) ys
-after_all-append b c [] ys = refl
-after_all-append b c (x ∷ xs) ys = after_all-append b (after b c x) xs ys
-
--- a write to another block leaves a cell
-other_wrote : (base : Blocks) (log : List Event) (t a b : ℕ) (x : List ℕ) → a ≢ b → cell_of base (log ++ Wrote t a x ∷ []) b ≡ cell_of base log b
-other_wrote base log t a b x apart = grind (arith, nat_tests, after_all-append)
 
 -- the blocks of some writes, the last one first, before others
 abbrev pub under : List (ℕ × List ℕ) → List ℕ → List ℕ

@@ -1,4 +1,5 @@
-use Rattle.disk_contract.proofs.Cells.{own_wrote, own_lost, one_noticed, other_wrote, other_lost}
+use Rattle.disk_contract.specs.Logs.{other_wrote, other_lost}
+use Rattle.disk_contract.proofs.Cells.{own_wrote, own_lost, one_noticed}
 use Rattle.disk_contract.proofs.laws.an_event_changes_one_block.Goals as goal
 
 pub returns : goal.returns
