@@ -28,7 +28,8 @@ pub one_tree : (limit : ℕ) (m : Inodes) (t u : Tree) → IsMapOf limit m t →
 one_tree limit m t u x y =
     let names : t.names ≡ u.names = same_map (lists_total (lists_total nat_cmp_total)) (slice_cmp-IsAntisymmetric (slice_cmp-IsAntisymmetric nat_cmp-IsAntisymmetric)) t.names u.names (λ p. x.shows.names p ∙ sym (y.shows.names p)) in
     let nodes : t.nodes ≡ u.nodes = same_map nat_cmp_total nat_cmp-IsAntisymmetric t.nodes u.nodes (λ k. x.shows.nodes k ∙ sym (y.shows.nodes k)) in
-    ap (λ n. record { names = n; nodes = t.nodes }) names ∙ ap (λ n. record { names = u.names; nodes = n }) nodes
+    ap (λ n. record t { names = n }) names
+    ∙ (ap (λ n. record t { names = u.names; nodes = n }) nodes ∙ ap (λ s. record u { snapshots = s }) (x.shows.alone ∙ sym y.shows.alone))
 
 -- Files and their map.
 

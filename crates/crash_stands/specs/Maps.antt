@@ -1,6 +1,6 @@
 -- When an inode map is that of a tree. docs/LAYOUT.md describes it.
 use Rattle.std.specs.Prelude.{◌≡◌, ℕ, ◌≤◌, List, Some, option_map}
-use Rattle.std.specs.FinMap.{get}
+use Rattle.std.specs.FinMap.{get, empty}
 use Rattle.layout_bytes.specs.declared.slot.Slot.{Slot}
 use Rattle.lang_tree.specs.Tree.{Tree}
 use Rattle.lang_tree.specs.Names.{path_count}
@@ -18,6 +18,8 @@ pub record Shows (t : Tree) (m : Inodes) : Type 0 where
   -- a path leads to each node in use, and each path leads to one
   pub reached : (k : ℕ) (x : Inode) → m k ≡ Some x → (p : List (List ℕ)) × LeadsTo m p k
   pub used : (p : List (List ℕ)) (k : ℕ) → LeadsTo m p k → (x : Inode) × (m k ≡ Some x)
+  -- no snapshot is there
+  pub alone : t.snapshots ≡ empty
 
 -- The inode map is that of the tree: it shows the tree, its root is a directory, no directory has a name twice, and no number is above the limit.
 pub record IsMapOf (limit : ℕ) (m : Inodes) (t : Tree) : Type 0 where

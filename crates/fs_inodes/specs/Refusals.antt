@@ -1,7 +1,7 @@
 -- Why a command is refused, from inodes alone: the conditions of lang_tree in their order, each looked up in the inode map.
 use Rattle.std.specs.Prelude.{ℕ, ◌+◌, ◌==◌, ◌&&◌, if◌then◌else◌, List, [], ◌∷◌, length, nat_lt, nat_le, is_some, is_none, Option, None, Some, Result, Ok, Err}
 use Rattle.lang_tree.specs.declared.command.Cmd.{Cmd}
-use Rattle.lang_tree.specs.declared.command.Cmd.TheVariants.{Mkdir, Create, Write, Fill, Read, Truncate, Link, Unlink, Rmdir, Rename, Stat, List as ListNames, Osync, Dsync, Durable, Poll, Bad}
+use Rattle.lang_tree.specs.declared.command.Cmd.TheVariants.{Mkdir, Create, Write, Fill, Read, Truncate, Link, Unlink, Rmdir, Rename, Stat, List as ListNames, Osync, Dsync, Durable, Dwait, Poll, Bad}
 use Rattle.lang_tree.specs.declared.command.Refusal.{Refusal}
 use Rattle.lang_tree.specs.declared.command.Refusal.TheVariants.{Exists, NotDir, IsDir, NotEmpty, BelowItself, TooLarge, TooManyLinks, NoNode}
 use Rattle.lang_tree.specs.Paths.{parent, is_below}
@@ -75,5 +75,6 @@ reason limit m (ListNames path) = list_reason m path
 reason limit m Osync = None
 reason limit m Dsync = None
 reason limit m Durable = None
+reason limit m (Dwait n) = None
 reason limit m Poll = None
 reason limit m Bad = None

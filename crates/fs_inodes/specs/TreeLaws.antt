@@ -1,6 +1,7 @@
 -- The laws of trees and of their maps that the proofs of this crate rest on, gathered. Each is a clause of a function of lang_tree or crash_stands.
-use Rattle.std.specs.Prelude.{◌≡◌, ◌≢◌, ℕ, ◌≤◌, ◌+◌, ◌==◌, if◌then◌else◌, true, false, List, [], ◌∷◌, ◌++◌, slice_get, None, Some, option_and_then}
-use Rattle.std.specs.FinMap.{get, insert, remove}
+use Rattle.std.specs.Prelude.{◌≡◌, ◌≢◌, ℕ, ◌≤◌, ◌+◌, ◌==◌, if◌then◌else◌, true, false, List, [], ◌∷◌, ◌++◌, slice_get, find, is_none, None, Some, option_and_then}
+use Rattle.std.specs.List.{range_with_len}
+use Rattle.std.specs.FinMap.{get, insert, remove, empty}
 use Rattle.layout_bytes.specs.declared.slot.Slot.{Slot}
 use Rattle.lang_tree.specs.declared.command.Cmd.{Cmd}
 use Rattle.lang_tree.specs.declared.command.Cmd.TheVariants.{Rename}
@@ -8,8 +9,9 @@ use Rattle.lang_tree.specs.Tree.{Tree, Names, Thing, Dir, File, IsSound}
 use Rattle.lang_tree.specs.Paths.{parent, is_within}
 use Rattle.lang_tree.specs.Names.{path_count, holds_names, renamed}
 use Rattle.lang_tree.specs.Walk.{is_same_node}
-use Rattle.lang_tree.specs.Conditions.{file_refusal, rmdir_refusal, rename_refusal, refusal}
+use Rattle.lang_tree.specs.Conditions.{least_unused, file_refusal, rmdir_refusal, rename_refusal, refusal}
 use Rattle.lang_tree.specs.Step.{Session, step, start}
+use Rattle.lang_tree.specs.Listing.{path_lines, listing}
 use Rattle.crash_stands.specs.Inodes.{Inode, Inodes, ADir, root_alone}
 use Rattle.crash_stands.specs.Walks.{Entries, walk}
 use Rattle.crash_stands.specs.Maps.{IsMapOf}
@@ -29,9 +31,13 @@ pub record TreeLaws : Type 0 where
   pub sound_step : (s : Session) (cmd : Cmd) → IsSound s.limit s.tree → IsSound s.limit (step s cmd).0.tree
   pub same_limit : (s : Session) (cmd : Cmd) → (step s cmd).0.limit ≡ s.limit
   pub sound_node : (limit : ℕ) (t : Tree) (path : List (List ℕ)) (n k : ℕ) (x : Thing) → IsSound limit t → get t.names path ≡ None → get t.nodes n ≡ None → 1 ≤ n → n ≤ limit
-      → get t.names (parent path) ≡ Some k → get t.nodes k ≡ Some Dir → IsSound limit (record { names = insert t.names path n; nodes = insert t.nodes n x })
+      → get t.names (parent path) ≡ Some k → get t.nodes k ≡ Some Dir → IsSound limit (record t { names = insert t.names path n; nodes = insert t.nodes n x })
   pub sound_path : (limit : ℕ) (t : Tree) (path : List (List ℕ)) (n k : ℕ) (bytes : List ℕ) → IsSound limit t → get t.names path ≡ None → get t.nodes n ≡ Some (File bytes)
-      → get t.names (parent path) ≡ Some k → get t.nodes k ≡ Some Dir → IsSound limit (record { names = insert t.names path n; nodes = t.nodes })
+      → get t.names (parent path) ≡ Some k → get t.nodes k ≡ Some Dir → IsSound limit (record t { names = insert t.names path n })
+  -- what becomes of snapshots, and what a tree without any is
+  pub same_snapshots : (s : Session) (cmd : Cmd) → (step s cmd).0.tree.snapshots ≡ s.tree.snapshots
+  pub unused_alone : (limit : ℕ) (t : Tree) → t.snapshots ≡ empty → least_unused limit t ≡ find (λ n. is_none (get t.nodes n)) (range_with_len 1 limit)
+  pub listed_alone : (t : Tree) → t.snapshots ≡ empty → listing t ≡ path_lines t.names t.nodes
   -- what goes or moves
   pub unlinked : (limit : ℕ) (t : Tree) (path : List (List ℕ)) → IsSound limit t → file_refusal t path ≡ None → (holds_names t.names path ≡ false) × (path ≢ [])
   pub removed : (limit : ℕ) (t : Tree) (path : List (List ℕ)) → IsSound limit t → rmdir_refusal t path ≡ None → (holds_names t.names path ≡ false) × (path ≢ [])

@@ -2,7 +2,7 @@
 use Rattle.std.specs.Prelude.{◌≡◌, ℕ, Bool, List, Option, Some, None, refl}
 use Rattle.std.specs.Coded.{Coded, code_by, coded_list, coded_ℕ, coded_option, coded_bool, coded×}
 use Rattle.std.specs.FinMap as map
-use Rattle.lang_tree.specs.Tree.{Tree, Names, Nodes, Thing, Dir, File}
+use Rattle.lang_tree.specs.Tree.{Tree, Names, Nodes, Snapshots, Kept, Thing, Dir, File}
 use Rattle.lang_tree.specs.Step.{Session}
 
 content_of : Thing → Option (List ℕ)
@@ -21,9 +21,19 @@ thing_same (File bytes) = refl
 pub coded_thing : Coded Thing
 coded_thing = code_by (Option (List ℕ)) (coded_option (coded_list coded_ℕ)) content_of thing_of thing_same
 
+coded_names : Coded Names
+coded_names = map.code (coded_list (coded_list coded_ℕ)) coded_ℕ
+
+coded_nodes : Coded Nodes
+coded_nodes = map.code coded_ℕ coded_thing
+
+coded_kept : Coded Kept
+coded_kept = code_by (ℕ × (Names × Nodes)) (coded× coded_ℕ (coded× coded_names coded_nodes))
+    (λ k. (k.number, (k.names, k.nodes))) (λ p. record { number = p.0; names = p.1.0; nodes = p.1.1 }) (λ _. refl)
+
 pub coded_tree : Coded Tree
-coded_tree = code_by (Names × Nodes) (coded× (map.code (coded_list (coded_list coded_ℕ)) coded_ℕ) (map.code coded_ℕ coded_thing))
-    (λ t. (t.names, t.nodes)) (λ p. record { names = p.0; nodes = p.1 }) (λ _. refl)
+coded_tree = code_by (Names × (Nodes × Snapshots)) (coded× coded_names (coded× coded_nodes (map.code (coded_list coded_ℕ) coded_kept)))
+    (λ t. (t.names, (t.nodes, t.snapshots))) (λ p. record { names = p.0; nodes = p.1.0; snapshots = p.1.1 }) (λ _. refl)
 
 pub coded_session : Coded Session
 coded_session = code_by (Tree × (ℕ × (ℕ × (Bool × ℕ)))) (coded× coded_tree (coded× coded_ℕ (coded× coded_ℕ (coded× coded_bool coded_ℕ))))

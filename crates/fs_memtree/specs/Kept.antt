@@ -9,7 +9,7 @@ use Rattle.std.specs.Cmp.Lexicographic.{slice_cmp}
 use Rattle.std.specs.FinMap.{FinMap, get, insert, remove, empty, entries, from_entries, len}
 use Rattle.std.specs.FinMap as finite
 use Rattle.layout_bytes.specs.declared.slot.Slot.{Slot}
-use Rattle.lang_tree.specs.Tree.{Tree}
+use Rattle.lang_tree.specs.Tree.{Tree, alone}
 use Rattle.crash_stands.specs.Inodes.{Inode, Inodes, ADir, AFile, thing_of}
 use Rattle.fs_inodes.specs.Changes.{slot_of}
 use Rattle.fs_inodes.specs.Lookups.{slots_of, number_at}
@@ -74,12 +74,10 @@ abbrev pub paths_from : ℕ → Inodes → ℕ → List (List (List ℕ) × ℕ)
 paths_from zero m k = []
 paths_from (suc n) m k = ([], k) ∷ flat_map (λ s. map (λ e. (s.name ∷ e.0, e.1)) (paths_from n m s.node)) (slots_of (m k))
 
--- The tree of the nodes: the paths from the root, and what each node stands for. No path of a tree has as many names as there are nodes.
+-- The tree of the nodes, without snapshots: the paths from the root, and what each node stands for. No path of a tree has as many names as there are nodes.
 unfoldable pub tree_of : KeptNodes → Tree
-tree_of nodes = record {
-  names = from_entries (paths_from (len nodes) (map_of nodes) 1);
-  nodes = from_entries (map (λ e. (e.0, thing_of (inode_of e.1))) (entries nodes));
-}
+tree_of nodes =
+    alone (from_entries (paths_from (len nodes) (map_of nodes) 1)) (from_entries (map (λ e. (e.0, thing_of (inode_of e.1))) (entries nodes)))
 
 -- no file has more than 2^30 bytes
 abbrev pub AreSmall : Inodes → Type 0

@@ -1,12 +1,13 @@
 -- What a command makes of all that is kept, and what it is answered. That this is what the command means is proved, not defined here.
-use Rattle.std.specs.Prelude.{ℕ, ◌==◌, Bool, true, false, if◌then◌else◌, List, [], length, replicate, Option, None, Some}
+use Rattle.std.specs.Prelude.{ℕ, ◌==◌, max, nat_le, Bool, true, false, if◌then◌else◌, List, [], length, replicate, Option, None, Some}
 use Rattle.std.specs.FinMap.{insert, empty}
 use Rattle.base_types.specs.Counts.{next_count}
 use Rattle.lang_tree.specs.declared.command.Cmd.{Cmd}
-use Rattle.lang_tree.specs.declared.command.Cmd.TheVariants.{Mkdir, Create, Write, Fill, Truncate, Link, Unlink, Rmdir, Rename, Osync, Dsync, Durable}
+use Rattle.lang_tree.specs.declared.command.Cmd.TheVariants.{Mkdir, Create, Write, Fill, Truncate, Link, Unlink, Rmdir, Rename, Osync, Dsync, Durable, Dwait}
 use Rattle.lang_tree.specs.declared.command.Reply.{Reply}
 use Rattle.lang_tree.specs.declared.command.Reply.TheVariants.{Ok as Done, Synced, DurableAt, Known, Refused}
 use Rattle.lang_tree.specs.declared.command.Refusal.{Refusal}
+use Rattle.lang_tree.specs.declared.command.Refusal.TheVariants.{NoPoint}
 use Rattle.lang_tree.specs.Step.{Session, written, resized}
 use Rattle.crash_stands.specs.Maps.{IsMapOf}
 use Rattle.fs_inodes.specs.Lookups.{bytes_of, inode_at}
@@ -53,6 +54,11 @@ synced s false = s
 abbrev pub waited : State → State
 waited s = record s { durable = s.points }
 
+-- point n is on the disk; where it isn't there, that is said
+abbrev pub awaited : State → ℕ → Bool → State × Reply
+awaited s n true = (record s { durable = max s.durable n }, DurableAt n)
+awaited s n false = (s, Refused (NoPoint s.points))
+
 -- a command that nothing refuses
 abbrev pub accepted : State → Cmd → State × Reply
 accepted s (Mkdir path) = changed_to s (made s.limit s.nodes path (KeptDir empty))
@@ -67,6 +73,7 @@ accepted s (Rename from to) = rename_by s (moved s.nodes from to)
 accepted s Osync = (synced s s.changed, Synced (synced s s.changed).points)
 accepted s Dsync = (waited (synced s s.changed), DurableAt (synced s s.changed).points)
 accepted s Durable = (s, Known s.durable)
+accepted s (Dwait n) = awaited s n (nat_le n s.points)
 accepted s cmd = (s, accepted_reply (map_of s.nodes) cmd)
 
 -- refused for a reason, and then all is as it was, or done so

@@ -38,7 +38,7 @@ impl Nodes {
             Cmd::Rename(from, to) => self.to_rename(from, to).err(),
             Cmd::Stat(path) => self.to_stat(path).err(),
             Cmd::List(path) => self.to_list(path).err(),
-            Cmd::Osync | Cmd::Dsync | Cmd::Durable | Cmd::Poll | Cmd::Bad => None,
+            Cmd::Osync | Cmd::Dsync | Cmd::Durable | Cmd::Dwait(_) | Cmd::Poll | Cmd::Bad => None,
         }
     }
 

@@ -61,6 +61,7 @@ impl Nodes {
             | Cmd::Osync
             | Cmd::Dsync
             | Cmd::Durable
+            | Cmd::Dwait(_)
             | Cmd::Poll
             | Cmd::Bad => NOTHING,
         }

@@ -2,14 +2,14 @@
 //! memory is found all stays as it was. What single commands do to the nodes is in the module `effects`, what
 //! they reply in `replies`, and why they are refused in `conditions`.
 
-ghost use Rattle.std.specs.Prelude.{◌≡◌, ◌+◌, ◌==◌, IfOk, OnErr, if◌then◌else◌};
+ghost use Rattle.std.specs.Prelude.{◌≡◌, ◌+◌, ◌==◌, IfOk, OnErr, if◌then◌else◌, nat_le};
 ghost use Rattle.lang_tree.specs.declared.command.Cmd.TheVariants.{Truncate, Link, Unlink, Rmdir, Rename, Read, Stat, List as ListNames};
 ghost use Rattle.lang_tree.specs.declared.command.Reply.TheVariants.{Ok as Done, Synced, DurableAt};
 ghost use Rattle.fs_inodes.specs.Refusals.{make_reason, write_reason};
 ghost use Rattle.fs_memtree.specs.Changes.{made, edited, removed_at};
 ghost use Rattle.fs_memtree.specs.Trails.{spot_of};
 ghost use Rattle.fs_memtree.specs.Kept.{map_of};
-ghost use Rattle.fs_memtree.specs.Serving.{served, served_by, changed_to, synced, waited, first_state};
+ghost use Rattle.fs_memtree.specs.Serving.{served, served_by, changed_to, synced, waited, awaited, first_state};
 ghost use Rattle.fs_memtree.specs.Stored.{kept, grown, end_of};
 
 use crate::directory::Directory;
@@ -17,7 +17,7 @@ use crate::node::{Growth, Node};
 use crate::nodes::Nodes;
 use crate::walks::End;
 use base_types::NoMemory;
-use lang_tree::{Cmd, Path, Reply};
+use lang_tree::{Cmd, Path, Refusal, Reply};
 use std::alloc::Global;
 
 /// The nodes of a tree with the greatest number that they may have, and the session's sync points.
@@ -97,6 +97,7 @@ impl State {
             Cmd::Osync => Ok(self.osync()),
             Cmd::Dsync => Ok(self.dsync()),
             Cmd::Durable => Ok(Reply::Known(self.durable)),
+            Cmd::Dwait(n) => Ok(self.dwait(*n)),
             Cmd::Poll => Ok(Reply::Ok),
             Cmd::Bad => Ok(Reply::Bad),
         }
@@ -270,5 +271,17 @@ impl State {
         self.osync();
         self.durable = self.points;
         Reply::DurableAt(self.points)
+    }
+
+    /// Promises point `n`, where it is there: memory has it at once.
+    fn dwait(&mut self, n: u32) -> Reply
+        ensures { awaited self.old n (nat_le n self.old.points) ≡ (self.new, result) }
+    {
+        let point = u64::from(n);
+        if point > self.points {
+            return Reply::Refused(Refusal::NoPoint { last: self.points });
+        }
+        self.durable = self.durable.max(point);
+        Reply::DurableAt(point)
     }
 }

@@ -1,12 +1,12 @@
 -- How calls of a log go on, and what runs of them leave.
-use Rattle.std.proofs.Common.{◌≡◌, ◌≤◌, ◌<◌, ◌+◌, ◌-◌, ℕ, List, [], ◌∷◌, ◌++◌, length, drop, refl, sym, ap, ◌∙◌, subst, arith, append_assoc, append-nil}
+use Rattle.std.proofs.Common.{◌≡◌, ◌≤◌, ◌<◌, ◌+◌, ◌-◌, ℕ, List, [], ◌∷◌, ◌++◌, length, refl, sym, ap, ◌∙◌, subst, arith, append_assoc, append-nil}
 use Rattle.std.proofs.lemmas.List.{length-append, length-drop}
 use Rattle.lang_log.specs.declared.call.LogCall.{LogCall}
 use Rattle.lang_log.specs.declared.call.LogCall.TheVariants.{Append, Get, Trim, Count, Order, Sync, Bad}
 use Rattle.lang_log.specs.declared.call.LogReply.{LogReply}
 use Rattle.lang_log.specs.declared.call.LogReply.TheVariants.{Number, Bytes, Low, Range, Ordered, Durable, Bad as NotUnderstood, NoRecord, TooLong, LogEnd, Refused}
 use Rattle.lang_log.specs.Answers.{AnswersLog, LogRun, MayBegin, after_call, after_calls, append_of, appends_of, trimmed_by}
-use Rattle.lang_log.specs.Log.{Log, next_of, trimmed}
+use Rattle.lang_log.specs.Log.{Log, next_of}
 use Rattle.lang_log.specs.History.{History, opened_with, trimmed_to}
 use Rattle.lang_log.specs.Runs.{Appends, AreOf, all_kept, count, found_in, from_low, one_more}
 use Rattle.lang_log.proofs.Runs.{appended_of, opened_of, synced_of, trimmed_of}

@@ -36,11 +36,11 @@ dir_apart t k n bytes dir file e = let same : get t.nodes k ≡ get t.nodes n = 
 -- the tree after a change of the bytes of the file at a path
 edited_is : (t : Tree) (p : List (List ℕ)) (n : ℕ) (xs ys : List ℕ) (change : List ℕ → List ℕ) → get t.names p ≡ Some n
     → get t.nodes n ≡ Some (File xs) → change xs ≡ ys
-    → edited t p change ≡ record { names = t.names; nodes = insert t.nodes n (File ys) }
+    → edited t p change ≡ record t { nodes = insert t.nodes n (File ys) }
 edited_is t p n xs ys change at file is =
     ap (edited_at t change) at
-    ∙ ap (λ x. record { names = t.names; nodes = with_bytes t.nodes n change x }) file
-    ∙ ap (λ ys. record { names = t.names; nodes = insert t.nodes n (File ys) }) is
+    ∙ ap (λ x. record t { nodes = with_bytes t.nodes n change x }) file
+    ∙ ap (λ ys. record t { nodes = insert t.nodes n (File ys) }) is
 
 -- the last segment has one append more
 module _ (t : Tree) (before : List Segment) (s : Segment) (bytes : List ℕ) (h : HasSegments t (before ++ s ∷ [])) where
@@ -51,7 +51,7 @@ module _ (t : Tree) (before : List Segment) (s : Segment) (bytes : List ℕ) (h 
   lies = last_lies t before s h.there
 
   abbrev after : Tree
-  after = record { names = t.names; nodes = insert t.nodes s.node (File (spellings s.appends ++ spelling bytes)) }
+  after = record t { nodes = insert t.nodes s.node (File (spellings s.appends ++ spelling bytes)) }
 
   spelled : spellings longer.appends ≡ spellings s.appends ++ spelling bytes
   spelled = flat_map-append spelling s.appends (bytes ∷ []) ∙ ap (λ back. spellings s.appends ++ back) (append-nil (spelling bytes))

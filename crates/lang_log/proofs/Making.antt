@@ -28,17 +28,17 @@ record IsMade (path : List (List ℕ)) (thing : Thing) (old new : Session) (repl
   pub free : get old.tree.nodes node ≡ None
   pub done : reply ≡ Done
   pub changed : new.changed ≡ true
-  pub tree : record { names = insert old.tree.names path node; nodes = insert old.tree.nodes node thing } ≡ new.tree
+  pub tree : record old.tree { names = insert old.tree.names path node; nodes = insert old.tree.nodes node thing } ≡ new.tree
 
 -- what comes of a path that isn't there and may be made
 made_step : (path : List (List ℕ)) (thing : Thing) (cmd : Cmd) (old new : Session) (reply : Reply)
-    → refusal old.limit old.tree cmd ≡ when (is_none (least_unused old.limit old.tree.nodes)) NoNode
+    → refusal old.limit old.tree cmd ≡ when (is_none (least_unused old.limit old.tree)) NoNode
     → answered old cmd None ≡ changed_to old (added old.limit old.tree path thing) → step old cmd ≡ (new, reply)
     → LacksNode old new reply ⊎ IsMade path thing old new reply
-made_step path thing cmd old new reply refused done e = by (least_unused old.limit old.tree.nodes) refl (sym e ∙ ap (answered old cmd) refused)
+made_step path thing cmd old new reply refused done e = by (least_unused old.limit old.tree) refl (sym e ∙ ap (answered old cmd) refused)
   where
-    by : (o : Option ℕ) → least_unused old.limit old.tree.nodes ≡ o
-        → (new, reply) ≡ answered old cmd (when (is_none (least_unused old.limit old.tree.nodes)) NoNode)
+    by : (o : Option ℕ) → least_unused old.limit old.tree ≡ o
+        → (new, reply) ≡ answered old cmd (when (is_none (least_unused old.limit old.tree)) NoNode)
         → LacksNode old new reply ⊎ IsMade path thing old new reply
     by None is e =
         let so = e ∙ ap (λ o. answered old cmd (when (is_none o) NoNode)) is in
@@ -47,7 +47,7 @@ made_step path thing cmd old new reply refused done e = by (least_unused old.lim
         let so = e ∙ ap (λ o. answered old cmd (when (is_none o) NoNode)) is ∙ done ∙ ap (λ o. changed_to old (with_node old.tree path thing o)) is in
         inr (record {
           node = n;
-          free = unused_is_free old.limit old.tree.nodes n is;
+          free = unused_is_free old.limit old.tree n is;
           done = ap (λ x. x.1) so;
           changed = ap (λ x. x.0.changed) so;
           tree = sym (ap (λ x. x.0.tree) so);
@@ -59,7 +59,7 @@ module _ (t : Tree) (segments : List Segment) (first n : ℕ) (h : HasSegments t
   fresh = new_segment first n
 
   abbrev after : Tree
-  after = record { names = insert t.names (segment_path first) n; nodes = insert t.nodes n (File []) }
+  after = record t { names = insert t.names (segment_path first) n; nodes = insert t.nodes n (File []) }
 
   used : (k : ℕ) (x : Thing) → get t.nodes k ≡ Some x → k ≢ n
   used k x is e = none_some x free (ap (get t.nodes) (sym e) ∙ is)
@@ -140,7 +140,7 @@ none_logged limit t sound none = record {
 
 -- nor where it was just made
 made_empty : (limit : ℕ) (t : Tree) (n : ℕ) → IsSound limit t → get t.names log_path ≡ None
-    → HasSegments (record { names = insert t.names log_path n; nodes = insert t.nodes n Dir }) []
+    → HasSegments (record t { names = insert t.names log_path n; nodes = insert t.nodes n Dir }) []
 made_empty limit t n sound none = record {
   directory = λ k at. ap (get (insert t.nodes n Dir)) (sym (same k at)) ∙ node_here t.nodes n Dir;
   there = tt;

@@ -25,7 +25,7 @@ module _ (t : Tree) (s : Segment) (rest : List Segment) (h : HasSegments t (s �
   path = segment_path s.first
 
   abbrev after : Tree
-  after = record { names = remove t.names path; nodes = if path_count (remove t.names path) s.node == 0 then remove t.nodes s.node else t.nodes }
+  after = record t { names = remove t.names path; nodes = if path_count (remove t.names path) s.node == 0 then remove t.nodes s.node else t.nodes }
 
   stays : (q : Segment) → q.node ≢ s.node → LiesIn t q → LiesIn after q
   stays q apart lies = record { at = by (name_left t.names path (segment_path q.first)); file = others_stay t.nodes s.node q.node _ apart ∙ lies.file }

@@ -3,13 +3,13 @@ use Rattle.std.proofs.Common.{◌≡◌, ◌≢◌, ℕ, ◌+◌, ◌<◌, ◌�
 use Rattle.std.proofs.lemmas.List.{length-append, nil_from_length}
 use Rattle.std.proofs.lemmas.Option.{none-some, same_Some}
 use Rattle.std.specs.Cmp.{nat_cmp_total}
-use Rattle.std.specs.Cmp.Lexicographic.{lists_total}
+use Rattle.std.specs.Cmp.Lexicographic.{lists_total, slice_cmp}
 use Rattle.std.specs.Ordering.{eq_by_cmp, nat_cmp}
 use Rattle.std.specs.FinMap.{get, insert, empty, entries, put, get-insert, get-empty, entries-insert, len-empty, len-entries}
 use Rattle.byteorder.specs.Endian.{little_number}
 use Rattle.lang_tree.specs.declared.command.Cmd.TheVariants.{Create, Link, Mkdir, Read, Write}
 use Rattle.lang_tree.specs.declared.command.Reply.TheVariants.{Ok as Done, Bytes}
-use Rattle.lang_tree.specs.Tree.{Names, Nodes, Thing, Dir, File, path_cmp}
+use Rattle.lang_tree.specs.Tree.{Names, Nodes, Kept, Thing, Dir, File, alone, path_cmp}
 use Rattle.lang_tree.specs.Conditions.{least_unused}
 use Rattle.lang_tree.specs.Step.{Session, start, step}
 use Rattle.lang_tree.specs.Run.{Run}
@@ -42,8 +42,11 @@ all_names names k v = entries-insert (lists_total (lists_total nat_cmp_total)) n
 none_in : entries (empty {X = ℕ} {R = path_cmp}) ≡ []
 none_in = nil_from_length (entries (empty {X = ℕ} {R = path_cmp})) (sym (len-entries (empty {X = ℕ} {R = path_cmp})) ∙ len-empty path_cmp ℕ)
 
+none_kept : entries (empty {X = Kept} {R = slice_cmp nat_cmp}) ≡ []
+none_kept = nil_from_length (entries (empty {X = Kept} {R = slice_cmp nat_cmp})) (sym (len-entries (empty {X = Kept} {R = slice_cmp nat_cmp})) ∙ len-empty (slice_cmp nat_cmp) Kept)
+
 abbrev changed_to_tree : Names → Nodes → Session
-changed_to_tree names nodes = record { tree = record { names = names; nodes = nodes }; limit = 16; points = 0; changed = true; durable = 0 }
+changed_to_tree names nodes = record { tree = alone names nodes; limit = 16; points = 0; changed = true; durable = 0 }
 
 -- The names and nodes of the runs, as they come.
 
@@ -79,11 +82,11 @@ wrote bytes = changed_to_tree with_first (has_bytes bytes)
 
 makes_log : step (start 16) (Mkdir log_path) ≡ (made, Done)
 unfolding least_unused
-makes_log = simp (name_at, node_at, no_name, no_node)
+makes_log = simp (name_at, node_at, no_name, no_node, none_kept)
 
 makes_first : step made (Create (segment_path 0)) ≡ (begun, Done)
 unfolding least_unused
-makes_first = simp (name_at, node_at, no_name, no_node)
+makes_first = simp (name_at, node_at, no_name, no_node, none_kept)
 
 -- Two appends.
 
@@ -165,7 +168,7 @@ file_end = changed_to_tree (insert root log_path 2) (insert root_node 2 (File []
 
 makes_file : step (start 16) (Create log_path) ≡ (file_end, Done)
 unfolding least_unused
-makes_file = simp (name_at, node_at, no_name, no_node)
+makes_file = simp (name_at, node_at, no_name, no_node, none_kept)
 
 pub a_file : (end : Session) × Run (λ why. false) (start 16) (Create log_path ∷ []) (Done ∷ []) end × HasNoLog end.tree
 a_file = (file_end, (file_end, inl makes_file, refl), file_there file_end.tree 2 [] (simp name_at) (simp node_at))
@@ -175,7 +178,7 @@ dir_end = changed_to_tree with_first (insert log_node 3 Dir)
 
 makes_dir : step made (Mkdir (segment_path 0)) ≡ (dir_end, Done)
 unfolding least_unused
-makes_dir = simp (name_at, node_at, no_name, no_node)
+makes_dir = simp (name_at, node_at, no_name, no_node, none_kept)
 
 pub a_directory : (end : Session) × Run (λ why. false) (start 16) (Mkdir log_path ∷ Mkdir (segment_path 0) ∷ []) (Done ∷ Done ∷ []) end × HasNoLog end.tree
 a_directory =
@@ -233,7 +236,7 @@ gap_end = changed_to_tree (insert with_first (segment_path 2) 4) (insert (has_by
 
 makes_third : step (wrote empty_append) (Create (segment_path 2)) ≡ (gap_end, Done)
 unfolding least_unused
-makes_third = simp (name_at, node_at, no_name, no_node)
+makes_third = simp (name_at, node_at, no_name, no_node, none_kept)
 
 abbrev lone : Segment
 lone = record { first = 0; node = 3; appends = [] ∷ [] }
@@ -260,7 +263,7 @@ short_end = changed_to_tree (insert with_log short_name 3) first_node
 
 makes_short : step made (Create short_name) ≡ (short_end, Done)
 unfolding least_unused
-makes_short = simp (name_at, node_at, no_name, no_node)
+makes_short = simp (name_at, node_at, no_name, no_node, none_kept)
 
 pub a_short_name : (end : Session) × Run (λ why. false) (start 16) (Mkdir log_path ∷ Create short_name ∷ []) (Done ∷ Done ∷ []) end × HasNoLog end.tree
 a_short_name = (
@@ -280,7 +283,7 @@ last_end = changed_to_tree (insert with_log last_path 3) (has_bytes empty_append
 
 makes_last : step made (Create last_path) ≡ (last_begun, Done)
 unfolding least_unused
-makes_last = simp (name_at, node_at, no_name, no_node)
+makes_last = simp (name_at, node_at, no_name, no_node, none_kept)
 
 writes_last : step last_begun (Write last_path 0 empty_append) ≡ (last_end, Done)
 writes_last = simp (name_at, node_at)

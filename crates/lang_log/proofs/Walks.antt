@@ -1,13 +1,13 @@
 -- What a sound tree with segments finds at their paths, and that no command on a segment is refused for it.
-use Rattle.std.proofs.Common.{◌≡◌, ℕ, ◌+◌, ◌≤◌, Bool, true, false, ◌&&◌, List, [], ◌∷◌, Option, Some, None, option_and_then, Result, Ok, refl, sym, ap, ◌∙◌, arith, nat_lt, is_some, is_none, if◌then◌else◌, find}
+use Rattle.std.proofs.Common.{◌≡◌, ℕ, ◌+◌, ◌≤◌, Bool, true, false, not, ◌&&◌, List, [], ◌∷◌, Option, Some, None, option_and_then, Result, Ok, refl, sym, ap, ◌∙◌, arith, nat_lt, is_some, is_none, if◌then◌else◌, find}
 use Rattle.std.proofs.lemmas.Option.{same_Some}
 use Rattle.std.specs.FinMap.{get}
 use Rattle.std.specs.List.{range_with_len}
 use Rattle.lang_tree.specs.declared.command.Refusal.{Refusal}
 use Rattle.lang_tree.specs.declared.command.Refusal.TheVariants.{Exists, NotDir, IsDir, TooLarge, NoNode}
-use Rattle.lang_tree.specs.Tree.{Tree, Nodes, Thing, Dir, File, IsSound}
+use Rattle.lang_tree.specs.Tree.{Tree, Thing, Dir, File, IsSound}
 use Rattle.lang_tree.specs.Walk.{walk, enter, is_dir, is_there, thing_at, walk_refusal, refusal_in, no_directory, parent_refusal}
-use Rattle.lang_tree.specs.Conditions.{when, first_reason, is_too_large, write_refusal, file_refusal, make_refusal, least_unused}
+use Rattle.lang_tree.specs.Conditions.{when, first_reason, is_too_large, write_refusal, file_refusal, make_refusal, least_unused, is_snapshot}
 use Rattle.lang_log.specs.Names.{log_path, path_in_log}
 
 pub none_some : {A : Type 0} {o : Option A} (x : A) → o ≡ None → o ≡ Some x → ⊥
@@ -71,11 +71,11 @@ absent o e = ap is_some e
 
 -- A path that isn't there may be made where its parent allows it, unless no number is unused.
 pub make_is : (limit : ℕ) (t : Tree) (path : List (List ℕ)) → parent_refusal t path ≡ None → get t.names path ≡ None
-    → make_refusal limit t path ≡ when (is_none (least_unused limit t.nodes)) NoNode
+    → make_refusal limit t path ≡ when (is_none (least_unused limit t)) NoNode
 make_is limit t path free none =
-    ap (λ a. first_reason (a ∷ when (is_there t path) Exists ∷ when (is_none (least_unused limit t.nodes)) NoNode ∷ [])) free
-    ∙ ap (λ b. first_reason (None ∷ when b Exists ∷ when (is_none (least_unused limit t.nodes)) NoNode ∷ [])) (absent (get t.names path) none)
-    ∙ only (is_none (least_unused limit t.nodes))
+    ap (λ a. first_reason (a ∷ when (is_there t path) Exists ∷ when (is_none (least_unused limit t)) NoNode ∷ [])) free
+    ∙ ap (λ b. first_reason (None ∷ when b Exists ∷ when (is_none (least_unused limit t)) NoNode ∷ [])) (absent (get t.names path) none)
+    ∙ only (is_none (least_unused limit t))
   where
     only : (b : Bool) → first_reason (None ∷ when false Exists ∷ when b NoNode ∷ []) ≡ when b NoNode
     only true = refl
@@ -87,6 +87,10 @@ none_of : (o : Option Thing) → is_none o ≡ true → o ≡ None
 none_of None e = refl
 none_of (Some x) e = absurd cc
 
+both : (a b : Bool) → (a && b) ≡ true → a ≡ true
+both true b e = refl
+both false b e = e
+
 found_passes : (p : ℕ → Bool) (xs : List ℕ) (n : ℕ) → find p xs ≡ Some n → p n ≡ true
 found_passes p [] n e = absurd cc
 found_passes p (x ∷ xs) n e = by (p x) refl e (found_passes p xs n)
@@ -95,6 +99,9 @@ found_passes p (x ∷ xs) n e = by (p x) refl e (found_passes p xs n)
     by true is e later = ap p (sym (same_Some x n e)) ∙ is
     by false is e later = later e
 
-pub unused_is_free : (limit : ℕ) (nodes : Nodes) (n : ℕ) → least_unused limit nodes ≡ Some n → get nodes n ≡ None
+pub unused_is_free : (limit : ℕ) (t : Tree) (n : ℕ) → least_unused limit t ≡ Some n → get t.nodes n ≡ None
 unfolding least_unused
-unused_is_free limit nodes n e = none_of (get nodes n) (found_passes (λ n. is_none (get nodes n)) (range_with_len 1 limit) n e)
+unused_is_free limit t n e =
+    none_of (get t.nodes n)
+    (both (is_none (get t.nodes n)) (not (is_snapshot t.snapshots n))
+    (found_passes (λ n. is_none (get t.nodes n) && not (is_snapshot t.snapshots n)) (range_with_len 1 limit) n e))

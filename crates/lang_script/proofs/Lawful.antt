@@ -9,9 +9,9 @@ use Rattle.hex.specs.Hex.{decode_of, decode_pairs, digit_or_error, hex_digit_val
 use Rattle.hex.specs.declared.error.FromHexError.{FromHexError}
 use Rattle.base_types.specs.Name.{is_name}
 use Rattle.lang_tree.specs.declared.command.Cmd.{Cmd}
-use Rattle.lang_tree.specs.declared.command.Cmd.TheVariants.{Mkdir, Create, Write, Fill, Read, Truncate, Link, Unlink, Rmdir, Rename, Stat, List as ListNames, Osync, Dsync, Durable, Poll, Bad}
+use Rattle.lang_tree.specs.declared.command.Cmd.TheVariants.{Mkdir, Create, Write, Fill, Read, Truncate, Link, Unlink, Rmdir, Rename, Stat, List as ListNames, Osync, Dsync, Durable, Dwait, Poll, Bad}
 use Rattle.lang_script.specs.Values.{IsCommand}
-use Rattle.lang_script.specs.Grammar.{command_of, command_of_parts, path_of, names_of, small_number_of, bytes_of, some_bytes, path_command, paths_command, truncate_of, write_of, read_of, fill_of, is_in_grammar}
+use Rattle.lang_script.specs.Grammar.{command_of, command_of_parts, path_of, names_of, small_number_of, bytes_of, some_bytes, path_command, paths_command, truncate_of, dwait_of, write_of, read_of, fill_of, is_in_grammar}
 
 abbrev Lawful : Cmd → Type 0
 Lawful cmd = (cmd ≡ Bad) ⊎ (is_in_grammar cmd ≡ true)
@@ -130,6 +130,10 @@ truncate_lawful None size h k = inl refl
 truncate_lawful (Some path) None h k = inl refl
 truncate_lawful (Some path) (Some size) h k = inr (rw h k)
 
+dwait_lawful : (point : Option ℕ) → IfSome point small → Lawful (dwait_of point)
+dwait_lawful None h = inl refl
+dwait_lawful (Some point) h = inr h
+
 write_lawful : (path : Option (List (List ℕ))) (offset : Option ℕ) (bytes : Option (List ℕ))
     → IfSome path lawful_path → IfSome offset small → IfSome bytes some_of_them → Lawful (write_of path offset bytes)
 write_lawful None offset bytes h k m = inl refl
@@ -166,7 +170,9 @@ parts_lawful : (parts : List (List ℕ)) → Lawful (command_of_parts parts)
 parts_lawful [] = inl refl
 parts_lawful (word ∷ []) =
     either _ Osync _ (inr refl) (either _ Dsync _ (inr refl) (either _ Durable _ (inr refl) (either _ Poll Bad (inr refl) (inl refl))))
-parts_lawful (word ∷ path ∷ []) = path_command_lawful word (path_of path) (path_lawful path)
+parts_lawful (word ∷ last ∷ []) =
+    either (bytes_eq word (codes "dwait")) (dwait_of (small_number_of last)) (path_command word (path_of last))
+    (dwait_lawful (small_number_of last) (number_small last)) (path_command_lawful word (path_of last) (path_lawful last))
 parts_lawful (word ∷ path ∷ last ∷ []) =
     either (bytes_eq word (codes "truncate")) (truncate_of (path_of path) (small_number_of last)) (paths_command word (path_of path) (path_of last))
     (truncate_lawful (path_of path) (small_number_of last) (path_lawful path) (number_small last))
@@ -206,6 +212,7 @@ in_grammar_lawful (ListNames path) h = h
 in_grammar_lawful Osync h = refl
 in_grammar_lawful Dsync h = refl
 in_grammar_lawful Durable h = refl
+in_grammar_lawful (Dwait point) h = h
 in_grammar_lawful Poll h = refl
 in_grammar_lawful Bad h = refl
 

@@ -12,13 +12,13 @@ use Rattle.std.proofs.lemmas.List.Sums.{AllPass-from_list_all}
 use Rattle.hex.specs.Hex.{encode_lower, encode_with, lower_digits}
 use Rattle.base_types.specs.Name.{is_name, is_name_byte}
 use Rattle.lang_tree.specs.declared.command.Cmd.{Cmd}
-use Rattle.lang_tree.specs.declared.command.Cmd.TheVariants.{Mkdir, Create, Write, Fill, Read, Truncate, Link, Unlink, Rmdir, Rename, Stat, List as ListNames, Osync, Dsync, Durable, Poll, Bad}
+use Rattle.lang_tree.specs.declared.command.Cmd.TheVariants.{Mkdir, Create, Write, Fill, Read, Truncate, Link, Unlink, Rmdir, Rename, Stat, List as ListNames, Osync, Dsync, Durable, Dwait, Poll, Bad}
 use Rattle.lang_tree.specs.declared.command.Kind.{Kind}
 use Rattle.lang_tree.specs.declared.command.Kind.TheVariants.{Dir, File}
 use Rattle.lang_tree.specs.declared.command.Reply.{Reply}
 use Rattle.lang_tree.specs.declared.command.Reply.TheVariants.{Ok as Done, Bytes, Stat as StatReply, Names, Synced, DurableAt, Known, Bad as NotUnderstood, Refused}
 use Rattle.lang_tree.specs.declared.command.Refusal.{Refusal}
-use Rattle.lang_tree.specs.declared.command.Refusal.TheVariants.{NotFound, Exists, NotDir, IsDir, NotEmpty, BelowItself, TooLarge, TooManyLinks, NoNode, Full, TooBig, Scattered, ReadFault, DiskFault, Stopped, Spent, NoMemory}
+use Rattle.lang_tree.specs.declared.command.Refusal.TheVariants.{NotFound, Exists, NotDir, IsDir, NotEmpty, BelowItself, TooLarge, TooManyLinks, NoNode, Full, TooBig, Scattered, ReadFault, DiskFault, Stopped, Spent, NoMemory, NoPoint}
 use Rattle.lang_tree.specs.Refusals.{refusal_number, refusal_name}
 use Rattle.lang_tree.specs.Listing.{slashed, path_text, digits_behind_blank}
 use Rattle.lang_script.specs.Shared.{name_bytes, own, weaker}
@@ -138,6 +138,7 @@ abbrev refusal_parts : Refusal → List (List ℕ)
 refusal_parts (Full need left) = codes "full" ∷ decimal need ∷ decimal left ∷ []
 refusal_parts (TooBig weight cost room) = codes "toobig" ∷ decimal weight ∷ decimal cost ∷ decimal room ∷ []
 refusal_parts (Scattered runs) = codes "scattered" ∷ decimal runs ∷ []
+refusal_parts (NoPoint last) = codes "nopoint" ∷ decimal last ∷ []
 refusal_parts why = codes "refused" ∷ decimal (refusal_number why) ∷ refusal_name why ∷ []
 
 abbrev bytes_parts : List ℕ → List (List ℕ)
@@ -182,6 +183,7 @@ refusal_joined : (why : Refusal) → refusal_text why ≡ joined (refusal_parts 
 refusal_joined (Full need left) = two_text (codes "full ") (decimal need) (decimal left)
 refusal_joined (TooBig weight cost room) = three_text (codes "toobig ") (decimal weight) (decimal cost) (decimal room)
 refusal_joined (Scattered runs) = one_text (codes "scattered ") (decimal runs)
+refusal_joined (NoPoint last) = one_text (codes "nopoint ") (decimal last)
 refusal_joined NotFound = reason_text NotFound
 refusal_joined Exists = reason_text Exists
 refusal_joined NotDir = reason_text NotDir
@@ -221,6 +223,7 @@ refusal_are_parts : (why : Refusal) → HasFigures why → Parts (refusal_parts 
 refusal_are_parts (Full need left) h = (refl, (number_part need h.0, (number_part left h.1, tt)))
 refusal_are_parts (TooBig weight cost room) h = (refl, (number_part weight h.0, (number_part cost h.1, (number_part room h.2, tt))))
 refusal_are_parts (Scattered runs) h = (refl, (number_part runs h, tt))
+refusal_are_parts (NoPoint last) h = (refl, (number_part last h, tt))
 refusal_are_parts NotFound h = reason_parts (codes "refused") NotFound refl refl (omega arith)
 refusal_are_parts Exists h = reason_parts (codes "refused") Exists refl refl (omega arith)
 refusal_are_parts NotDir h = reason_parts (codes "refused") NotDir refl refl (omega arith)
@@ -291,6 +294,7 @@ reply_with word parts =
     else if bytes_eq word (codes "full") then Refused (Full (number_at parts 0) (number_at parts 1))
     else if bytes_eq word (codes "toobig") then Refused (TooBig (number_at parts 0) (number_at parts 1) (number_at parts 2))
     else if bytes_eq word (codes "scattered") then Refused (Scattered (number_at parts 0))
+    else if bytes_eq word (codes "nopoint") then Refused (NoPoint (number_at parts 0))
     else Refused (reason_in (number_at parts 0))
 
 abbrev reply_in : List (List ℕ) → Reply
@@ -316,6 +320,7 @@ refusal_back : (why : Refusal) → HasFigures why → reply_in (refusal_parts wh
 refusal_back (Full need left) h = rw (value need h.0, value left h.1) refl
 refusal_back (TooBig weight cost room) h = rw (value weight h.0, value cost h.1, value room h.2) refl
 refusal_back (Scattered runs) h = rw (value runs h) refl
+refusal_back (NoPoint last) h = rw (value last h) refl
 refusal_back NotFound h = reason_back NotFound (omega arith) refl
 refusal_back Exists h = reason_back Exists (omega arith) refl
 refusal_back NotDir h = reason_back NotDir (omega arith) refl
@@ -362,6 +367,7 @@ first_part (Refused why) = first_of why
     first_of (Full need left) = (codes "full", decimal need ∷ decimal left ∷ [], refl)
     first_of (TooBig weight cost room) = (codes "toobig", decimal weight ∷ decimal cost ∷ decimal room ∷ [], refl)
     first_of (Scattered runs) = (codes "scattered", decimal runs ∷ [], refl)
+    first_of (NoPoint last) = (codes "nopoint", decimal last ∷ [], refl)
     first_of NotFound = (codes "refused", _, refl)
     first_of Exists = (codes "refused", _, refl)
     first_of NotDir = (codes "refused", _, refl)
@@ -407,6 +413,7 @@ read_back (ListNames path) h = round_trip (ListNames path) h
 read_back Osync h = refl
 read_back Dsync h = refl
 read_back Durable h = refl
+read_back (Dwait point) h = round_trip (Dwait point) h
 read_back Poll h = refl
 read_back Bad h = refl
 
@@ -482,5 +489,6 @@ command_no_feed (ListNames path) h = behind_word (codes "list ") path refl h
 command_no_feed Osync h = refl
 command_no_feed Dsync h = refl
 command_no_feed Durable h = refl
+command_no_feed (Dwait point) h = beside (codes "dwait ") (decimal point) refl (number_no_feed point (fitting point h))
 command_no_feed Poll h = refl
 command_no_feed Bad h = refl

@@ -13,11 +13,11 @@ use Rattle.hex.specs.Hex.{encode_lower, encode_with, lower_digits}
 use Rattle.hex.proofs.HexLemmas.{decode_of-encode_lower}
 use Rattle.base_types.specs.Name.{is_name, is_name_byte}
 use Rattle.lang_tree.specs.declared.command.Cmd.{Cmd}
-use Rattle.lang_tree.specs.declared.command.Cmd.TheVariants.{Mkdir, Create, Write, Fill, Read, Truncate, Link, Unlink, Rmdir, Rename, Stat, List as ListNames, Osync, Dsync, Durable, Poll, Bad}
+use Rattle.lang_tree.specs.declared.command.Cmd.TheVariants.{Mkdir, Create, Write, Fill, Read, Truncate, Link, Unlink, Rmdir, Rename, Stat, List as ListNames, Osync, Dsync, Durable, Dwait, Poll, Bad}
 use Rattle.lang_tree.specs.Listing.{slashed, path_text}
 use Rattle.lang_script.specs.Shared.{name_bytes, own, weaker}
 use Rattle.lang_script.specs.Text.{command_text}
-use Rattle.lang_script.specs.Grammar.{command_of, command_of_parts, path_of, small_number_of, bytes_of, some_bytes, path_command, paths_command, truncate_of, write_of, read_of, fill_of, fits, is_in_grammar}
+use Rattle.lang_script.specs.Grammar.{command_of, command_of_parts, path_of, small_number_of, bytes_of, some_bytes, path_command, paths_command, truncate_of, dwait_of, write_of, read_of, fill_of, fits, is_in_grammar}
 
 -- ---- lists without a byte
 
@@ -142,12 +142,12 @@ regroup_four a p d e f =
     ∙ append_assoc (a ++ p ++ codes " " ++ d ++ codes " ") e (32 ∷ f)
     ∙ regroup_three a p d (e ++ 32 ∷ f)
 
--- a word, a blank and a path read as the command of the word and the path
-path_reads : (word : List ℕ) (path : List (List ℕ)) → list_all (other 32) word ≡ true → list_all is_name path ≡ true
+-- a word, which isn't `dwait`, a blank and a path read as the command of the word and the path
+path_reads : (word : List ℕ) (path : List (List ℕ)) → list_all (other 32) word ≡ true → bytes_eq word (codes "dwait") ≡ false → list_all is_name path ≡ true
     → command_of (word ++ 32 ∷ path_text path) ≡ path_command word (Some path)
-path_reads word path w h =
+path_reads word path w off h =
     ap command_of_parts (split_two word (path_text path) w (path_lacks path h))
-    ∙ ap (λ p. path_command word p) (path_of-path_text path h)
+    ∙ rw off (ap (λ p. path_command word p) (path_of-path_text path h))
 
 -- a word, which isn't `truncate`, and two paths read as the command of the word and the paths
 paths_read : (word : List ℕ) (path second : List (List ℕ)) → list_all (other 32) word ≡ true → bytes_eq word (codes "truncate") ≡ false
@@ -168,6 +168,11 @@ rename_reads : (path second : List (List ℕ)) → list_all is_name path ≡ tru
     → command_of (command_text (Rename path second)) ≡ Rename path second
 rename_reads path second h k =
     ap command_of (regroup_two (codes "rename ") (path_text path) (path_text second)) ∙ paths_read (codes "rename") path second refl refl h k
+
+dwait_reads : (point : ℕ) → point < 4294967296 → command_of (command_text (Dwait point)) ≡ Dwait point
+dwait_reads point small =
+    ap command_of_parts (split_two (codes "dwait") (decimal point) refl (decimal_lacks point small))
+    ∙ ap dwait_of (small_number_of-decimal point small)
 
 truncate_reads : (path : List (List ℕ)) (size : ℕ) → list_all is_name path ≡ true → size < 4294967296
     → command_of (command_text (Truncate path size)) ≡ Truncate path size
@@ -217,8 +222,8 @@ fitting n h = (Decides-ltb n 4294967296).0 h
 
 -- a command that some line asks for is what its text reads as
 pub round_trip : (cmd : Cmd) → is_in_grammar cmd ≡ true → command_of (command_text cmd) ≡ cmd
-round_trip (Mkdir path) h = path_reads (codes "mkdir") path refl h
-round_trip (Create path) h = path_reads (codes "create") path refl h
+round_trip (Mkdir path) h = path_reads (codes "mkdir") path refl refl h
+round_trip (Create path) h = path_reads (codes "create") path refl refl h
 round_trip (Write path offset []) h =
     let first = and_parts (list_all is_name path) _ h in
     let second = and_parts (fits offset) false first.1 in
@@ -245,15 +250,16 @@ round_trip (Truncate path size) h =
 round_trip (Link path second) h =
     let parts = and_parts (list_all is_name path) (list_all is_name second) h in
     link_reads path second parts.0 parts.1
-round_trip (Unlink path) h = path_reads (codes "unlink") path refl h
-round_trip (Rmdir path) h = path_reads (codes "rmdir") path refl h
+round_trip (Unlink path) h = path_reads (codes "unlink") path refl refl h
+round_trip (Rmdir path) h = path_reads (codes "rmdir") path refl refl h
 round_trip (Rename path second) h =
     let parts = and_parts (list_all is_name path) (list_all is_name second) h in
     rename_reads path second parts.0 parts.1
-round_trip (Stat path) h = path_reads (codes "stat") path refl h
-round_trip (ListNames path) h = path_reads (codes "list") path refl h
+round_trip (Stat path) h = path_reads (codes "stat") path refl refl h
+round_trip (ListNames path) h = path_reads (codes "list") path refl refl h
 round_trip Osync h = refl
 round_trip Dsync h = refl
 round_trip Durable h = refl
+round_trip (Dwait point) h = dwait_reads point (fitting point h)
 round_trip Poll h = refl
 round_trip Bad h = absurd (false≢true h)

@@ -8,7 +8,7 @@ use Rattle.hex.specs.Hex.{decode_of}
 use Rattle.hex.specs.declared.error.FromHexError.{FromHexError}
 use Rattle.base_types.specs.Name.{is_name}
 use Rattle.lang_tree.specs.declared.command.Cmd.{Cmd}
-use Rattle.lang_tree.specs.declared.command.Cmd.TheVariants.{Mkdir, Create, Write, Fill, Read, Truncate, Link, Unlink, Rmdir, Rename, Stat, List as ListNames, Osync, Dsync, Durable, Poll, Bad}
+use Rattle.lang_tree.specs.declared.command.Cmd.TheVariants.{Mkdir, Create, Write, Fill, Read, Truncate, Link, Unlink, Rmdir, Rename, Stat, List as ListNames, Osync, Dsync, Durable, Dwait, Poll, Bad}
 
 -- the names behind the first slash, where what is before it is empty and each is lawful
 abbrev pub names_of : List (List ℕ) → Option (List (List ℕ))
@@ -72,6 +72,11 @@ abbrev pub truncate_of : Option (List (List ℕ)) → Option ℕ → Cmd
 truncate_of (Some path) (Some size) = Truncate path size
 truncate_of _ _ = Bad
 
+-- a wait for a sync point, where there is its number
+abbrev pub dwait_of : Option ℕ → Cmd
+dwait_of (Some point) = Dwait point
+dwait_of None = Bad
+
 -- a write, where there are a path, an offset and bytes
 abbrev pub write_of : Option (List (List ℕ)) → Option ℕ → Option (List ℕ) → Cmd
 write_of (Some path) (Some offset) (Some bytes) = Write path offset bytes
@@ -90,7 +95,9 @@ fill_of _ _ _ _ = Bad
 -- the command whose word and arguments the parts are
 abbrev pub command_of_parts : List (List ℕ) → Cmd
 command_of_parts (word ∷ []) = word_command word
-command_of_parts (word ∷ path ∷ []) = path_command word (path_of path)
+command_of_parts (word ∷ last ∷ []) =
+    if bytes_eq word (codes "dwait") then dwait_of (small_number_of last)
+    else path_command word (path_of last)
 command_of_parts (word ∷ path ∷ last ∷ []) =
     if bytes_eq word (codes "truncate") then truncate_of (path_of path) (small_number_of last)
     else paths_command word (path_of path) (path_of last)
@@ -121,6 +128,7 @@ has_lawful_arguments (Rmdir path) = list_all is_name path
 has_lawful_arguments (Rename path other) = list_all is_name path && list_all is_name other
 has_lawful_arguments (Stat path) = list_all is_name path
 has_lawful_arguments (ListNames path) = list_all is_name path
+has_lawful_arguments (Dwait point) = fits point
 has_lawful_arguments _ = true
 
 -- whether some line asks for the command: it isn't `Bad`, and its arguments are lawful

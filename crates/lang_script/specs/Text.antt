@@ -4,13 +4,13 @@ use Rattle.std.specs.Prelude.{ℕ, List, ◌∷◌, ◌++◌, codes, decimal}
 use Rattle.std.specs.List.{flat_map}
 use Rattle.hex.specs.Hex.{encode_lower}
 use Rattle.lang_tree.specs.declared.command.Cmd.{Cmd}
-use Rattle.lang_tree.specs.declared.command.Cmd.TheVariants.{Mkdir, Create, Write, Fill, Read, Truncate, Link, Unlink, Rmdir, Rename, Stat, List as ListNames, Osync, Dsync, Durable, Poll, Bad}
+use Rattle.lang_tree.specs.declared.command.Cmd.TheVariants.{Mkdir, Create, Write, Fill, Read, Truncate, Link, Unlink, Rmdir, Rename, Stat, List as ListNames, Osync, Dsync, Durable, Dwait, Poll, Bad}
 use Rattle.lang_tree.specs.declared.command.Kind.{Kind}
 use Rattle.lang_tree.specs.declared.command.Kind.TheVariants.{Dir, File}
 use Rattle.lang_tree.specs.declared.command.Reply.{Reply}
 use Rattle.lang_tree.specs.declared.command.Reply.TheVariants.{Ok as Done, Bytes, Stat as StatReply, Names, Synced, DurableAt, Known, Bad as NotUnderstood, Refused}
 use Rattle.lang_tree.specs.declared.command.Refusal.{Refusal}
-use Rattle.lang_tree.specs.declared.command.Refusal.TheVariants.{Full, TooBig, Scattered}
+use Rattle.lang_tree.specs.declared.command.Refusal.TheVariants.{Full, TooBig, Scattered, NoPoint}
 use Rattle.lang_tree.specs.Listing.{path_text, digits_behind_blank}
 use Rattle.lang_tree.specs.Refusals.{refusal_number, refusal_name}
 
@@ -34,6 +34,7 @@ command_text (ListNames path) = codes "list " ++ path_text path
 command_text Osync = codes "osync"
 command_text Dsync = codes "dsync"
 command_text Durable = codes "durable"
+command_text (Dwait point) = codes "dwait " ++ decimal point
 command_text Poll = codes "poll"
 command_text Bad = codes "?"
 
@@ -46,11 +47,12 @@ kind_text File = codes "file"
 abbrev pub names_behind_blanks : List (List ℕ) → List ℕ
 names_behind_blanks names = flat_map (λ name. 32 ∷ name) names
 
--- how a refusal is written: three tell their figures, and every other one its number and name
+-- how a refusal is written: four tell their figures, and every other one its number and name
 abbrev pub refusal_text : Refusal → List ℕ
 refusal_text (Full need left) = codes "full " ++ decimal need ++ codes " " ++ decimal left
 refusal_text (TooBig weight cost room) = codes "toobig " ++ decimal weight ++ codes " " ++ decimal cost ++ codes " " ++ decimal room
 refusal_text (Scattered runs) = codes "scattered " ++ decimal runs
+refusal_text (NoPoint last) = codes "nopoint " ++ decimal last
 refusal_text why = codes "refused " ++ decimal (refusal_number why) ++ codes " " ++ refusal_name why
 
 -- how a reply is written

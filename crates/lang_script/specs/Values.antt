@@ -6,7 +6,7 @@ use Rattle.lang_tree.specs.declared.command.Cmd.{Cmd}
 use Rattle.lang_tree.specs.declared.command.Reply.{Reply}
 use Rattle.lang_tree.specs.declared.command.Reply.TheVariants.{Bytes, Stat as StatReply, Names, Synced, DurableAt, Known, Refused}
 use Rattle.lang_tree.specs.declared.command.Refusal.{Refusal}
-use Rattle.lang_tree.specs.declared.command.Refusal.TheVariants.{Full, TooBig, Scattered}
+use Rattle.lang_tree.specs.declared.command.Refusal.TheVariants.{Full, TooBig, Scattered, NoPoint}
 use Rattle.lang_script.specs.Grammar.{has_lawful_arguments}
 
 -- a command whose arguments are lawful, or none
@@ -18,6 +18,7 @@ abbrev pub HasFigures : Refusal → Type 0
 HasFigures (Full need left) = (need < 2 ^ 64) × (left < 2 ^ 64)
 HasFigures (TooBig weight cost room) = (weight < 2 ^ 64) × (cost < 2 ^ 64) × (room < 2 ^ 64)
 HasFigures (Scattered runs) = runs < 2 ^ 64
+HasFigures (NoPoint last) = last < 2 ^ 64
 HasFigures _ = Unit {0}
 
 -- a reply whose numbers have 64 bits, whose bytes are below 256 and whose names are lawful

@@ -4,7 +4,7 @@
 
 ghost use Rattle.std.specs.Prelude.{◌≡◌, List, [], ◌∷◌, IfOk, ◌⊎◌, map, true, Some};
 ghost use Rattle.lang_tree.specs.declared.command.Cmd.TheVariants.{Bad};
-ghost use Rattle.lang_script.specs.Grammar.{command_of, command_of_parts, is_in_grammar, word_command, path_command, paths_command, truncate_of};
+ghost use Rattle.lang_script.specs.Grammar.{command_of, command_of_parts, is_in_grammar, word_command, path_command, paths_command, truncate_of, dwait_of};
 ghost use Rattle.lang_script.specs.Grammar.{write_of, read_of, fill_of, path_of, small_number_of, bytes_of};
 
 use crate::arguments::{bytes, number, parts, path};
@@ -31,8 +31,8 @@ fn cmd_of_parts(alloc: Global, parts: &[&[u8]]) -> Result<Cmd, NoMemory>
 {
     match parts {
         [word] => Ok(cmd_of_word(word)),
-        [word, path] => {
-            let cmd = with_path(alloc, word, path)?;
+        [word, last] => {
+            let cmd = with_one(alloc, word, last)?;
             Ok(cmd)
         }
         [word, path, last] => {
@@ -69,6 +69,26 @@ fn cmd_of_word(word: &[u8]) -> Cmd
         return Cmd::Poll;
     }
     Cmd::Bad
+}
+
+// A word and one argument.
+fn with_one(alloc: Global, word: &[u8], last: &[u8]) -> Result<Cmd, NoMemory>
+    ensures { IfOk result (λ cmd. cmd ≡ command_of_parts (word.now ∷ last.now ∷ [])) }
+{
+    if word == b"dwait".as_slice() {
+        return Ok(dwait(last));
+    }
+    let cmd = with_path(alloc, word, last)?;
+    Ok(cmd)
+}
+
+fn dwait(point: &[u8]) -> Cmd
+    ensures { result ≡ dwait_of (small_number_of point.now) }
+{
+    match number(point) {
+        Some(point) => Cmd::Dwait(point),
+        None => Cmd::Bad,
+    }
 }
 
 // A word and a path.

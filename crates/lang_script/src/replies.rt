@@ -155,6 +155,10 @@ fn push_refusal(text: &mut Vec<u8>, why: Refusal) -> Result<(), NoMemory>
             push(text, b"scattered")?;
             push_number(text, u64::from(runs))?;
         }
+        Refusal::NoPoint { last } => {
+            push(text, b"nopoint")?;
+            push_number(text, last)?;
+        }
         Refusal::NotFound
         | Refusal::Exists
         | Refusal::NotDir

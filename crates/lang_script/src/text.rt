@@ -56,6 +56,10 @@ fn text_of_cmd(alloc: Global, cmd: &Cmd) -> Result<Vec<u8>, NoMemory>
         Cmd::Osync => push(&mut text, b"osync")?,
         Cmd::Dsync => push(&mut text, b"dsync")?,
         Cmd::Durable => push(&mut text, b"durable")?,
+        Cmd::Dwait(point) => {
+            push(&mut text, b"dwait")?;
+            push_number(&mut text, u64::from(*point))?;
+        }
         Cmd::Poll => push(&mut text, b"poll")?,
         Cmd::Bad => push(&mut text, b"?")?,
     }

@@ -1,5 +1,6 @@
 pub mod SoundChanges
 pub mod SoundMoves
 pub mod Sound
+pub mod Snapshots
 pub mod Sizes
 pub mod PathLaws

@@ -1,12 +1,12 @@
 -- Why a command is refused: first the walks, and then the other conditions in the order of their numbers. They are the table in docs/TREE.md.
-use Rattle.std.specs.Prelude.{ℕ, ◌+◌, ◌==◌, Bool, ◌&&◌, if◌then◌else◌, List, [], ◌∷◌, length, nat_lt, nat_le, is_none, Option, None, Some, find}
-use Rattle.std.specs.List.{range_with_len}
-use Rattle.std.specs.FinMap.{get}
+use Rattle.std.specs.Prelude.{ℕ, ◌+◌, ◌==◌, Bool, not, ◌&&◌, if◌then◌else◌, List, [], ◌∷◌, length, nat_lt, nat_le, is_none, Option, None, Some, find}
+use Rattle.std.specs.List.{range_with_len, list_any}
+use Rattle.std.specs.FinMap.{get, entries}
 use Rattle.lang_tree.specs.declared.command.Cmd.{Cmd}
-use Rattle.lang_tree.specs.declared.command.Cmd.TheVariants.{Mkdir, Create, Write, Fill, Read, Truncate, Link, Unlink, Rmdir, Rename, Stat, List as ListNames, Osync, Dsync, Durable, Poll, Bad}
+use Rattle.lang_tree.specs.declared.command.Cmd.TheVariants.{Mkdir, Create, Write, Fill, Read, Truncate, Link, Unlink, Rmdir, Rename, Stat, List as ListNames, Osync, Dsync, Durable, Dwait, Poll, Bad}
 use Rattle.lang_tree.specs.declared.command.Refusal.{Refusal}
 use Rattle.lang_tree.specs.declared.command.Refusal.TheVariants.{Exists, NotDir, IsDir, NotEmpty, BelowItself, TooLarge, TooManyLinks, NoNode}
-use Rattle.lang_tree.specs.Tree.{Tree, Nodes}
+use Rattle.lang_tree.specs.Tree.{Tree, Snapshots}
 use Rattle.lang_tree.specs.Paths.{is_below}
 use Rattle.lang_tree.specs.Names.{holds_names}
 use Rattle.lang_tree.specs.Walk.{walk_refusal, parent_refusal, thing_at, is_there, is_dir, is_file, is_same_node, links}
@@ -21,9 +21,13 @@ first_reason [] = None
 first_reason (None ∷ later) = first_reason later
 first_reason (Some why ∷ later) = Some why
 
--- the least number from 1 to the limit that no node has
-unfoldable pub least_unused : ℕ → Nodes → Option ℕ
-least_unused limit nodes = find (λ n. is_none (get nodes n)) (range_with_len 1 limit)
+-- whether a snapshot has this number
+abbrev pub is_snapshot : Snapshots → ℕ → Bool
+is_snapshot snapshots n = list_any (λ e. e.1.number == n) (entries snapshots)
+
+-- the least number from 1 to the limit that no node and no snapshot has
+unfoldable pub least_unused : ℕ → Tree → Option ℕ
+least_unused limit t = find (λ n. is_none (get t.nodes n) && not (is_snapshot t.snapshots n)) (range_with_len 1 limit)
 
 -- a file has at most 2^30 bytes
 abbrev pub is_too_large : ℕ → Bool
@@ -31,7 +35,7 @@ is_too_large size = nat_lt 1073741824 size
 
 -- a new node: the path isn't there, and a number is unused
 abbrev pub make_refusal : ℕ → Tree → List (List ℕ) → Option Refusal
-make_refusal limit t path = first_reason (parent_refusal t path ∷ when (is_there t path) Exists ∷ when (is_none (least_unused limit t.nodes)) NoNode ∷ [])
+make_refusal limit t path = first_reason (parent_refusal t path ∷ when (is_there t path) Exists ∷ when (is_none (least_unused limit t)) NoNode ∷ [])
 
 -- so many bytes from `offset` on come into a file
 abbrev pub write_refusal : Tree → List (List ℕ) → ℕ → ℕ → Option Refusal
@@ -90,5 +94,6 @@ refusal limit t (ListNames path) = list_refusal t path
 refusal limit t Osync = None
 refusal limit t Dsync = None
 refusal limit t Durable = None
+refusal limit t (Dwait n) = None
 refusal limit t Poll = None
 refusal limit t Bad = None

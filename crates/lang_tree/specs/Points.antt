@@ -1,7 +1,7 @@
 -- The sync points of a run of commands, and which of them a crash may leave. They are described in docs/CRASHES.md.
 use Rattle.std.specs.Prelude.{ℕ, ◌+◌, ◌<◌, ◌≤◌, ◌^◌, max, nat_le, Bool, true, false, if◌then◌else◌, ◌&&◌, List, [], ◌∷◌, ◌++◌}
 use Rattle.lang_tree.specs.declared.command.Cmd.{Cmd}
-use Rattle.lang_tree.specs.declared.command.Cmd.TheVariants.{Osync, Dsync, Durable}
+use Rattle.lang_tree.specs.declared.command.Cmd.TheVariants.{Osync, Dsync, Durable, Dwait}
 use Rattle.lang_tree.specs.declared.command.Reply.{Reply}
 use Rattle.lang_tree.specs.declared.command.Reply.TheVariants.{DurableAt, Known, Refused}
 use Rattle.lang_tree.specs.declared.command.Refusal.TheVariants.{DiskFault}
@@ -27,6 +27,7 @@ is_sync _ = false
 abbrev pub asks_for_durability : Cmd → Bool
 asks_for_durability Dsync = true
 asks_for_durability Durable = true
+asks_for_durability (Dwait n) = true
 asks_for_durability _ = false
 
 -- whether the command, where it is done, answers the number of a sync point
@@ -34,7 +35,7 @@ abbrev pub answers_point : Cmd → Bool
 answers_point Osync = true
 answers_point cmd = asks_for_durability cmd
 
--- The last point that a dsync answered is none past the last point, whose number has 64 bits.
+-- The greatest point that a dsync or a dwait answered is none past the last point, whose number has 64 bits.
 pub record CountsPoints (s : Session) : Type 0 where
   pub made : s.durable ≤ s.points
   pub low : s.points < 2 ^ 64
@@ -74,7 +75,7 @@ begun_by k (p ∷ points) = (if nat_le p.begun k then 1 else 0) + begun_by k poi
 abbrev pub top : ℕ → Session → ℕ → List Cmd → List Reply → List ℕ → ℕ
 top k s mounted cmds replies marks = begun_by k (points_after s mounted cmds replies marks)
 
--- the point that a reply promises to be on the disk from then on: the one that a dsync waited for, or that is known to be there. Any other reply promises none past point 0
+-- the point that a reply promises to be on the disk from then on: the one that a dsync or a dwait waited for, or that is known to be there. Any other reply promises none past point 0
 abbrev pub promised_by : Reply → ℕ
 promised_by (DurableAt n) = n
 promised_by (Known n) = n

@@ -1,5 +1,5 @@
 -- Whole runs of commands: the fold of `step`, with the refusals that come from outside the tree. It is described in docs/TREE.md.
-use Rattle.std.specs.Prelude.{◌≡◌, ◌≢◌, ◌⊎◌, ℕ, ◌≤◌, ◌<◌, nat_le, slice_get, Bool, true, false, List, [], ◌∷◌, Some}
+use Rattle.std.specs.Prelude.{◌≡◌, ◌≢◌, ◌⊎◌, ℕ, ◌≤◌, ◌<◌, nat_le, slice_get, ◌&&◌, Bool, true, false, List, [], ◌∷◌, Some}
 use Rattle.lang_tree.specs.declared.command.Cmd.{Cmd}
 use Rattle.lang_tree.specs.declared.command.Cmd.TheVariants.{Durable, Bad}
 use Rattle.lang_tree.specs.declared.command.Reply.{Reply}
@@ -16,11 +16,11 @@ abbrev pub is_of_memory : Refusal → Bool
 is_of_memory NoMemory = true
 is_of_memory _ = false
 
--- of a file system over a disk: the numbers from 10 on, of which being out of memory is one
+-- of a file system over a disk: the numbers from 10 to 17, of which being out of memory is the last
 abbrev pub is_of_disk : Refusal → Bool
-is_of_disk why = nat_le 10 (refusal_number why)
+is_of_disk why = nat_le 10 (refusal_number why) && nat_le (refusal_number why) 17
 
--- `durable` is answered by a point that the disk may have: any from the last one that a dsync answered to the last one. Nothing changed.
+-- `durable` is answered by a point that the disk may have: any from the greatest one that a dsync or a dwait answered to the last one. Nothing changed.
 pub record MayKnow (old : Session) (cmd : Cmd) (reply : Reply) (new : Session) : Type 0 where
   pub asked : cmd ≡ Durable
   pub point : ℕ

@@ -1,19 +1,19 @@
 -- What each command does to the tree, and its reply. It is described in docs/TREE.md.
-use Rattle.std.specs.Prelude.{ℕ, ◌+◌, ◌-◌, ◌*◌, ◌^◌, ◌==◌, min, Bool, true, false, if◌then◌else◌, List, [], ◌++◌, length, take, drop, replicate, Option, None, Some}
+use Rattle.std.specs.Prelude.{ℕ, ◌+◌, ◌-◌, ◌*◌, ◌^◌, ◌==◌, min, max, nat_le, Bool, true, false, if◌then◌else◌, List, [], ◌++◌, length, take, drop, replicate, Option, None, Some}
 use Rattle.std.specs.FinMap.{get, insert, remove, empty}
 use Rattle.lang_tree.specs.declared.command.Cmd.{Cmd}
-use Rattle.lang_tree.specs.declared.command.Cmd.TheVariants.{Mkdir, Create, Write, Fill, Read, Truncate, Link, Unlink, Rmdir, Rename, Stat, List as ListNames, Osync, Dsync, Durable, Poll, Bad}
+use Rattle.lang_tree.specs.declared.command.Cmd.TheVariants.{Mkdir, Create, Write, Fill, Read, Truncate, Link, Unlink, Rmdir, Rename, Stat, List as ListNames, Osync, Dsync, Durable, Dwait, Poll, Bad}
 use Rattle.lang_tree.specs.declared.command.Kind.TheVariants.{Dir as DirKind, File as FileKind}
 use Rattle.lang_tree.specs.declared.command.Reply.{Reply}
 use Rattle.lang_tree.specs.declared.command.Reply.TheVariants.{Ok as Done, Bytes, Stat as StatReply, Names as NamesReply, Synced, DurableAt, Known, Bad as NotUnderstood, Refused}
 use Rattle.lang_tree.specs.declared.command.Refusal.{Refusal}
-use Rattle.lang_tree.specs.declared.command.Refusal.TheVariants.{NotFound}
-use Rattle.lang_tree.specs.Tree.{Tree, Names, Nodes, Thing, Dir, File}
+use Rattle.lang_tree.specs.declared.command.Refusal.TheVariants.{NotFound, NoPoint}
+use Rattle.lang_tree.specs.Tree.{Tree, Names, Nodes, Thing, Dir, File, alone}
 use Rattle.lang_tree.specs.Names.{path_count, names_in, renamed}
 use Rattle.lang_tree.specs.Walk.{content, is_same_node}
 use Rattle.lang_tree.specs.Conditions.{least_unused, refusal}
 
--- a tree with the greatest node number that it may use, the number of its last sync point, whether a command changed it since, and the last point that a dsync answered
+-- a tree with the greatest node number that it may use, the number of its last sync point, whether a command changed it since, and the greatest point that a dsync or a dwait answered
 pub record Session : Type 0 where
   pub tree : Tree
   pub limit : ℕ
@@ -35,11 +35,11 @@ resized size xs = take size (xs ++ replicate (size - length xs) 0)
 
 abbrev pub with_node : Tree → List (List ℕ) → Thing → Option ℕ → Tree
 with_node t path thing None = t
-with_node t path thing (Some n) = record { names = insert t.names path n; nodes = insert t.nodes n thing }
+with_node t path thing (Some n) = record t { names = insert t.names path n; nodes = insert t.nodes n thing }
 
 -- a new node at the path, under the least unused number
 abbrev pub added : ℕ → Tree → List (List ℕ) → Thing → Tree
-added limit t path thing = with_node t path thing (least_unused limit t.nodes)
+added limit t path thing = with_node t path thing (least_unused limit t)
 
 abbrev pub with_bytes : Nodes → ℕ → (List ℕ → List ℕ) → Option Thing → Nodes
 with_bytes nodes n change (Some (File bytes)) = insert nodes n (File (change bytes))
@@ -51,7 +51,7 @@ edited_node nodes n change = with_bytes nodes n change (get nodes n)
 
 abbrev pub edited_at : Tree → (List ℕ → List ℕ) → Option ℕ → Tree
 edited_at t change None = t
-edited_at t change (Some n) = record { names = t.names; nodes = edited_node t.nodes n change }
+edited_at t change (Some n) = record t { nodes = edited_node t.nodes n change }
 
 -- the bytes of the file at the path changed so
 abbrev pub edited : Tree → List (List ℕ) → (List ℕ → List ℕ) → Tree
@@ -59,19 +59,19 @@ edited t path change = edited_at t change (get t.names path)
 
 abbrev pub linked_by : Tree → List (List ℕ) → Option ℕ → Tree
 linked_by t other None = t
-linked_by t other (Some n) = record { names = insert t.names other n; nodes = t.nodes }
+linked_by t other (Some n) = record t { names = insert t.names other n }
 
 -- the second path leads to the node at the first one too
 abbrev pub linked : Tree → List (List ℕ) → List (List ℕ) → Tree
 linked t path other = linked_by t other (get t.names path)
 
--- node n is gone where no path leads to it
-abbrev pub with_used : Names → Nodes → ℕ → Tree
-with_used names nodes n = record { names = names; nodes = if path_count names n == 0 then remove nodes n else nodes }
+-- the tree with these paths; node n is gone where none of them leads to it
+abbrev pub with_used : Tree → Names → ℕ → Tree
+with_used t names n = record t { names = names; nodes = if path_count names n == 0 then remove t.nodes n else t.nodes }
 
 abbrev pub removed_by : Tree → List (List ℕ) → Option ℕ → Tree
 removed_by t path None = t
-removed_by t path (Some n) = with_used (remove t.names path) t.nodes n
+removed_by t path (Some n) = with_used t (remove t.names path) n
 
 -- the path is gone, and its node too where it was the last one
 abbrev pub removed : Tree → List (List ℕ) → Tree
@@ -79,7 +79,7 @@ removed t path = removed_by t path (get t.names path)
 
 -- every path at or below the first one moves to the second one
 abbrev pub moved : Tree → List (List ℕ) → List (List ℕ) → Tree
-moved t from to = record { names = renamed t.names from to; nodes = t.nodes }
+moved t from to = record t { names = renamed t.names from to }
 
 -- What the commands answer and leave, where nothing refuses them.
 
@@ -128,6 +128,11 @@ waited s = (record s { durable = s.points }, DurableAt s.points)
 abbrev pub dsync : Session → Bool → Session × Reply
 dsync s changed = waited (osync s changed).0
 
+-- point n is on the disk; where it isn't there, that is said
+abbrev pub dwait : Session → ℕ → Bool → Session × Reply
+dwait s n true = (record s { durable = max s.durable n }, DurableAt n)
+dwait s n false = (s, Refused (NoPoint s.points))
+
 abbrev pub accepted : Session → Cmd → Session × Reply
 accepted s (Mkdir path) = changed_to s (added s.limit s.tree path Dir)
 accepted s (Create path) = changed_to s (added s.limit s.tree path (File []))
@@ -144,6 +149,7 @@ accepted s (ListNames path) = (s, NamesReply (names_in s.tree.names path))
 accepted s Osync = osync s s.changed
 accepted s Dsync = dsync s s.changed
 accepted s Durable = (s, Known s.durable)
+accepted s (Dwait n) = dwait s n (nat_le n s.points)
 accepted s Poll = (s, Done)
 accepted s Bad = (s, NotUnderstood)
 
@@ -161,4 +167,4 @@ session_on limit t = record { tree = t; limit = limit; points = 0; changed = fal
 
 -- the session that begins with the root alone
 abbrev pub start : ℕ → Session
-start limit = session_on limit (record { names = insert empty [] 1; nodes = insert empty 1 Dir })
+start limit = session_on limit (alone (insert empty [] 1) (insert empty 1 Dir))

@@ -42,6 +42,8 @@ pub enum Cmd {
     Dsync,
     /// Asks up to which sync point all is on the disk.
     Durable,
+    /// Answers once this sync point is on the disk, and all before it.
+    Dwait(u32),
     /// Lets what is under way on the disk move on.
     Poll,
     /// A line outside the grammar.
@@ -91,7 +93,7 @@ pub struct Stat {
 }
 
 /// Why a command was refused. Each has a number, by which the trace names it. The tree alone refuses with 1 to
-/// 9 and 17; the others come from a file system over a disk.
+/// 9, 17 and 19; the others come from a file system over a disk.
 #[derive(Clone, Copy, Debug)]
 pub enum Refusal {
     /// 1: a name on the way isn't there.
@@ -128,6 +130,8 @@ pub enum Refusal {
     Spent,
     /// 17: no memory was found.
     NoMemory,
+    /// 19: there is no such sync point.
+    NoPoint { last: u64 },
 }
 
 impl Refusal {
@@ -153,6 +157,7 @@ impl Refusal {
             Refusal::Stopped => 15,
             Refusal::Spent => 16,
             Refusal::NoMemory => 17,
+            Refusal::NoPoint { .. } => 19,
         }
     }
 
@@ -178,6 +183,7 @@ impl Refusal {
             Refusal::Stopped => "Stopped",
             Refusal::Spent => "Spent",
             Refusal::NoMemory => "NoMemory",
+            Refusal::NoPoint { .. } => "NoPoint",
         }
     }
 }
@@ -220,6 +226,9 @@ impl fmt::Display for Refusal {
             Refusal::Stopped => write!(f, "the session has ended by a fault of the disk"),
             Refusal::Spent => write!(f, "the numbers of the journal are used up"),
             Refusal::NoMemory => write!(f, "out of memory"),
+            Refusal::NoPoint { last } => {
+                write!(f, "there is no such sync point, and the last one is {last}")
+            }
         }
     }
 }

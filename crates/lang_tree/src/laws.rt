@@ -6,12 +6,12 @@ ghost use Rattle.std.specs.Prelude.{None, Some};
 ghost use Rattle.std.specs.List.{range_with_len};
 ghost use Rattle.std.specs.FinMap.{get, insert, empty};
 ghost use Rattle.lang_tree.specs.declared.command.Cmd.{Cmd};
-ghost use Rattle.lang_tree.specs.declared.command.Cmd.TheVariants.{Mkdir, Create, Write, Link, Rmdir, Rename, Osync, Dsync, Bad};
+ghost use Rattle.lang_tree.specs.declared.command.Cmd.TheVariants.{Mkdir, Create, Write, Link, Rmdir, Rename, Osync, Dsync, Durable, Dwait, Bad};
 ghost use Rattle.lang_tree.specs.declared.command.Reply.{Reply};
 ghost use Rattle.lang_tree.specs.declared.command.Reply.TheVariants.{Ok as Done, Synced, DurableAt, Known, Refused};
 ghost use Rattle.lang_tree.specs.declared.command.Refusal.{Refusal};
-ghost use Rattle.lang_tree.specs.declared.command.Refusal.TheVariants.{NotFound, NotDir, NotEmpty, DiskFault, Stopped, NoMemory};
-ghost use Rattle.lang_tree.specs.Tree.{Tree, Dir, File, IsSound, HasSmallFiles};
+ghost use Rattle.lang_tree.specs.declared.command.Refusal.TheVariants.{NotFound, NotDir, NotEmpty, DiskFault, Stopped, NoMemory, NoPoint};
+ghost use Rattle.lang_tree.specs.Tree.{Tree, Dir, File, alone, IsSound, HasSmallFiles};
 ghost use Rattle.lang_tree.specs.Paths.{is_within};
 ghost use Rattle.lang_tree.specs.Names.{path_count};
 ghost use Rattle.lang_tree.specs.Walk.{is_same_node};
@@ -100,7 +100,7 @@ pub fn short_runs_are_answered_so()
 /// payload counts 25.
 pub fn small_changes_cost_so()
     ensures blocks { (bytes : List ℕ) → length bytes ≡ 1025
-        → blocks (record { names = insert (insert empty [] 1) (codes "a" ∷ []) 2; nodes = insert (insert empty 1 Dir) 2 (File bytes) }) ≡ 3 }
+        → blocks (alone (insert (insert empty [] 1) (codes "a" ∷ []) 2) (insert (insert empty 1 Dir) 2 (File bytes))) ≡ 3 }
     ensures first_name { figures 1 (start 16) (Create (codes "a" ∷ [])) ≡ record { need = 1; cost = 100; freed = 0 } }
     ensures names { (growth 15 ≡ 0) × (growth 16 ≡ 1) × (release 17 ≡ 1) × (release 16 ≡ 0) }
     ensures first_bytes { write_figures 1 0 0 2 ≡ record { need = 1; cost = 51; freed = 0 } }
@@ -116,7 +116,7 @@ pub fn a_reply_tells_the_session()
 {}
 
 /// A tree in memory answers as `step` says, or refuses as it is out of memory. So it refuses by its own
-/// reasons, 1 to 9, or by that one. What it answers, a file system over a disk may answer too, and so with
+/// reasons, 1 to 9 and 19, or by that one. What it answers, a file system over a disk may answer too, and so with
 /// whole runs.
 #[tactic(auto, using(crate::proofs::runs::Outside::run_more))]
 pub fn a_tree_in_memory_refuses_for_no_disk()
@@ -144,7 +144,7 @@ pub fn no_other_command_is_promised_a_point()
         → asks_for_durability cmd ≡ false → promised_by reply ≡ 0 }
 {}
 
-/// The last point that a dsync answered is one that was made: at the beginning, and after each command.
+/// The greatest point that a dsync or a dwait answered is one that was made: at the beginning, and after each command.
 #[tactic(auto, using(crate::proofs::runs::Promises::step_counts))]
 pub fn no_dsync_answers_a_point_to_come()
     ensures start { (limit : ℕ) (t : Tree) → CountsPoints (session_on limit t) }
@@ -197,4 +197,16 @@ pub fn a_dsync_raises_the_floor()
     ensures floor { map (λ k. floor k (Done ∷ Synced 1 ∷ Done ∷ Synced 2 ∷ DurableAt 2 ∷ []) (2 ∷ 5 ∷ 6 ∷ 9 ∷ 13 ∷ [])) (range_with_len 0 14)
         ≡ 0 ∷ 0 ∷ 0 ∷ 0 ∷ 0 ∷ 0 ∷ 0 ∷ 0 ∷ 0 ∷ 0 ∷ 0 ∷ 0 ∷ 0 ∷ 2 ∷ [] }
     ensures known { map (λ k. floor k (DurableAt 1 ∷ Known 3 ∷ []) (4 ∷ 6 ∷ [])) (range_with_len 3 4) ≡ 0 ∷ 1 ∷ 1 ∷ 3 ∷ [] }
+{}
+
+/// A session that made two points and knows of none that is on the disk. A wait for point 1 raises what `durable`
+/// answers to 1, one for point 2 to 2, and another one for point 1 lowers nothing. Point 3 isn't there. Nor does the
+/// floor fall where an older point is answered later.
+pub fn a_wait_raises_what_is_durable()
+    ensures answers { (t : Tree) (limit : ℕ) (changed : Bool)
+        → Run (λ why. false) (record { tree = t; limit = limit; points = 2; changed = changed; durable = 0 })
+        (Dwait 1 ∷ Durable ∷ Dwait 2 ∷ Dwait 1 ∷ Durable ∷ Dwait 3 ∷ [])
+        (DurableAt 1 ∷ Known 1 ∷ DurableAt 2 ∷ DurableAt 1 ∷ Known 2 ∷ Refused (NoPoint 2) ∷ [])
+        (record { tree = t; limit = limit; points = 2; changed = changed; durable = 2 }) }
+    ensures floor { map (λ k. floor k (DurableAt 2 ∷ DurableAt 1 ∷ []) (4 ∷ 6 ∷ [])) (range_with_len 3 4) ≡ 0 ∷ 2 ∷ 2 ∷ 2 ∷ [] }
 {}

@@ -12,13 +12,14 @@ mod name_list;
 mod path;
 mod path_laws;
 mod sizes;
+mod snapshot_laws;
 
 pub use command::{Cmd, Kind, Refusal, Reply, Stat};
 pub use figures::{Figures, NOTHING, adding, moving, removing, truncate_figures, write_figures};
 pub use laws::{
     a_command_changes_where_it_costs, a_dsync_raises_the_floor, a_fault_ends_the_session,
     a_move_takes_all_below, a_reply_tells_the_session, a_tree_in_memory_refuses_for_no_disk,
-    bounds_never_fall, commands_keep_a_tree_sound, files_stay_small,
+    a_wait_raises_what_is_durable, bounds_never_fall, commands_keep_a_tree_sound, files_stay_small,
     no_dsync_answers_a_point_to_come, no_other_command_is_promised_a_point,
     short_runs_are_answered_so, small_changes_cost_so, the_figures_are_the_blocks,
     two_syncs_make_one_point,
@@ -30,3 +31,4 @@ pub use path_laws::{
     what_is_held_has_a_name,
 };
 pub use sizes::{blocks_for, growth, release, touched_blocks_are_counted_by_division};
+pub use snapshot_laws::{commands_keep_snapshots, without_snapshots_there_are_paths_and_nodes};

@@ -38,10 +38,10 @@ pub fn what_is_held_has_a_name()
 pub fn new_paths_keep_a_tree_sound()
     ensures node { (limit : ℕ) (t : Tree) (path : List (List ℕ)) (n k : ℕ) (x : Thing) → IsSound limit t → get t.names path ≡ None
         → get t.nodes n ≡ None → 1 ≤ n → n ≤ limit
-        → get t.names (parent path) ≡ Some k → get t.nodes k ≡ Some Dir → IsSound limit (record { names = insert t.names path n; nodes = insert t.nodes n x }) }
+        → get t.names (parent path) ≡ Some k → get t.nodes k ≡ Some Dir → IsSound limit (record t { names = insert t.names path n; nodes = insert t.nodes n x }) }
     ensures path { (limit : ℕ) (t : Tree) (path : List (List ℕ)) (n k : ℕ) (bytes : List ℕ) → IsSound limit t → get t.names path ≡ None
         → get t.nodes n ≡ Some (File bytes)
-        → get t.names (parent path) ≡ Some k → get t.nodes k ≡ Some Dir → IsSound limit (record { names = insert t.names path n; nodes = t.nodes }) }
+        → get t.names (parent path) ≡ Some k → get t.nodes k ≡ Some Dir → IsSound limit (record t { names = insert t.names path n }) }
 {}
 
 /// Of a sound tree only what has nothing below it goes, and never the root. What moves is there; and a move

@@ -1,21 +1,25 @@
 -- The least unused number of the tree is the least free one of the inode map.
-use Rattle.std.proofs.Common.{◌≡◌, ℕ, zero, suc, ◌+◌, ◌≤◌, ◌<◌, Bool, true, Option, Some, None, option_map, is_none, find, arith}
+use Rattle.std.proofs.Common.{◌≡◌, ℕ, zero, suc, ◌+◌, ◌≤◌, ◌<◌, Bool, true, Option, Some, None, option_map, is_none, find, ◌∙◌, arith}
 use Rattle.std.specs.List.{range_with_len}
-use Rattle.std.specs.FinMap.{get}
+use Rattle.std.specs.FinMap.{get, empty}
 use Rattle.std.proofs.lemmas.Option.{same_Some, none-some}
-use Rattle.lang_tree.specs.Tree.{Nodes}
+use Rattle.lang_tree.specs.Tree.{Tree, Nodes}
 use Rattle.lang_tree.specs.Conditions.{least_unused}
 use Rattle.crash_stands.specs.Inodes.{Inodes, thing_of}
 use Rattle.fs_inodes.specs.Lookups.{least_free}
+use Rattle.fs_inodes.specs.TreeLaws.{TreeLaws}
 
 -- functions that agree everywhere are the same
 pub everywhere : {A B : Type 0} (f h : A → B) → ((k : A) → f k ≡ h k) → f ≡ h
 everywhere f h same i k = same k i
 
--- the least unused number of the tree is the least free one of the map
-pub unused_is_free : (limit : ℕ) (m : Inodes) (nodes : Nodes) → ((k : ℕ) → get nodes k ≡ option_map thing_of (m k)) → least_unused limit nodes ≡ least_free limit m
-unfolding least_unused
-unused_is_free limit m nodes same = grind arith
+-- the least number that no node has is the least free one of the map
+free_alike : (limit : ℕ) (m : Inodes) (nodes : Nodes) → ((k : ℕ) → get nodes k ≡ option_map thing_of (m k)) → find (λ n. is_none (get nodes n)) (range_with_len 1 limit) ≡ least_free limit m
+free_alike limit m nodes same = grind arith
+
+-- so is the least unused number of a tree without snapshots
+pub unused_is_free : (laws : TreeLaws) (limit : ℕ) (m : Inodes) (t : Tree) → t.snapshots ≡ empty → ((k : ℕ) → get t.nodes k ≡ option_map thing_of (m k)) → least_unused limit t ≡ least_free limit m
+unused_is_free laws limit m t alone same = laws.unused_alone limit t alone ∙ free_alike limit m t.nodes same
 
 -- what is found in a range passes the test and lies there
 found_in : (test : ℕ → Bool) (a n m : ℕ) → find test (range_with_len a n) ≡ Some m → (test m ≡ true) × (a ≤ m) × (m < a + n)

@@ -132,13 +132,14 @@ module _ (laws : TreeLaws) (limit : ℕ) (m new : Inodes) (t : Tree) (a : Agrees
     new_links k links bytes is = grind (arith, up ++ name ∷ [], cases_eq k d, cases_eq k n, t.names, laws.count_put, dir_file, ch.under.after, ch.under.now, one_link, same_Some, ch.named, no_paths, counts_one, counts_none, a.links, ch.others)
 
     -- the new map is that of the tree with the new node
-    pub node_agrees : Agrees limit new (record { names = insert t.names (up ++ name ∷ []) n; nodes = insert t.nodes n thing })
+    pub node_agrees : Agrees limit new (record t { names = insert t.names (up ++ name ∷ []) n; nodes = insert t.nodes n thing })
     node_agrees = record {
       sound = laws.sound_node limit t (up ++ name ∷ []) n d thing a.sound free (a.nodes n ∙ ap (option_map thing_of) unused) low high up_at up_dir;
       goes = added_goes (λ b. ap (λ y. entry_in (Some y) b) is_new ∙ nothing_in thing b) (λ b. ap (λ o. entry_in o b) unused);
       nodes = new_nodes;
       links = new_links;
       distinct = added_slots_distinct (λ slots e. new_distinct thing slots (sym is_new ∙ e));
+      alone = a.alone;
     }
 
   -- Another path of a file.
@@ -162,11 +163,12 @@ module _ (laws : TreeLaws) (limit : ℕ) (m new : Inodes) (t : Tree) (a : Agrees
         by (inr away) (inr off) = omega (arith, count, counts_none n k (λ e. off (sym e)), a.links k l b (sym (ch.others k away off) ∙ is))
 
     -- the new map is that of the tree with the new path
-    pub link_agrees : Agrees limit new (record { names = insert t.names (up ++ name ∷ []) n; nodes = t.nodes })
+    pub link_agrees : Agrees limit new (record t { names = insert t.names (up ++ name ∷ []) n })
     link_agrees = record {
       sound = laws.sound_path limit t (up ++ name ∷ []) n d bytes a.sound free (a.nodes n ∙ ap (option_map thing_of) old) up_at up_dir;
       goes = added_goes (λ b. ap (λ y. entry_in (Some y) b) more) (λ b. ap (λ o. entry_in o b) old);
       nodes = link_nodes;
       links = link_links;
       distinct = added_slots_distinct (λ slots e. absurd (dir_file slots (links + 1) bytes (ap Some e) (ap Some more)));
+      alone = a.alone;
     }

@@ -64,14 +64,14 @@ module _ (laws : TreeLaws) (s : Session) (m new : Inodes) (is : IsMapOf s.limit 
   module _ (up : Path) (name : List ℕ) (d n : ℕ) (leads : LeadsTo m up d) (free : least_free s.limit m ≡ Some n) (thing : Thing) (ch : AddsName m new d n name (new_inode thing))
       (accepts : make_refusal s.limit s.tree (up ++ name ∷ []) ≡ None) where
     -- a new node comes under the least number that no node has
-    made_tree : added s.limit s.tree (up ++ name ∷ []) thing ≡ record { names = insert s.tree.names (up ++ name ∷ []) n; nodes = insert s.tree.nodes n thing }
-    made_tree = ap (with_node s.tree (up ++ name ∷ []) thing) (unused_is_free s.limit m s.tree.nodes a.nodes ∙ free)
+    made_tree : added s.limit s.tree (up ++ name ∷ []) thing ≡ record s.tree { names = insert s.tree.names (up ++ name ∷ []) n; nodes = insert s.tree.nodes n thing }
+    made_tree = ap (with_node s.tree (up ++ name ∷ []) thing) (unused_is_free laws s.limit m s.tree a.alone a.nodes ∙ free)
 
     -- the map with the new node is that of the tree with it
-    made_agrees : Agrees s.limit new (record { names = insert s.tree.names (up ++ name ∷ []) n; nodes = insert s.tree.nodes n thing })
+    made_agrees : Agrees s.limit new (record s.tree { names = insert s.tree.names (up ++ name ∷ []) n; nodes = insert s.tree.nodes n thing })
     made_agrees =
-        let one = no_reason (parent_refusal s.tree (up ++ name ∷ [])) (when (is_there s.tree (up ++ name ∷ [])) Exists ∷ when (is_none (least_unused s.limit s.tree.nodes)) NoNode ∷ []) accepts in
-        let two = no_reason (when (is_there s.tree (up ++ name ∷ [])) Exists) (when (is_none (least_unused s.limit s.tree.nodes)) NoNode ∷ []) one.1 in
+        let one = no_reason (parent_refusal s.tree (up ++ name ∷ [])) (when (is_there s.tree (up ++ name ∷ [])) Exists ∷ when (is_none (least_unused s.limit s.tree)) NoNode ∷ []) accepts in
+        let two = no_reason (when (is_there s.tree (up ++ name ∷ [])) Exists) (when (is_none (least_unused s.limit s.tree)) NoNode ∷ []) one.1 in
         let number = free_is s.limit n m free in
         node_agrees laws s.limit m new s.tree a up name d n (new_inode thing) (at up d leads) (grind (arith, get s.tree.names (up ++ name ∷ []), not_so (is_there s.tree (up ++ name ∷ [])) Exists two.0)) ch
         thing refl number.0 number.1 number.2
@@ -117,8 +117,8 @@ module _ (laws : TreeLaws) (s : Session) (m new : Inodes) (is : IsMapOf s.limit 
 
   -- Other bytes of a file.
   edited_tree : (path : Path) (n : ℕ) (old : List ℕ) (change : List ℕ → List ℕ) → get s.tree.names path ≡ Some n → get s.tree.nodes n ≡ Some (File old)
-      → edited s.tree path change ≡ record { names = s.tree.names; nodes = insert s.tree.nodes n (File (change old)) }
-  edited_tree path n old change at_path file = ap (edited_at s.tree change) at_path ∙ ap (λ x. record { names = s.tree.names; nodes = with_bytes s.tree.nodes n change x }) file
+      → edited s.tree path change ≡ record s.tree { nodes = insert s.tree.nodes n (File (change old)) }
+  edited_tree path n old change at_path file = ap (edited_at s.tree change) at_path ∙ ap (λ x. record s.tree { nodes = with_bytes s.tree.nodes n change x }) file
 
   -- a command that changes the bytes of a file
   edit_shown : (cmd : Cmd) (path : Path) (n links : ℕ) (old : List ℕ) (change : List ℕ → List ℕ) → (step s cmd).0.tree ≡ edited s.tree path change → LeadsTo m path n → m n ≡ Some (AFile links old)

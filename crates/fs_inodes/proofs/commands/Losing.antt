@@ -39,7 +39,7 @@ module _ (laws : TreeLaws) (limit : ℕ) (m : Inodes) (t : Tree) (a : Agrees lim
   nodes_left there false = there
 
   -- the node stays where another path leads to it
-  pub used_here : get (with_used (remove t.names path) t.nodes n).nodes n ≡ nodes_left (get t.nodes n) (path_count (remove t.names path) n == 0)
+  pub used_here : get (with_used t (remove t.names path) n).nodes n ≡ nodes_left (get t.nodes n) (path_count (remove t.names path) n == 0)
   used_here = by (path_count (remove t.names path) n == 0)
     where
       by : (b : Bool) → get (if b then remove t.nodes n else t.nodes) n ≡ nodes_left (get t.nodes n) b
@@ -47,7 +47,7 @@ module _ (laws : TreeLaws) (limit : ℕ) (m : Inodes) (t : Tree) (a : Agrees lim
       by false = refl
 
   -- all other nodes stay
-  pub used_other : (k : ℕ) → (k ≡ n → ⊥) → get (with_used (remove t.names path) t.nodes n).nodes k ≡ get t.nodes k
+  pub used_other : (k : ℕ) → (k ≡ n → ⊥) → get (with_used t (remove t.names path) n).nodes k ≡ get t.nodes k
   used_other k off = by (path_count (remove t.names path) n == 0)
     where
       by : (b : Bool) → get (if b then remove t.nodes n else t.nodes) k ≡ get t.nodes k
@@ -55,7 +55,7 @@ module _ (laws : TreeLaws) (limit : ℕ) (m : Inodes) (t : Tree) (a : Agrees lim
       by false = refl
 
   -- the node itself is as one link less leaves it
-  pub lost_here : get (with_used (remove t.names path) t.nodes n).nodes n ≡ option_map thing_of (option_and_then one_link_less (m n))
+  pub lost_here : get (with_used t (remove t.names path) n).nodes n ≡ option_map thing_of (option_and_then one_link_less (m n))
   lost_here = used_here ∙ by (m n) refl
     where
       zero_left : (c : ℕ) → c ≡ 0 → (c == 0) ≡ true

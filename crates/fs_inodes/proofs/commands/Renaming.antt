@@ -46,15 +46,15 @@ holds_number o k = grind (arith, none-some, same_Some)
 module _ (laws : TreeLaws) (limit : ℕ) (m new : Inodes) (t : Tree) (a : Agrees limit m t) (target : Path) (w : ℕ) (there : get t.names target ≡ Some w)
     (left : new w ≡ option_and_then one_link_less (m w)) where
   -- the tree without the path that w had there
-  gone_tree : removed t target ≡ with_used (remove t.names target) t.nodes w
+  gone_tree : removed t target ≡ with_used t (remove t.names target) w
   gone_tree = ap (removed_by t target) there
 
   -- the nodes that are left are those of the new map
   nodes_onto : ((k : ℕ) → (k ≡ w → ⊥) → option_map thing_of (m k) ≡ option_map thing_of (new k)) → (k : ℕ) → get (removed t target).nodes k ≡ option_map thing_of (new k)
   nodes_onto alike k = ap (λ t. get t.nodes k) gone_tree ∙ by (cases_eq k w)
     where
-      by : (k ≡ w) ⊎ (k ≡ w → ⊥) → get (with_used (remove t.names target) t.nodes w).nodes k ≡ option_map thing_of (new k)
-      by (inl e) = ap (get (with_used (remove t.names target) t.nodes w).nodes) e ∙ lost_here laws limit m t a target w there
+      by : (k ≡ w) ⊎ (k ≡ w → ⊥) → get (with_used t (remove t.names target) w).nodes k ≡ option_map thing_of (new k)
+      by (inl e) = ap (get (with_used t (remove t.names target) w).nodes) e ∙ lost_here laws limit m t a target w there
           ∙ sym (ap (λ k. option_map thing_of (new k)) e ∙ ap (option_map thing_of) left)
       by (inr off) = used_other laws limit m t a target w there k off ∙ a.nodes k ∙ alike k off
 

@@ -65,12 +65,12 @@ module _ (laws : TreeLaws) (limit : ℕ) (m new : Inodes) (t : Tree) (a : Agrees
       (name_gone t.names (up ++ name ∷ [])) (name_left t.names (up ++ name ∷ []))
 
   -- the nodes that are left are those of the new map
-  taken_nodes : (k : ℕ) → get (with_used (remove t.names (up ++ name ∷ [])) t.nodes n).nodes k ≡ option_map thing_of (new k)
+  taken_nodes : (k : ℕ) → get (with_used t (remove t.names (up ++ name ∷ [])) n).nodes k ≡ option_map thing_of (new k)
   taken_nodes k = by (cases_eq k n) (cases_eq k d)
     where
-      by : (k ≡ n) ⊎ (k ≡ n → ⊥) → (k ≡ d) ⊎ (k ≡ d → ⊥) → get (with_used (remove t.names (up ++ name ∷ [])) t.nodes n).nodes k ≡ option_map thing_of (new k)
+      by : (k ≡ n) ⊎ (k ≡ n → ⊥) → (k ≡ d) ⊎ (k ≡ d → ⊥) → get (with_used t (remove t.names (up ++ name ∷ [])) n).nodes k ≡ option_map thing_of (new k)
       by (inl e) side =
-          ap (get (with_used (remove t.names (up ++ name ∷ [])) t.nodes n).nodes) e ∙ lost_here laws limit m t a (up ++ name ∷ []) n there
+          ap (get (with_used t (remove t.names (up ++ name ∷ [])) n).nodes) e ∙ lost_here laws limit m t a (up ++ name ∷ []) n there
           ∙ sym (ap (λ k. option_map thing_of (new k)) e ∙ ap (option_map thing_of) ch.left)
       by (inr off) (inl e) =
           used_other laws limit m t a (up ++ name ∷ []) n there k off ∙ ap (get t.nodes) e ∙ a.nodes d ∙ ap (option_map thing_of) ch.under.dir
@@ -94,11 +94,12 @@ module _ (laws : TreeLaws) (limit : ℕ) (m new : Inodes) (t : Tree) (a : Agrees
   taken_slots_distinct k slots is = grind (arith, cases_eq k d, cases_eq k n, ch.under.after, ch.under.now, ch.under.distinct, ch.left, a.distinct, ch.others)
 
   -- the new map is that of the tree without the path
-  pub taken_agrees : IsSound limit (with_used (remove t.names (up ++ name ∷ [])) t.nodes n) → Agrees limit new (with_used (remove t.names (up ++ name ∷ [])) t.nodes n)
+  pub taken_agrees : IsSound limit (with_used t (remove t.names (up ++ name ∷ [])) n) → Agrees limit new (with_used t (remove t.names (up ++ name ∷ [])) n)
   taken_agrees sound = record {
     sound = sound;
     goes = taken_goes;
     nodes = taken_nodes;
     links = taken_links;
     distinct = taken_slots_distinct;
+    alone = a.alone;
   }

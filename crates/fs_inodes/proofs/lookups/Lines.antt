@@ -2,7 +2,7 @@
 use Rattle.std.proofs.Common.{◌≡◌, ℕ, List, [], ◌∷◌, ◌++◌, Some, is_some, option_map, refl, sym, ap, ap₂, ◌∙◌}
 use Rattle.std.proofs.lemmas.Grind.{flat_map-append}
 use Rattle.std.specs.List.{flat_map}
-use Rattle.std.specs.FinMap.{get, entries, entries_sorted, get-entries}
+use Rattle.std.specs.FinMap.{get, empty, entries, entries_sorted, get-entries}
 use Rattle.lang_tree.specs.Tree.{Tree}
 use Rattle.lang_tree.specs.Listing.{line_of, listing}
 use Rattle.crash_stands.specs.Inodes.{Inodes, thing_of}
@@ -10,6 +10,7 @@ use Rattle.crash_stands.specs.Walks.{entries_of}
 use Rattle.fs_inodes.specs.Lookups.{slots_of}
 use Rattle.fs_inodes.specs.Names.{row_in, names_of}
 use Rattle.fs_inodes.specs.Listing.{at_and_below, lines_below}
+use Rattle.fs_inodes.specs.TreeLaws.{TreeLaws}
 use Rattle.fs_inodes.proofs.basics.Paths.{Path}
 use Rattle.fs_inodes.proofs.agreement.Steps.{step_at}
 use Rattle.fs_inodes.proofs.agreement.Agree.{Agrees, nowhere}
@@ -37,6 +38,6 @@ module _ (limit : ℕ) (m : Inodes) (t : Tree) (a : Agrees limit m t) where
       ap (flat_map (λ e. line_of e.0 e.1 (get t.nodes e.1))) (paths_down p k at)
       ∙ ap₂ (λ x y. x ++ y) (ap (line_of p k) (a.nodes k)) (mapped_twice (λ e. line_of e.0 e.1 (get t.nodes e.1)) (λ b. at_and_below t (p ++ b ∷ [])) (names_of (slots_of (m k))))
 
--- the listing has the lines at and below the root
-pub whole_listing : (t : Tree) → listing t ≡ lines_below t []
-whole_listing t = ap (flat_map (λ e. line_of e.0 e.1 (get t.nodes e.1))) (sym (from_root t.names))
+-- the listing of a tree without snapshots has the lines at and below the root
+pub whole_listing : (laws : TreeLaws) (t : Tree) → t.snapshots ≡ empty → listing t ≡ lines_below t []
+whole_listing laws t alone = laws.listed_alone t alone ∙ ap (flat_map (λ e. line_of e.0 e.1 (get t.nodes e.1))) (sym (from_root t.names))

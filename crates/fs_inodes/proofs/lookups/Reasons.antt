@@ -40,7 +40,7 @@ module _ (laws : TreeLaws) (limit : ℕ) (m : Inodes) (t : Tree) (a : Agrees lim
   -- a new node
   make_given : (path : Path) → make_refusal limit t path ≡ make_reason limit m path
   make_given path = reasons (first (parent_given limit m t a path) (first (where_so Exists (there_given limit m t a path))
-      (first (where_so NoNode (ap is_none (unused_is_free limit m t.nodes a.nodes))) refl)))
+      (first (where_so NoNode (ap is_none (unused_is_free laws limit m t a.alone a.nodes))) refl)))
 
   -- bytes that come
   write_given : (path : Path) (offset count : ℕ) → write_refusal t path offset count ≡ write_reason m path offset count

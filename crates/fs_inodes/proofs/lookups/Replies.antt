@@ -3,7 +3,7 @@ use Rattle.std.proofs.Common.{◌≡◌, ℕ, ◌*◌, ◌==◌, Bool, false, tr
 use Rattle.std.specs.FinMap.{get}
 use Rattle.layout_bytes.specs.declared.slot.Slot.{Slot}
 use Rattle.lang_tree.specs.declared.command.Cmd.{Cmd}
-use Rattle.lang_tree.specs.declared.command.Cmd.TheVariants.{Mkdir, Create, Write, Fill, Read, Truncate, Link, Unlink, Rmdir, Rename, Stat, List as ListNames, Osync, Dsync, Durable, Poll, Bad}
+use Rattle.lang_tree.specs.declared.command.Cmd.TheVariants.{Mkdir, Create, Write, Fill, Read, Truncate, Link, Unlink, Rmdir, Rename, Stat, List as ListNames, Osync, Dsync, Durable, Dwait, Poll, Bad}
 use Rattle.lang_tree.specs.declared.command.Kind.TheVariants.{Dir as DirKind, File as FileKind}
 use Rattle.lang_tree.specs.declared.command.Reply.TheVariants.{Ok as Done, Bytes, Stat as StatReply, Names as NamesReply}
 use Rattle.lang_tree.specs.declared.command.Refusal.{Refusal}
@@ -66,6 +66,7 @@ module _ (laws : TreeLaws) (s : Session) (m : Inodes) (a : Agrees s.limit m s.tr
   accepted_given Osync e = absurd (true≢false e)
   accepted_given Dsync e = absurd (true≢false e)
   accepted_given Durable e = absurd (true≢false e)
+  accepted_given (Dwait n) e = absurd (true≢false e)
   accepted_given Poll e = refl
   accepted_given Bad e = refl
 

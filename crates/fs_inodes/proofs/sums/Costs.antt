@@ -1,7 +1,7 @@
 -- The figures of a command, from the sizes of inodes, and the blocks of the map after it.
 use Rattle.std.proofs.Common.{◌≡◌, ℕ, ◌+◌, ◌==◌, Bool, length, Option, if◌then◌else◌, refl, ap, ap₂, ◌∙◌, sym, arith}
 use Rattle.lang_tree.specs.declared.command.Cmd.{Cmd}
-use Rattle.lang_tree.specs.declared.command.Cmd.TheVariants.{Mkdir, Create, Write, Fill, Read, Truncate, Link, Unlink, Rmdir, Rename, Stat, List as ListNames, Osync, Dsync, Durable, Poll, Bad}
+use Rattle.lang_tree.specs.declared.command.Cmd.TheVariants.{Mkdir, Create, Write, Fill, Read, Truncate, Link, Unlink, Rmdir, Rename, Stat, List as ListNames, Osync, Dsync, Durable, Dwait, Poll, Bad}
 use Rattle.lang_tree.specs.declared.command.Refusal.{Refusal}
 use Rattle.lang_tree.specs.Tree.{Tree, IsSound}
 use Rattle.lang_tree.specs.Paths.{parent}
@@ -58,6 +58,7 @@ module _ (laws : TreeLaws) (limit : ℕ) (m : Inodes) (t : Tree) (a : Agrees lim
   accepted_given bitmap Osync = refl
   accepted_given bitmap Dsync = refl
   accepted_given bitmap Durable = refl
+  accepted_given bitmap (Dwait n) = refl
   accepted_given bitmap Poll = refl
   accepted_given bitmap Bad = refl
 

@@ -206,7 +206,7 @@ module _ (limit : ℕ) (nodes : KeptNodes) (t : Tree) (is : IsMapOf limit (map_o
 
   pub the_tree : tree_of nodes ≡ t
   unfolding tree_of
-  the_tree = λ i. record { names = names_are i; nodes = nodes_are i }
+  the_tree = λ i. record { names = names_are i; nodes = nodes_are i; snapshots = sym is.shows.alone i }
 
   pub own_tree : IsMapOf limit (map_of nodes) (tree_of nodes)
   own_tree = subst (IsMapOf limit (map_of nodes)) (sym the_tree) is

@@ -1,9 +1,9 @@
 -- A command is answered as the session that is kept answers it, and leaves the session after it.
-use Rattle.std.proofs.Common.{◌≡◌, ℕ, ◌<◌, ◌≤◌, ◌==◌, Bool, true, false, true≢false, if◌then◌else◌, List, length, replicate, Option, Some, None, option_map, refl, sym, ap, subst, ◌∙◌, arith, eq-eqb}
+use Rattle.std.proofs.Common.{◌≡◌, ℕ, ◌<◌, ◌≤◌, ◌==◌, nat_le, Bool, true, false, true≢false, if◌then◌else◌, List, length, replicate, Option, Some, None, option_map, refl, sym, ap, subst, ◌∙◌, arith, eq-eqb}
 use Rattle.std.proofs.lemmas.List.{length-replicate}
 use Rattle.std.proofs.lemmas.Bool.{eqb-false}
 use Rattle.lang_tree.specs.declared.command.Cmd.{Cmd}
-use Rattle.lang_tree.specs.declared.command.Cmd.TheVariants.{Mkdir, Create, Write, Fill, Read, Truncate, Link, Unlink, Rmdir, Rename, Stat, List as ListNames, Osync, Dsync, Durable, Poll, Bad}
+use Rattle.lang_tree.specs.declared.command.Cmd.TheVariants.{Mkdir, Create, Write, Fill, Read, Truncate, Link, Unlink, Rmdir, Rename, Stat, List as ListNames, Osync, Dsync, Durable, Dwait, Poll, Bad}
 use Rattle.lang_tree.specs.declared.command.Reply.{Reply}
 use Rattle.lang_tree.specs.declared.command.Reply.TheVariants.{Ok as Done, Synced, Refused}
 use Rattle.lang_tree.specs.declared.command.Refusal.{Refusal}
@@ -21,7 +21,7 @@ use Rattle.fs_inodes.specs.Replies.{accepted_reply, reply_by}
 use Rattle.fs_memtree.specs.declared.state.State.{State}
 use Rattle.fs_memtree.specs.Kept.{KeptNodes, map_of, tree_of, AreSmall, with_bytes}
 use Rattle.fs_memtree.specs.Changes.{edited, moved}
-use Rattle.fs_memtree.specs.Serving.{session_of, IsKept, changed_to, rename_by, synced, waited, accepted, served, served_by}
+use Rattle.fs_memtree.specs.Serving.{session_of, IsKept, changed_to, rename_by, synced, waited, awaited, accepted, served, served_by}
 use Rattle.fs_memtree.specs.Laws.{MapLaws}
 use Rattle.fs_memtree.proofs.maps.TreeOf.{the_tree, own_tree}
 use Rattle.fs_memtree.proofs.serving.Mapped.{mkdir_mapped, create_mapped, write_mapped, fill_mapped, truncate_mapped, link_mapped, unlink_mapped, rmdir_mapped, stays, rename_mapped}
@@ -119,6 +119,10 @@ module _ (laws : MapLaws) (old : State) (kept : IsKept old) where
   waits : (b : Bool) → IsKept (synced old b) → IsKept (waited (synced old b))
   waits b k = record { map = k.map; small = k.small }
 
+  awaits : (n : ℕ) (b : Bool) → (tree.dwait s n b ≡ (session_of (awaited old n b).0, (awaited old n b).1)) × IsKept (awaited old n b).0
+  awaits n true = (refl, record { map = kept.map; small = kept.small })
+  awaits n false = (refl, kept)
+
   pub serves_accepted : (cmd : Cmd) → refusal s.limit s.tree cmd ≡ None → Serves cmd (accepted old cmd)
   serves_accepted (Mkdir path) accepts = changed (Mkdir path) _ _ (ap (answered s (Mkdir path)) accepts) (mkdir_mapped laws s old.nodes kept.map path accepts)
   serves_accepted (Create path) accepts = changed (Create path) _ _ (ap (answered s (Create path)) accepts) (create_mapped laws s old.nodes kept.map path accepts)
@@ -137,6 +141,7 @@ module _ (laws : MapLaws) (old : State) (kept : IsKept old) where
   serves_accepted Osync accepts = syncs old.changed
   serves_accepted Dsync accepts = (ap (λ r. tree.waited r.0) (syncs old.changed).0, waits old.changed (syncs old.changed).1)
   serves_accepted Durable accepts = (refl, kept)
+  serves_accepted (Dwait n) accepts = awaits n (nat_le n old.points)
   serves_accepted Poll accepts = (refl, kept)
   serves_accepted Bad accepts = (refl, kept)
 

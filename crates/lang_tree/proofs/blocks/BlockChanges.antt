@@ -54,18 +54,18 @@ module _ (limit : ℕ) (t : Tree) (s : IsSound limit t) where
 
   pub added_blocks : (path : Place) (x : Thing) → content_blocks x ≡ 0 → make_refusal limit t path ≡ None → blocks (added limit t path x) ≡ blocks t + growth (siblings t.names path)
   added_blocks path x none e =
-      let r = no_reasons (parent_refusal t path) (when (is_there t path) Exists) (when (is_none (least_unused limit t.nodes)) NoNode) e in
+      let r = no_reasons (parent_refusal t path) (when (is_there t path) Exists) (when (is_none (least_unused limit t)) NoNode) e in
       let free : get t.names path ≡ None = lacks (get t.names path) (not_so (is_there t path) Exists r.1) in
-      by (least_unused limit t.nodes) refl r.0 free (not_so (is_none (least_unused limit t.nodes)) NoNode r.2)
+      by (least_unused limit t) refl r.0 free (not_so (is_none (least_unused limit t)) NoNode r.2)
     where
-      by : (o : Option ℕ) → least_unused limit t.nodes ≡ o → parent_refusal t path ≡ None → get t.names path ≡ None → is_none o ≡ false
+      by : (o : Option ℕ) → least_unused limit t ≡ o → parent_refusal t path ≡ None → get t.names path ≡ None → is_none o ≡ false
           → blocks (with_node t path x o) ≡ blocks t + growth (siblings t.names path)
       by None is up free some = absurd cc
       by (Some m) is up free some =
           let root = not_root path free in
           let k = parent_is t path s.root root up in
           let names = dirs_grown t.names path m k.0 free (empty_where_absent path free) root k.1 in
-          let nodes = file_added t.nodes m x (unused_is limit m t.nodes is).0 in
+          let nodes = file_added t.nodes m x (unused_is limit m t is).0 in
           omega (arith, names, nodes, none)
 
   pub linked_blocks : (path other : Place) → link_refusal t path other ≡ None → blocks (linked t path other) ≡ blocks t + growth (siblings t.names other)
@@ -95,7 +95,7 @@ module _ (limit : ℕ) (t : Tree) (s : IsSound limit t) where
       let f = file_there limit t s path n.0 n.1 file in
       let bytes = ap bytes_in (thing_is t path n.0 (File f.0) n.1 f.1) in
       let nodes = total_replaced nat_cmp_total nat_cmp-IsAntisymmetric (λ e. content_blocks e.1) t.nodes n.0 (File f.0) (File (change f.0)) f.1 in
-      let now = ap (λ o. blocks (edited_at t change o)) n.1 ∙ ap (λ x. blocks (record { names = t.names; nodes = with_bytes t.nodes n.0 change x })) f.1 in
+      let now = ap (λ o. blocks (edited_at t change o)) n.1 ∙ ap (λ x. blocks (record t { nodes = with_bytes t.nodes n.0 change x })) f.1 in
       ap₂ (λ b xs. b + blocks_for (length xs)) now bytes
       ∙ swap _ _ _ _ _ (files_total (entries (insert t.nodes n.0 (File (change f.0))))) (files_total (entries t.nodes)) nodes
       ∙ ap (λ xs. blocks t + blocks_for (length (change xs))) (sym bytes)
@@ -106,7 +106,7 @@ module _ (limit : ℕ) (t : Tree) (s : IsSound limit t) where
   -- A path less.
 
   used_blocks : (path : Place) (n : ℕ) → get t.names path ≡ Some n
-      → file_blocks (entries (with_used (remove t.names path) t.nodes n).nodes) + blocks_gone t path ≡ file_blocks (entries t.nodes)
+      → file_blocks (entries (with_used t (remove t.names path) n).nodes) + blocks_gone t path ≡ file_blocks (entries t.nodes)
   used_blocks path n at =
       let x = s.named path n at in
       let last = was_last t.names path n at ∙ ap (λ o. counted t o == 1) (sym at) in

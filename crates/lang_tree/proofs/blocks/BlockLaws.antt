@@ -1,15 +1,15 @@
 -- The blocks of a sound tree after a command are those before it, with what its figures need and without what they free.
-use Rattle.std.proofs.Common.{◌≡◌, ℕ, ◌+◌, ◌-◌, ◌<◌, ◌≤◌, ◌==◌, min, max, nat_lt, Bool, true, false, ◌&&◌, if◌then◌else◌, List, [], length, replicate, None, refl, sym, ap, ◌∙◌, arith, eqb-true}
+use Rattle.std.proofs.Common.{◌≡◌, ℕ, ◌+◌, ◌-◌, ◌<◌, ◌≤◌, ◌==◌, min, max, nat_lt, Bool, true, false, ◌&&◌, if◌then◌else◌, List, [], length, replicate, None, refl, sym, ap, ◌∙◌, arith, eqb-true, nat_le}
 use Rattle.std.proofs.lemmas.Bool.{ltb-true, ltb-false}
 use Rattle.std.proofs.lemmas.List.{length-replicate}
 use Rattle.lang_tree.specs.declared.command.Cmd.{Cmd}
-use Rattle.lang_tree.specs.declared.command.Cmd.TheVariants.{Mkdir, Create, Write, Fill, Read, Truncate, Link, Unlink, Rmdir, Rename, Stat, List as ListNames, Osync, Dsync, Durable, Poll, Bad}
+use Rattle.lang_tree.specs.declared.command.Cmd.TheVariants.{Mkdir, Create, Write, Fill, Read, Truncate, Link, Unlink, Rmdir, Rename, Stat, List as ListNames, Osync, Dsync, Durable, Dwait, Poll, Bad}
 use Rattle.lang_tree.specs.declared.command.Reply.TheVariants.{Ok as Done}
 use Rattle.lang_tree.specs.declared.command.Refusal.TheVariants.{IsDir, TooLarge}
 use Rattle.lang_tree.specs.Tree.{Tree, Dir, File, IsSound}
 use Rattle.lang_tree.specs.Walk.{walk_refusal, thing_at, is_dir, is_same_node, content}
 use Rattle.lang_tree.specs.Conditions.{when, is_too_large, write_refusal, truncate_refusal, refusal}
-use Rattle.lang_tree.specs.Step.{Session, step, answered, changed_to, edited, written, resized, removed, moved, osync}
+use Rattle.lang_tree.specs.Step.{Session, step, answered, changed_to, edited, written, resized, removed, moved, osync, dwait}
 use Rattle.lang_tree.specs.Figures.{Figures, nothing, writing, blocks, blocks_for, write_figures, truncate_figures, move_figures, figures_by, figures}
 use Rattle.lang_tree.proofs.walking.Found.{no_reasons, not_so}
 use Rattle.lang_tree.proofs.soundness.Sound.{can_unlink}
@@ -70,6 +70,10 @@ truncate_tells bitmap s ok path size e = by (size == length (content s.tree path
 osync_tells : (s : Session) (b : Bool) → Tells (osync s b).0.tree s.tree nothing
 osync_tells s b = grind arith
 
+dwait_tells : (s : Session) (n : ℕ) (b : Bool) → Tells (dwait s n b).0.tree s.tree nothing
+dwait_tells s n true = refl
+dwait_tells s n false = refl
+
 accepted_tells : (bitmap : ℕ) (s : Session) (cmd : Cmd) → IsSound s.limit s.tree → refusal s.limit s.tree cmd ≡ None → Tells (answered s cmd None).0.tree s.tree (figures_by bitmap s.tree cmd None)
 accepted_tells bitmap s (Mkdir path) ok e = more_alone _ _ _ (added_blocks s.limit s.tree ok path Dir refl e)
 accepted_tells bitmap s (Create path) ok e = more_alone _ _ _ (added_blocks s.limit s.tree ok path (File []) refl e)
@@ -86,6 +90,7 @@ accepted_tells bitmap s (ListNames path) ok e = refl
 accepted_tells bitmap s Osync ok e = osync_tells s s.changed
 accepted_tells bitmap s Dsync ok e = osync_tells s s.changed
 accepted_tells bitmap s Durable ok e = refl
+accepted_tells bitmap s (Dwait n) ok e = dwait_tells s n (nat_le n s.points)
 accepted_tells bitmap s Poll ok e = refl
 accepted_tells bitmap s Bad ok e = refl
 

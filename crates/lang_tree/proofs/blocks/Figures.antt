@@ -7,7 +7,7 @@ use Rattle.lang_tree.specs.declared.command.Reply.TheVariants.{Ok as Done}
 use Rattle.lang_tree.specs.declared.command.Refusal.{Refusal}
 use Rattle.lang_tree.specs.Tree.{Tree}
 use Rattle.lang_tree.specs.Conditions.{refusal}
-use Rattle.lang_tree.specs.Step.{Session, step, answered, changed_to}
+use Rattle.lang_tree.specs.Step.{Session, step, answered, changed_to, dwait}
 use Rattle.lang_tree.specs.Points.{is_sync}
 use Rattle.lang_tree.specs.Figures.{Figures, nothing, moving, writing, truncate_figures, figures_by, figures}
 
@@ -36,9 +36,13 @@ fill_costs : (s : Session) (t : Tree) (count byte : ℕ) (f : Figures) → 0 < f
     → (if length (replicate count byte) == 0 then (s, Done) else changed_to s t).0.changed ≡ (s.changed || nat_lt 0 (if count == 0 then nothing else f).cost)
 fill_costs s t count byte f h = ap (λ n. (if n == 0 then (s, Done) else changed_to s t).0.changed) (length-replicate count byte) ∙ choice_costs s t (count == 0) f h
 
+dwait_costs : (s : Session) (n : ℕ) (b : Bool) → (dwait s n b).0.changed ≡ (s.changed || nat_lt 0 nothing.cost)
+dwait_costs s n true = or_false s.changed
+dwait_costs s n false = or_false s.changed
+
 answered_costs : (bitmap : ℕ) (s : Session) (cmd : Cmd) (r : Option Refusal) → is_sync cmd ≡ false
     → (answered s cmd r).0.changed ≡ (s.changed || nat_lt 0 (figures_by bitmap s.tree cmd r).cost)
-answered_costs bitmap s cmd r h1 = grind (arith, or_false, s.changed, costs, truncate_costs, s.tree, choice_costs, writing_costs, fill_costs, move_costs)
+answered_costs bitmap s cmd r h1 = grind (arith, or_false, s.changed, costs, truncate_costs, s.tree, choice_costs, writing_costs, fill_costs, move_costs, dwait_costs, s.points)
 
 pub changed_where_it_costs : (bitmap : ℕ) (s : Session) (cmd : Cmd) → is_sync cmd ≡ false → (step s cmd).0.changed ≡ (s.changed || nat_lt 0 (figures bitmap s cmd).cost)
 changed_where_it_costs bitmap s cmd e = answered_costs bitmap s cmd (refusal s.limit s.tree cmd) e

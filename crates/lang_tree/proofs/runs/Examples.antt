@@ -2,12 +2,13 @@
 use Rattle.std.proofs.Common.{◌≡◌, ℕ, true, false, List, [], ◌∷◌, ◌++◌, Some, None, cond, refl, sym, ◌∙◌, inl, length, codes}
 use Rattle.std.specs.Cmp.{nat_cmp_total}
 use Rattle.std.specs.Ordering.{eq_by_cmp, nat_cmp}
+use Rattle.std.specs.Cmp.Lexicographic.{slice_cmp}
 use Rattle.std.specs.FinMap.{nat_cmp-IsAntisymmetric, get, insert, remove, empty, entries, put, get-insert, get-empty, entries-insert, len-empty, len-entries}
 use Rattle.std.proofs.lemmas.List.{nil_from_length}
 use Rattle.lang_tree.specs.declared.command.Cmd.TheVariants.{Mkdir, Create, Write, Link, Rename, Rmdir}
 use Rattle.lang_tree.specs.declared.command.Reply.TheVariants.{Ok as Done, Refused}
 use Rattle.lang_tree.specs.declared.command.Refusal.TheVariants.{NotFound, NotDir, NotEmpty}
-use Rattle.lang_tree.specs.Tree.{Names, Nodes, Thing, Dir, File, path_cmp}
+use Rattle.lang_tree.specs.Tree.{Names, Nodes, Kept, Thing, Dir, File, alone, path_cmp}
 use Rattle.lang_tree.specs.Names.{path_count}
 use Rattle.lang_tree.specs.Conditions.{least_unused}
 use Rattle.lang_tree.specs.Step.{Session, start, step}
@@ -38,6 +39,9 @@ all_nodes nodes k v = entries-insert nat_cmp_total nodes k v
 none_of : entries (empty {X = Thing} {R = nat_cmp}) ≡ []
 none_of = nil_from_length (entries (empty {X = Thing} {R = nat_cmp})) (sym (len-entries (empty {X = Thing} {R = nat_cmp})) ∙ len-empty nat_cmp Thing)
 
+none_kept : entries (empty {X = Kept} {R = slice_cmp nat_cmp}) ≡ []
+none_kept = nil_from_length (entries (empty {X = Kept} {R = slice_cmp nat_cmp})) (sym (len-entries (empty {X = Kept} {R = slice_cmp nat_cmp})) ∙ len-empty (slice_cmp nat_cmp) Kept)
+
 abbrev pub a : List (List ℕ)
 a = codes "a" ∷ []
 
@@ -48,7 +52,7 @@ abbrev c : List (List ℕ)
 c = codes "c" ∷ []
 
 abbrev changed_to_tree : Names → Nodes → Session
-changed_to_tree names nodes = record { tree = record { names = names; nodes = nodes }; limit = 16; points = 0; changed = true; durable = 0 }
+changed_to_tree names nodes = record { tree = alone names nodes; limit = 16; points = 0; changed = true; durable = 0 }
 
 -- One file with two paths.
 
@@ -60,7 +64,7 @@ with_link = changed_to_tree (insert (insert (insert empty [] 1) a 2) b 2) (inser
 
 pub create_a : step (start 16) (Create a) ≡ (with_a, Done)
 unfolding least_unused
-create_a = simp (name_at, node_at, no_name, no_node)
+create_a = simp (name_at, node_at, no_name, no_node, none_kept)
 
 link_b : step with_a (Link a b) ≡ (with_link, Done)
 link_b = simp (name_at, node_at, no_name, all_names, none_in)
@@ -100,11 +104,11 @@ with_inner = changed_to_tree (insert (insert (insert empty [] 1) a 2) (a ++ c) 3
 
 make_a : step (start 16) (Mkdir a) ≡ (with_dir, Done)
 unfolding least_unused
-make_a = simp (name_at, node_at, no_name, no_node)
+make_a = simp (name_at, node_at, no_name, no_node, none_kept)
 
 create_inner : step with_dir (Create (a ++ c)) ≡ (with_inner, Done)
 unfolding least_unused
-create_inner = simp (name_at, node_at, no_name, no_node)
+create_inner = simp (name_at, node_at, no_name, no_node, none_kept)
 
 abbrev with_moved : Session
 with_moved = changed_to_tree (insert (insert (insert empty (b ++ c) 3) b 2) [] 1) (insert (insert (insert empty 1 Dir) 2 Dir) 3 (File []))
@@ -135,14 +139,14 @@ three_out = put_out nat_cmp_total nat_cmp-IsAntisymmetric (insert (insert empty 
 
 create_b : step with_a (Create b) ≡ (with_two, Done)
 unfolding least_unused
-create_b = simp (name_at, node_at, no_name, no_node)
+create_b = simp (name_at, node_at, no_name, no_node, none_kept)
 
 rename_onto : step with_two (Rename a b) ≡ (with_one, Done)
 rename_onto = simp (name_at, node_at, all_names, none_in, b_out, three_out)
 
 make_c : step with_one (Mkdir c) ≡ (with_next, Done)
 unfolding least_unused
-make_c = simp (name_at, node_at, no_name, no_node)
+make_c = simp (name_at, node_at, no_name, no_node, none_kept)
 
 pub onto_file : (end : Session) × Run (λ why. false) (start 16) (Create a ∷ Create b ∷ Rename a b ∷ Mkdir c ∷ []) (Done ∷ Done ∷ Done ∷ Done ∷ []) end
     × (get end.tree.names a ≡ None) × (get end.tree.names b ≡ Some 2) × (get end.tree.names c ≡ Some 3)
@@ -150,9 +154,9 @@ onto_file = (with_next, (with_a, inl create_a, (with_two, inl create_b, (with_on
 
 -- Blocks and figures.
 
-pub three_blocks : (bytes : List ℕ) → length bytes ≡ 1025 → blocks (record { names = insert (insert empty [] 1) a 2; nodes = insert (insert empty 1 Dir) 2 (File bytes) }) ≡ 3
+pub three_blocks : (bytes : List ℕ) → length bytes ≡ 1025 → blocks (alone (insert (insert empty [] 1) a 2) (insert (insert empty 1 Dir) 2 (File bytes))) ≡ 3
 three_blocks bytes long = simp (all_names, all_nodes, none_in, none_of, long)
 
 pub first_name : figures 1 (start 16) (Create a) ≡ record { need = 1; cost = 100; freed = 0 }
 unfolding least_unused
-first_name = simp (name_at, node_at, no_name, no_node, all_names, none_in)
+first_name = simp (name_at, node_at, no_name, no_node, none_kept, all_names, none_in)

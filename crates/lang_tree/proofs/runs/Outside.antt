@@ -2,7 +2,7 @@
 use Rattle.std.proofs.Common.{◌≡◌, ◌==◌, ◌⊎◌, ℕ, ◌+◌, nat_lt, nat_le, is_none, Bool, true, false, if◌then◌else◌, ◌&&◌, List, [], ◌∷◌, ◌++◌, length, Option, Some, None, Result, refl, ap, ◌∙◌, arith}
 use Rattle.std.proofs.lemmas.Bool.{false≢true}
 use Rattle.lang_tree.specs.declared.command.Cmd.{Cmd}
-use Rattle.lang_tree.specs.declared.command.Cmd.TheVariants.{Mkdir, Create, Write, Fill, Read, Truncate, Link, Unlink, Rmdir, Rename, Stat, List as ListNames, Osync, Dsync, Durable, Poll, Bad}
+use Rattle.lang_tree.specs.declared.command.Cmd.TheVariants.{Mkdir, Create, Write, Fill, Read, Truncate, Link, Unlink, Rmdir, Rename, Stat, List as ListNames, Osync, Dsync, Durable, Dwait, Poll, Bad}
 use Rattle.lang_tree.specs.declared.command.Reply.{Reply}
 use Rattle.lang_tree.specs.declared.command.Reply.TheVariants.{Ok as Done, Refused}
 use Rattle.lang_tree.specs.declared.command.Refusal.{Refusal}
@@ -11,7 +11,7 @@ use Rattle.lang_tree.specs.Tree.{Tree, Thing}
 use Rattle.lang_tree.specs.Names.{holds_names}
 use Rattle.lang_tree.specs.Walk.{walk_from, walk_refusal, parent_refusal, no_directory, refusal_in, enter, thing_at, is_dir, is_file, is_there, is_same_node, links}
 use Rattle.lang_tree.specs.Conditions.{when, first_reason, refusal, onto_refusal, is_too_large, least_unused}
-use Rattle.lang_tree.specs.Step.{Session, step, answered, changed_to, osync, stat_by, stat_of}
+use Rattle.lang_tree.specs.Step.{Session, step, answered, changed_to, osync, dwait, stat_by, stat_of}
 use Rattle.lang_tree.specs.Run.{Answers, Run, is_of_memory, is_of_disk}
 
 -- a reason of the tree's own, where there is one
@@ -61,8 +61,8 @@ pair_own : (o p : Option Refusal) → Own o → Own p → Own (first_reason (o �
 pair_own o p h1 h2 = grind arith
 
 refusal_own : (limit : ℕ) (t : Tree) (cmd : Cmd) → Own (refusal limit t cmd)
-refusal_own limit t (Mkdir path) = two (parent_refusal t path) (is_there t path) (is_none (least_unused limit t.nodes)) Exists NoNode (a_parent t path) refl refl
-refusal_own limit t (Create path) = two (parent_refusal t path) (is_there t path) (is_none (least_unused limit t.nodes)) Exists NoNode (a_parent t path) refl refl
+refusal_own limit t (Mkdir path) = two (parent_refusal t path) (is_there t path) (is_none (least_unused limit t)) Exists NoNode (a_parent t path) refl refl
+refusal_own limit t (Create path) = two (parent_refusal t path) (is_there t path) (is_none (least_unused limit t)) Exists NoNode (a_parent t path) refl refl
 refusal_own limit t (Write path offset bytes) =
     two (walk_refusal t path) (is_dir (thing_at t path)) (nat_lt 0 (length bytes) && is_too_large (offset + length bytes)) IsDir TooLarge (a_walk t path) refl refl
 refusal_own limit t (Fill path offset count byte) =
@@ -85,6 +85,7 @@ refusal_own limit t (ListNames path) = one (walk_refusal t path) (is_file (thing
 refusal_own limit t Osync = tt
 refusal_own limit t Dsync = tt
 refusal_own limit t Durable = tt
+refusal_own limit t (Dwait n) = tt
 refusal_own limit t Poll = tt
 refusal_own limit t Bad = tt
 
@@ -105,8 +106,12 @@ stat_thing t path n thing = grind arith
 stat_own : (t : Tree) (path : List (List ℕ)) (found : Option ℕ) → OwnReply (stat_by t path found)
 stat_own t path found = grind (arith, stat_thing, t.nodes)
 
+dwait_own : (s : Session) (n : ℕ) (b : Bool) → OwnReply (dwait s n b).1
+dwait_own s n true = tt
+dwait_own s n false = refl
+
 answered_own : (s : Session) (cmd : Cmd) (r : Option Refusal) → Own r → OwnReply (answered s cmd r).1
-answered_own s cmd r h1 = grind (arith, choice_own, s.tree, stat_own, s.tree.names, osync_own, s.changed)
+answered_own s cmd r h1 = grind (arith, choice_own, s.tree, stat_own, s.tree.names, osync_own, s.changed, dwait_own, s.points)
 
 step_own : (s : Session) (cmd : Cmd) → OwnReply (step s cmd).1
 step_own s cmd = answered_own s cmd (refusal s.limit s.tree cmd) (refusal_own s.limit s.tree cmd)

@@ -6,7 +6,7 @@ use Rattle.lang_tree.specs.declared.command.Cmd.{Cmd}
 use Rattle.lang_tree.specs.declared.command.Cmd.TheVariants.{Create, Write, Osync, Dsync}
 use Rattle.lang_tree.specs.declared.command.Reply.{Reply}
 use Rattle.lang_tree.specs.declared.command.Reply.TheVariants.{Ok as Done, Synced, DurableAt}
-use Rattle.lang_tree.specs.Tree.{Dir, File}
+use Rattle.lang_tree.specs.Tree.{Dir, File, alone}
 use Rattle.lang_tree.specs.Step.{Session, start, step}
 use Rattle.lang_tree.specs.Points.{Point, points_after, begun_by, top}
 use Rattle.lang_tree.proofs.runs.Examples.{a, with_a, create_a, name_at, node_at}
@@ -25,7 +25,7 @@ synced = record with_a { points = 1; changed = false }
 
 abbrev written : Session
 written = record synced {
-  tree = record { names = insert (insert empty [] 1) a 2; nodes = insert (insert (insert empty 1 Dir) 2 (File [])) 2 (File (104 ∷ 105 ∷ [])) };
+  tree = alone (insert (insert empty [] 1) a 2) (insert (insert (insert empty 1 Dir) 2 (File [])) 2 (File (104 ∷ 105 ∷ [])));
   changed = true;
 }
 

@@ -1,13 +1,13 @@
--- No dsync answers a point that isn't made: the last one that it answered is the last point at most. And only replies to dsync and durable promise a point.
-use Rattle.std.proofs.Common.{◌≡◌, ◌==◌, ℕ, ◌<◌, ◌≤◌, ◌^◌, Bool, false, if◌then◌else◌, List, Option, sym, ap, ◌∙◌, inl, inr, arith}
-use Rattle.std.proofs.lemmas.Bool.{false≢true}
+-- No dsync or dwait answers a point that isn't made: the greatest one that they answered is the last point at most. And only replies to them and to durable promise a point.
+use Rattle.std.proofs.Common.{◌≡◌, ◌==◌, ℕ, nat_le, ◌<◌, ◌≤◌, ◌^◌, Bool, true, false, if◌then◌else◌, List, Option, sym, ap, ◌∙◌, inl, inr, arith}
+use Rattle.std.proofs.lemmas.Bool.{false≢true, leb-true}
 use Rattle.lang_tree.specs.declared.command.Cmd.{Cmd}
 use Rattle.lang_tree.specs.declared.command.Reply.{Reply}
 use Rattle.lang_tree.specs.declared.command.Reply.TheVariants.{Ok as Done}
 use Rattle.lang_tree.specs.declared.command.Refusal.{Refusal}
 use Rattle.lang_tree.specs.Tree.{Tree, Thing}
 use Rattle.lang_tree.specs.Conditions.{refusal}
-use Rattle.lang_tree.specs.Step.{Session, step, answered, changed_to, osync, dsync, stat_of, stat_by}
+use Rattle.lang_tree.specs.Step.{Session, step, answered, changed_to, osync, dsync, dwait, stat_of, stat_by}
 use Rattle.lang_tree.specs.Run.{Answers}
 use Rattle.lang_tree.specs.Points.{CountsPoints, asks_for_durability, promised_by}
 
@@ -20,8 +20,12 @@ osync_counts s b h1 = grind arith
 dsync_counts : (s : Session) (b : Bool) → CountsPoints s → CountsPoints (dsync s b).0
 dsync_counts s b h1 = grind arith
 
+dwait_counts : (s : Session) (n : ℕ) (b : Bool) → nat_le n s.points ≡ b → CountsPoints s → CountsPoints (dwait s n b).0
+dwait_counts s n true is ok = record { made = omega (arith, ok.made, leb-true n s.points is); low = ok.low }
+dwait_counts s n false is ok = ok
+
 answered_counts : (s : Session) (cmd : Cmd) (r : Option Refusal) → CountsPoints s → CountsPoints (answered s cmd r).0
-answered_counts s cmd r h1 = grind (arith, choice_counts, s.tree, osync_counts, s.changed, dsync_counts)
+answered_counts s cmd r h1 = grind (arith, choice_counts, s.tree, osync_counts, s.changed, dsync_counts, dwait_counts, s.points)
 
 pub step_counts : (s : Session) (cmd : Cmd) → CountsPoints s → CountsPoints (step s cmd).0
 step_counts s cmd ok = answered_counts s cmd (refusal s.limit s.tree cmd) ok

@@ -1,5 +1,5 @@
 -- No command makes a file larger than 2^30 bytes.
-use Rattle.std.proofs.Common.{◌≡◌, ℕ, ◌+◌, ◌-◌, ◌≤◌, ◌==◌, nat_lt, Bool, true, false, cond, ◌&&◌, if◌then◌else◌, List, [], ◌∷◌, ◌++◌, length, replicate, Option, Some, None, is_some, refl, sym, ap, ◌∙◌, subst, T, arith, true≢false}
+use Rattle.std.proofs.Common.{◌≡◌, ℕ, ◌+◌, ◌-◌, ◌≤◌, ◌==◌, nat_lt, Bool, true, false, cond, ◌&&◌, if◌then◌else◌, List, [], ◌∷◌, ◌++◌, length, replicate, Option, Some, None, is_some, refl, sym, ap, ◌∙◌, subst, T, arith, true≢false, nat_le}
 use Rattle.std.proofs.lemmas.Bool.{ltb-false}
 use Rattle.std.proofs.lemmas.List.{length-append, length-take, length-drop, length-replicate}
 use Rattle.std.specs.Ordering.{eq_by_cmp, nat_cmp}
@@ -7,13 +7,13 @@ use Rattle.std.specs.Cmp.{nat_cmp_total}
 use Rattle.std.specs.FinMap.{get, insert, remove, empty, get-empty, get-insert, get-remove}
 use Rattle.std.proofs.lemmas.Option.{same_Some}
 use Rattle.lang_tree.specs.declared.command.Cmd.{Cmd}
-use Rattle.lang_tree.specs.declared.command.Cmd.TheVariants.{Mkdir, Create, Write, Fill, Read, Truncate, Link, Unlink, Rmdir, Rename, Stat, List as ListNames, Osync, Dsync, Durable, Poll, Bad}
+use Rattle.lang_tree.specs.declared.command.Cmd.TheVariants.{Mkdir, Create, Write, Fill, Read, Truncate, Link, Unlink, Rmdir, Rename, Stat, List as ListNames, Osync, Dsync, Durable, Dwait, Poll, Bad}
 use Rattle.lang_tree.specs.declared.command.Reply.TheVariants.{Ok as Done}
 use Rattle.lang_tree.specs.declared.command.Refusal.{Refusal}
 use Rattle.lang_tree.specs.Tree.{Tree, Nodes, Thing, Dir, File, HasSmallFiles}
 use Rattle.lang_tree.specs.Walk.{is_same_node}
 use Rattle.lang_tree.specs.Conditions.{when, first_reason, is_too_large, least_unused, refusal, write_refusal, truncate_refusal}
-use Rattle.lang_tree.specs.Step.{Session, start, step, accepted, changed_to, with_node, with_bytes, edited_at, edited, linked_by, removed, removed_by, moved, write, truncate, osync, written, resized}
+use Rattle.lang_tree.specs.Step.{Session, start, step, accepted, changed_to, with_node, with_bytes, edited_at, edited, linked_by, removed, removed_by, moved, write, truncate, osync, dwait, written, resized}
 
 -- the nodes of a tree hold no file larger than the bound
 abbrev Small : ℕ → Nodes → Type 0
@@ -108,9 +108,13 @@ no_file bytes e = absurd cc
 empty_file : (bytes : List ℕ) → File [] ≡ File bytes → length bytes ≤ 1073741824
 empty_file bytes e = subst (λ xs. length xs ≤ 1073741824) (file_same [] bytes e) (omega arith)
 
+dwait_small : (s : Session) (n : ℕ) (b : Bool) → HasSmallFiles s.tree.nodes → HasSmallFiles (dwait s n b).0.tree.nodes
+dwait_small s n true small = small
+dwait_small s n false small = small
+
 accepted_small : (s : Session) (cmd : Cmd) → refusal s.limit s.tree cmd ≡ None → HasSmallFiles s.tree.nodes → HasSmallFiles (accepted s cmd).0.tree.nodes
-accepted_small s (Mkdir path) free small = node_small 1073741824 s.tree path Dir (least_unused s.limit s.tree.nodes) no_file small
-accepted_small s (Create path) free small = node_small 1073741824 s.tree path (File []) (least_unused s.limit s.tree.nodes) empty_file small
+accepted_small s (Mkdir path) free small = node_small 1073741824 s.tree path Dir (least_unused s.limit s.tree) no_file small
+accepted_small s (Create path) free small = node_small 1073741824 s.tree path (File []) (least_unused s.limit s.tree) empty_file small
 accepted_small s (Write path offset bytes) free small = write_small s path offset bytes free small
 accepted_small s (Fill path offset count byte) free small =
     write_small s path offset (replicate count byte) (ap (write_refusal s.tree path offset) (length-replicate count byte) ∙ free) small
@@ -125,6 +129,7 @@ accepted_small s (ListNames path) free small = small
 accepted_small s Osync free small = osync_small s s.changed small
 accepted_small s Dsync free small = osync_small s s.changed small
 accepted_small s Durable free small = small
+accepted_small s (Dwait n) free small = dwait_small s n (nat_le n s.points) small
 accepted_small s Poll free small = small
 accepted_small s Bad free small = small
 

@@ -5,7 +5,7 @@ use Rattle.std.specs.FinMap.{nat_cmp-IsAntisymmetric, get, insert, empty, get-em
 use Rattle.std.specs.Ordering.{nat_cmp}
 use Rattle.std.proofs.lemmas.Option.{same_Some, none-some}
 use Rattle.lang_tree.specs.declared.command.Cmd.{Cmd}
-use Rattle.lang_tree.specs.declared.command.Cmd.TheVariants.{Mkdir, Create, Write, Fill, Read, Truncate, Link, Unlink, Rmdir, Rename, Stat, List as ListNames, Osync, Dsync, Durable, Poll, Bad}
+use Rattle.lang_tree.specs.declared.command.Cmd.TheVariants.{Mkdir, Create, Write, Fill, Read, Truncate, Link, Unlink, Rmdir, Rename, Stat, List as ListNames, Osync, Dsync, Durable, Dwait, Poll, Bad}
 use Rattle.lang_tree.specs.declared.command.Reply.{Reply}
 use Rattle.lang_tree.specs.declared.command.Reply.TheVariants.{Ok as Done}
 use Rattle.lang_tree.specs.declared.command.Refusal.{Refusal}
@@ -15,7 +15,7 @@ use Rattle.lang_tree.specs.Paths.{parent}
 use Rattle.lang_tree.specs.Names.{holds_names}
 use Rattle.lang_tree.specs.Walk.{walk_refusal, parent_refusal, thing_at, is_dir, is_file, is_there, is_same_node, links, content}
 use Rattle.lang_tree.specs.Conditions.{when, file_refusal, link_refusal, rmdir_refusal, refusal}
-use Rattle.lang_tree.specs.Step.{Session, start, step, answered, changed_to, edited, written, resized, linked_by, linked, removed, moved, osync}
+use Rattle.lang_tree.specs.Step.{Session, start, step, answered, changed_to, edited, written, resized, linked_by, linked, removed, moved, osync, dwait}
 use Rattle.lang_tree.proofs.basics.Order.{path_total, path_same}
 use Rattle.lang_tree.proofs.basics.Strips.{lacks, no_append}
 use Rattle.lang_tree.proofs.basics.Finds.{put_here, look}
@@ -87,6 +87,10 @@ choice_stays s t b h1 h2 = grind arith
 osync_stays : (s : Session) (b : Bool) → Sound s → Stays s (osync s b)
 osync_stays s b h1 = grind arith
 
+dwait_stays : (s : Session) (n : ℕ) (b : Bool) → Sound s → Stays s (dwait s n b)
+dwait_stays s n true ok = (ok, refl)
+dwait_stays s n false ok = (ok, refl)
+
 accepted_stays : (s : Session) (cmd : Cmd) → Sound s → refusal s.limit s.tree cmd ≡ None → Stays s (answered s cmd None)
 accepted_stays s (Mkdir path) ok e = (added_sound s.limit s.tree ok path Dir e, refl)
 accepted_stays s (Create path) ok e = (added_sound s.limit s.tree ok path (File []) e, refl)
@@ -105,6 +109,7 @@ accepted_stays s (ListNames path) ok e = (ok, refl)
 accepted_stays s Osync ok e = osync_stays s s.changed ok
 accepted_stays s Dsync ok e = osync_stays s s.changed ok
 accepted_stays s Durable ok e = (ok, refl)
+accepted_stays s (Dwait n) ok e = dwait_stays s n (nat_le n s.points) ok
 accepted_stays s Poll ok e = (ok, refl)
 accepted_stays s Bad ok e = (ok, refl)
 
@@ -122,8 +127,12 @@ choice_limit s t b = grind arith
 osync_limit : (s : Session) (b : Bool) → (osync s b).0.limit ≡ s.limit
 osync_limit s b = grind arith
 
+dwait_limit : (s : Session) (n : ℕ) (b : Bool) → (dwait s n b).0.limit ≡ s.limit
+dwait_limit s n true = refl
+dwait_limit s n false = refl
+
 answered_limit : (s : Session) (cmd : Cmd) (r : Option Refusal) → (answered s cmd r).0.limit ≡ s.limit
-answered_limit s cmd r = grind (arith, choice_limit, s.tree, osync_limit, s.changed)
+answered_limit s cmd r = grind (arith, choice_limit, s.tree, osync_limit, s.changed, dwait_limit, s.points)
 
 pub step_limit : (s : Session) (cmd : Cmd) → (step s cmd).0.limit ≡ s.limit
 step_limit s cmd = answered_limit s cmd (refusal s.limit s.tree cmd)

@@ -1,14 +1,14 @@
 -- A sound tree stays sound with a new node at a new path, with another path of a file, and with other bytes in a file.
-use Rattle.std.proofs.Common.{◌≡◌, ℕ, zero, suc, ◌+◌, ◌≤◌, ◌<◌, Bool, true, List, [], ◌∷◌, ◌++◌, Option, Some, None, is_none, find as first, sym, refl, ap, ◌∙◌, ◌⊎◌, inl, inr, arith}
+use Rattle.std.proofs.Common.{◌≡◌, ℕ, zero, suc, ◌+◌, ◌≤◌, ◌<◌, Bool, true, false, ◌&&◌, not, List, [], ◌∷◌, ◌++◌, Option, Some, None, is_none, find as first, sym, refl, ap, ◌∙◌, ◌⊎◌, inl, inr, arith}
 use Rattle.std.specs.List.{range_with_len}
 use Rattle.std.specs.Cmp.{nat_cmp_total}
 use Rattle.std.specs.FinMap.{nat_cmp-IsAntisymmetric, get, insert}
 use Rattle.std.proofs.lemmas.Option.{same_Some, none-some}
 use Rattle.lang_tree.specs.declared.command.Refusal.TheVariants.{Exists, NoNode}
-use Rattle.lang_tree.specs.Tree.{Tree, Nodes, Thing, Dir, File, IsSound}
+use Rattle.lang_tree.specs.Tree.{Tree, Thing, Dir, File, IsSound}
 use Rattle.lang_tree.specs.Paths.{parent}
 use Rattle.lang_tree.specs.Walk.{parent_refusal, is_there}
-use Rattle.lang_tree.specs.Conditions.{when, least_unused, make_refusal}
+use Rattle.lang_tree.specs.Conditions.{when, is_snapshot, least_unused, make_refusal}
 use Rattle.lang_tree.specs.Step.{with_node, added, with_bytes, edited_at, edited}
 use Rattle.lang_tree.proofs.basics.Order.{path_total, path_same}
 use Rattle.lang_tree.proofs.basics.Strips.{lacks, parent_append}
@@ -22,9 +22,15 @@ found_in test a (suc n) m e = grind (arith, found_in test (a + 1) n m, test a, s
 none_of : {A : Type 0} (o : Option A) → is_none o ≡ true → o ≡ None
 none_of o h1 = grind arith
 
-pub unused_is : (limit m : ℕ) (nodes : Nodes) → least_unused limit nodes ≡ Some m → (get nodes m ≡ None) × (1 ≤ m) × (m ≤ limit)
+both : (a b : Bool) → (a && not b) ≡ true → (a ≡ true) × (b ≡ false)
+both a b h1 = grind arith
+
+pub unused_is : (limit m : ℕ) (t : Tree) → least_unused limit t ≡ Some m → (get t.nodes m ≡ None) × (1 ≤ m) × (m ≤ limit) × (is_snapshot t.snapshots m ≡ false)
 unfolding least_unused
-unused_is limit m nodes e = let r = found_in (λ n. is_none (get nodes n)) 1 limit m e in (none_of _ r.0, r.1, omega (arith, r.2))
+unused_is limit m t e =
+    let r = found_in (λ n. is_none (get t.nodes n) && not (is_snapshot t.snapshots n)) 1 limit m e in
+    let free = both (is_none (get t.nodes m)) (is_snapshot t.snapshots m) r.0 in
+    (none_of _ free.0, r.1, omega (arith, r.2), free.1)
 
 module _ (limit : ℕ) (t : Tree) (s : IsSound limit t) where
   -- a new node at a new path, below a directory
@@ -84,7 +90,7 @@ module _ (limit : ℕ) (t : Tree) (s : IsSound limit t) where
     within_by : (n : ℕ) (y : Thing) → get (insert t.nodes m x) n ≡ Some y → (n ≡ m) ⊎ (get (insert t.nodes m x) n ≡ get t.nodes n) → (1 ≤ n) × (n ≤ limit)
     within_by n y h1 h2 = grind (arith, s.within)
 
-    pub with_new : IsSound limit (record { names = insert t.names path m; nodes = insert t.nodes m x })
+    pub with_new : IsSound limit (record t { names = insert t.names path m; nodes = insert t.nodes m x })
     with_new = record {
       root = keep_name [] 1 s.root;
       root_dir = keep_node 1 Dir s.root_dir;
@@ -119,7 +125,7 @@ module _ (limit : ℕ) (t : Tree) (s : IsSound limit t) where
     link_old : (p : List (List ℕ)) (m : ℕ) → get t.nodes m ≡ Some Dir → get (insert t.names path n) p ≡ Some m → (p ≡ path) ⊎ (get (insert t.names path n) p ≡ get t.names p) → get t.names p ≡ Some m
     link_old p m h1 h2 h3 = grind (arith, dir_file, t.nodes, link_here)
 
-    pub with_link : IsSound limit (record { names = insert t.names path n; nodes = t.nodes })
+    pub with_link : IsSound limit (record t { names = insert t.names path n })
     with_link = record {
       root = keep_other [] 1 s.root;
       root_dir = s.root_dir;
@@ -151,7 +157,7 @@ module _ (limit : ℕ) (t : Tree) (s : IsSound limit t) where
     dir_by : (j : ℕ) → get (insert t.nodes n (File bytes)) j ≡ Some Dir → (j ≡ n) ⊎ (get (insert t.nodes n (File bytes)) j ≡ get t.nodes j) → get t.nodes j ≡ Some Dir
     dir_by j h1 h2 = grind (arith, dir_file, new_file)
 
-    pub with_other : IsSound limit (record { names = t.names; nodes = insert t.nodes n (File bytes) })
+    pub with_other : IsSound limit (record t { nodes = insert t.nodes n (File bytes) })
     with_other = record {
       root = s.root;
       root_dir = dir_at 1 s.root_dir (look_file 1);
@@ -165,21 +171,21 @@ module _ (limit : ℕ) (t : Tree) (s : IsSound limit t) where
   -- The effects of the commands.
 
   pub added_sound : (path : List (List ℕ)) (x : Thing) → make_refusal limit t path ≡ None → IsSound limit (added limit t path x)
-  added_sound path x e = by (least_unused limit t.nodes) refl
+  added_sound path x e = by (least_unused limit t) refl
     where
-      by : (o : Option ℕ) → least_unused limit t.nodes ≡ o → IsSound limit (with_node t path x o)
+      by : (o : Option ℕ) → least_unused limit t ≡ o → IsSound limit (with_node t path x o)
       by None is = s
       by (Some m) is =
-          let r = no_reasons (parent_refusal t path) (when (is_there t path) Exists) (when (is_none (least_unused limit t.nodes)) NoNode) e in
+          let r = no_reasons (parent_refusal t path) (when (is_there t path) Exists) (when (is_none (least_unused limit t)) NoNode) e in
           let free : get t.names path ≡ None = lacks (get t.names path) (not_so (is_there t path) Exists r.1) in
           let up = parent_is t path s.root (λ root. none-some 1 (sym (ap (get t.names) (sym root) ∙ free) ∙ s.root)) r.0 in
-          let number = unused_is limit m t.nodes is in
+          let number = unused_is limit m t is in
           with_new path m up.0 x free number.0 number.1 number.2 up.1 up.2
 
   pub edited_sound : (path : List (List ℕ)) (change : List ℕ → List ℕ) → IsSound limit (edited t path change)
   edited_sound path change = by (get t.names path)
     where
-      by_thing : (n : ℕ) (x : Option Thing) → get t.nodes n ≡ x → IsSound limit (record { names = t.names; nodes = with_bytes t.nodes n change x })
+      by_thing : (n : ℕ) (x : Option Thing) → get t.nodes n ≡ x → IsSound limit (record t { nodes = with_bytes t.nodes n change x })
       by_thing n None is = s
       by_thing n (Some Dir) is = s
       by_thing n (Some (File old)) is = with_other n old (change old) is

@@ -5,7 +5,7 @@ use Rattle.std.proofs.lemmas.List.{append_cancel_left}
 use Rattle.std.specs.Cmp.{nat_cmp_total}
 use Rattle.std.specs.FinMap.{nat_cmp-IsAntisymmetric, get, remove}
 use Rattle.std.proofs.lemmas.Option.{same_Some, none-some}
-use Rattle.lang_tree.specs.Tree.{Tree, Names, Nodes, Thing, Dir, IsSound}
+use Rattle.lang_tree.specs.Tree.{Tree, Names, Thing, Dir, IsSound}
 use Rattle.lang_tree.specs.Paths.{strip, parent}
 use Rattle.lang_tree.specs.Names.{holds_names, path_count, renamed}
 use Rattle.lang_tree.specs.Step.{with_used, removed, removed_by, moved}
@@ -34,7 +34,7 @@ module _ (limit : ℕ) (t : Tree) (s : IsSound limit t) (path : Place) (n : ℕ)
   up_stays up name m k below e = name_stays up k (λ same. none_held t.names path [] name m free (ap (λ p. get t.names (p ++ name ∷ [])) (sym same) ∙ below)) e
 
   -- another path leads to n too
-  kept_sound : (p : Place) → get (remove t.names path) p ≡ Some n → IsSound limit (record { names = remove t.names path; nodes = t.nodes })
+  kept_sound : (p : Place) → get (remove t.names path) p ≡ Some n → IsSound limit (record t { names = remove t.names path })
   kept_sound p other = record {
     root = root_left;
     root_dir = s.root_dir;
@@ -50,7 +50,7 @@ module _ (limit : ℕ) (t : Tree) (s : IsSound limit t) (path : Place) (n : ℕ)
       reach m (inr off) q = (q.0, name_stays q.0 m (λ same. off (same_Some m n (sym q.1 ∙ ap (get t.names) same ∙ at))) q.1)
 
   -- no other path leads to n, and it goes too
-  last_sound : ((p : Place) → get (remove t.names path) p ≡ Some n → ⊥) → IsSound limit (record { names = remove t.names path; nodes = remove t.nodes n })
+  last_sound : ((p : Place) → get (remove t.names path) p ≡ Some n → ⊥) → IsSound limit (record t { names = remove t.names path; nodes = remove t.nodes n })
   last_sound last = record {
     root = root_left;
     root_dir = node_stays 1 Dir (λ e. last [] (root_left ∙ ap Some e)) s.root_dir;
@@ -73,7 +73,7 @@ module _ (limit : ℕ) (t : Tree) (s : IsSound limit t) (path : Place) (n : ℕ)
       gone_node : (m : ℕ) (x : Thing) → get (remove t.nodes n) m ≡ Some x → m ≡ n → ⊥
       gone_node m x e same = none-some x (sym (gone_here nat_cmp_total t.nodes n m same) ∙ e)
 
-  pub with_used_sound : IsSound limit (with_used (remove t.names path) t.nodes n)
+  pub with_used_sound : IsSound limit (with_used t (remove t.names path) n)
   with_used_sound = grind (arith, path_count (remove t.names path) n == 0, remove t.names path, t.names, t.nodes, last_sound, unused, used_by, kept_sound)
 
 -- a path without one below it goes, if it is there
@@ -181,11 +181,11 @@ pub not_own_parent : (p : Place) → (p ≡ [] → ⊥) → parent p ≡ p → �
 not_own_parent p below_root e = grind (arith, from_end p, from_end, longer, parent_append)
 
 -- what a node is, where fewer nodes are used
-was_used : (names : Names) (nodes : Nodes) (n k : ℕ) (x : Thing) → get (with_used names nodes n).nodes k ≡ Some x → get nodes k ≡ Some x
-was_used names nodes n k x e = by (path_count names n == 0) e
+was_used : (t : Tree) (names : Names) (n k : ℕ) (x : Thing) → get (with_used t names n).nodes k ≡ Some x → get t.nodes k ≡ Some x
+was_used t names n k x e = by (path_count names n == 0) e
   where
-    by : (b : Bool) → get (if b then remove nodes n else nodes) k ≡ Some x → get nodes k ≡ Some x
-    by true e = was nat_cmp_total nodes n k x e
+    by : (b : Bool) → get (if b then remove t.nodes n else t.nodes) k ≡ Some x → get t.nodes k ≡ Some x
+    by true e = was nat_cmp_total t.nodes n k x e
     by false e = e
 
 module _ (limit : ℕ) (t : Tree) (s : IsSound limit t) (from to : Place) (can : CanMove t from to) where
@@ -193,11 +193,11 @@ module _ (limit : ℕ) (t : Tree) (s : IsSound limit t) (from to : Place) (can :
   from_other e = true≢false (sym (within_at from to [] (sym e ∙ sym (append-nil from))) ∙ can.apart)
 
   -- the tree without the second path can take the move too
-  can_after : (n m : ℕ) → get t.names from ≡ Some n → IsSound limit (with_used (remove t.names to) t.nodes m) → CanMove (with_used (remove t.names to) t.nodes m) from to
+  can_after : (n m : ℕ) → get t.names from ≡ Some n → IsSound limit (with_used t (remove t.names to) m) → CanMove (with_used t (remove t.names to) m) from to
   can_after n m at s' =
       let dir_at : get (remove t.names to) (parent to) ≡ Some can.dir = stays path_total path_same t.names to (parent to) (not_own_parent to can.below_root) ∙ can.dir_at in
       let x = s'.named (parent to) can.dir dir_at in
-      let is : Some x.0 ≡ Some Dir = sym (was_used (remove t.names to) t.nodes m can.dir x.0 x.1) ∙ can.is_dir in
+      let is : Some x.0 ≡ Some Dir = sym (was_used t (remove t.names to) m can.dir x.0 x.1) ∙ can.is_dir in
       record {
         there = ap is_some (stays path_total path_same t.names to from from_other ∙ at);
         free = free_after t.names to can.free;
@@ -215,4 +215,4 @@ module _ (limit : ℕ) (t : Tree) (s : IsSound limit t) (from to : Place) (can :
       by n at None is = moved_sound limit t s from to n at is can
       by n at (Some m) is =
           let s' = with_used_sound limit t s to m is can.free can.below_root in
-          moved_sound limit (with_used (remove t.names to) t.nodes m) s' from to n (stays path_total path_same t.names to from from_other ∙ at) (gone_here path_total t.names to to refl) (can_after n m at s')
+          moved_sound limit (with_used t (remove t.names to) m) s' from to n (stays path_total path_same t.names to from from_other ∙ at) (gone_here path_total t.names to to refl) (can_after n m at s')

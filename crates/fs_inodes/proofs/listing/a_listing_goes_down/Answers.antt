@@ -6,7 +6,7 @@ use Rattle.fs_inodes.proofs.lookups.Lines.{whole_listing, lines_down, paths_down
 use Rattle.fs_inodes.proofs.listing.a_listing_goes_down.Goals as goal
 
 pub returns-clause-whole : goal.returns-clause-whole
-returns-clause-whole c = whole_listing
+returns-clause-whole c = whole_listing c.the_tree_is_lawful.ensures
 
 pub returns-clause-lines : goal.returns-clause-lines
 returns-clause-lines c = λ limit m t path node is leads. lines_down limit m t (agrees c.the_tree_is_lawful.ensures limit m t is) path node (is.shows.names path ∙ leads)
