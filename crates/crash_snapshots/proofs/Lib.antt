@@ -1,0 +1,5 @@
+pub mod Copies
+pub mod Nodes
+pub mod Snapshots
+pub mod Standing
+pub mod Making
