@@ -8,6 +8,8 @@ use Rattle.engine_blocks.specs.declared.refusals.LowestRefusal.{LowestRefusal}
 use Rattle.engine_blocks.specs.declared.refusals.LowestRefusal.TheVariants as lowest
 use Rattle.engine_blocks.specs.declared.refusals.SyncRefusal.{SyncRefusal}
 use Rattle.engine_blocks.specs.declared.refusals.SyncRefusal.TheVariants as sync
+use Rattle.engine_blocks.specs.declared.refusals.WaitRefusal.{WaitRefusal}
+use Rattle.engine_blocks.specs.declared.refusals.WaitRefusal.TheVariants as wait
 use Rattle.engine_blocks.specs.declared.figures.Figures.{Figures}
 use Rattle.engine_blocks.specs.Running.{Running, Spare, nothing_running, payloads, fresh_blocks, record_places, record_writes, HasNoBare, has, has_bit, bit_block}
 use Rattle.engine_blocks.specs.State.{Bookkeeping, Counts, State, live_blocks, reusable_blocks, IsReusable, MayBeTaken}
@@ -49,6 +51,12 @@ abbrev pub UnlessNoMemory : {T : Type 0} → Result T SyncRefusal → Type 0 →
 UnlessNoMemory (Ok x) P = P
 UnlessNoMemory (Err sync.DiskFault) P = P
 UnlessNoMemory (Err sync.NoMemory) P = ⊤
+
+-- a wait for a point was refused by a fault of the disk
+abbrev pub wait_fails : {T : Type 0} → Result T WaitRefusal → Bool
+wait_fails (Ok x) = false
+wait_fails (Err (wait.NoPoint last)) = false
+wait_fails (Err wait.DiskFault) = true
 
 -- a search for numbers to take was refused by a fault of the disk
 abbrev pub lowest_fails : {T : Type 0} → Result T LowestRefusal → Bool

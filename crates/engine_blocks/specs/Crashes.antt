@@ -107,6 +107,10 @@ pub record StillAwaits (s : State) (p : ℕ) : Type 0 where
 abbrev pub HearsRecords : State → State → Type 0
 HearsRecords old new = (t : ℕ) → IsNoticed t new.crash.log → IsNoticed t old.crash.log ⊎ (∥ ((p : ℕ) × old.crash.awaits p t) ∥₁ ⊎ (is_accepted t old.crash.log ≡ false))
 
+-- A notice that came is of a ticket for which one of the points 1 to n waited.
+abbrev pub HearsUpTo : ℕ → State → State → Type 0
+HearsUpTo n old new = (t : ℕ) → IsNoticed t new.crash.log → IsNoticed t old.crash.log ⊎ ∥ ((p : ℕ) × (1 ≤ p) × (p ≤ n) × old.crash.awaits p t) ∥₁
+
 -- What is known of each state: a crash now leaves an image that holds the map of a point from the floor on; the bits of the map are those of the bookkeeping; each block on which the map is defined is whole, and elsewhere it has nothing; and while no call of the disk failed, all that was issued is the last point.
 pub record IsTold (s : State) : Type 0 where
   pub now : (img : Blocks) → s.crash.left_since (length s.crash.log) img → ∥ HoldsPointBetween s s.books.floor s.books.point img ∥₁

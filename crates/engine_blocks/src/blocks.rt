@@ -2,18 +2,19 @@
 //! transaction, and what a crash may leave of them. It knows no journal, no disk and no file; a map in
 //! memory and a store over a disk both meet it. The rules are described in docs/BLOCKS.md.
 
-ghost use Rattle.std.specs.Prelude.{◌≡◌, ◌<◌, ◌≤◌, ◌+◌, Bool, true, false, IsTrue, length, is_err, IfOk, IfErr, OnOk, OnErr, Ok};
-ghost use Rattle.disk_contract.specs.Disk.{GrowsByWrites, PollsThenWrites};
+ghost use Rattle.std.specs.Prelude.{◌≡◌, ◌<◌, ◌≤◌, ◌+◌, Bool, true, false, IsTrue, length, is_err, IfOk, IfErr, OnOk, OnErr, Ok, Err};
+ghost use Rattle.disk_contract.specs.Disk.{GrowsByWrites, PollsThenWrites, writes_in};
 ghost use Rattle.layout_geometry.specs.Geometry.{bitmap_start, table_start, data_start};
 ghost use Rattle.layout_bytes.specs.Bitmap.{is_set};
 ghost use Rattle.engine_blocks.specs.State.{State, reusable_blocks, is_defined, MayBeTaken, after_put, after_take, after_free, after_weigh};
-ghost use Rattle.engine_blocks.specs.Calls.{IsWithBlock, IsWithTaken, IsWithFreed, OnNoMemory, AreLowest, LowestRefused, lowest_fails, CountsReads};
+ghost use Rattle.engine_blocks.specs.Calls.{IsWithBlock, IsWithTaken, IsWithFreed, OnNoMemory, AreLowest, LowestRefused, lowest_fails, wait_fails, CountsReads};
+ghost use Rattle.engine_blocks.specs.declared.refusals.WaitRefusal.TheVariants.{NoPoint, DiskFault as WaitFault};
 ghost use Rattle.engine_blocks.specs.Calls.{MaySync, HasTurns, AreFigures, IsReady, IsSound};
-ghost use Rattle.engine_blocks.specs.Crashes.{HearsRecords, IssuesNothing, IsTold};
+ghost use Rattle.engine_blocks.specs.Crashes.{HearsRecords, HearsUpTo, IssuesNothing, IsTold};
 ghost use Rattle.engine_blocks.specs.Serving.{EndsFrees, SameFreed, ServesSure, with_all_served};
 ghost use Rattle.engine_blocks.specs.Effects.{LeavesDisk, ChangesNothing, FitsRing, OrdersAtOnce, RingIsTold, RunsPipeline, Syncs, Ticked, WritesItsRecord};
 
-use crate::{Figures, LowestRefusal, SyncRefusal};
+use crate::{Figures, LowestRefusal, SyncRefusal, WaitRefusal};
 use base_types::{Block, Class, NoMemory, Places, ReadFault};
 use disk_contract::DiskFault;
 use layout_geometry::Geom;
@@ -190,6 +191,25 @@ pub trait Blocks {
         ensures idle { (state self.old).books.running.weight ≡ 0 → OnNoMemory result ⊥ }
         ensures idles { (state self.old).books.running.weight ≡ 0 → (state self.old).books.floor ≡ (state self.old).books.point
             → ChangesNothing tells (state self.old) (state self.new) };
+
+    /// Waits until point `n` is durable: no crash from then on goes back behind it. It commits and writes nothing, and
+    /// takes no memory. Where the point is durable already, or isn't there, nothing is done.
+    ///
+    /// # Errors
+    /// There is no such point; or the disk failed.
+    fn wait_for(&mut self, n: u64) -> Result<(), WaitRefusal>
+        requires going { (state self.old).books.stopped ≡ false }
+        requires turns { HasTurns (state self.old).books }
+        ensures exact { (state self.old).books.point < n → result ≡ Err (NoPoint (state self.old).books.point) }
+        ensures there { n ≤ (state self.old).books.point → IfErr result (λ why. why ≡ WaitFault) }
+        ensures durable { OnOk result (n ≤ (state self.new).books.floor) }
+        ensures moves { RunsPipeline tells (wait_fails result) (state self.old) (state self.new) }
+        ensures frees { SameFreed (state self.old).books (state self.new).books }
+        ensures ticks { (state self.new).counts.ticks ≡ (state self.old).counts.ticks }
+        ensures still { IsTrue tells → writes_in (state self.new).crash.log ≡ writes_in (state self.old).crash.log }
+        ensures waits { IsTrue tells → (state self.old).counts.ticks.manner.waits_alone ≡ true → HearsUpTo n (state self.old) (state self.new) }
+        ensures idles { n ≤ (state self.old).books.floor → ChangesNothing tells (state self.old) (state self.new) }
+        ensures none { (state self.old).books.point < n → ChangesNothing tells (state self.old) (state self.new) };
 
     /// The last point that is known to be durable: no crash from now on goes back behind it.
     fn durable(&self) -> u64

@@ -18,5 +18,5 @@ pub use blocks::Blocks;
 pub use figures::Figures;
 pub use laws::{a_commit_grows_by_each_call, calls_compose, the_lowest_may_be_taken};
 pub use plain::PlainBlocks;
-pub use refusals::{LowestRefusal, SyncRefusal};
+pub use refusals::{LowestRefusal, SyncRefusal, WaitRefusal};
 pub use role::Role;

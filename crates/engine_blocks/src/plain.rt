@@ -14,7 +14,7 @@ use crate::bits::{bit_block, lowest_places, read_bits, write_bit};
 use crate::formatting::formatted_blocks;
 use crate::history::History;
 use crate::role::{forget, put_role, untouched_roles};
-use crate::{Blocks, Figures, LowestRefusal, Role, SyncRefusal};
+use crate::{Blocks, Figures, LowestRefusal, Role, SyncRefusal, WaitRefusal};
 use base_types::{Block, Class, NoMemory, Places, ReadFault};
 use disk_contract::DiskFault;
 use layout_bitmap::{a_cleared_block_is_free_again, a_set_block_is_free_no_more, set};
@@ -175,6 +175,15 @@ impl Blocks for PlainBlocks {
         let point = self.osync(alloc)?;
         self.floor = point;
         Ok(point)
+    }
+
+    fn wait_for(&mut self, n: u64) -> Result<(), WaitRefusal> {
+        let last = self.last();
+        if n > last {
+            return Err(WaitRefusal::NoPoint { last });
+        }
+        self.floor = self.floor.max(n);
+        Ok(())
     }
 
     fn durable(&self) -> u64 {

@@ -53,3 +53,28 @@ impl fmt::Display for SyncRefusal {
 }
 
 impl Error for SyncRefusal {}
+
+/// Why a sync point isn't known to be durable.
+#[derive(Clone, Copy, Debug, PartialEq, Eq)]
+pub enum WaitRefusal {
+    /// There is no such point.
+    NoPoint {
+        /// The last point that there is.
+        last: u64,
+    },
+    /// A wait of the disk failed, which the disk has counted.
+    DiskFault,
+}
+
+impl fmt::Display for WaitRefusal {
+    fn fmt<W: fmt::Write>(&self, f: &mut fmt::Formatter<W>) -> fmt::Result {
+        match self {
+            WaitRefusal::NoPoint { last } => {
+                write!(f, "there is no such sync point, and the last one is {last}")
+            }
+            WaitRefusal::DiskFault => write!(f, "a call of the disk failed"),
+        }
+    }
+}
+
+impl Error for WaitRefusal {}

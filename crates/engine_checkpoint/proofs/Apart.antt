@@ -6,6 +6,7 @@ use Rattle.std.proofs.lemmas.Option.{same_Some, none-some}
 use Rattle.disk_contract.specs.declared.event.Event.{Event}
 use Rattle.disk_contract.specs.declared.event.Event.TheVariants.{Wrote, Lost, Noticed}
 use Rattle.disk_contract.specs.Cell.{greatest_ticket, is_accepted, IsAccepted}
+pub use Rattle.disk_contract.specs.Logs.{IsAccepted-more as accepted_more}
 use Rattle.crash_argument.specs.HomeTest.{is_one_of}
 use Rattle.crash_argument.specs.Writes.{AddsWrites}
 use Rattle.engine_notes.specs.declared.notes.Note.{Note}
@@ -36,13 +37,6 @@ greatest_last (Noticed u ∷ log) t b x = greatest_last log t b x
 pub one_or : (x y : Bool) → (x || y) ≡ true → (x ≡ true) ⊎ (y ≡ true)
 one_or true y e = inl refl
 one_or false y e = inr e
-
--- those of a log stay so
-pub accepted_more : (t : ℕ) (log more : List Event) → IsAccepted t log → IsAccepted t (log ++ more)
-accepted_more t [] more e = absurd (false≢true e)
-accepted_more t (Wrote u b x ∷ log) more e = ⊎_elim (λ own. or_left (u == t) (is_accepted t (log ++ more)) own) (λ rest. or_right (u == t) (is_accepted t (log ++ more)) (accepted_more t log more rest)) (one_or (u == t) (is_accepted t log) e)
-accepted_more t (Lost b x ∷ log) more e = accepted_more t log more e
-accepted_more t (Noticed u ∷ log) more e = accepted_more t log more e
 
 -- and so is the last write
 pub accepted_last : (log : List Event) (t b : ℕ) (x : List ℕ) → IsAccepted t (log ++ Wrote t b x ∷ [])

@@ -11,6 +11,7 @@ use Rattle.disk_contract.specs.declared.disk.DiskFault.{DiskFault}
 use Rattle.disk_contract.specs.Cell.{IsNoticed, notices}
 use Rattle.disk_contract.specs.Disk.{State, AreWrites, GrowsByWrites, HearsAlone}
 use Rattle.disk_contract.specs.Manner.{Manner}
+use Rattle.disk_contract.specs.Logs.{IsNoticed-append as noticed_in}
 use Rattle.crash_argument.specs.HomeTest.{is_one_of}
 use Rattle.crash_argument.specs.Writes.{AddsWrites, AddsAll}
 use Rattle.engine_notes.specs.declared.notes.Note.{Note}
@@ -28,13 +29,6 @@ use Rattle.engine_checkpoint.proofs.HomeSent.{noticed_on}
 use Rattle.engine_checkpoint.proofs.Spent.{holds_ok}
 
 -- Notices in a log that grew.
-
--- a notice of a longer log is one of the old log, or of what came
-noticed_in : (u : ℕ) (old more : List Event) → IsNoticed u (old ++ more) → IsNoticed u old ⊎ IsNoticed u more
-noticed_in u [] more came = inr came
-noticed_in u (Wrote t b x ∷ old) more came = noticed_in u old more came
-noticed_in u (Lost b x ∷ old) more came = noticed_in u old more came
-noticed_in u (Noticed t ∷ old) more came = grind (arith, nat_tests, noticed_in u old more)
 
 -- a ticket whose notice is in a row of notices is one of theirs
 noticed_one : (u : ℕ) (ts : List ℕ) → IsNoticed u (notices ts) → is_one_of u ts ≡ true

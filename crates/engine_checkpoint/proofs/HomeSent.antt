@@ -5,6 +5,7 @@ use Rattle.std.proofs.lemmas.Bool.{cases_Bool, eqb-true, eq-eqb, false≢true}
 use Rattle.disk_contract.specs.declared.event.Event.{Event}
 use Rattle.disk_contract.specs.declared.event.Event.TheVariants.{Wrote, Lost, Noticed}
 use Rattle.disk_contract.specs.Cell.{greatest_ticket, IsNoticed, notices}
+pub use Rattle.disk_contract.specs.Logs.{IsNoticed-more as noticed_on}
 use Rattle.layout_geometry.specs.Geometry.{Geometry, bitmap_start}
 use Rattle.layout_journal.specs.Run.{heads}
 use Rattle.crash_argument.specs.LastWrites.{AvoidsBlock, IsLastWrite}
@@ -28,12 +29,6 @@ avoids_notices b (t ∷ ts) = avoids_notices b ts
 
 pub last_write_on : (log more : List Event) (b t : ℕ) (x : List ℕ) → IsLastWrite log b t x → AvoidsBlock b more → IsLastWrite (log ++ more) b t x
 last_write_on log more b t x w avoids = grind (arith, nat_tests, append_assoc, avoids_on)
-
-pub noticed_on : (u : ℕ) (log more : List Event) → IsNoticed u log → IsNoticed u (log ++ more)
-noticed_on u [] more came = absurd (false≢true came)
-noticed_on u (Wrote t b x ∷ log) more came = noticed_on u log more came
-noticed_on u (Lost b x ∷ log) more came = noticed_on u log more came
-noticed_on u (Noticed t ∷ log) more came = grind (arith, nat_tests, noticed_on u log more)
 
 -- one write, where the log grows by what leaves its block alone, or it is noticed
 sent_at : (g : Geometry) (log more : List Event) (b t : ℕ) → IsNoticed t log ⊎ IsSentTo g log b t → IsNoticed t log ⊎ AvoidsBlock b more → IsNoticed t (log ++ more) ⊎ IsSentTo g (log ++ more) b t

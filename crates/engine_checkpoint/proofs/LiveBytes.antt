@@ -10,6 +10,7 @@ use Rattle.disk_contract.specs.declared.event.Event.{Event}
 use Rattle.disk_contract.specs.declared.event.Event.TheVariants.{Wrote, Lost, Noticed}
 use Rattle.disk_contract.specs.Cell.{accepted, accepted_from, is_lost, is_lost_from, notices}
 use Rattle.disk_contract.specs.Disk.{State}
+use Rattle.disk_contract.specs.Logs.{accepted_from-append as accepted_on}
 use Rattle.layout_journal.specs.Ring.{RingPlaces}
 use Rattle.layout_journal.specs.Run.{otherwise}
 use Rattle.layout_journal.specs.Spelling.{header_block}
@@ -62,12 +63,6 @@ lost_stays b (Lost c y ∷ more) none lost calm = by (c == b) refl (lost_stays b
     by true same on = absurd (none y (subst (λ d. Contains (Lost c y ∷ more) (Lost d y)) (eqb-true c b same) (is_first (Lost c y) more)))
     by false other on = on
 lost_stays b (Noticed t ∷ more) none lost calm = lost_stays b more (λ z. none_behind (Noticed t) more (Lost b z) (none z)) lost calm
-
-accepted_on : (b : ℕ) (x : List ℕ) (log more : List Event) → accepted_from b x (log ++ more) ≡ accepted_from b (accepted_from b x log) more
-accepted_on b x [] more = refl
-accepted_on b x (Wrote t c y ∷ log) more = accepted_on b (if c == b then y else x) log more
-accepted_on b x (Lost c y ∷ log) more = accepted_on b x log more
-accepted_on b x (Noticed t ∷ log) more = accepted_on b x log more
 
 -- What is written goes to blocks that have a newest payload, where they are live.
 

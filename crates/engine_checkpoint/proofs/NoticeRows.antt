@@ -4,13 +4,13 @@ use Rattle.std.proofs.lemmas.Bool.Decides.{nat_tests}
 use Rattle.std.proofs.lemmas.Bool.{false≢true, eq-eqb}
 use Rattle.disk_contract.specs.declared.event.Event.{Event}
 use Rattle.disk_contract.specs.Cell.{notices}
-use Rattle.disk_contract.specs.declared.event.Event.TheVariants.{Noticed}
 use Rattle.crash_argument.specs.HomeTest.{is_one_of}
 use Rattle.engine_notes.specs.declared.notes.Note.{Note}
 use Rattle.engine_notes.specs.Notes.{is_expected, is_noticed, are_expected, none_open}
 use Rattle.engine_running.specs.declared.commit.Committed.{Committed}
 use Rattle.base_types.specs.Counts.{after_calls, next_count}
 use Rattle.disk_contract.specs.Disk.{State, Spends, OnlyPolls}
+use Rattle.disk_contract.specs.Logs.{notices-append as notices_append}
 use Rattle.engine_checkpoint.specs.Steps.{TakesAll, TakesOne, TakesNotices, PollsUpTo, is_first_settled}
 use Rattle.engine_checkpoint.specs.declared.pipeline.Pipeline.{Pipeline}
 use Rattle.engine_checkpoint.proofs.Lists.{below_none}
@@ -48,10 +48,6 @@ all_expected (t ∷ ts) us old new expect within = both (is_expected t new) (are
 one_of_append : (u : ℕ) (ts us : List ℕ) → is_one_of u (ts ++ us) ≡ (is_one_of u ts || is_one_of u us)
 one_of_append u [] us = refl
 one_of_append u (t ∷ ts) us = grind (arith, nat_tests, one_of_append u ts us)
-
-notices_append : (ts us : List ℕ) → notices (ts ++ us) ≡ notices ts ++ notices us
-notices_append [] us = refl
-notices_append (t ∷ ts) us = ap (λ (es : List Event). Noticed t ∷ es) (notices_append ts us)
 
 -- one notice by itself
 pub takes_one : (t : ℕ) (old new : List Note) → ((u : ℕ) → is_expected u new ≡ is_expected u old) → ((u : ℕ) → is_noticed u new ≡ (is_noticed u old || (t == u && is_expected u old))) → TakesAll (t ∷ []) old new

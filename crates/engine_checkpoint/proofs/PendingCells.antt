@@ -6,11 +6,8 @@ use Rattle.base_types.specs.Seal.{Blocks}
 use Rattle.disk_contract.specs.declared.event.Event.{Event}
 use Rattle.disk_contract.specs.declared.event.Event.TheVariants.{Wrote, Lost, Noticed}
 use Rattle.disk_contract.specs.Cell.{Cell, Write, after, after_all, cell_of, from_ticket, greatest_ticket, is_noticed, is_ticket, settle, with_write, IsNoticed}
+use Rattle.disk_contract.specs.Logs.{after_all-append as after_append}
 use Rattle.crash_argument.specs.LastWrites.{AvoidsBlock, IsLastWrite}
-
-after_append : (b : ℕ) (c : Cell) (es fs : List Event) → after_all b c (es ++ fs) ≡ after_all b (after_all b c es) fs
-after_append b c [] fs = refl
-after_append b c (e ∷ es) fs = after_append b (after b c e) es fs
 
 -- Writes of other tickets.
 

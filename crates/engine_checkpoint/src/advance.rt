@@ -110,6 +110,7 @@ impl Pipeline {
         requires { IsFit self.old }
         ensures hears { OnlyHears D.tells result (D.state disk.old) (D.state disk.new) self.old self.new }
         ensures durable { OnOk result (upto ≤ self.old.last → upto < self.new.header.start + durable_count self.new) }
+        ensures due { OnOk result (is_first_settled self.new.committed.items self.new.notes.notes ≡ false) }
         ensures only { IsTrue D.tells → (D.state disk.old).manner.waits_alone ≡ true → (u : ℕ) → IsNoticed u (D.state disk.new).log
             → IsNoticed u (D.state disk.old).log ⊎ IsOfRecord self.old upto u }
         ensures spends { WaitsSome (is_err result) (D.state disk.old) (D.state disk.new) }

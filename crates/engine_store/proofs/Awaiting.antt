@@ -118,12 +118,12 @@ pub awaited_given : (v : StoreParts) (log : List Event) (p t : ℕ) → OpenAreE
 awaited_given v log p t expected given a = given t (each_expected a.committed.tickets.items v.pipeline.notes.notes t (expected.records a.place a.committed a.is) a.own)
 
 -- some point waits for a record's ticket
-awaited_record : (v : StoreParts) (upto t : ℕ) → IsGoing v → v.stopped ≡ false → IsOfRecord v.pipeline upto t → (p : ℕ) × awaited_in v p t
-awaited_record v upto t g going of = (of.committed.number + 1 - v.first, record { going = going; place = of.place; committed = of.committed; is = of.is; number = omega (arith, number_at v.pipeline g.sound.order of.place of.committed of.is, g.floor); own = of.own })
+awaited_record : (v : StoreParts) (upto n t : ℕ) → upto + 1 ≡ v.first + n → IsGoing v → v.stopped ≡ false → IsOfRecord v.pipeline upto t → (p : ℕ) × (1 ≤ p) × (p ≤ n) × awaited_in v p t
+awaited_record v upto n t same g going of = (of.committed.number + 1 - v.first, omega (arith, number_at v.pipeline g.sound.order of.place of.committed of.is, g.floor), omega (arith, of.within, same), record { going = going; place = of.place; committed = of.committed; is = of.is; number = omega (arith, number_at v.pipeline g.sound.order of.place of.committed of.is, g.floor); own = of.own })
 
 -- so the notices that came are of tickets that points waited for, where they are those of records' tickets
-pub waited_hears : (v w : StoreParts) (d e : State) (ticks later upto : ℕ) → IsGoing v → v.stopped ≡ false → ((t : ℕ) → IsNoticed t e.log → IsNoticed t d.log ⊎ IsOfRecord v.pipeline upto t) → blocks.HearsRecords (store_state v ticks d) (store_state w later e)
-waited_hears v w d e ticks later upto g going only t came = ⊎_elim (λ was. inl was) (λ of. inr (inl ∣ awaited_record v upto t g going of ∣₁)) (only t came)
+pub waited_hears : (v w : StoreParts) (d e : State) (ticks later upto n : ℕ) → upto + 1 ≡ v.first + n → IsGoing v → v.stopped ≡ false → ((t : ℕ) → IsNoticed t e.log → IsNoticed t d.log ⊎ IsOfRecord v.pipeline upto t) → blocks.HearsUpTo n (store_state v ticks d) (store_state w later e)
+waited_hears v w d e ticks later upto n same g going only t came = ⊎_elim (λ was. inl was) (λ of. inr ∣ awaited_record v upto n t same g going of ∣₁) (only t came)
 
 -- where the floor isn't the last point, the next one waits for a ticket still
 pub still_awaits : (v : StoreParts) (ticks : ℕ) (d : State) → IsGoing v → v.stopped ≡ false → is_first_settled v.pipeline.committed.items v.pipeline.notes.notes ≡ false → (d.manner.waits_alone ≡ true → HearsAll d.log v.pipeline) → v.floor < v.point → blocks.StillAwaits (store_state v ticks d) (v.floor + 1)

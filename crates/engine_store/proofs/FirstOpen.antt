@@ -80,15 +80,6 @@ pub due_drained : (result : Result (Unit {0}) DiskFault) (v : Pipeline) (dead : 
 due_drained (Ok a) v dead drained = ap (λ (cs : List Committed). is_first_settled cs v.notes.notes) drained.committed
 due_drained (Err x) v dead drained = tt
 
--- where the last record is durable, no record is committed
-none_committed : (v : Pipeline) (cs : List Committed) → v.committed.items ≡ cs → IsInOrder v → v.last < v.header.start + durable_count v → is_first_settled cs v.notes.notes ≡ false
-none_committed v [] is order all = refl
-none_committed v (c ∷ cs) is order all = absurd (omega (arith, order.last, numbers_len v, all, ap (λ (xs : List Committed). length xs) is))
-
-pub due_waited : (result : Result (Unit {0}) DiskFault) (v : Pipeline) (last : ℕ) → v.last ≡ last → IsInOrder v → OnOk result (last ≤ last → last < v.header.start + durable_count v) → OnOk result (is_first_settled v.committed.items v.notes.notes ≡ false)
-due_waited (Ok a) v last is order durable = none_committed v v.committed.items refl order (omega (arith, is, durable (omega arith)))
-due_waited (Err x) v last is order durable = tt
-
 -- Which record it is.
 
 -- the number at a place of a row

@@ -1,10 +1,12 @@
 -- Logs that go on: notices behind notices, and events that write no block from some block on.
-use Rattle.std.proofs.Common.{◌≡◌, ◌≢◌, ◌⊎◌, inl, inr, ⊎_elim, ℕ, zero, suc, ◌+◌, ◌<◌, ◌≤◌, List, [], ◌∷◌, ◌++◌, take, length, get_or, refl, sym, ◌∙◌, ap, subst, arith, append_assoc, append-nil, length-append}
-use Rattle.std.proofs.lemmas.Bool.{false≢true, or_cases, or_right, or_left}
+use Rattle.std.proofs.Common.{◌≡◌, ◌≢◌, ◌⊎◌, ⊎_elim, ℕ, zero, suc, ◌+◌, ◌<◌, ◌≤◌, List, [], ◌∷◌, ◌++◌, take, length, get_or, refl, sym, ◌∙◌, ap, subst, arith, append_assoc, append-nil, length-append}
+use Rattle.std.proofs.lemmas.Bool.{false≢true}
 use Rattle.disk_contract.specs.declared.event.Event.{Event}
 use Rattle.disk_contract.specs.declared.event.Event.TheVariants.{Wrote, Lost, Noticed}
 use Rattle.disk_contract.specs.Cell.{IsNoticed, notices}
 use Rattle.disk_contract.specs.Disk.{AreOpen, AddsNotices, Grows}
+pub use Rattle.disk_contract.specs.Logs.{IsNoticed-append as noticed_in, IsNoticed-more as noticed_still}
+use Rattle.disk_contract.specs.Logs.{notices-append}
 use Rattle.crash_argument.specs.LastWrites.{AvoidsBlock}
 use Rattle.crash_argument.specs.PipelineData.{AllNoticed}
 use Rattle.engine_store.specs.Formatting.{WritesBelow}
@@ -12,11 +14,6 @@ use Rattle.engine_store.specs.Formatting.{WritesBelow}
 -- a log that goes on has no fewer events
 pub longer : (old new : List Event) → Grows old new → length old ≤ length new
 longer old new grows = omega (arith, ap (λ (es : List Event). length es) grows.log, length-append old grows.more)
-
--- the notices of two lists of tickets
-notices-append : (ts us : List ℕ) → notices (ts ++ us) ≡ notices ts ++ notices us
-notices-append [] us = refl
-notices-append (t ∷ ts) us = ap (λ (l : List Event). Noticed t ∷ l) (notices-append ts us)
 
 -- tickets that are open one after another, in two lists
 open_then : (ts us : List ℕ) (log : List Event) → AreOpen ts log → AreOpen us (log ++ notices ts) → AreOpen (ts ++ us) log
@@ -32,20 +29,6 @@ notices_then old mid new one two = record {
       two.log ∙ ap (λ (l : List Event). l ++ notices two.tickets) one.log ∙ append_assoc old (notices one.tickets) (notices two.tickets)
       ∙ ap (λ (l : List Event). old ++ l) (sym (notices-append one.tickets two.tickets));
 }
-
--- what is noticed stays so
-pub noticed_still : (t : ℕ) (log more : List Event) → IsNoticed t log → IsNoticed t (log ++ more)
-noticed_still t [] more h = absurd (false≢true h)
-noticed_still t (Wrote u b x ∷ log) more h = noticed_still t log more h
-noticed_still t (Lost b x ∷ log) more h = noticed_still t log more h
-noticed_still t (Noticed u ∷ log) more h = ⊎_elim (λ e. or_left _ _ e) (λ r. or_right _ _ (noticed_still t log more r)) (or_cases _ _ h)
-
--- a notice in two lists is in one of them
-pub noticed_in : (t : ℕ) (xs ys : List Event) → IsNoticed t (xs ++ ys) → IsNoticed t xs ⊎ IsNoticed t ys
-noticed_in t [] ys h = inr h
-noticed_in t (Wrote u b x ∷ xs) ys h = noticed_in t xs ys h
-noticed_in t (Lost b x ∷ xs) ys h = noticed_in t xs ys h
-noticed_in t (Noticed u ∷ xs) ys h = ⊎_elim (λ e. inl (or_left _ _ e)) (λ r. ⊎_elim (λ p. inl (or_right _ _ p)) inr (noticed_in t xs ys r)) (or_cases _ _ h)
 
 -- all of these are noticed still
 all_still : (ts : List ℕ) (log more : List Event) → AllNoticed log ts → AllNoticed (log ++ more) ts

@@ -38,7 +38,7 @@ use Rattle.engine_books.specs.Point.{BeganAt, HasSameLive}
 use Rattle.engine_store.specs.declared.parts.StoreParts.{StoreParts}
 use Rattle.engine_store.specs.PipelineCall.{CallsPipeline, settled_up}
 use Rattle.engine_store.specs.SessionView.{state_of}
-use Rattle.engine_store.specs.Store.{PartsMove, StoreIsSound, bookkeeping_of, durable_point}
+use Rattle.engine_store.specs.Store.{IsGoing, PartsMove, StoreIsSound, bookkeeping_of, durable_point}
 use Rattle.engine_store.specs.Told.{CacheAgrees, GoesBy, IsKeptOn, IsToldBy, awaited_in, counts_of, last_map, map_now, session_of, store_state}
 use Rattle.engine_store.proofs.Awaiting.{called_awaits}
 use Rattle.engine_store.proofs.CommitSets.{same_by_some}
@@ -309,13 +309,14 @@ pub durable_fits : (result : Result (Unit {0}) DiskFault) (v q : Pipeline) (ring
 durable_fits (Ok a) v q ring dead sound last turns = omega (arith, durable_few q sound.order, last, turns.last)
 durable_fits (Err x) v q ring dead sound last turns = tt
 
--- where the last record is durable, the floor is the last point
-pub last_is_durable : (tells : Bool) (answer result : Result (Unit {0}) DiskFault) (w u : StoreParts) (e : State) (last : ℕ) → IsKeptOn tells u e → w.stopped ≡ false → w.pipeline.last ≡ last → answer ≡ result → u ≡ settled_up result w → OnOk result (last ≤ last → last < w.pipeline.header.start + durable_count w.pipeline) → OnOk answer (u.floor ≡ u.point)
-last_is_durable tells answer (Ok a) w u e last k going is same at durable = rw same (subst (λ (x : StoreParts). IsKeptOn tells x e → x.floor ≡ x.point) (sym at) floor_is_point k)
+-- where the record of a point is durable, the floor is that point or a later one
+pub point_is_durable : (tells : Bool) (answer result : Result (Unit {0}) DiskFault) (v w u : StoreParts) (e : State) (n : ℕ) → IsGoing v → IsKeptOn tells u e → w.stopped ≡ false → w.first ≡ v.first → 0 < n → n ≤ v.point → answer ≡ result → u ≡ settled_up result w
+    → OnOk result (v.first + (n - 1) ≤ v.pipeline.last → v.first + (n - 1) < w.pipeline.header.start + durable_count w.pipeline) → OnOk answer (n ≤ u.floor)
+point_is_durable tells answer (Ok a) v w u e n was k going first some there same at durable = rw same (subst (λ (x : StoreParts). IsKeptOn tells x e → n ≤ x.floor) (sym at) above k)
   where
-    floor_is_point : IsKeptOn tells (settled_up (done a) w) e → durable_point w ≡ w.point
-    floor_is_point kept = omega (arith, is, durable (omega arith), (kept.sound.going going).number, (kept.sound.going going).floor, kept.sound.floor)
-last_is_durable tells answer (Err x) w u e last k going is same at durable = subst (λ (r : Result (Unit {0}) DiskFault). OnOk r (u.floor ≡ u.point)) (sym same) tt
+    above : IsKeptOn tells (settled_up (done a) w) e → n ≤ durable_point w
+    above kept = omega (arith, durable (omega (arith, was.number, some, there)), (kept.sound.going going).floor, first, some)
+point_is_durable tells answer (Err x) v w u e n was k going first some there same at durable = subst (λ (r : Result (Unit {0}) DiskFault). OnOk r (n ≤ u.floor)) (sym same) tt
 
 -- From what the pipeline's calls say to a call as the law takes it.
 

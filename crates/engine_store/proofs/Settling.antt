@@ -4,20 +4,14 @@ use Rattle.std.proofs.lemmas.Bool.{false≢true, or_cases, cases_eq, cases_Bool,
 use Rattle.base_types.specs.Seal.{Blocks}
 use Rattle.disk_contract.specs.declared.event.Event.{Event}
 use Rattle.disk_contract.specs.declared.event.Event.TheVariants.{Wrote, Lost, Noticed}
-use Rattle.disk_contract.specs.Cell.{Cell, Write, settle, from_ticket, with_write, after, after_all, cell_of, IsNoticed, notices}
+use Rattle.disk_contract.specs.Cell.{Cell, Write, settle, from_ticket, with_write, after_all, cell_of, IsNoticed, notices}
+pub use Rattle.disk_contract.specs.Logs.{cell_of-append}
+use Rattle.disk_contract.specs.Logs.{other_wrote}
 use Rattle.crash_argument.specs.LastWrites.{AvoidsBlock}
 use Rattle.crash_argument.specs.PipelineData.{AllNoticed}
 use Rattle.crash_argument.specs.Writes.{AddsWrites}
 use Rattle.engine_store.specs.Formatting.{row_of, AddsDurably}
 use Rattle.engine_store.proofs.Logs.{noticed_in, notices_avoid}
-
--- events behind others
-after_all-append : (b : ℕ) (c : Cell) (xs ys : List Event) → after_all b c (xs ++ ys) ≡ after_all b (after_all b c xs) ys
-after_all-append b c [] ys = refl
-after_all-append b c (x ∷ xs) ys = after_all-append b (after b c x) xs ys
-
-pub cell_of-append : (base : Blocks) (log more : List Event) (b : ℕ) → cell_of base (log ++ more) b ≡ after_all b (cell_of base log b) more
-cell_of-append base log more b = after_all-append b _ log more
 
 -- a notice leaves a cell with nothing pending
 idle_notice : (c : Cell) (t : ℕ) → c.pending ≡ [] → settle c (from_ticket t c.pending) ≡ c
@@ -39,10 +33,6 @@ waited b t old x (u ∷ ts) h =
       | true ↦ λ e. idle_avoids b _ (notices ts) refl (notices_avoid b ts)
       | false ↦ λ e. waited b t old x ts (⊎_elim (λ is. absurd (eqb-false t u e (sym (eqb-true u t is)))) (λ r. r) (or_cases _ _ h))
     ] refl
-
--- the first write of a row, on another block and on its own
-other_wrote : (base : Blocks) (log : List Event) (t a b : ℕ) (x : List ℕ) → a ≢ b → cell_of base (log ++ Wrote t a x ∷ []) b ≡ cell_of base log b
-other_wrote base log t a b x apart = cell_of-append base log _ b ∙ cond-false (a == b) _ _ (ne_eqb a b apart)
 
 own_wrote : (base : Blocks) (log : List Event) (t a b : ℕ) (x : List ℕ) → a ≡ b → cell_of base (log ++ Wrote t a x ∷ []) b ≡ with_write (cell_of base log b) (Some t) x
 own_wrote base log t a b x e = cell_of-append base log _ b ∙ cond-true (a == b) _ _ (eq-eqb a b e)

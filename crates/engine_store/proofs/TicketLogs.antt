@@ -1,21 +1,16 @@
 -- Tickets of a log that goes on: those that were accepted or noticed before, and those of new writes.
 use Rattle.std.proofs.Common.{append-nil, ◌≡◌, ⊎_elim, ℕ, zero, suc, ◌<◌, ◌==◌, Bool, true, false, if◌then◌else◌, List, [], ◌∷◌, ◌++◌, length, get_or, Result, Ok, Err, OnErr, refl, sym, ◌∙◌, subst, arith, inl, inr, ap}
-use Rattle.std.proofs.lemmas.Bool.{eq-eqb, eqb-true, false_from_ne_true, false≢true, ne_eqb, or_cases, or_left, or_right, or_from, cases_Bool}
+use Rattle.std.proofs.lemmas.Bool.{eqb-true, false_from_ne_true, false≢true, ne_eqb, or_from, cases_Bool}
 use Rattle.disk_contract.specs.declared.event.Event.{Event}
 use Rattle.disk_contract.specs.declared.event.Event.TheVariants.{Wrote, Lost, Noticed}
 use Rattle.disk_contract.specs.Cell.{greatest_ticket, is_accepted, IsAccepted, IsNoticed, notices}
 use Rattle.disk_contract.specs.Disk.{AddsNotices, AreWrites, Grows, GrowsByWrites}
+use Rattle.disk_contract.specs.Logs.{IsAccepted-last as accepted_behind}
+pub use Rattle.disk_contract.specs.Logs.{IsAccepted-more as accepted_still}
 use Rattle.crash_argument.specs.HomeTest.{is_one_of}
 use Rattle.crash_argument.specs.Writes.{AddsWrites}
 use Rattle.engine_store.specs.Formatting.{AllAccepted}
 use Rattle.engine_store.proofs.Logs.{noticed_in, noticed_still}
-
--- a ticket that was accepted stays so
-pub accepted_still : (t : ℕ) (log more : List Event) → IsAccepted t log → IsAccepted t (log ++ more)
-accepted_still t [] more e = absurd (false≢true e)
-accepted_still t (Wrote u b x ∷ log) more e = ⊎_elim (λ own. or_left (u == t) (is_accepted t (log ++ more)) own) (λ rest. or_right (u == t) (is_accepted t (log ++ more)) (accepted_still t log more rest)) (or_cases (u == t) (is_accepted t log) e)
-accepted_still t (Lost b x ∷ log) more e = accepted_still t log more e
-accepted_still t (Noticed u ∷ log) more e = accepted_still t log more e
 
 -- so one that isn't wasn't
 pub not_before : (t : ℕ) (old new : List Event) → Grows old new → is_accepted t new ≡ false → is_accepted t old ≡ false
@@ -72,12 +67,6 @@ added_still t [] [] old new adds was = subst (IsAccepted t) (sym adds) was
 added_still t [] (u ∷ ts) old new adds was = absurd adds
 added_still t (w ∷ ws) [] old new adds was = absurd adds
 added_still t (w ∷ ws) (u ∷ ts) old new adds was = added_still t ws ts (old ++ Wrote u w.0 w.1 ∷ []) new adds.2 (accepted_still t old (Wrote u w.0 w.1 ∷ []) was)
-
-accepted_behind : (t b : ℕ) (x : List ℕ) (log : List Event) → IsAccepted t (log ++ Wrote t b x ∷ [])
-accepted_behind t b x [] = or_left (t == t) false (eq-eqb t t refl)
-accepted_behind t b x (Wrote u c y ∷ log) = or_right (u == t) (is_accepted t (log ++ Wrote t b x ∷ [])) (accepted_behind t b x log)
-accepted_behind t b x (Lost c y ∷ log) = accepted_behind t b x log
-accepted_behind t b x (Noticed u ∷ log) = accepted_behind t b x log
 
 pub all_accepted : (ws : List (ℕ × List ℕ)) (ts : List ℕ) (old new : List Event) → AddsWrites ws ts old new → AllAccepted new ts
 all_accepted [] [] old new adds = tt

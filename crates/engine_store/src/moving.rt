@@ -1,4 +1,4 @@
-//! Calls that move the pipeline: a step of it, a drain, and a wait for the last record. Each keeps the store, and the
+//! Calls that move the pipeline: a step of it, a drain, and a wait for a record. Each keeps the store, and the
 //! store stops where the disk failed. When they are called isn't said here.
 
 ghost use Rattle.std.specs.Prelude.{◌≡◌, ◌+◌, ◌^◌, ◌<◌, ◌≤◌, ℕ, Bool, List, Result, false, true, is_err, IsTrue, OnOk};
@@ -17,7 +17,7 @@ ghost use Rattle.engine_checkpoint.specs.Kept.{kept};
 ghost use Rattle.engine_checkpoint.specs.Order.{IsInOrder};
 ghost use Rattle.engine_checkpoint.specs.Waits.{OnlyNotices};
 ghost use Rattle.engine_blocks.specs.Calls.{HasTurns};
-ghost use Rattle.engine_blocks.specs.Crashes.{HearsRecords};
+ghost use Rattle.engine_blocks.specs.Crashes.{HearsUpTo};
 ghost use Rattle.engine_blocks.specs.Effects.{RingIsTold, RunsPipeline};
 ghost use Rattle.engine_blocks.specs.Serving.{SameFreed, ServesSure, with_all_served};
 ghost use Rattle.engine_store.specs.declared.parts.StoreParts as parts;
@@ -88,25 +88,31 @@ pub(crate) fn drain<D: Disk>(disk: &mut D, parts: &mut StoreParts) -> Result<(),
     settle_up(parts, drained)
 }
 
-/// Waits until the last point is durable.
-pub(crate) fn wait_for_last<D: Disk>(disk: &mut D, parts: &mut StoreParts) -> Result<(), DiskFault>
+/// Waits until point `n` is durable, which was made.
+pub(crate) fn wait_for_point<D: Disk>(
+    disk: &mut D,
+    parts: &mut StoreParts,
+    n: u64,
+) -> Result<(), DiskFault>
     requires kept { IsKeptOn D.tells parts.old (D.state disk.old) }
     requires going { parts.old.stopped ≡ false }
     requires turns { pipeline.HasTurns parts.old.pipeline }
+    requires some { 0 < n }
+    requires there { n ≤ parts.old.point }
     ensures kept { IsKeptOn D.tells parts.new (D.state disk.new) }
     ensures runs { (before then : ℕ) → RunsPipeline D.tells (is_err result) (store_state parts.old before (D.state disk.old))
         (store_state parts.new then (D.state disk.new)) }
     ensures moves { PartsMove 4 parts.old parts.new }
-    ensures durable { OnOk result (parts.new.floor ≡ parts.new.point) }
+    ensures durable { OnOk result (n ≤ parts.new.floor) }
     ensures books { parts.new.books ≡ parts.old.books }
     ensures still { IsTrue D.tells → writes_in (D.state disk.new).log ≡ writes_in (D.state disk.old).log }
     ensures waits { (before then : ℕ) → IsTrue D.tells → (D.state disk.old).manner.waits_alone ≡ true
-        → HearsRecords (store_state parts.old before (D.state disk.old)) (store_state parts.new then (D.state disk.new)) }
+        → HearsUpTo n (store_state parts.old before (D.state disk.old)) (store_state parts.new then (D.state disk.new)) }
     ensures asks { AsksNothing (D.state disk.old) (D.state disk.new) }
 {
     a_pipeline_call_keeps_the_store();
-    let last = parts.pipeline.last;
-    let waited = parts.pipeline.wait_records(disk, last);
+    let upto = parts.first + (n - 1);
+    let waited = parts.pipeline.wait_records(disk, upto);
     settle_up(parts, waited)
 }
 

@@ -9,7 +9,7 @@ ghost use Rattle.engine_store.specs.Told.{IsKeptOn, store_state};
 
 use crate::choosing::least;
 use crate::mounting::open_parts;
-use crate::moving::{advance, drain};
+use crate::moving::{advance, drain, wait_for_point};
 use crate::parts::StoreParts;
 use crate::reading::read_block;
 use crate::refusal::StoreRefusal;
@@ -18,7 +18,7 @@ use crate::{running, syncing};
 use base_types::limits::SPENT;
 use base_types::{Block, Class, NoMemory, Places, ReadFault};
 use disk_contract::{Disk, DiskFault};
-use engine_blocks::{Blocks, Figures, LowestRefusal, SyncRefusal};
+use engine_blocks::{Blocks, Figures, LowestRefusal, SyncRefusal, WaitRefusal};
 use layout_geometry::Geom;
 use std::alloc::Global;
 
@@ -135,6 +135,21 @@ impl<D: Disk> Blocks for Store<D> {
     fn dsync(&mut self, alloc: Global) -> Result<u64, SyncRefusal> {
         a_store_that_is_kept_is_told();
         syncing::sync_durably(alloc, &mut self.disk, &mut self.parts)
+    }
+
+    fn wait_for(&mut self, n: u64) -> Result<(), WaitRefusal> {
+        a_store_that_is_kept_is_told();
+        let last = self.parts.point;
+        if n > last {
+            return Err(WaitRefusal::NoPoint { last });
+        }
+        if n <= self.parts.floor {
+            return Ok(());
+        }
+        match wait_for_point(&mut self.disk, &mut self.parts, n) {
+            Ok(()) => Ok(()),
+            Err(DiskFault) => Err(WaitRefusal::DiskFault),
+        }
     }
 
     fn durable(&self) -> u64 {

@@ -18,7 +18,7 @@ ghost use Rattle.engine_store.specs.Store.{StoreIsSound, bookkeeping_of};
 ghost use Rattle.engine_store.specs.Syncing.{Forgets, FreesInRing, IsSameStore, LetsWait, MayCommit, SyncFrees};
 ghost use Rattle.engine_store.specs.Told.{IsKeptOn, store_state};
 
-use crate::moving::{drain, wait_for_last};
+use crate::moving::{drain, wait_for_point};
 use crate::parts::StoreParts;
 use crate::told::a_store_that_is_kept_is_told;
 use crate::{a_call_that_stays_safe_advances, a_sound_store_has_sound_books, commit_books};
@@ -94,7 +94,8 @@ pub(crate) fn sync_durably<D: Disk>(
     if parts.floor == parts.point {
         return Ok(point);
     }
-    match wait_for_last(disk, parts) {
+    let last = parts.point;
+    match wait_for_point(disk, parts, last) {
         Ok(()) => Ok(point),
         Err(DiskFault) => Err(SyncRefusal::DiskFault),
     }
