@@ -1,16 +1,12 @@
 -- The first look at the nodes, one node more, and all of them.
-use Rattle.std.proofs.Common.{◌≡◌, ◌≢◌, ℕ, ◌+◌, ◌/◌, ◌<◌, ◌≤◌, Bool, true, false, ◌&&◌, nat_le, List, [], ◌∷◌, ◌++◌, length, Option, None, Some, option_map, refl, sym, ap, ◌∙◌, arith, subst, ⊎_elim}
-use Rattle.std.proofs.lemmas.Bool.{cases_lt, ne_eqb, lt-leb}
+use Rattle.std.proofs.Common.{◌≡◌, ◌≢◌, ℕ, zero, suc, ◌+◌, ◌/◌, ◌<◌, ◌≤◌, List, [], ◌∷◌, ◌++◌, length, Option, None, Some, option_map, refl, sym, ap, ◌∙◌, arith, subst, ⊎_elim}
+use Rattle.std.proofs.lemmas.Bool.{cases_lt, ne_eqb}
 use Rattle.std.proofs.lemmas.List.{get_or_append_left, get_or_push, get_or_past}
 use Rattle.std.proofs.lemmas.Option.{none-some, same_Some}
-use Rattle.base_types.specs.Seal.{Blocks}
-use Rattle.layout_geometry.specs.Geometry.{Geometry}
-use Rattle.layout_bytes.specs.declared.node.Node.{Node}
 use Rattle.layout_bytes.specs.declared.node.NodeKind.{NodeKind}
 use Rattle.layout_bytes.specs.declared.node.NodeKind.TheVariants as kind
 use Rattle.layout_bytes.specs.Bytes.{when}
-use Rattle.layout_bytes.specs.Node.{node_at}
-use Rattle.crash_stands.specs.Files.{FileNode, Files, file_of, files_of}
+use Rattle.crash_stands.specs.Files.{FileNode, Files}
 use Rattle.crash_stands.specs.Inodes.{ADir, inode_by, inode_of}
 use Rattle.layout_bytes.specs.Slot.{slots_in}
 use Rattle.fs_files.specs.declared.look.FileFacts.{FileFacts}
@@ -43,19 +39,15 @@ seen_push files nodes n found look len before e h k low = ⊎_elim (λ less. sub
 pub zero_push : (nodes : List Looked) (n : ℕ) (look : Looked) → length nodes ≡ n → 1 ≤ n → seen nodes 0 ≡ Unused → seen (nodes ++ look ∷ []) 0 ≡ Unused
 zero_push nodes n look len low e = get_or_append_left nodes (look ∷ []) Unused 0 (omega (arith, low, len)) ∙ e
 
-none_by : (a b : Bool) (o : Option Node) → b ≡ false → when (a && b) o ≡ None
-none_by true true o e = absurd cc
-none_by true false o e = refl
-none_by false b o e = refl
-
--- a number above the limit is that of no node
-none_above : (g : Geometry) (m : Blocks) (k : ℕ) → g.i < k → files_of g m k ≡ None
-none_above g m k h = ap (option_map (file_of m)) (none_by (nat_le 1 k) (nat_le k g.i) (node_at g m k) (lt-leb k g.i h))
+-- before the first look number 0 alone was seen, which no node has
+pub first_seen : (files : Files) → files 0 ≡ None → (k : ℕ) → k < 1 → IsSeen (files k) (seen (Unused ∷ []) k)
+first_seen files none zero low = subst (λ o. IsSeen o Unused) (sym none) refl
+first_seen files none (suc k) low = absurd (omega (arith, low))
 
 -- all nodes were seen
-pub all_seen : (g : Geometry) (m : Blocks) (nodes : List Looked) (n : ℕ) → length nodes ≡ n → g.i < n → ((k : ℕ) → k < n → IsSeen (files_of g m k) (seen nodes k)) → AreSeen (files_of g m) nodes
-all_seen g m nodes n len most before k = ⊎_elim (λ less. before k less)
-    (λ more. subst (λ o. IsSeen o (seen nodes k)) (sym (none_above g m k (omega (arith, most, more)))) (get_or_past nodes k Unused (omega (arith, len, more))))
+pub all_seen : (limit : ℕ) (files : Files) → ((k : ℕ) → limit < k → files k ≡ None) → (nodes : List Looked) (n : ℕ) → length nodes ≡ n → limit < n → ((k : ℕ) → k < n → IsSeen (files k) (seen nodes k)) → AreSeen files nodes
+all_seen limit files none nodes n len most before k = ⊎_elim (λ less. before k less)
+    (λ more. subst (λ o. IsSeen o (seen nodes k)) (sym (none k (omega (arith, most, more)))) (get_or_past nodes k Unused (omega (arith, len, more))))
     (cases_lt k n)
 
 wrong_inode : (x : FileNode) → x.kind ≡ kind.Dir → x.links ≢ 1 → inode_of x ≡ None

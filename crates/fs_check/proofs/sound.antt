@@ -1,7 +1,6 @@
 pub mod Nodes
 pub mod Broken
 pub mod Meets
-pub mod Looks
 pub mod Tails
 pub mod Told
 pub mod Bitmap

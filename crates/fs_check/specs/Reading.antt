@@ -1,18 +1,10 @@
 -- What reading calls of the check have in common.
-use Rattle.std.specs.Prelude.{◌≡◌, ⊤, Bool, true, false, Result, Ok, Err}
-use Rattle.engine_blocks.specs.State.{State}
+use Rattle.std.specs.Prelude.{⊤, Bool, true, false, Result, Ok, Err}
 use Rattle.fs_files.specs.declared.refusal.FileRefusal.{FileRefusal}
 use Rattle.fs_files.specs.declared.refusal.FileRefusal.TheVariants as file
-use Rattle.fs_files.specs.Drafts.{DraftState}
-use Rattle.fs_files.specs.Sound.{IsDraftOf}
 use Rattle.fs_check.specs.declared.damage.TreeDamage.{TreeDamage}
 use Rattle.fs_check.specs.declared.damage.TreeRefusal.{TreeRefusal}
 use Rattle.fs_check.specs.declared.damage.TreeRefusal.TheVariants as tree
-
--- the blocks may be read through this draft
-pub record MayRead (tells : Bool) (s : State) (d : DraftState) : Type 0 where
-  pub going : s.books.stopped ≡ false
-  pub draft : IsDraftOf tells s d
 
 -- why a check ends where a call on a file was refused
 abbrev pub refusal_of : FileRefusal → TreeRefusal

@@ -1,18 +1,18 @@
 //! The first look at each node of the node table.
 
 ghost use Rattle.std.specs.Prelude.{◌≡◌, ◌≢◌, ◌++◌, ◌∷◌, [], IsTrue, IfOk, IfErr, IfSome, OnOk};
-ghost use Rattle.fs_files.specs.Calls.{files_in};
+ghost use Rattle.fs_files.specs.Asks.{MayRead};
 ghost use Rattle.fs_files.specs.Effects.{LooksOnly};
 ghost use Rattle.layout_bytes.specs.declared.node.NodeKind.TheVariants.{Free};
 ghost use Rattle.fs_check.specs.Damage.{IsBroken};
 ghost use Rattle.fs_check.specs.Looked.{AreSeen, HasPlaces, IsLookOf, HasWrongLink};
-ghost use Rattle.fs_check.specs.Reading.{MayRead, IfDamaged, fails_reading};
+ghost use Rattle.fs_check.specs.Reading.{IfDamaged, fails_reading};
 
 use crate::damage::{TreeDamage, TreeRefusal};
 use crate::looked::Looked;
 use base_types::NoMemory;
 use engine_blocks::Blocks;
-use fs_files::{Draft, FileFacts};
+use fs_files::{FileFacts, Nodes};
 use layout_node::NodeKind;
 use std::alloc::Global;
 
@@ -21,24 +21,25 @@ use std::alloc::Global;
 /// # Errors
 /// A directory has another number of links than one; a read of the disk failed, which the disk has counted;
 /// or out of memory.
-pub(crate) fn look_at_nodes<S: Blocks>(
-    draft: &Draft,
+pub(crate) fn look_at_nodes<N: Nodes, S: Blocks>(
+    files: &N,
     alloc: Global,
     blocks: &mut S,
 ) -> Result<Vec<Looked>, TreeRefusal>
-    requires may_read { MayRead S.tells (S.state blocks.old) draft.now }
+    requires read { MayRead (N.may_read S.tells (S.state blocks.old) files.now) (S.state blocks.old) }
     ensures places { IfOk result (λ nodes. HasPlaces (S.state blocks.old).books.geom.i nodes.items) }
-    ensures seen { IsTrue S.tells → IfOk result (λ nodes. AreSeen (files_in (S.state blocks.old) draft.now) nodes.items) }
+    ensures seen { IsTrue S.tells → IfOk result (λ nodes. AreSeen (N.nodes (S.state blocks.old) files.now).files nodes.items) }
     ensures broken { IsTrue S.tells → IfErr result
-        (λ why. IfDamaged why (IsBroken (S.state blocks.old).books.geom.i (files_in (S.state blocks.old) draft.now))) }
+        (λ why. IfDamaged why (IsBroken (S.state blocks.old).books.geom.i (N.nodes (S.state blocks.old) files.now).files)) }
     ensures looks { LooksOnly S.tells (fails_reading result) (S.state blocks.old) (S.state blocks.new) }
 {
+    files.laws(blocks);
     let geom = blocks.geom();
     geom.lawful();
     let mut nodes = Vec::new(alloc);
     keep(&mut nodes, Looked::Unused)?;
     for node in 1..geom.i() + 1 {
-        let found = draft.look(blocks, node)?;
+        let found = files.look(blocks, node)?;
         keep(&mut nodes, look_of(node, found)?)?;
     }
     Ok(nodes)

@@ -3,11 +3,11 @@
 
 ghost use Rattle.std.specs.Prelude.{◌≡◌, ℕ, IsTrue, length, IfOk, IfErr, OnOk};
 ghost use Rattle.crash_stands.specs.Inodes.{inodes_of};
-ghost use Rattle.fs_files.specs.Calls.{files_in};
+ghost use Rattle.fs_files.specs.Asks.{MayRead};
 ghost use Rattle.fs_files.specs.Effects.{LooksOnly};
 ghost use Rattle.fs_check.specs.declared.looked.Looked.TheVariants.{Directory};
 ghost use Rattle.fs_check.specs.Looked.{seen, AreSeen, HasPlaces};
-ghost use Rattle.fs_check.specs.Reading.{MayRead, IfDamaged, fails_reading};
+ghost use Rattle.fs_check.specs.Reading.{IfDamaged, fails_reading};
 ghost use Rattle.fs_check.specs.Damage.{IsBroken};
 ghost use Rattle.fs_check.specs.Slots.{WentThrough, WentBy, WentUpTo};
 
@@ -17,7 +17,7 @@ use crate::looked::{Looked, seen};
 use crate::names::first_repeat;
 use crate::slots::read_slots;
 use engine_blocks::Blocks;
-use fs_files::Draft;
+use fs_files::Nodes;
 use std::alloc::Global;
 
 /// Checks each directory, and answers how many slots name each node: each count stops at the last number of
@@ -25,25 +25,26 @@ use std::alloc::Global;
 ///
 /// # Errors
 /// A directory is broken; a read of the disk failed, which the disk has counted; or out of memory.
-pub(crate) fn check_directories<S: Blocks>(
-    draft: &Draft,
+pub(crate) fn check_directories<N: Nodes, S: Blocks>(
+    files: &N,
     alloc: Global,
     blocks: &mut S,
     nodes: &[Looked],
 ) -> Result<Vec<u64>, TreeRefusal>
-    requires may_read { MayRead S.tells (S.state blocks.old) draft.now }
+    requires read { MayRead (N.may_read S.tells (S.state blocks.old) files.now) (S.state blocks.old) }
     requires places { HasPlaces (S.state blocks.old).books.geom.i nodes.now }
-    requires seen { IsTrue S.tells → AreSeen (files_in (S.state blocks.old) draft.now) nodes.now }
+    requires seen { IsTrue S.tells → AreSeen (N.nodes (S.state blocks.old) files.now).files nodes.now }
     ensures count { IfOk result (λ named. length named.items ≡ length nodes.now) }
     ensures went { IsTrue S.tells → IfOk result
-        (λ named. WentUpTo nodes.now (inodes_of (files_in (S.state blocks.old) draft.now)) (length nodes.now) named.items) }
+        (λ named. WentUpTo nodes.now (inodes_of (N.nodes (S.state blocks.old) files.now).files) (length nodes.now) named.items) }
     ensures broken { IsTrue S.tells → IfErr result
-        (λ why. IfDamaged why (IsBroken (S.state blocks.old).books.geom.i (files_in (S.state blocks.old) draft.now))) }
+        (λ why. IfDamaged why (IsBroken (S.state blocks.old).books.geom.i (N.nodes (S.state blocks.old) files.now).files)) }
     ensures looks { LooksOnly S.tells (fails_reading result) (S.state blocks.old) (S.state blocks.new) }
 {
+    files.laws(blocks);
     let mut named = vec![in alloc; 0; nodes.len()]?;
     for dir in 1..nodes.len() as u32 {
-        check_node(draft, alloc, blocks, nodes, dir, &mut named)?;
+        check_node(files, alloc, blocks, nodes, dir, &mut named)?;
     }
     Ok(named)
 }
@@ -52,29 +53,29 @@ pub(crate) fn check_directories<S: Blocks>(
 ///
 /// # Errors
 /// The directory is broken; a read of the disk failed, which the disk has counted; or out of memory.
-fn check_node<S: Blocks>(
-    draft: &Draft,
+fn check_node<N: Nodes, S: Blocks>(
+    files: &N,
     alloc: Global,
     blocks: &mut S,
     nodes: &[Looked],
     node: u32,
     named: &mut [u64],
 ) -> Result<(), TreeRefusal>
-    requires may_read { MayRead S.tells (S.state blocks.old) draft.now }
+    requires read { MayRead (N.may_read S.tells (S.state blocks.old) files.now) (S.state blocks.old) }
     requires places { HasPlaces (S.state blocks.old).books.geom.i nodes.now }
-    requires seen { IsTrue S.tells → AreSeen (files_in (S.state blocks.old) draft.now) nodes.now }
+    requires seen { IsTrue S.tells → AreSeen (N.nodes (S.state blocks.old) files.now).files nodes.now }
     requires same { length named.old ≡ length nodes.now }
     ensures went { IsTrue S.tells → OnOk result
-        (WentBy nodes.now (inodes_of (files_in (S.state blocks.old) draft.now)) node (seen nodes.now node) named.old named.new) }
+        (WentBy nodes.now (inodes_of (N.nodes (S.state blocks.old) files.now).files) node (seen nodes.now node) named.old named.new) }
     ensures broken { IsTrue S.tells → IfErr result
-        (λ why. IfDamaged why (IsBroken (S.state blocks.old).books.geom.i (files_in (S.state blocks.old) draft.now))) }
+        (λ why. IfDamaged why (IsBroken (S.state blocks.old).books.geom.i (N.nodes (S.state blocks.old) files.now).files)) }
     ensures looks { LooksOnly S.tells (fails_reading result) (S.state blocks.old) (S.state blocks.new) }
 {
     match seen(nodes, node) {
         Looked::Unused => Ok(()),
         Looked::Links(_) => Ok(()),
         Looked::Directory(size) => {
-            check_directory(draft, alloc, blocks, nodes, node, size, named)?;
+            check_directory(files, alloc, blocks, nodes, node, size, named)?;
             Ok(())
         }
     }
@@ -84,8 +85,8 @@ fn check_node<S: Blocks>(
 ///
 /// # Errors
 /// The directory is broken; a read of the disk failed, which the disk has counted; or out of memory.
-fn check_directory<S: Blocks>(
-    draft: &Draft,
+fn check_directory<N: Nodes, S: Blocks>(
+    files: &N,
     alloc: Global,
     blocks: &mut S,
     nodes: &[Looked],
@@ -93,17 +94,17 @@ fn check_directory<S: Blocks>(
     size: u64,
     named: &mut [u64],
 ) -> Result<(), TreeRefusal>
-    requires may_read { MayRead S.tells (S.state blocks.old) draft.now }
+    requires read { MayRead (N.may_read S.tells (S.state blocks.old) files.now) (S.state blocks.old) }
     requires places { HasPlaces (S.state blocks.old).books.geom.i nodes.now }
-    requires seen { IsTrue S.tells → AreSeen (files_in (S.state blocks.old) draft.now) nodes.now }
+    requires seen { IsTrue S.tells → AreSeen (N.nodes (S.state blocks.old) files.now).files nodes.now }
     requires dir { seen nodes.now dir ≡ Directory size }
     requires same { length named.old ≡ length nodes.now }
-    ensures went { IsTrue S.tells → OnOk result (WentThrough nodes.now (inodes_of (files_in (S.state blocks.old) draft.now)) dir named.old named.new) }
+    ensures went { IsTrue S.tells → OnOk result (WentThrough nodes.now (inodes_of (N.nodes (S.state blocks.old) files.now).files) dir named.old named.new) }
     ensures broken { IsTrue S.tells → IfErr result
-        (λ why. IfDamaged why (IsBroken (S.state blocks.old).books.geom.i (files_in (S.state blocks.old) draft.now))) }
+        (λ why. IfDamaged why (IsBroken (S.state blocks.old).books.geom.i (N.nodes (S.state blocks.old) files.now).files)) }
     ensures looks { LooksOnly S.tells (fails_reading result) (S.state blocks.old) (S.state blocks.new) }
 {
-    let Some(slots) = read_slots(draft, alloc, blocks, dir, size)? else {
+    let Some(slots) = read_slots(files, alloc, blocks, dir, size)? else {
         return Err(TreeRefusal::Damaged(TreeDamage::Unreadable { node: dir }));
     };
     if let Some(place) = first_repeat(alloc, slots.as_slice())? {

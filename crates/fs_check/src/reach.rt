@@ -3,10 +3,10 @@
 ghost use Rattle.std.specs.Prelude.{◌≡◌, ℕ, ◌≤◌, ◌<◌, ◌+◌, ◌^◌, ◌∷◌, [], true, IsTrue, length, slice_get, IfOk, IfErr, OnOk};
 ghost use Rattle.layout_bytes.specs.declared.slot.Slot.{Slot as SlotValue};
 ghost use Rattle.crash_stands.specs.Inodes.{inodes_of};
-ghost use Rattle.fs_files.specs.Calls.{files_in};
+ghost use Rattle.fs_files.specs.Asks.{MayRead};
 ghost use Rattle.fs_files.specs.Effects.{LooksOnly};
 ghost use Rattle.fs_check.specs.Looked.{seen, AreSeen, HasPlaces};
-ghost use Rattle.fs_check.specs.Reading.{MayRead, IfDamaged, fails_reading};
+ghost use Rattle.fs_check.specs.Reading.{IfDamaged, fails_reading};
 ghost use Rattle.fs_check.specs.Damage.{IsBroken};
 ghost use Rattle.fs_check.specs.Slots.{IsGoodDir};
 ghost use Rattle.fs_check.specs.Marks.{Marks, MarksDir, AreReached, WasDir, targets};
@@ -17,7 +17,7 @@ use crate::slots::read_slots;
 use base_types::NoMemory;
 use crash_stands::a_walk_goes_on;
 use engine_blocks::Blocks;
-use fs_files::Draft;
+use fs_files::Nodes;
 use fs_inodes::a_name_stands_at_its_place;
 use layout_bytes::Slot;
 use std::alloc::Global;
@@ -27,23 +27,24 @@ use std::alloc::Global;
 ///
 /// # Errors
 /// A directory reads as none; a read of the disk failed, which the disk has counted; or out of memory.
-pub(crate) fn reach<S: Blocks>(
-    draft: &Draft,
+pub(crate) fn reach<N: Nodes, S: Blocks>(
+    files: &N,
     alloc: Global,
     blocks: &mut S,
     nodes: &[Looked],
 ) -> Result<Vec<bool>, TreeRefusal>
-    requires may_read { MayRead S.tells (S.state blocks.old) draft.now }
+    requires read { MayRead (N.may_read S.tells (S.state blocks.old) files.now) (S.state blocks.old) }
     requires places { HasPlaces (S.state blocks.old).books.geom.i nodes.now }
     requires root { WasDir nodes.now 1 }
-    requires seen { IsTrue S.tells → AreSeen (files_in (S.state blocks.old) draft.now) nodes.now }
-    requires good { IsTrue S.tells → (d : ℕ) → IsGoodDir nodes.now (inodes_of (files_in (S.state blocks.old) draft.now)) d (seen nodes.now d) }
+    requires seen { IsTrue S.tells → AreSeen (N.nodes (S.state blocks.old) files.now).files nodes.now }
+    requires good { IsTrue S.tells → (d : ℕ) → IsGoodDir nodes.now (inodes_of (N.nodes (S.state blocks.old) files.now).files) d (seen nodes.now d) }
     ensures count { IfOk result (λ marks. length marks.items ≡ length nodes.now) }
-    ensures reached { IsTrue S.tells → IfOk result (λ marks. AreReached (inodes_of (files_in (S.state blocks.old) draft.now)) marks.items) }
+    ensures reached { IsTrue S.tells → IfOk result (λ marks. AreReached (inodes_of (N.nodes (S.state blocks.old) files.now).files) marks.items) }
     ensures broken { IsTrue S.tells → IfErr result
-        (λ why. IfDamaged why (IsBroken (S.state blocks.old).books.geom.i (files_in (S.state blocks.old) draft.now))) }
+        (λ why. IfDamaged why (IsBroken (S.state blocks.old).books.geom.i (N.nodes (S.state blocks.old) files.now).files)) }
     ensures looks { LooksOnly S.tells (fails_reading result) (S.state blocks.old) (S.state blocks.new) }
 {
+    files.laws(blocks);
     a_walk_goes_on();
     a_name_stands_at_its_place();
     let mut marks = vec![in alloc; false; nodes.len()]?;
@@ -52,7 +53,7 @@ pub(crate) fn reach<S: Blocks>(
     let mut at = 0;
     while at < queue.len() {
         let dir = queue[at];
-        mark_directory(draft, alloc, blocks, nodes, dir, &mut marks, &mut queue)?;
+        mark_directory(files, alloc, blocks, nodes, dir, &mut marks, &mut queue)?;
         at += 1;
     }
     Ok(marks)
@@ -62,8 +63,8 @@ pub(crate) fn reach<S: Blocks>(
 ///
 /// # Errors
 /// The directory reads as none; a read of the disk failed, which the disk has counted; or out of memory.
-fn mark_directory<S: Blocks>(
-    draft: &Draft,
+fn mark_directory<N: Nodes, S: Blocks>(
+    files: &N,
     alloc: Global,
     blocks: &mut S,
     nodes: &[Looked],
@@ -71,20 +72,20 @@ fn mark_directory<S: Blocks>(
     marks: &mut [bool],
     queue: &mut Vec<u32>,
 ) -> Result<(), TreeRefusal>
-    requires may_read { MayRead S.tells (S.state blocks.old) draft.now }
+    requires read { MayRead (N.may_read S.tells (S.state blocks.old) files.now) (S.state blocks.old) }
     requires places { HasPlaces (S.state blocks.old).books.geom.i nodes.now }
     requires dir { WasDir nodes.now dir }
-    requires seen { IsTrue S.tells → AreSeen (files_in (S.state blocks.old) draft.now) nodes.now }
-    ensures marks { OnOk result (MarksDir S.tells nodes.now (inodes_of (files_in (S.state blocks.old) draft.now)) dir marks.old marks.new
+    requires seen { IsTrue S.tells → AreSeen (N.nodes (S.state blocks.old) files.now).files nodes.now }
+    ensures marks { OnOk result (MarksDir S.tells nodes.now (inodes_of (N.nodes (S.state blocks.old) files.now).files) dir marks.old marks.new
         queue.old.items queue.new.items) }
     ensures broken { IsTrue S.tells → IfErr result
-        (λ why. IfDamaged why (IsBroken (S.state blocks.old).books.geom.i (files_in (S.state blocks.old) draft.now))) }
+        (λ why. IfDamaged why (IsBroken (S.state blocks.old).books.geom.i (N.nodes (S.state blocks.old) files.now).files)) }
     ensures looks { LooksOnly S.tells (fails_reading result) (S.state blocks.old) (S.state blocks.new) }
 {
     let Looked::Directory(size) = seen(nodes, dir) else {
         return Ok(());
     };
-    let Some(slots) = read_slots(draft, alloc, blocks, dir, size)? else {
+    let Some(slots) = read_slots(files, alloc, blocks, dir, size)? else {
         return Err(TreeRefusal::Damaged(TreeDamage::Unreadable { node: dir }));
     };
     mark_slots(nodes, slots.as_slice(), marks, queue)?;

@@ -4,15 +4,16 @@ ghost use Rattle.std.specs.Prelude.{◌≡◌, ◌≤◌, ◌+◌, ◌*◌, ◌/
 ghost use Rattle.layout_bytes.specs.Slot.{slot_of, slots_in};
 ghost use Rattle.layout_directory.specs.Slots.{Slot as SlotValue};
 ghost use Rattle.crash_stands.specs.Files.{FileNode};
-ghost use Rattle.fs_files.specs.Calls.{files_in, IsUsed};
+ghost use Rattle.fs_files.specs.Asks.{MayRead};
+ghost use Rattle.fs_files.specs.Calls.{IsUsed};
 ghost use Rattle.fs_files.specs.Effects.{LooksOnly};
-ghost use Rattle.fs_check.specs.Reading.{MayRead, IsUndamaged, fails_reading};
+ghost use Rattle.fs_check.specs.Reading.{IsUndamaged, fails_reading};
 ghost use Rattle.fs_check.specs.Slots.{AppendsSlots};
 
 use crate::damage::TreeRefusal;
 use base_types::NoMemory;
 use engine_blocks::Blocks;
-use fs_files::Draft;
+use fs_files::Nodes;
 use layout_bytes::{SLOT_LENGTH, Slot};
 use layout_directory::{entries_follow_their_bytes, read_slot, slots_read_back};
 use std::alloc::Global;
@@ -22,26 +23,27 @@ use std::alloc::Global;
 ///
 /// # Errors
 /// A read of the disk failed, which the disk has counted; or out of memory.
-pub(crate) fn read_slots<S: Blocks>(
-    draft: &Draft,
+pub(crate) fn read_slots<N: Nodes, S: Blocks>(
+    files: &N,
     alloc: Global,
     blocks: &mut S,
     node: u32,
     size: u64,
 ) -> Result<Option<Vec<Slot>>, TreeRefusal>
-    requires may_read { MayRead S.tells (S.state blocks.old) draft.now }
+    requires read { MayRead (N.may_read S.tells (S.state blocks.old) files.now) (S.state blocks.old) }
     requires above_zero { 1 ≤ node }
     requires in_table { node ≤ (S.state blocks.old).books.geom.i }
-    requires used { IsTrue S.tells → IsUsed (files_in (S.state blocks.old) draft.now) node }
-    ensures slots { IsTrue S.tells → IfOk result (λ found. (x : FileNode) → files_in (S.state blocks.old) draft.now node ≡ Some x
+    requires used { IsTrue S.tells → IsUsed (N.nodes (S.state blocks.old) files.now).files node }
+    ensures slots { IsTrue S.tells → IfOk result (λ found. (x : FileNode) → (N.nodes (S.state blocks.old) files.now).files node ≡ Some x
         → length x.bytes ≡ size → option_map (λ slots. slots.items) found ≡ slots_in (size / 64) x.bytes) }
     ensures refused { IfErr result IsUndamaged }
     ensures looks { LooksOnly S.tells (fails_reading result) (S.state blocks.old) (S.state blocks.new) }
 {
+    files.laws(blocks);
     entries_follow_their_bytes();
     let mut slots = Vec::new(alloc);
     for block in 0..size / 1024 + 1 {
-        let bytes = draft.read_at(alloc, blocks, node, 1024 * block, 1024)?;
+        let bytes = files.read_at(alloc, blocks, node, 1024 * block, 1024)?;
         if !push_slots(bytes.as_slice(), &mut slots)? {
             return Ok(None);
         }

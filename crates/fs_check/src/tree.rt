@@ -8,13 +8,13 @@ ghost use Rattle.lang_tree.specs.Tree.{Tree};
 ghost use Rattle.crash_stands.specs.Files.{files_of};
 ghost use Rattle.crash_stands.specs.Stands.{AreSound, IsTreeOf};
 ghost use Rattle.engine_blocks.specs.Running.{HasNoBare};
-ghost use Rattle.fs_files.specs.Calls.{files_in};
+ghost use Rattle.fs_files.specs.Asks.{MayRead};
 ghost use Rattle.fs_files.specs.Effects.{LooksOnly};
 ghost use Rattle.fs_check.specs.declared.damage.TreeDamage.{TreeDamage as DamageValue};
 ghost use Rattle.fs_check.specs.Damage.{IsBroken};
 ghost use Rattle.fs_check.specs.Looked.{AreSeen, HasPlaces};
 ghost use Rattle.fs_check.specs.Marks.{WasDir};
-ghost use Rattle.fs_check.specs.Reading.{MayRead, IfDamaged, fails_reading};
+ghost use Rattle.fs_check.specs.Reading.{IfDamaged, fails_reading};
 ghost use Rattle.fs_check.specs.Rules.{AreTreeFiles};
 
 use crate::census::look_at_nodes;
@@ -25,7 +25,7 @@ use crate::looked::{Looked, seen};
 use crate::reach::reach;
 use crash_stands::{a_map_is_of_one_tree, blocks_have_a_map, files_have_one_map};
 use engine_blocks::Blocks;
-use fs_files::{Draft, a_draft_begins};
+use fs_files::{Draft, Nodes, a_draft_begins};
 use fs_inodes::the_rules_make_a_tree;
 use std::alloc::Global;
 
@@ -66,23 +66,28 @@ pub fn no_tree_stands_where_it_is_broken()
     files_have_one_map();
 }
 
-/// Checks the nodes as an empty draft has them.
+/// Checks that the nodes that are read are those of a tree.
 ///
 /// # Errors
 /// Something is broken; a read of the disk failed, which the disk has counted; or out of memory.
-fn find_tree<S: Blocks>(draft: &Draft, alloc: Global, blocks: &mut S) -> Result<(), TreeRefusal>
-    requires may_read { MayRead S.tells (S.state blocks.old) draft.now }
-    ensures rules { IsTrue S.tells → OnOk result (AreTreeFiles (S.state blocks.old).books.geom.i (files_in (S.state blocks.old) draft.now)) }
+fn find_tree<N: Nodes, S: Blocks>(
+    files: &N,
+    alloc: Global,
+    blocks: &mut S,
+) -> Result<(), TreeRefusal>
+    requires read { MayRead (N.may_read S.tells (S.state blocks.old) files.now) (S.state blocks.old) }
+    ensures rules { IsTrue S.tells → OnOk result (AreTreeFiles (S.state blocks.old).books.geom.i (N.nodes (S.state blocks.old) files.now).files) }
     ensures broken { IsTrue S.tells → IfErr result
-        (λ why. IfDamaged why (IsBroken (S.state blocks.old).books.geom.i (files_in (S.state blocks.old) draft.now))) }
+        (λ why. IfDamaged why (IsBroken (S.state blocks.old).books.geom.i (N.nodes (S.state blocks.old) files.now).files)) }
     ensures looks { LooksOnly S.tells (fails_reading result) (S.state blocks.old) (S.state blocks.new) }
 {
-    let nodes = look_at_nodes(draft, alloc, blocks)?;
+    files.laws(blocks);
+    let nodes = look_at_nodes(files, alloc, blocks)?;
     let list = nodes.as_slice();
     let Looked::Directory(_) = seen(list, 1) else {
         return Err(TreeRefusal::Damaged(TreeDamage::NoRoot));
     };
-    judge_nodes(draft, alloc, blocks, list)?;
+    judge_nodes(files, alloc, blocks, list)?;
     Ok(())
 }
 
@@ -90,23 +95,24 @@ fn find_tree<S: Blocks>(draft: &Draft, alloc: Global, blocks: &mut S) -> Result<
 ///
 /// # Errors
 /// Something is broken; a read of the disk failed, which the disk has counted; or out of memory.
-fn judge_nodes<S: Blocks>(
-    draft: &Draft,
+fn judge_nodes<N: Nodes, S: Blocks>(
+    files: &N,
     alloc: Global,
     blocks: &mut S,
     nodes: &[Looked],
 ) -> Result<(), TreeRefusal>
-    requires may_read { MayRead S.tells (S.state blocks.old) draft.now }
+    requires read { MayRead (N.may_read S.tells (S.state blocks.old) files.now) (S.state blocks.old) }
     requires places { HasPlaces (S.state blocks.old).books.geom.i nodes.now }
     requires root { WasDir nodes.now 1 }
-    requires seen { IsTrue S.tells → AreSeen (files_in (S.state blocks.old) draft.now) nodes.now }
-    ensures rules { IsTrue S.tells → OnOk result (AreTreeFiles (S.state blocks.old).books.geom.i (files_in (S.state blocks.old) draft.now)) }
+    requires seen { IsTrue S.tells → AreSeen (N.nodes (S.state blocks.old) files.now).files nodes.now }
+    ensures rules { IsTrue S.tells → OnOk result (AreTreeFiles (S.state blocks.old).books.geom.i (N.nodes (S.state blocks.old) files.now).files) }
     ensures broken { IsTrue S.tells → IfErr result
-        (λ why. IfDamaged why (IsBroken (S.state blocks.old).books.geom.i (files_in (S.state blocks.old) draft.now))) }
+        (λ why. IfDamaged why (IsBroken (S.state blocks.old).books.geom.i (N.nodes (S.state blocks.old) files.now).files)) }
     ensures looks { LooksOnly S.tells (fails_reading result) (S.state blocks.old) (S.state blocks.new) }
 {
-    let named = check_directories(draft, alloc, blocks, nodes)?;
-    let marks = reach(draft, alloc, blocks, nodes)?;
+    files.laws(blocks);
+    let named = check_directories(files, alloc, blocks, nodes)?;
+    let marks = reach(files, alloc, blocks, nodes)?;
     judge(nodes, named.as_slice(), marks.as_slice())?;
     Ok(())
 }

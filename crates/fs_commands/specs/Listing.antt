@@ -8,7 +8,8 @@ use Rattle.base_types.specs.Counts.{after_call}
 use Rattle.layout_bytes.specs.declared.slot.Slot.{Slot}
 use Rattle.lang_tree.specs.Tree.{Tree, Thing, Dir}
 use Rattle.lang_tree.specs.Listing.{line_of}
-use Rattle.crash_stands.specs.Inodes.{Inodes, ADir}
+use Rattle.crash_stands.specs.Files.{Files}
+use Rattle.crash_stands.specs.Inodes.{Inodes, ADir, inodes_of}
 use Rattle.crash_stands.specs.Maps.{IsMapOf}
 use Rattle.crash_stands.specs.Walks.{LeadsTo}
 use Rattle.fs_inodes.specs.Listing.{at_and_below}
@@ -17,10 +18,11 @@ use Rattle.engine_blocks.specs.Running.{HasNoBare}
 use Rattle.crash_stands.specs.Stands.{AreSound}
 use Rattle.fs_files.specs.declared.refusal.FileRefusal.{FileRefusal}
 use Rattle.fs_files.specs.declared.refusal.FileRefusal.TheVariants as file
-use Rattle.fs_files.specs.Drafts.{DraftState}
+use Rattle.fs_files.specs.Asks.{MayLookAt}
+use Rattle.fs_files.specs.Calls.{IsUsed}
 use Rattle.fs_files.specs.Effects.{LooksOnly}
-use Rattle.fs_files.specs.Sound.{IsDraftOf}
-use Rattle.fs_dirs.specs.Directories.{inodes_in, IsNumber}
+use Rattle.fs_files.specs.NodeMaps.{NodeMap}
+use Rattle.fs_dirs.specs.Directories.{IsNumber}
 use Rattle.fs_commands.specs.declared.listing.Frame.{Frame}
 use Rattle.fs_commands.specs.declared.listing.Walk.{Walk}
 use Rattle.fs_commands.specs.declared.listing.ListRefusal.{ListRefusal}
@@ -67,10 +69,10 @@ pub record MayList (tells : Bool) (s : State) : Type 0 where
   pub none_bare : HasNoBare s.books.running
   pub sound : IsTrue tells → AreSound s.books.geom s.map
 
--- Nodes may be looked at in this draft.
-pub record MayWalk (tells : Bool) (s : State) (d : DraftState) : Type 0 where
-  pub going : s.books.stopped ≡ false
-  pub draft : IsDraftOf tells s d
+-- Node k may be looked at, and is in use.
+pub record MayReadNode (tells : Bool) (may_read : Type 0) (s : State) (files : Files) (k : ℕ) : Type 0 where
+  pub look : MayLookAt may_read s k
+  pub used : IsTrue tells → IsUsed files k
 
 -- a count of failed pushes never falls, and a push that failed is counted once
 abbrev pub CountsPushes : Bool → ℕ → ℕ → Type 0
@@ -82,9 +84,9 @@ pub record Lists {T : Type 0} (tells : Bool) (result : Result T ListRefusal) (ol
   pub pushes : CountsPushes (ended_by_push result) before now
   pub going : ended_by_stop result ≡ false
 
--- m is what the nodes in use read as in this draft, and it is the map of the tree.
-pub record IsMapIn (s : State) (d : DraftState) (m : Inodes) (t : Tree) : Type 0 where
-  pub same : m ≡ inodes_in s d
+-- m is what the nodes in use read as, and it is the map of the tree.
+pub record IsMapIn (s : State) (v : NodeMap) (m : Inodes) (t : Tree) : Type 0 where
+  pub same : m ≡ inodes_of v.files
   pub map : IsMapOf s.books.geom.i m t
 
 -- Paths of a tree.

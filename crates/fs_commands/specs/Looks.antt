@@ -9,8 +9,10 @@ use Rattle.lang_tree.specs.declared.command.Refusal.{Refusal}
 use Rattle.lang_tree.specs.declared.command.Refusal.TheVariants.{NotFound}
 use Rattle.lang_tree.specs.declared.command.Reply.{Reply}
 use Rattle.lang_tree.specs.declared.command.Reply.TheVariants.{Stat as StatReply, Refused}
+use Rattle.lang_tree.specs.Step.{Session}
 use Rattle.crash_stands.specs.Files.{Files, FileNode}
 use Rattle.crash_stands.specs.Inodes.{Inodes, ADir, inodes_of}
+use Rattle.crash_stands.specs.Maps.{IsMapOf}
 use Rattle.crash_stands.specs.Walks.{node_in}
 use Rattle.fs_inodes.specs.Lookups.{is_dir_inode, is_file_inode, has_slots, links_in, bytes_of, walk_on, inode_at}
 use Rattle.fs_inodes.specs.Refusals.{parent_reason, file_reason}
@@ -91,6 +93,11 @@ pub record ShowsFacts (m : Inodes) (path : List (List ℕ)) (f : FileFacts) : Ty
   pub links : links_in (inode_at m path) ≡ f.links
   pub bytes : is_dir f.kind ≡ false → length (bytes_of (inode_at m path)) ≡ f.size
   pub slots : is_dir f.kind ≡ true → has_slots (inode_at m path) ≡ nat_lt 0 f.size
+
+-- The inodes are the map of the session's tree, which has numbers up to the limit.
+pub record IsMapOfSession (limit : ℕ) (m : Inodes) (f : Session) : Type 0 where
+  pub map : IsMapOf limit m f.tree
+  pub limit_is : f.limit ≡ limit
 
 -- the plan of a command that only looks, by what the look answers
 abbrev pub answer_of : Result Reply FileRefusal → Result Plan Refusal

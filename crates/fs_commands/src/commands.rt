@@ -20,7 +20,7 @@ use crate::renaming::plan_rename;
 use crate::sizes::plan_truncate;
 use engine_blocks::Blocks;
 use fs_files::a_sync_may_follow;
-use fs_session::{Plan, UnusedNodes, carry, dsync, osync};
+use fs_session::{Plan, UnusedNodes, carry, dsync, dwait, osync};
 use lang_tree::{Cmd, Kind, Refusal, Reply};
 use std::alloc::Global;
 
@@ -98,6 +98,7 @@ fn run<S: Blocks>(
         Cmd::Osync => osync(alloc, blocks),
         Cmd::Dsync => dsync(alloc, blocks),
         Cmd::Durable => Ok(Reply::Known(blocks.durable())),
+        Cmd::Dwait(n) => dwait(blocks, *n),
         Cmd::Poll => Ok(Reply::Ok),
         Cmd::Bad => Ok(Reply::Bad),
         _ => run_on_tree(alloc, blocks, cmd, unused),
@@ -160,6 +161,8 @@ fn plan<S: Blocks>(
         Cmd::Stat(path) => plan_stat(alloc, blocks, path),
         Cmd::List(path) => plan_list(alloc, blocks, path),
         Cmd::Rename(from, to) => plan_rename(alloc, blocks, from, to),
-        Cmd::Osync | Cmd::Dsync | Cmd::Durable | Cmd::Poll | Cmd::Bad => unreachable!(),
+        Cmd::Osync | Cmd::Dsync | Cmd::Durable | Cmd::Dwait(_) | Cmd::Poll | Cmd::Bad => {
+            unreachable!()
+        }
     }
 }

@@ -16,11 +16,10 @@ ghost use Rattle.crash_stands.specs.Inodes.{Inodes, ADir};
 ghost use Rattle.crash_stands.specs.Walks.{LeadsTo};
 ghost use Rattle.fs_inodes.specs.Names.{names_of};
 ghost use Rattle.fs_inodes.specs.Listing.{at_and_below};
-ghost use Rattle.fs_files.specs.Calls.{files_in};
+ghost use Rattle.fs_files.specs.Asks.{MayRead};
 ghost use Rattle.fs_files.specs.Effects.{LooksOnly};
 ghost use Rattle.fs_dirs.specs.Directories.{IsNumber};
-ghost use Rattle.fs_dirs.specs.Reading.{MayRead};
-ghost use Rattle.fs_commands.specs.Listing.{ended_by_read, ended_by_push, ended_by_stop, CountsPushes, Lists, MayList, MayWalk, IsMapIn, IsFrame};
+ghost use Rattle.fs_commands.specs.Listing.{ended_by_read, ended_by_push, ended_by_stop, CountsPushes, Lists, MayList, MayReadNode, IsMapIn, IsFrame};
 ghost use Rattle.fs_commands.specs.Listing.{AreFrames, IsWalk, HasWritten, Enters, TakesEntry, HaveNumbers, lines_of, under_frame, to_come, turns_of};
 ghost use Rattle.fs_commands.specs.Listing.{turns_left};
 ghost use Rattle.fs_session.specs.Sessions.{IsSession};
@@ -32,7 +31,7 @@ use base_types::{Name, NoMemory, ReadFault};
 use crash_stands::{a_map_is_of_one_tree, slots_name_nodes_in_use};
 use engine_blocks::Blocks;
 use fs_dirs::entries;
-use fs_files::{Draft, FileRefusal, a_draft_begins};
+use fs_files::{Draft, FileRefusal, Nodes, a_draft_begins};
 use fs_inodes::{a_listing_goes_down, the_map_gives_the_names, walks_are_the_same};
 use fs_session::blocks_have_the_map_of_their_tree;
 use lang_tree::paths_are_counted;
@@ -192,23 +191,24 @@ pub fn listing<S: Blocks, K: Sink>(
     Ok(())
 }
 
-/// Writes the listing of the tree whose map the inodes of the draft are.
+/// Writes the listing of the tree whose map the inodes of the files that are read are.
 ///
 /// # Errors
 /// As `listing`, but for the first one.
-fn list_from_root<S: Blocks, K: Sink>(
-    draft: &Draft,
+fn list_from_root<N: Nodes, S: Blocks, K: Sink>(
+    files: &N,
     alloc: Global,
     blocks: &mut S,
     out: &mut K,
 ) -> Result<(), ListRefusal>
-    requires look { MayWalk S.tells (S.state blocks.old) draft.now }
-    ensures all { IsTrue S.tells → OnOk result ((m : Inodes) (t : Tree) → IsMapIn (S.state blocks.old) draft.now m t
+    requires read { MayRead (N.may_read S.tells (S.state blocks.old) files.now) (S.state blocks.old) }
+    ensures all { IsTrue S.tells → OnOk result ((m : Inodes) (t : Tree) → IsMapIn (S.state blocks.old) (N.nodes (S.state blocks.old) files.now) m t
         → Appends (K.taken out.old) (K.taken out.new) (listing_of t)) }
-    ensures front { IsTrue S.tells → OnErr result ((m : Inodes) (t : Tree) → IsMapIn (S.state blocks.old) draft.now m t
+    ensures front { IsTrue S.tells → OnErr result ((m : Inodes) (t : Tree) → IsMapIn (S.state blocks.old) (N.nodes (S.state blocks.old) files.now) m t
         → TakesPrefix (K.taken out.old) (K.taken out.new) (listing_of t)) }
     ensures lists { Lists S.tells result (S.state blocks.old) (S.state blocks.new) (K.faults out.old) (K.faults out.new) }
 {
+    files.laws(blocks);
     a_listing_goes_down();
     a_map_is_of_one_tree();
     paths_are_counted();
@@ -220,9 +220,9 @@ fn list_from_root<S: Blocks, K: Sink>(
         frames: Vec::new(alloc),
         left: geom.i(),
     };
-    show(draft, alloc, blocks, out, &mut walk, ROOT)?;
+    show(files, alloc, blocks, out, &mut walk, ROOT)?;
     while let Some(frame) = walk.frames.pop() {
-        turn(draft, alloc, blocks, out, &mut walk, frame)?;
+        turn(files, alloc, blocks, out, &mut walk, frame)?;
     }
     Ok(())
 }
@@ -232,22 +232,22 @@ fn list_from_root<S: Blocks, K: Sink>(
 ///
 /// # Errors
 /// As `list_from_root`. The walk isn't to be used any more then.
-fn turn<S: Blocks, K: Sink>(
-    draft: &Draft,
+fn turn<N: Nodes, S: Blocks, K: Sink>(
+    files: &N,
     alloc: Global,
     blocks: &mut S,
     out: &mut K,
     walk: &mut Walk,
     mut frame: Frame,
 ) -> Result<(), ListRefusal>
-    requires look { MayWalk S.tells (S.state blocks.old) draft.now }
+    requires read { MayRead (N.may_read S.tells (S.state blocks.old) files.now) (S.state blocks.old) }
     requires numbers { HaveNumbers (S.state blocks.old).books.geom.i walk.old.frames.items }
     requires number { IsNumber (S.state blocks.old).books.geom.i frame.dir }
-    ensures writes { IsTrue S.tells → OnOk result ((m : Inodes) (t : Tree) → IsMapIn (S.state blocks.old) draft.now m t
+    ensures writes { IsTrue S.tells → OnOk result ((m : Inodes) (t : Tree) → IsMapIn (S.state blocks.old) (N.nodes (S.state blocks.old) files.now) m t
         → IsFrame m walk.old.path.items (length walk.old.frames.items) frame
         → IsWalk m t (under_frame t walk.old frame) walk.old
         → HasWritten m t (under_frame t walk.old frame ++ to_come t walk.old) walk.new (K.taken out.old) (K.taken out.new)) }
-    ensures front { IsTrue S.tells → OnErr result ((m : Inodes) (t : Tree) → IsMapIn (S.state blocks.old) draft.now m t
+    ensures front { IsTrue S.tells → OnErr result ((m : Inodes) (t : Tree) → IsMapIn (S.state blocks.old) (N.nodes (S.state blocks.old) files.now) m t
         → IsFrame m walk.old.path.items (length walk.old.frames.items) frame
         → IsWalk m t (under_frame t walk.old frame) walk.old
         → TakesPrefix (K.taken out.old) (K.taken out.new) (lines_of t (under_frame t walk.old frame ++ to_come t walk.old))) }
@@ -266,7 +266,7 @@ fn turn<S: Blocks, K: Sink>(
         return Ok(());
     }
     walk.path.push(entry.name)?;
-    show(draft, alloc, blocks, out, walk, entry.node)?;
+    show(files, alloc, blocks, out, walk, entry.node)?;
     Ok(())
 }
 
@@ -305,40 +305,41 @@ fn leave(path: &mut Vec<Name>)
 ///
 /// # Errors
 /// As `turn`.
-fn show<S: Blocks, K: Sink>(
-    draft: &Draft,
+fn show<N: Nodes, S: Blocks, K: Sink>(
+    files: &N,
     alloc: Global,
     blocks: &mut S,
     out: &mut K,
     walk: &mut Walk,
     number: u32,
 ) -> Result<(), ListRefusal>
-    requires look { MayWalk S.tells (S.state blocks.old) draft.now }
+    requires read { MayRead (N.may_read S.tells (S.state blocks.old) files.now) (S.state blocks.old) }
     requires numbers { HaveNumbers (S.state blocks.old).books.geom.i walk.old.frames.items }
     requires number { IsNumber (S.state blocks.old).books.geom.i number }
-    ensures writes { IsTrue S.tells → OnOk result ((m : Inodes) (t : Tree) → IsMapIn (S.state blocks.old) draft.now m t → LeadsTo m walk.old.path.items number
-        → IsWalk m t (at_and_below t walk.old.path.items) walk.old
+    ensures writes { IsTrue S.tells → OnOk result ((m : Inodes) (t : Tree) → IsMapIn (S.state blocks.old) (N.nodes (S.state blocks.old) files.now) m t
+        → LeadsTo m walk.old.path.items number → IsWalk m t (at_and_below t walk.old.path.items) walk.old
         → HasWritten m t (at_and_below t walk.old.path.items ++ to_come t walk.old) walk.new (K.taken out.old) (K.taken out.new)) }
-    ensures front { IsTrue S.tells → OnErr result ((m : Inodes) (t : Tree) → IsMapIn (S.state blocks.old) draft.now m t → LeadsTo m walk.old.path.items number
-        → IsWalk m t (at_and_below t walk.old.path.items) walk.old
+    ensures front { IsTrue S.tells → OnErr result ((m : Inodes) (t : Tree) → IsMapIn (S.state blocks.old) (N.nodes (S.state blocks.old) files.now) m t
+        → LeadsTo m walk.old.path.items number → IsWalk m t (at_and_below t walk.old.path.items) walk.old
         → TakesPrefix (K.taken out.old) (K.taken out.new) (lines_of t (at_and_below t walk.old.path.items ++ to_come t walk.old))) }
     ensures numbers { OnOk result (HaveNumbers (S.state blocks.old).books.geom.i walk.new.frames.items) }
     ensures turns { OnOk result (turns_left walk.new ≤ turns_left walk.old) }
     ensures lists { Lists S.tells result (S.state blocks.old) (S.state blocks.new) (K.faults out.old) (K.faults out.new) }
 {
+    files.laws(blocks);
     a_listing_goes_down();
     prefixes_join();
-    let Some(facts) = draft.look(blocks, number)? else {
+    let Some(facts) = files.look(blocks, number)? else {
         leave(&mut walk.path);
         return Ok(());
     };
     if is_dir(facts.kind) {
         write_dir(out, walk.path.as_slice(), number)?;
-        enter(draft, alloc, blocks, walk, number)?;
+        enter(files, alloc, blocks, walk, number)?;
         return Ok(());
     }
     let path = walk.path.as_slice();
-    write_file(draft, alloc, blocks, out, path, number, facts.size)?;
+    write_file(files, alloc, blocks, out, path, number, facts.size)?;
     leave(&mut walk.path);
     Ok(())
 }
@@ -348,18 +349,18 @@ fn show<S: Blocks, K: Sink>(
 /// # Errors
 /// A read of the disk failed, which the disk has counted; or out of memory. The walk isn't to be used any
 /// more then.
-fn enter<S: Blocks>(
-    draft: &Draft,
+fn enter<N: Nodes, S: Blocks>(
+    files: &N,
     alloc: Global,
     blocks: &mut S,
     walk: &mut Walk,
     number: u32,
 ) -> Result<(), ListRefusal>
-    requires look { MayWalk S.tells (S.state blocks.old) draft.now }
+    requires read { MayRead (N.may_read S.tells (S.state blocks.old) files.now) (S.state blocks.old) }
     requires numbers { HaveNumbers (S.state blocks.old).books.geom.i walk.old.frames.items }
     requires number { IsNumber (S.state blocks.old).books.geom.i number }
-    ensures enters { IsTrue S.tells → OnOk result ((m : Inodes) (t : Tree) (slots : List SlotValue) → IsMapIn (S.state blocks.old) draft.now m t
-        → LeadsTo m walk.old.path.items number
+    ensures enters { IsTrue S.tells → OnOk result ((m : Inodes) (t : Tree) (slots : List SlotValue)
+        → IsMapIn (S.state blocks.old) (N.nodes (S.state blocks.old) files.now) m t → LeadsTo m walk.old.path.items number
         → m number ≡ Some (ADir slots) → 0 < walk.old.left → AreFrames m walk.old.path.items 0 walk.old.frames.items
         → length walk.old.path.items ≡ length walk.old.frames.items
         → Enters m t (names_of slots) walk.old walk.new) }
@@ -374,7 +375,7 @@ fn enter<S: Blocks>(
         leave(&mut walk.path);
         return Ok(());
     }
-    let entries = entries(draft, alloc, blocks, number)?;
+    let entries = entries(files, alloc, blocks, number)?;
     walk.frames.push(entered(number, entries))?;
     walk.left -= 1;
     Ok(())
@@ -398,8 +399,8 @@ fn entered(dir: u32, entries: Vec<Slot>) -> Frame
 ///
 /// # Errors
 /// As `turn`.
-fn write_file<S: Blocks, K: Sink>(
-    draft: &Draft,
+fn write_file<N: Nodes, S: Blocks, K: Sink>(
+    files: &N,
     alloc: Global,
     blocks: &mut S,
     out: &mut K,
@@ -407,16 +408,17 @@ fn write_file<S: Blocks, K: Sink>(
     number: u32,
     size: u64,
 ) -> Result<(), ListRefusal>
-    requires read { MayRead S.tells (S.state blocks.old) draft.now number }
-    ensures all { IsTrue S.tells → OnOk result ((x : FileNode) → files_in (S.state blocks.old) draft.now number ≡ Some x → size ≡ length x.bytes
+    requires read { MayReadNode S.tells (N.may_read S.tells (S.state blocks.old) files.now) (S.state blocks.old)
+        (N.nodes (S.state blocks.old) files.now).files number }
+    ensures all { IsTrue S.tells → OnOk result ((x : FileNode) → (N.nodes (S.state blocks.old) files.now).files number ≡ Some x → size ≡ length x.bytes
         → Appends (K.taken out.old) (K.taken out.new) (line_of path.now number (Some (File x.bytes)))) }
-    ensures front { IsTrue S.tells → OnErr result ((x : FileNode) → files_in (S.state blocks.old) draft.now number ≡ Some x → size ≡ length x.bytes
+    ensures front { IsTrue S.tells → OnErr result ((x : FileNode) → (N.nodes (S.state blocks.old) files.now).files number ≡ Some x → size ≡ length x.bytes
         → TakesPrefix (K.taken out.old) (K.taken out.new) (line_of path.now number (Some (File x.bytes)))) }
     ensures lists { Lists S.tells result (S.state blocks.old) (S.state blocks.new) (K.faults out.old) (K.faults out.new) }
 {
     prefixes_join();
     write_file_head(out, path, number, size)?;
-    write_content(draft, alloc, blocks, out, number, size)?;
+    write_content(files, alloc, blocks, out, number, size)?;
     push_all(out, b"\n")?;
     Ok(())
 }
@@ -426,21 +428,23 @@ fn write_file<S: Blocks, K: Sink>(
 ///
 /// # Errors
 /// As `turn`.
-fn write_content<S: Blocks, K: Sink>(
-    draft: &Draft,
+fn write_content<N: Nodes, S: Blocks, K: Sink>(
+    files: &N,
     alloc: Global,
     blocks: &mut S,
     out: &mut K,
     number: u32,
     size: u64,
 ) -> Result<(), ListRefusal>
-    requires read { MayRead S.tells (S.state blocks.old) draft.now number }
-    ensures all { IsTrue S.tells → OnOk result ((x : FileNode) → files_in (S.state blocks.old) draft.now number ≡ Some x → size ≡ length x.bytes
+    requires read { MayReadNode S.tells (N.may_read S.tells (S.state blocks.old) files.now) (S.state blocks.old)
+        (N.nodes (S.state blocks.old) files.now).files number }
+    ensures all { IsTrue S.tells → OnOk result ((x : FileNode) → (N.nodes (S.state blocks.old) files.now).files number ≡ Some x → size ≡ length x.bytes
         → Appends (K.taken out.old) (K.taken out.new) (digits_behind_blank x.bytes)) }
-    ensures front { IsTrue S.tells → OnErr result ((x : FileNode) → files_in (S.state blocks.old) draft.now number ≡ Some x → size ≡ length x.bytes
+    ensures front { IsTrue S.tells → OnErr result ((x : FileNode) → (N.nodes (S.state blocks.old) files.now).files number ≡ Some x → size ≡ length x.bytes
         → TakesPrefix (K.taken out.old) (K.taken out.new) (digits_behind_blank x.bytes)) }
     ensures lists { Lists S.tells result (S.state blocks.old) (S.state blocks.new) (K.faults out.old) (K.faults out.new) }
 {
+    files.laws(blocks);
     if size == 0 {
         return Ok(());
     }
@@ -449,7 +453,7 @@ fn write_content<S: Blocks, K: Sink>(
     let mut at = 0;
     while at < size {
         let count = (size - at).min(PIECE);
-        let bytes = draft.read_at(alloc, blocks, number, at, count as u32)?;
+        let bytes = files.read_at(alloc, blocks, number, at, count as u32)?;
         write_digits(out, bytes.as_slice())?;
         at += count;
     }

@@ -4,18 +4,20 @@
 ghost use Rattle.std.specs.Prelude.{◌≡◌, IsTrue, IfOk, IfErr};
 ghost use Rattle.lang_tree.specs.declared.command.Cmd.TheVariants.{Read, Stat as StatCmd, List as ListNames};
 ghost use Rattle.lang_tree.specs.Step.{Session, step};
+ghost use Rattle.crash_stands.specs.Inodes.{inodes_of};
+ghost use Rattle.fs_files.specs.Asks.{MayRead};
 ghost use Rattle.fs_files.specs.Calls.{LookRefused, is_dir};
 ghost use Rattle.fs_files.specs.Content.{fails_reading};
 ghost use Rattle.fs_files.specs.Effects.{LooksOnly};
-ghost use Rattle.fs_commands.specs.Looks.{answer_of, stat_of_kind};
+ghost use Rattle.fs_commands.specs.Looks.{answer_of, stat_of_kind, IsMapOfSession};
 ghost use Rattle.fs_session.specs.Plans.{IsAnswer, Plans};
 ghost use Rattle.fs_session.specs.Sessions.{IsSession, MayBegin, MayPlan};
 
-use crate::paths::{NodeFound, find_node};
+use crate::paths::{NodeFound, find_in};
 use crate::refusals::refusal_of;
 use engine_blocks::{Blocks, calls_compose};
 use fs_dirs::names;
-use fs_files::{Draft, FileRefusal, a_directory_has_whole_slots, a_draft_begins};
+use fs_files::{Draft, FileRefusal, Nodes, a_draft_begins};
 use fs_inodes::{
     slots_follow_the_bytes, the_map_gives_the_names, the_map_gives_the_reply, walks_are_the_same,
 };
@@ -36,11 +38,31 @@ pub fn stat<S: Blocks>(alloc: Global, blocks: &mut S, path: &Path) -> Result<Rep
 {
     a_draft_begins(blocks);
     blocks_have_the_map_of_their_tree();
-    a_directory_has_whole_slots::<S>();
+    let draft = Draft::new(alloc);
+    stat_in(&draft, blocks, path)
+}
+
+/// The same of these files.
+///
+/// # Errors
+/// A read of the disk failed, which the disk has counted.
+pub(crate) fn stat_in<N: Nodes, S: Blocks>(
+    files: &N,
+    blocks: &mut S,
+    path: &Path,
+) -> Result<Reply, FileRefusal>
+    requires read { MayRead (N.may_read S.tells (S.state blocks.old) files.now) (S.state blocks.old) }
+    ensures answer { IsTrue S.tells → IfOk result (λ reply. (f : Session)
+        → IsMapOfSession (S.state blocks.old).books.geom.i (inodes_of (N.nodes (S.state blocks.old) files.now).files) f
+        → reply ≡ (step f (StatCmd path.now)).1) }
+    ensures refused { IfErr result LookRefused }
+    ensures looks { LooksOnly S.tells (fails_reading result) (S.state blocks.old) (S.state blocks.new) }
+{
+    files.laws(blocks);
     slots_follow_the_bytes();
     the_map_gives_the_reply();
     walks_are_the_same();
-    match find_node(alloc, blocks, path)? {
+    match find_in(files, blocks, path)? {
         Ok(found) => Ok(stat_reply(&found)),
         Err(why) => Ok(Reply::Refused(why)),
     }
@@ -80,19 +102,42 @@ pub fn read<S: Blocks>(
     ensures looks { LooksOnly S.tells (fails_reading result) (S.state blocks.old) (S.state blocks.new) }
 {
     a_draft_begins(blocks);
-    calls_compose::<S>();
     blocks_have_the_map_of_their_tree();
+    let draft = Draft::new(alloc);
+    read_in(&draft, alloc, blocks, path, offset, len)
+}
+
+/// The same of these files.
+///
+/// # Errors
+/// As `stat`.
+pub(crate) fn read_in<N: Nodes, S: Blocks>(
+    files: &N,
+    alloc: Global,
+    blocks: &mut S,
+    path: &Path,
+    offset: u32,
+    len: u32,
+) -> Result<Reply, FileRefusal>
+    requires read { MayRead (N.may_read S.tells (S.state blocks.old) files.now) (S.state blocks.old) }
+    ensures answer { IsTrue S.tells → IfOk result (λ reply. (f : Session)
+        → IsMapOfSession (S.state blocks.old).books.geom.i (inodes_of (N.nodes (S.state blocks.old) files.now).files) f
+        → reply ≡ (step f (Read path.now offset len)).1) }
+    ensures refused { IfErr result LookRefused }
+    ensures looks { LooksOnly S.tells (fails_reading result) (S.state blocks.old) (S.state blocks.new) }
+{
+    files.laws(blocks);
+    calls_compose::<S>();
     the_map_gives_the_reply();
     walks_are_the_same();
-    let found = match find_node(alloc, blocks, path)? {
+    let found = match find_in(files, blocks, path)? {
         Ok(found) => found,
         Err(why) => return Ok(Reply::Refused(why)),
     };
     if is_dir(found.facts.kind) {
         return Ok(Reply::Refused(Refusal::IsDir));
     }
-    let draft = Draft::new(alloc);
-    match draft.read_at(alloc, blocks, found.number, u64::from(offset), len) {
+    match files.read_at(alloc, blocks, found.number, u64::from(offset), len) {
         Ok(bytes) => Ok(Reply::Bytes(bytes)),
         Err(why) => Err(why),
     }
@@ -109,20 +154,41 @@ pub fn list<S: Blocks>(alloc: Global, blocks: &mut S, path: &Path) -> Result<Rep
     ensures looks { LooksOnly S.tells (fails_reading result) (S.state blocks.old) (S.state blocks.new) }
 {
     a_draft_begins(blocks);
-    calls_compose::<S>();
     blocks_have_the_map_of_their_tree();
+    let draft = Draft::new(alloc);
+    list_in(&draft, alloc, blocks, path)
+}
+
+/// The same of these files.
+///
+/// # Errors
+/// As `stat`.
+pub(crate) fn list_in<N: Nodes, S: Blocks>(
+    files: &N,
+    alloc: Global,
+    blocks: &mut S,
+    path: &Path,
+) -> Result<Reply, FileRefusal>
+    requires read { MayRead (N.may_read S.tells (S.state blocks.old) files.now) (S.state blocks.old) }
+    ensures answer { IsTrue S.tells → IfOk result (λ reply. (f : Session)
+        → IsMapOfSession (S.state blocks.old).books.geom.i (inodes_of (N.nodes (S.state blocks.old) files.now).files) f
+        → reply ≡ (step f (ListNames path.now)).1) }
+    ensures refused { IfErr result LookRefused }
+    ensures looks { LooksOnly S.tells (fails_reading result) (S.state blocks.old) (S.state blocks.new) }
+{
+    files.laws(blocks);
+    calls_compose::<S>();
     the_map_gives_the_names();
     the_map_gives_the_reply();
     walks_are_the_same();
-    let found = match find_node(alloc, blocks, path)? {
+    let found = match find_in(files, blocks, path)? {
         Ok(found) => found,
         Err(why) => return Ok(Reply::Refused(why)),
     };
     if !is_dir(found.facts.kind) {
         return Ok(Reply::Refused(Refusal::NotDir));
     }
-    let draft = Draft::new(alloc);
-    match names(&draft, alloc, blocks, found.number) {
+    match names(files, alloc, blocks, found.number) {
         Ok(names) => Ok(Reply::Names(names)),
         Err(why) => Err(why),
     }

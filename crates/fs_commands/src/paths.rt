@@ -7,8 +7,10 @@ ghost use Rattle.layout_bytes.specs.declared.node.NodeKind.TheVariants.{Free};
 ghost use Rattle.lang_tree.specs.Tree.{Tree};
 ghost use Rattle.crash_stands.specs.Stands.{IsTreeOf};
 ghost use Rattle.crash_stands.specs.Files.{FileNode};
-ghost use Rattle.crash_stands.specs.Inodes.{ADir};
+ghost use Rattle.crash_stands.specs.Inodes.{ADir, inodes_of};
 ghost use Rattle.crash_stands.specs.Maps.{IsMapOf};
+ghost use Rattle.fs_files.specs.Asks.{MayRead};
+ghost use Rattle.fs_files.specs.NodeMaps.{nodes_in};
 ghost use Rattle.fs_files.specs.Sound.{IsDraftOf};
 ghost use Rattle.fs_files.specs.Calls.{facts_of, files_in, LookRefused};
 ghost use Rattle.fs_files.specs.Content.{fails_reading};
@@ -23,7 +25,7 @@ use base_types::Name;
 use crash_stands::slots_name_nodes_in_use;
 use engine_blocks::{Blocks, calls_compose};
 use fs_dirs::{Directory, find_in_directory, walk, walk_to_parent};
-use fs_files::{Draft, FileFacts, FileRefusal, a_draft_begins};
+use fs_files::{Draft, FileFacts, FileRefusal, Nodes, a_draft_begins};
 use fs_inodes::{a_name_stands_at_its_place, walks_are_the_same};
 use fs_session::blocks_have_the_map_of_their_tree;
 use lang_tree::{Path, Refusal};
@@ -59,7 +61,7 @@ pub enum Spot {
     },
 }
 
-/// The node at a path, or why the path leads nowhere.
+/// The node at a path of the blocks as they are, or why the path leads nowhere.
 ///
 /// # Errors
 /// A read of the disk failed, which the disk has counted; or out of memory.
@@ -79,15 +81,39 @@ pub(crate) fn find_node<S: Blocks>(
     ensures looks { LooksOnly S.tells (fails_reading result) (S.state blocks.old) (S.state blocks.new) }
 {
     a_draft_begins(blocks);
-    calls_compose::<S>();
     blocks_have_the_map_of_their_tree();
-    walks_are_the_same();
     let draft = Draft::new(alloc);
-    let number = match walk(&draft, blocks, path)? {
+    find_in(&draft, blocks, path)
+}
+
+/// The node at a path of these files, or why the path leads nowhere.
+///
+/// # Errors
+/// A read of the disk failed, which the disk has counted.
+pub(crate) fn find_in<N: Nodes, S: Blocks>(
+    files: &N,
+    blocks: &mut S,
+    path: &Path,
+) -> Result<Result<NodeFound, Refusal>, FileRefusal>
+    requires read { MayRead (N.may_read S.tells (S.state blocks.old) files.now) (S.state blocks.old) }
+    ensures found { IsTrue S.tells → IfOk result (λ found. (t : Tree)
+        → IsMapOf (S.state blocks.old).books.geom.i (inodes_of (N.nodes (S.state blocks.old) files.now).files) t
+        → LeadsToFound (N.nodes (S.state blocks.old) files.now).files path.now found) }
+    ensures there { IsTrue S.tells → IfOk result
+        (λ found. IfOk found (λ f. (x : FileNode) × ((N.nodes (S.state blocks.old) files.now).files f.number ≡ Some x) × (f.facts ≡ facts_of x))) }
+    ensures number { IfOk result (λ found. IfOk found (λ f. IsNumber (S.state blocks.old).books.geom.i f.number)) }
+    ensures used { IfOk result (λ found. IfOk found (λ f. f.facts.kind ≢ Free)) }
+    ensures refused { IfErr result LookRefused }
+    ensures looks { LooksOnly S.tells (fails_reading result) (S.state blocks.old) (S.state blocks.new) }
+{
+    files.laws(blocks);
+    calls_compose::<S>();
+    walks_are_the_same();
+    let number = match walk(files, blocks, path)? {
         Ok(number) => number,
         Err(why) => return Ok(Err(why)),
     };
-    match draft.look(blocks, number)? {
+    match files.look(blocks, number)? {
         Some(facts) => Ok(Ok(NodeFound { number, facts })),
         None => Ok(Err(Refusal::NotFound)),
     }
@@ -141,7 +167,7 @@ fn find_entry<S: Blocks>(
     name: &Name,
 ) -> Result<Option<Entry>, FileRefusal>
     requires going { (S.state blocks.old).books.stopped ≡ false }
-    requires opened { IsOpened S.tells (S.state blocks.old) draft.now dir.now }
+    requires opened { IsOpened S.tells (S.state blocks.old) (nodes_in (S.state blocks.old) draft.now) dir.now }
     requires draft { IsDraftOf S.tells (S.state blocks.old) draft.now }
     ensures entry { IsTrue S.tells → IfOk result (λ entry. (t : Tree) (slots : List Slot)
         → IsMapOf (S.state blocks.old).books.geom.i (inodes_in (S.state blocks.old) draft.now) t

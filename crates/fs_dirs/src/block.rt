@@ -1,5 +1,5 @@
-//! One block of a directory: its bytes read from the draft, a name found in it, and a slot read from it. Which
-//! block it is, is for its callers to say.
+//! One block of a directory: its bytes read, a name found in it, and a slot read from it. Which block it is, is
+//! for its callers to say.
 
 ghost use Rattle.std.specs.Prelude.{◌≡◌, ◌≤◌, ◌<◌, ◌%◌, ℕ, IsTrue, is_err, List, length, slice_get, slice_index, Some, IfSome, OnOk};
 ghost use Rattle.layout_bytes.specs.declared.slot.Slot.{Slot as SlotValue};
@@ -12,7 +12,7 @@ use crate::lookup::Found;
 use base_types::limits::BLOCK_LENGTH;
 use base_types::{Block, Name, ReadFault};
 use engine_blocks::Blocks;
-use fs_files::{Draft, NodeBlocks, a_directory_has_whole_slots};
+use fs_files::{NodeBlocks, Nodes};
 use fs_inodes::{a_name_stands_at_its_place, slots_follow_the_bytes};
 use layout_bytes::{SLOT_LENGTH, Slot};
 use layout_directory::{entries_follow_their_bytes, find, read_slot, slots_read_back};
@@ -28,23 +28,23 @@ pub(crate) const ZEROS: Block = [0; BLOCK_LENGTH];
 /// block.
 ///
 /// # Errors
-/// As `Draft::read_block`.
-pub(crate) fn read_slots<S: Blocks>(
-    draft: &Draft,
+/// As `Nodes::read_block`.
+pub(crate) fn read_slots<N: Nodes, S: Blocks>(
+    files: &N,
     blocks: &mut S,
     node: &NodeBlocks,
     first: u32,
     into: &mut Block,
 ) -> Result<(), ReadFault>
-    requires read { MayReadBlocks S.tells (S.state blocks.old) draft.now node.now }
+    requires read { MayReadBlocks (N.may_read S.tells (S.state blocks.old) files.now) (S.state blocks.old) node.now }
     requires begins { first % 16 ≡ 0 }
-    ensures slots { IsTrue S.tells → OnOk result ((slots : List SlotValue) → HasSlots (S.state blocks.old) draft.now node.now slots
+    ensures slots { IsTrue S.tells → OnOk result ((slots : List SlotValue) → HasSlots (N.nodes (S.state blocks.old) files.now) node.now slots
         → slots_in (length (slots_from first slots)) into.new ≡ Some (slots_from first slots)) }
     ensures looks { LooksOnly S.tells (is_err result) (S.state blocks.old) (S.state blocks.new) }
 {
-    a_directory_has_whole_slots::<S>();
+    files.laws(blocks);
     slots_follow_the_bytes();
-    draft.read_block(blocks, node, first / SLOTS_IN_BLOCK, into)?;
+    files.read_block(blocks, node, first / SLOTS_IN_BLOCK, into)?;
     Ok(())
 }
 

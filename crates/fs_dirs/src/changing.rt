@@ -10,6 +10,7 @@ ghost use Rattle.fs_files.specs.Asks.{MayLook};
 ghost use Rattle.fs_files.specs.Content.{fails_reading};
 ghost use Rattle.fs_files.specs.Effects.{LooksOnly};
 ghost use Rattle.fs_files.specs.Calls.{LookRefused};
+ghost use Rattle.fs_files.specs.NodeMaps.{nodes_in};
 ghost use Rattle.fs_files.specs.Sound.{IsDraftOf};
 ghost use Rattle.fs_dirs.specs.Directories.{inodes_in};
 ghost use Rattle.fs_dirs.specs.Reading.{IsOpened};
@@ -109,7 +110,7 @@ fn slot_at<S: Blocks>(
 ) -> Result<Option<Slot>, FileRefusal>
     requires going { (S.state blocks.old).books.stopped ≡ false }
     requires draft { IsDraftOf S.tells (S.state blocks.old) draft.now }
-    requires opened { IsOpened S.tells (S.state blocks.old) draft.now dir.now }
+    requires opened { IsOpened S.tells (S.state blocks.old) (nodes_in (S.state blocks.old) draft.now) dir.now }
     ensures slot { IsTrue S.tells → IfOk result (λ found. (slots : List SlotValue) → inodes_in (S.state blocks.old) draft.now dir.now.number ≡ Some (ADir slots)
         → place < length slots → found ≡ slice_get slots place) }
     ensures refused { IfErr result LookRefused }

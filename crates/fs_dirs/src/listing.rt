@@ -1,5 +1,4 @@
-//! The entries of a directory of a draft, in the order of their names, as a listing needs them, and the names
-//! alone.
+//! The entries of a directory, in the order of their names, as a listing needs them, and the names alone.
 
 ghost use Rattle.std.specs.Prelude.{◌≡◌, ◌≤◌, ◌<◌, ◌^◌, ◌++◌, ℕ, IsTrue, List, [], ◌∷◌, length, map, slice_get, Some, IfOk, IfErr, OnOk};
 ghost use Rattle.std.specs.List.Sorted.{IsPermutation, IsSorted};
@@ -7,19 +6,18 @@ ghost use Rattle.std.specs.Ordering.{nat_cmp};
 ghost use Rattle.std.specs.Cmp.Lexicographic.{slice_cmp};
 ghost use Rattle.layout_bytes.specs.declared.slot.Slot.{Slot as SlotValue};
 ghost use Rattle.layout_bytes.specs.Slot.{slots_in};
-ghost use Rattle.crash_stands.specs.Inodes.{ADir};
-ghost use Rattle.fs_files.specs.Asks.{MayLook};
+ghost use Rattle.crash_stands.specs.Inodes.{ADir, inodes_of};
+ghost use Rattle.fs_files.specs.Asks.{MayLookAt};
 ghost use Rattle.fs_files.specs.Content.{fails_reading};
 ghost use Rattle.fs_files.specs.Effects.{LooksOnly};
 ghost use Rattle.fs_files.specs.Calls.{LookRefused};
-ghost use Rattle.fs_dirs.specs.Directories.{inodes_in};
 ghost use Rattle.fs_dirs.specs.Reading.{MayReadBlocks, HasSlots};
 
 use crate::block::{SLOTS_IN_BLOCK, ZEROS, read_slots, slot_in};
 use crate::lookup::open_directory;
 use base_types::{Block, Name, NoMemory};
 use engine_blocks::{Blocks, calls_compose};
-use fs_files::{Draft, FileRefusal, NodeBlocks};
+use fs_files::{FileRefusal, NodeBlocks, Nodes};
 use lang_tree::NameList;
 use layout_bytes::Slot;
 use layout_directory::entries_follow_their_bytes;
@@ -30,26 +28,28 @@ use std::alloc::Global;
 ///
 /// # Errors
 /// A read of the disk failed, which the disk has counted; or out of memory.
-pub fn entries<S: Blocks>(
-    draft: &Draft,
+pub fn entries<N: Nodes, S: Blocks>(
+    files: &N,
     alloc: Global,
     blocks: &mut S,
     dir: u32,
 ) -> Result<Vec<Slot>, FileRefusal>
-    requires { MayLook S.tells (S.state blocks.old) draft.now dir }
-    ensures all { IsTrue S.tells → IfOk result (λ entries. (slots : List SlotValue) → inodes_in (S.state blocks.old) draft.now dir ≡ Some (ADir slots)
+    requires { MayLookAt (N.may_read S.tells (S.state blocks.old) files.now) (S.state blocks.old) dir }
+    ensures all { IsTrue S.tells → IfOk result (λ entries. (slots : List SlotValue)
+        → inodes_of (N.nodes (S.state blocks.old) files.now).files dir ≡ Some (ADir slots)
         → IsPermutation slots entries.items) }
     ensures sorted { IfOk result (λ entries. IsSorted (slice_cmp nat_cmp) (map (λ s. s.name) entries.items)) }
     ensures refused { IfErr result LookRefused }
     ensures looks { LooksOnly S.tells (fails_reading result) (S.state blocks.old) (S.state blocks.new) }
 {
     calls_compose::<S>();
+    files.laws(blocks);
     let mut entries = Vec::new(alloc);
-    let Some(directory) = open_directory(draft, blocks, dir)? else {
+    let Some(directory) = open_directory(files, blocks, dir)? else {
         return Ok(entries);
     };
     push_slots(
-        draft,
+        files,
         blocks,
         &directory.blocks,
         directory.count,
@@ -63,20 +63,21 @@ pub fn entries<S: Blocks>(
 ///
 /// # Errors
 /// As `entries`.
-pub fn names<S: Blocks>(
-    draft: &Draft,
+pub fn names<N: Nodes, S: Blocks>(
+    files: &N,
     alloc: Global,
     blocks: &mut S,
     dir: u32,
 ) -> Result<NameList, FileRefusal>
-    requires { MayLook S.tells (S.state blocks.old) draft.now dir }
-    ensures all { IsTrue S.tells → IfOk result (λ names. (slots : List SlotValue) → inodes_in (S.state blocks.old) draft.now dir ≡ Some (ADir slots)
+    requires { MayLookAt (N.may_read S.tells (S.state blocks.old) files.now) (S.state blocks.old) dir }
+    ensures all { IsTrue S.tells → IfOk result (λ names. (slots : List SlotValue)
+        → inodes_of (N.nodes (S.state blocks.old) files.now).files dir ≡ Some (ADir slots)
         → IsPermutation (map (λ s. s.name) slots) names) }
     ensures sorted { IfOk result (IsSorted (slice_cmp nat_cmp)) }
     ensures refused { IfErr result LookRefused }
     ensures looks { LooksOnly S.tells (fails_reading result) (S.state blocks.old) (S.state blocks.new) }
 {
-    let found = entries(draft, alloc, blocks, dir)?;
+    let found = entries(files, alloc, blocks, dir)?;
     let names = names_among(alloc, &found)?;
     Ok(NameList::from_names(names))
 }
@@ -107,25 +108,26 @@ fn sort_by_name(slots: &mut Vec<Slot>)
 ///
 /// # Errors
 /// As `entries`.
-fn push_slots<S: Blocks>(
-    draft: &Draft,
+fn push_slots<N: Nodes, S: Blocks>(
+    files: &N,
     blocks: &mut S,
     node: &NodeBlocks,
     count: u32,
     into: &mut Vec<Slot>,
 ) -> Result<(), FileRefusal>
-    requires read { MayReadBlocks S.tells (S.state blocks.old) draft.now node.now }
+    requires read { MayReadBlocks (N.may_read S.tells (S.state blocks.old) files.now) (S.state blocks.old) node.now }
     requires few { count < 2 ^ 24 }
-    ensures slots { IsTrue S.tells → OnOk result ((slots : List SlotValue) → HasSlots (S.state blocks.old) draft.now node.now slots → length slots ≡ count
-        → into.new.items ≡ into.old.items ++ slots) }
+    ensures slots { IsTrue S.tells → OnOk result ((slots : List SlotValue) → HasSlots (N.nodes (S.state blocks.old) files.now) node.now slots
+        → length slots ≡ count → into.new.items ≡ into.old.items ++ slots) }
     ensures refused { IfErr result LookRefused }
     ensures looks { LooksOnly S.tells (fails_reading result) (S.state blocks.old) (S.state blocks.new) }
 {
     calls_compose::<S>();
+    files.laws(blocks);
     let mut block = ZEROS;
     let mut first = 0;
     while first < count {
-        read_slots(draft, blocks, node, first, &mut block)?;
+        read_slots(files, blocks, node, first, &mut block)?;
         let entries = (count - first).min(SLOTS_IN_BLOCK);
         push_block(&block, entries, into)?;
         first += SLOTS_IN_BLOCK;

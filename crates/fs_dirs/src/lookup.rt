@@ -1,22 +1,20 @@
-//! Names looked up in a directory of a draft. A directory is read a block at a time, and nothing of it is
-//! kept.
+//! Names looked up in a directory. It is read a block at a time, and nothing of it is kept.
 
-ghost use Rattle.std.specs.Prelude.{◌≡◌, ◌<◌, ◌/◌, ◌^◌, IsTrue, false, is_err, List, length, Some, IfOk, IfSome};
+ghost use Rattle.std.specs.Prelude.{◌≡◌, ◌<◌, ◌/◌, ◌^◌, IsTrue, is_err, List, length, Some, IfOk, IfSome};
 ghost use Rattle.layout_bytes.specs.declared.node.NodeKind.TheVariants.{Dir, File};
 ghost use Rattle.layout_bytes.specs.declared.slot.Slot.{Slot};
-ghost use Rattle.crash_stands.specs.Inodes.{Inode};
-ghost use Rattle.fs_files.specs.Asks.{MayLook};
+ghost use Rattle.crash_stands.specs.Inodes.{Inode, inodes_of};
+ghost use Rattle.fs_files.specs.Asks.{MayLookAt, MayRead};
 ghost use Rattle.fs_files.specs.Effects.{LooksOnly};
-ghost use Rattle.fs_files.specs.Calls.{files_in, IsUsed};
-ghost use Rattle.fs_files.specs.Sound.{IsDraftOf};
-ghost use Rattle.fs_dirs.specs.Directories.{inodes_in, slot_count, Finds, IsNumber};
+ghost use Rattle.fs_files.specs.Calls.{IsUsed};
+ghost use Rattle.fs_dirs.specs.Directories.{slot_count, Finds, IsNumber};
 ghost use Rattle.fs_dirs.specs.Reading.{LooksForName, OpensDirectory, IsOpened, MayReadBlocks, HasSlots};
 
 use crate::block::{SLOTS_IN_BLOCK, ZEROS, find_in, read_slots};
 use base_types::{Name, ReadFault};
 use crash_stands::slots_name_nodes_in_use;
 use engine_blocks::{Blocks, calls_compose};
-use fs_files::{Draft, FileRefusal, NodeBlocks, a_directory_has_whole_slots, a_file_fits_the_disk};
+use fs_files::{FileRefusal, NodeBlocks, Nodes};
 use fs_inodes::{a_name_stands_at_its_place, slots_follow_the_bytes};
 use layout_bytes::{NodeKind, SLOT_LENGTH};
 use layout_directory::a_name_has_its_first_place;
@@ -37,21 +35,21 @@ const MOST_BYTES: u64 = 1 << 30;
 ///
 /// # Errors
 /// A read of the disk failed, which the disk has counted.
-pub fn count_slots<S: Blocks>(
-    draft: &Draft,
+pub fn count_slots<N: Nodes, S: Blocks>(
+    files: &N,
     blocks: &mut S,
     number: u32,
 ) -> Result<Option<u32>, ReadFault>
-    requires { MayLook S.tells (S.state blocks.old) draft.now number }
-    ensures count { IsTrue S.tells → IfOk result (λ count. (x : Inode) → inodes_in (S.state blocks.old) draft.now number ≡ Some x → count ≡ slot_count x) }
-    ensures used { IsTrue S.tells → IfOk result (λ count. IfSome count (λ n. IsUsed (files_in (S.state blocks.old) draft.now) number)) }
+    requires { MayLookAt (N.may_read S.tells (S.state blocks.old) files.now) (S.state blocks.old) number }
+    ensures count { IsTrue S.tells → IfOk result (λ count. (x : Inode) → inodes_of (N.nodes (S.state blocks.old) files.now).files number ≡ Some x
+        → count ≡ slot_count x) }
+    ensures used { IsTrue S.tells → IfOk result (λ count. IfSome count (λ n. IsUsed (N.nodes (S.state blocks.old) files.now).files number)) }
     ensures few { IfOk result (λ count. IfSome count (λ n. n < 2 ^ 24)) }
     ensures looks { LooksOnly S.tells (is_err result) (S.state blocks.old) (S.state blocks.new) }
 {
-    a_directory_has_whole_slots::<S>();
-    a_file_fits_the_disk::<S>(blocks);
+    files.laws(blocks);
     slots_follow_the_bytes();
-    let Some(facts) = draft.look(blocks, number)? else {
+    let Some(facts) = files.look(blocks, number)? else {
         return Ok(None);
     };
     Ok(slots_of(facts.kind, facts.size))
@@ -84,18 +82,18 @@ pub struct Directory {
 ///
 /// # Errors
 /// A read of the disk failed, which the disk has counted.
-pub(crate) fn open_directory<S: Blocks>(
-    draft: &Draft,
+pub(crate) fn open_directory<N: Nodes, S: Blocks>(
+    files: &N,
     blocks: &mut S,
     number: u32,
 ) -> Result<Option<Directory>, ReadFault>
-    requires { MayLook S.tells (S.state blocks.old) draft.now number }
-    ensures { OpensDirectory S.tells number result (S.state blocks.old) (S.state blocks.new) draft.now }
+    requires { MayLookAt (N.may_read S.tells (S.state blocks.old) files.now) (S.state blocks.old) number }
+    ensures { OpensDirectory S.tells number result (S.state blocks.old) (S.state blocks.new)
+        (N.nodes (S.state blocks.old) files.now) (N.nodes (S.state blocks.new) files.now) }
 {
-    a_directory_has_whole_slots::<S>();
-    a_file_fits_the_disk::<S>(blocks);
+    files.laws(blocks);
     slots_follow_the_bytes();
-    let Some(file) = draft.open(blocks, number)? else {
+    let Some(file) = files.open(blocks, number)? else {
         return Ok(None);
     };
     let Some(count) = slots_of(file.facts.kind, file.facts.size) else {
@@ -113,21 +111,21 @@ pub(crate) fn open_directory<S: Blocks>(
 ///
 /// # Errors
 /// A read of the disk failed, which the disk has counted.
-pub fn find_in_directory<S: Blocks>(
-    draft: &Draft,
+pub fn find_in_directory<N: Nodes, S: Blocks>(
+    files: &N,
     blocks: &mut S,
     dir: &Directory,
     name: &Name,
 ) -> Result<Option<Found>, FileRefusal>
-    requires going { (S.state blocks.old).books.stopped ≡ false }
-    requires draft { IsDraftOf S.tells (S.state blocks.old) draft.now }
-    requires opened { IsOpened S.tells (S.state blocks.old) draft.now dir.now }
-    ensures { LooksForName S.tells dir.now.number name.now result (S.state blocks.old) (S.state blocks.new) draft.now }
+    requires read { MayRead (N.may_read S.tells (S.state blocks.old) files.now) (S.state blocks.old) }
+    requires opened { IsOpened S.tells (S.state blocks.old) (N.nodes (S.state blocks.old) files.now) dir.now }
+    ensures { LooksForName S.tells dir.now.number name.now result (S.state blocks.old) (S.state blocks.new)
+        (inodes_of (N.nodes (S.state blocks.old) files.now).files) }
 {
     slots_name_nodes_in_use();
     a_name_stands_at_its_place();
     let limit = blocks.geom().i();
-    let found = search(draft, blocks, &dir.blocks, dir.count, name)?;
+    let found = search(files, blocks, &dir.blocks, dir.count, name)?;
     Ok(in_table(found, limit))
 }
 
@@ -151,27 +149,28 @@ fn in_table(found: Option<Found>, limit: u32) -> Option<Found>
 ///
 /// # Errors
 /// A read of the disk failed, which the disk has counted.
-fn search<S: Blocks>(
-    draft: &Draft,
+fn search<N: Nodes, S: Blocks>(
+    files: &N,
     blocks: &mut S,
     node: &NodeBlocks,
     count: u32,
     name: &Name,
 ) -> Result<Option<Found>, ReadFault>
-    requires read { MayReadBlocks S.tells (S.state blocks.old) draft.now node.now }
+    requires read { MayReadBlocks (N.may_read S.tells (S.state blocks.old) files.now) (S.state blocks.old) node.now }
     requires few { count < 2 ^ 24 }
-    ensures found { IsTrue S.tells → IfOk result (λ found. (slots : List Slot) → HasSlots (S.state blocks.old) draft.now node.now slots
+    ensures found { IsTrue S.tells → IfOk result (λ found. (slots : List Slot) → HasSlots (N.nodes (S.state blocks.old) files.now) node.now slots
         → length slots ≡ count → Finds slots name.now found) }
     ensures place { IfOk result (λ found. IfSome found (λ f. f.place < 2 ^ 24)) }
     ensures looks { LooksOnly S.tells (is_err result) (S.state blocks.old) (S.state blocks.new) }
 {
     calls_compose::<S>();
+    files.laws(blocks);
     a_name_has_its_first_place();
     a_name_stands_at_its_place();
     let mut block = ZEROS;
     let mut first = 0;
     while first < count {
-        read_slots(draft, blocks, node, first, &mut block)?;
+        read_slots(files, blocks, node, first, &mut block)?;
         let entries = (count - first).min(SLOTS_IN_BLOCK);
         match find_in(&block, entries, name) {
             Some(found) => {

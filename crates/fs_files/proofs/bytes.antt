@@ -3,7 +3,6 @@ pub mod Joins
 pub mod Contents
 pub mod Tails
 pub mod Sizes
-pub mod Looks
 pub mod Pieces
 pub mod Loops
 pub mod Places

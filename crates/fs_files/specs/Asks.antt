@@ -8,15 +8,24 @@ use Rattle.fs_files.specs.Calls.{files_in, growth}
 use Rattle.fs_files.specs.Drafts.{DraftState}
 use Rattle.fs_files.specs.Sound.{IsDraftOf}
 
--- Node `number` may be looked at in this draft.
-pub record MayLook (tells : Bool) (s : State) (d : DraftState) (number : ℕ) : Type 0 where
+-- Nodes may be read over these blocks: the disk hasn't failed, and this holds of the nodes.
+pub record MayRead (may_read : Type 0) (s : State) : Type 0 where
+  pub going : s.books.stopped ≡ false
+  pub may : may_read
+
+-- Node `number` may be looked at over these blocks, where its nodes may be read if this holds.
+pub record MayLookAt (may_read : Type 0) (s : State) (number : ℕ) : Type 0 where
   -- the disk hasn't failed
   pub going : s.books.stopped ≡ false
   -- it is a number of the table
   pub from : 1 ≤ number
   pub upto : number ≤ s.books.geom.i
-  -- and the draft is one of these blocks
-  pub draft : IsDraftOf tells s d
+  -- and the nodes may be read
+  pub may : may_read
+
+-- Node `number` may be looked at in this draft, which is one of these blocks.
+abbrev pub MayLook : Bool → State → DraftState → ℕ → Type 0
+MayLook tells s d number = MayLookAt (IsDraftOf tells s d) s number
 
 -- Node `number` may get `count` bytes, where it is in use.
 pub record MayGrow (tells : Bool) (s : State) (d : DraftState) (number count : ℕ) : Type 0 where

@@ -15,3 +15,5 @@ pub mod Writing
 pub mod Within
 pub mod Asks
 pub mod Changing
+pub mod NodeMaps
+pub mod Places

@@ -14,6 +14,7 @@ mod look;
 mod node_blocks;
 mod nodes;
 mod price;
+mod reading;
 mod refusal;
 mod resize;
 mod unused;
@@ -29,4 +30,5 @@ pub use laws::{
 };
 pub use look::FileFacts;
 pub use node_blocks::{NodeBlocks, OpenFile};
+pub use reading::Nodes;
 pub use refusal::FileRefusal;

@@ -1,1 +1,2 @@
 pub mod Synced
+pub mod Awaited

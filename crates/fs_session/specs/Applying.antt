@@ -1,7 +1,7 @@
 -- How a file system answers a command of a script: whether it begins, with a tick, and what is done then. It is described in docs/FILE-SYSTEM.md.
-use Rattle.std.specs.Prelude.{◌≡◌, ◌≢◌, ◌⊎◌, ◌+◌, ◌^◌, ◌-◌, ◌≤◌, nat_le, ⊤, Bool, true, false, IsTrue, length, Result, Ok, Err}
+use Rattle.std.specs.Prelude.{◌≡◌, ◌≢◌, ◌⊎◌, ◌+◌, ◌^◌, ◌-◌, ◌≤◌, ◌<◌, nat_le, ⊤, Bool, true, false, IsTrue, length, Result, Ok, Err}
 use Rattle.lang_tree.specs.declared.command.Cmd.{Cmd}
-use Rattle.lang_tree.specs.declared.command.Cmd.TheVariants.{Osync, Dsync, Durable, Poll, Bad}
+use Rattle.lang_tree.specs.declared.command.Cmd.TheVariants.{Osync, Dsync, Durable, Dwait, Poll, Bad}
 use Rattle.lang_tree.specs.declared.command.Refusal.{Refusal}
 use Rattle.lang_tree.specs.declared.command.Refusal.TheVariants.{DiskFault, Stopped, Spent}
 use Rattle.lang_tree.specs.declared.command.Reply.{Reply}
@@ -15,7 +15,7 @@ use Rattle.engine_blocks.specs.Effects.{OrdersAtOnce, RingIsTold, RunsPipeline, 
 use Rattle.engine_blocks.specs.Serving.{ServesSure}
 use Rattle.fs_session.specs.Commands.{Carries, figures_on}
 use Rattle.fs_session.specs.Sessions.{IsSession}
-use Rattle.fs_session.specs.Syncs.{SyncsSession}
+use Rattle.fs_session.specs.Syncs.{SyncsSession, WaitsSession}
 
 -- the journal's numbers are used up
 abbrev pub is_spent : Bookkeeping → Bool
@@ -30,11 +30,12 @@ pub record Ticks (tells failed : Bool) (old new : State) : Type 0 where
   pub serves : IsTrue tells → old.counts.ticks.manner.waits_alone ≡ true → failed ≡ false → ServesSure old new
   pub ring : IsTrue tells → old.counts.ticks.manner.waits_alone ≡ true → failed ≡ false → RingIsTold new
 
--- The command needn't wait for the disk: one that only orders has nothing to commit, or ring places for its record, one on the tree finds as many blocks as it needs, and any other asks for none. A dsync may always wait.
+-- The command needn't wait for the disk: one that only orders has nothing to commit, or ring places for its record, one on the tree finds as many blocks as it needs, one that waits for a point finds that it is durable or isn't there, and any other asks for none. A dsync may always wait.
 abbrev pub NeedsNoWait : State → Session → Cmd → Type 0
 NeedsNoWait s f Osync = OrdersAtOnce s.books
 NeedsNoWait s f Dsync = ⊥
 NeedsNoWait s f Durable = ⊤
+NeedsNoWait s f (Dwait n) = (n ≤ s.books.floor) ⊎ (s.books.point < n)
 NeedsNoWait s f Poll = ⊤
 NeedsNoWait s f Bad = ⊤
 NeedsNoWait s f cmd = (figures_on s f cmd).need ≤ length (reusable_blocks s.books)
@@ -53,11 +54,12 @@ reply_for (Err why) = Refused why
 
 -- the states of blocks that a command may change
 module _ {S : Type 0} (tells : Bool) (state : S → State) where
-  -- What a command does once it began: a sync; one that asks for points, or for nothing; or one on the tree.
+  -- What a command does once it began: a sync; one that asks for points, or for nothing; one that waits for a point; or one on the tree.
   abbrev pub Runs : Cmd → Result Reply Refusal → S → S → Type 0
   Runs Osync result old new = SyncsSession tells true Osync result (state old) (state new)
   Runs Dsync result old new = SyncsSession tells false Dsync result (state old) (state new)
   Runs Durable result old new = (result ≡ Ok (Known (state old).books.floor)) × (new ≡ old)
+  Runs (Dwait n) result old new = WaitsSession tells n result (state old) (state new)
   Runs Poll result old new = (result ≡ Ok Done) × (new ≡ old)
   Runs cmd result old new = Carries tells cmd result (state old) (state new)
 

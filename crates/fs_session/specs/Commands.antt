@@ -46,6 +46,7 @@ abbrev pub is_on_tree : Cmd → Bool
 is_on_tree cmds.Osync = false
 is_on_tree cmds.Dsync = false
 is_on_tree cmds.Durable = false
+is_on_tree (cmds.Dwait n) = false
 is_on_tree cmds.Poll = false
 is_on_tree cmds.Bad = false
 is_on_tree _ = true

@@ -75,6 +75,7 @@ abbrev pub without_memory : Session → Room → Cmd → Session × Reply
 without_memory f r cmds.Bad = step f cmds.Bad
 without_memory f r cmds.Poll = step f cmds.Poll
 without_memory f r cmds.Durable = step f cmds.Durable
+without_memory f r (cmds.Dwait n) = step f (cmds.Dwait n)
 without_memory f r cmds.Osync = if r.weight == 0 then step f cmds.Osync else (f, Refused NoMemory)
 without_memory f r cmds.Dsync = if r.weight == 0 then step f cmds.Dsync else (f, Refused NoMemory)
 without_memory f r _ = (f, Refused NoMemory)

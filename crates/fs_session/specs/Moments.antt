@@ -2,7 +2,7 @@
 use Rattle.std.proofs.Common.{◌≡◌, ◌⊎◌, inl, inr, ⊎_elim, ℕ, sym, ◌∙◌}
 use Rattle.layout_geometry.specs.Geometry.{Geometry}
 use Rattle.lang_tree.specs.declared.command.Cmd.{Cmd}
-use Rattle.lang_tree.specs.declared.command.Cmd.TheVariants.{Mkdir, Create, Write, Fill, Read, Truncate, Link, Unlink, Rmdir, Rename, Stat, List as ListNames, Osync, Dsync, Durable, Poll, Bad}
+use Rattle.lang_tree.specs.declared.command.Cmd.TheVariants.{Mkdir, Create, Write, Fill, Read, Truncate, Link, Unlink, Rmdir, Rename, Stat, List as ListNames, Osync, Dsync, Durable, Dwait, Poll, Bad}
 use Rattle.lang_tree.specs.declared.command.Refusal.TheVariants.{Stopped, Spent}
 use Rattle.lang_tree.specs.declared.command.Reply.{Reply}
 use Rattle.lang_tree.specs.Step.{Session}
@@ -36,6 +36,7 @@ answer_in_room g at end f old Bad reply next new x = x.0
 answer_in_room g at end f old Osync reply next new x = any_over g at end f old Osync reply next new x
 answer_in_room g at end f old Dsync reply next new x = any_over g at end f old Dsync reply next new x
 answer_in_room g at end f old Durable reply next new x = any_over g at end f old Durable reply next new x
+answer_in_room g at end f old (Dwait n) reply next new x = any_over g at end f old (Dwait n) reply next new x
 answer_in_room g at end f old Poll reply next new x = any_over g at end f old Poll reply next new x
 answer_in_room g at end f old (Mkdir path) reply next new x = any_over g at end f old (Mkdir path) reply next new x
 answer_in_room g at end f old (Create path) reply next new x = any_over g at end f old (Create path) reply next new x
@@ -86,6 +87,7 @@ module _ (g : Geometry) (at end now last : Moment) (same : SaysNoMore at now) (e
   leaves_too Osync reply next old new x = syncs_too reply next old new x
   leaves_too Dsync reply next old new x = syncs_too reply next old new x
   leaves_too Durable reply next old new x = x
+  leaves_too (Dwait n) reply next old new x = x
   leaves_too Poll reply next old new x = x
   leaves_too Bad reply next old new x = x
   leaves_too (Mkdir path) reply next old new x = x
@@ -120,6 +122,7 @@ module _ (g : Geometry) (at end now last : Moment) (same : SaysNoMore at now) (e
   answer_at_others f old Osync reply next new x = any_too f old Osync reply next new x
   answer_at_others f old Dsync reply next new x = any_too f old Dsync reply next new x
   answer_at_others f old Durable reply next new x = any_too f old Durable reply next new x
+  answer_at_others f old (Dwait n) reply next new x = any_too f old (Dwait n) reply next new x
   answer_at_others f old Poll reply next new x = any_too f old Poll reply next new x
   answer_at_others f old (Mkdir path) reply next new x = any_too f old (Mkdir path) reply next new x
   answer_at_others f old (Create path) reply next new x = any_too f old (Create path) reply next new x

@@ -122,11 +122,12 @@ IsRefusedIn g f r cmd why =
 abbrev pub RefusesIn : (Refusal → Type 0) → Session → Room → Reply → Session → Room → Type 0
 RefusesIn because f r reply next room = (why : Refusal) × because why × (reply ≡ Refused why) × (next ≡ f) × (room ≡ r)
 
--- How a command is answered. A bad line and one that does nothing are answered as the tree answers them, and one that asks for a point by one that the disk may have; nothing changes.
+-- How a command is answered. A bad line, one that does nothing and one that waits for a point are answered as the tree answers them, and one that asks for a point by one that the disk may have; nothing changes.
 -- A sync is done, or memory ran out where there was something to commit. Any other command is done or refused.
 abbrev pub AnswersIn : Geometry → Session → Room → Cmd → Reply → Session → Room → Type 0
 AnswersIn g f r cmds.Bad reply next room = (step f cmds.Bad ≡ (next, reply)) × (room ≡ r)
 AnswersIn g f r cmds.Poll reply next room = (step f cmds.Poll ≡ (next, reply)) × (room ≡ r)
+AnswersIn g f r (cmds.Dwait n) reply next room = (step f (cmds.Dwait n) ≡ (next, reply)) × (room ≡ r)
 AnswersIn g f r cmds.Durable reply next room = MayKnow f cmds.Durable reply next × (room ≡ r)
 AnswersIn g f r cmds.Osync reply next room =
     ((step f cmds.Osync ≡ (next, reply)) × SyncsRoom g r room)

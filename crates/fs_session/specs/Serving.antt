@@ -2,7 +2,7 @@
 use Rattle.std.specs.Prelude.{◌≡◌, ◌≢◌, ◌↔◌, ◌⊎◌, ℕ, ◌<◌, ◌≤◌, Bool, true, false, not, ◌||◌, length, Option, None, Some, is_some}
 use Rattle.std.specs.List.{filter}
 use Rattle.disk_contract.specs.Cell.{is_accepted}
-use Rattle.disk_contract.specs.Disk.{GrowsByWrites, PollsThenWrites}
+use Rattle.disk_contract.specs.Disk.{GrowsByWrites, PollsThenWrites, writes_in}
 use Rattle.layout_geometry.specs.Geometry.{Geometry}
 use Rattle.lang_tree.specs.declared.command.Cmd.{Cmd}
 use Rattle.lang_tree.specs.declared.command.Cmd.TheVariants as cmds
@@ -15,7 +15,7 @@ use Rattle.lang_tree.specs.Step.{Session}
 use Rattle.engine_blocks.specs.Running.{has}
 use Rattle.engine_blocks.specs.State.{State, data_blocks}
 use Rattle.engine_blocks.specs.Puts.{IsData}
-use Rattle.engine_blocks.specs.Crashes.{Advances, HearsRecords}
+use Rattle.engine_blocks.specs.Crashes.{Advances, HearsRecords, HearsUpTo}
 use Rattle.engine_blocks.specs.Effects.{FitsRing, OrdersAtOnce, RingIsTold, WritesItsRecord}
 use Rattle.engine_blocks.specs.Serving.{is_sure_in, rests_in}
 use Rattle.fs_session.specs.Applying.{is_spent}
@@ -143,6 +143,12 @@ pub record SyncsBehind (cmd : Cmd) (reply : Reply) (behind new : State) : Type 0
   pub written : is_refusal reply ≡ false → WritesItsRecord behind new
   pub unwritten : reply ≡ Refused NoMemory → new.crash.log ≡ behind.crash.log
 
+-- A wait for point n did this behind its tick: no write came, and each notice that came is of a ticket for which one of the points 1 to n waited. Where the point was durable then, or isn't there, no event came.
+pub record WaitsBehind (n : ℕ) (behind new : State) : Type 0 where
+  pub hears : behind.counts.ticks.manner.waits_alone ≡ true → HearsUpTo n behind new
+  pub still : writes_in new.crash.log ≡ writes_in behind.crash.log
+  pub rests : (n ≤ behind.books.floor) ⊎ (behind.books.point < n) → new.crash.log ≡ behind.crash.log
+
 module _ {S : Type 0} (state : S → State) where
   -- A command of a session is answered so, in what the blocks showed. The moment is that behind its tick, which takes no ring places; or it didn't begin, and nothing happens. The tick leaves the transaction and makes no point, and the log tells the records of the ring behind it, unless the tick was all.
   pub record ServesCommand (f : Session) (cmd : Cmd) (reply : Reply) (next : Session) (old new : S) : Type 0 where
@@ -156,6 +162,7 @@ module _ {S : Type 0} (state : S → State) where
     pub point : (state behind).books.point ≡ (state old).books.point
     pub ring : cmd ≢ cmds.Bad → (state old).books.stopped ≡ false → is_spent (state old).books ≡ false → (state old).counts.ticks.manner.waits_alone ≡ true → RingIsTold (state behind) ⊎ ((new ≡ behind) × (reply ≡ Refused DiskFault))
     pub sync : is_sync cmd ≡ true → (state old).books.stopped ≡ false → is_spent (state old).books ≡ false → SyncsBehind cmd reply (state behind) (state new)
+    pub wait : (n : ℕ) → cmd ≡ cmds.Dwait n → (state old).books.stopped ≡ false → is_spent (state old).books ≡ false → WaitsBehind n (state behind) (state new)
     -- the tick makes no point wait
     pub still : (p t : ℕ) → (state behind).crash.awaits p t → (state old).crash.awaits p t
     -- a point that is waited for since is a new one, and waits for a write behind the tick

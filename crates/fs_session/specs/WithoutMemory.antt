@@ -1,5 +1,5 @@
 -- Commands where no memory is found: which ones take none, what a sync that is refused so keeps, and what it makes when it is given again. It is described in docs/FILE-SYSTEM.md.
-use Rattle.std.specs.Prelude.{◌≡◌, ◌≢◌, ◌+◌, ◌<◌, ⊤, Bool, false, IsTrue}
+use Rattle.std.specs.Prelude.{◌≡◌, ◌≢◌, ◌+◌, ◌<◌, ◌≤◌, ⊤, Bool, false, IsTrue}
 use Rattle.base_types.specs.Counts.{Rose}
 use Rattle.disk_contract.specs.Disk.{PollsThenWrites}
 use Rattle.lang_tree.specs.declared.command.Cmd.{Cmd}
@@ -17,14 +17,20 @@ use Rattle.fs_session.specs.Applying.{is_spent}
 use Rattle.fs_session.specs.Sessions.{IsSession}
 use Rattle.fs_session.specs.Syncs.{reply_of_sync}
 
--- The command takes no memory: a bad line, one that asks for points or for nothing, or a sync with nothing to commit.
+-- The command takes no memory: a bad line, one that asks for points or for nothing, one that waits for a point, or a sync with nothing to commit.
 abbrev pub TakesNoMemory : State → Cmd → Type 0
 TakesNoMemory s cmds.Bad = ⊤
 TakesNoMemory s cmds.Poll = ⊤
 TakesNoMemory s cmds.Durable = ⊤
+TakesNoMemory s (cmds.Dwait n) = ⊤
 TakesNoMemory s cmds.Osync = s.books.running.weight ≡ 0
 TakesNoMemory s cmds.Dsync = s.books.running.weight ≡ 0
 TakesNoMemory s _ = ⊥
+
+-- The point that a command waits for was made; any other command waits for none.
+abbrev pub HasItsPoint : State → Cmd → Type 0
+HasItsPoint s (cmds.Dwait n) = n ≤ s.books.point
+HasItsPoint s _ = ⊤
 
 -- Nothing of the disk stands against a command: no call failed before, the journal's numbers aren't used up, and the count of failed calls, reads apart, neither rises nor is at its last value.
 pub record IsUnhindered (old new : State) : Type 0 where

@@ -36,6 +36,6 @@ pub use points::{
     points_stay_known,
 };
 pub use space::has_room;
-pub use syncs::{dsync, osync};
+pub use syncs::{dsync, dwait, osync};
 pub use unused::{NodeUse, UnusedNodes};
 pub use without_memory::{a_sync_without_memory_may_be_given_again, what_takes_no_memory_is_done};

@@ -1,13 +1,14 @@
-//! The commands that make sync points: osync and dsync. What a sync does on a disk is for the blocks to say.
+//! The commands that make sync points or wait for one: osync, dsync and dwait. What they do on a disk is for the blocks
+//! to say.
 
 ghost use Rattle.std.specs.Prelude.{◌≡◌, ◌<◌, ◌^◌, true, false};
 ghost use Rattle.lang_tree.specs.declared.command.Cmd.TheVariants.{Osync, Dsync};
 ghost use Rattle.lang_tree.specs.declared.command.Reply.TheVariants.{Synced, DurableAt};
 ghost use Rattle.fs_session.specs.declared.unused.UnusedNodes.{UnusedNodes};
 ghost use Rattle.fs_session.specs.Sessions.{IsBetween};
-ghost use Rattle.fs_session.specs.Syncs.{MaySyncNow, SyncsSession, refusal_of_sync};
+ghost use Rattle.fs_session.specs.Syncs.{MaySyncNow, SyncsSession, WaitsSession, refusal_of_sync};
 
-use engine_blocks::{Blocks, SyncRefusal};
+use engine_blocks::{Blocks, SyncRefusal, WaitRefusal};
 use fs_files::a_sync_may_follow;
 use lang_tree::{Refusal, Reply};
 use std::alloc::Global;
@@ -42,6 +43,24 @@ pub fn dsync<S: Blocks>(alloc: Global, blocks: &mut S) -> Result<Reply, Refusal>
     match blocks.dsync(alloc) {
         Ok(point) => Ok(durable_at(point)),
         Err(why) => Err(refusal_of_sync(why)),
+    }
+}
+
+/// Waits until point `n` is on the disk. It takes no memory, and where there is no such point it does nothing.
+///
+/// # Errors
+/// The disk failed.
+pub fn dwait<S: Blocks>(blocks: &mut S, n: u32) -> Result<Reply, Refusal>
+    requires may { MaySyncNow (S.state blocks.old).books }
+    ensures waits { WaitsSession S.tells n result (S.state blocks.old) (S.state blocks.new) }
+    ensures between { (unused : UnusedNodes) → IsBetween S.tells (S.state blocks.old) unused → IsBetween S.tells (S.state blocks.new) unused }
+{
+    a_sync_may_follow();
+    let point = u64::from(n);
+    match blocks.wait_for(point) {
+        Ok(()) => Ok(Reply::DurableAt(point)),
+        Err(WaitRefusal::NoPoint { last }) => Ok(Reply::Refused(Refusal::NoPoint { last })),
+        Err(WaitRefusal::DiskFault) => Err(Refusal::DiskFault),
     }
 }
 

@@ -9,17 +9,17 @@ ghost use Rattle.lang_tree.specs.declared.command.Reply.{Reply};
 ghost use Rattle.lang_tree.specs.declared.command.Reply.TheVariants.{Refused};
 ghost use Rattle.lang_tree.specs.Points.{is_refusal, is_sync};
 ghost use Rattle.fs_session.specs.Applying.{Applies};
-ghost use Rattle.fs_session.specs.WithoutMemory.{FindsMemory, IsUnhindered, KeepsTransaction, MakesNextPoint, TakesNoMemory};
+ghost use Rattle.fs_session.specs.WithoutMemory.{FindsMemory, HasItsPoint, IsUnhindered, KeepsTransaction, MakesNextPoint, TakesNoMemory};
 
 use engine_blocks::Blocks;
 
 /// A command that takes no memory is never out of memory. It is done where the disk had no fault before and counts
-/// none in it, and turns are left.
+/// none in it, and turns are left; and where it waits for a point, that was made.
 pub fn what_takes_no_memory_is_done<S: Blocks>()
     ensures never { (old new : S) (cmd : Cmd) (reply : Reply) → TakesNoMemory (S.state old) cmd → Applies S.tells S.state cmd reply old new
         → reply ≢ Refused NoMemory }
     ensures done { (old new : S) (cmd : Cmd) (reply : Reply) → TakesNoMemory (S.state old) cmd → Applies S.tells S.state cmd reply old new
-        → IsUnhindered (S.state old) (S.state new) → is_refusal reply ≡ false }
+        → HasItsPoint (S.state old) cmd → IsUnhindered (S.state old) (S.state new) → is_refusal reply ≡ false }
 {}
 
 /// A sync that is out of memory wrote nothing of its record, and the transaction is as it was. Given again, it makes

@@ -1,7 +1,7 @@
 -- A node in use fits the disk: its blocks are data blocks, as many as its size needs.
-use Rattle.std.proofs.Common.{◌≡◌, ℕ, zero, suc, ◌+◌, ◌/◌, ◌≤◌, Bool, true, false, nat_lt, nat_le, ◌&&◌, not, ◌==◌, List, [], ◌∷◌, length, slice_index, slice_get, All, Option, Some, None, refl, ap, ap₂, subst, ◌∙◌, arith, length-append}
+use Rattle.std.proofs.Common.{◌≡◌, ℕ, zero, suc, ◌+◌, ◌/◌, ◌≤◌, true, nat_lt, nat_le, ◌&&◌, not, ◌==◌, List, [], ◌∷◌, length, slice_get, All, Some, ap, ap₂, subst, ◌∙◌, arith}
 use Rattle.std.proofs.lemmas.Bool.{and_parts, leb-true, le-leb, eqb-true}
-use Rattle.std.proofs.lemmas.Option.{none-some, same_Some, slice_get_within, get_or_from_slice_get}
+use Rattle.std.proofs.lemmas.Option.{slice_get_within, get_or_from_slice_get}
 use Rattle.std.proofs.lemmas.List.Elements.{All-append, All-cons}
 use Rattle.base_types.specs.Seal.{Blocks}
 use Rattle.base_types.specs.Runs.{blocks_from, run_places}
@@ -9,26 +9,11 @@ use Rattle.base_types.specs.declared.places.Run.{Run}
 use Rattle.engine_blocks.specs.Puts.{IsData}
 use Rattle.layout_geometry.specs.Geometry.{Geometry, data_start}
 use Rattle.layout_bytes.specs.declared.node.Node.{Node}
-use Rattle.layout_bytes.specs.declared.node.NodeKind.{NodeKind}
 use Rattle.layout_bytes.specs.Bytes.{when}
-use Rattle.layout_bytes.specs.Node.{runs_fit, run_blocks, kind_fits, node_fits, node_fields, spare_zeros, used_kind, node_with, node_of, node_bytes, node_at}
+use Rattle.layout_bytes.specs.Node.{runs_fit, run_blocks, kind_fits, node_fits, node_bytes, node_at}
 use Rattle.crash_stands.specs.Files.{used_node}
 use Rattle.crash_stands.specs.Stands.{HasBlock}
-
-when_some : {A : Type 0} (t : Bool) (x : Option A) (y : A) → when t x ≡ Some y → (t ≡ true) × (x ≡ Some y)
-when_some true x y e = (refl, e)
-when_some false x y e = absurd (none-some y e)
-
-fits_with : (g : Geometry) (b : List ℕ) (x : Option NodeKind) (node : Node) → node_with g b x ≡ Some node → node_fits g node ≡ true
-fits_with g b None node e = absurd (none-some node e)
-fits_with g b (Some kind) node e =
-    let outer = when_some (spare_zeros b) (when (node_fits g (node_fields kind b)) (Some (node_fields kind b))) node e in
-    let inner = when_some (node_fits g (node_fields kind b)) (Some (node_fields kind b)) node outer.1 in
-    subst (λ (x : Node). node_fits g x ≡ true) (same_Some (node_fields kind b) node inner.1) inner.0
-
-pub read_fits : (g : Geometry) (b : List ℕ) (node : Node) → node_of g b ≡ Some node → node_fits g node ≡ true
-unfolding node_of
-read_fits g b node e = fits_with g b (used_kind (slice_index b 0)) node e
+use Rattle.fs_files.specs.Places.{places_count, read_fits, when_some}
 
 -- what a node in use says of its number and its bytes
 pub record IsUsed (g : Geometry) (m : Blocks) (k : ℕ) (node : Node) : Type 0 where
@@ -61,14 +46,6 @@ runs_data g end (r ∷ rs) e =
     let upto = and_parts (nat_le (r.first + r.count) g.n) (not (r.first == end) && runs_fit g (r.first + r.count) rs) from.1 in
     let apart = and_parts (not (r.first == end)) (runs_fit g (r.first + r.count) rs) upto.1 in
     All-append (IsData g) (blocks_from r.first r.count) (run_places rs) (blocks_data g r.first r.count (leb-true (data_start g) r.first from.0) (leb-true (r.first + r.count) g.n upto.0)) (runs_data g (r.first + r.count) rs apart.1)
-
-blocks_count : (first n : ℕ) → length (blocks_from first n) ≡ n
-blocks_count first zero = refl
-blocks_count first (suc n) = omega (arith, blocks_count (first + 1) n)
-
-places_count : (rs : List Run) → length (run_places rs) ≡ run_blocks rs
-places_count [] = refl
-places_count (r ∷ rs) = omega (arith, length-append (blocks_from r.first r.count) (run_places rs), blocks_count r.first r.count, places_count rs)
 
 -- what the blocks of a node that fits are
 pub record PlacesFit (g : Geometry) (node : Node) : Type 0 where

@@ -20,7 +20,7 @@ use Rattle.fs_check.specs.Broken.{IsBroken}
 use Rattle.fs_check.specs.Calls.{IfDamaged}
 use Rattle.fs_files.specs.Effects.{LooksOnly}
 use Rattle.fs_check.specs.Meeting.{AreBits, HasMet, HasPlaces, IsCheckedTo, IsTailOf}
-use Rattle.fs_check.proofs.sound.Looks.{looks_more}
+use Rattle.fs_files.specs.Places.{looks_more}
 use Rattle.fs_check.proofs.sound.Meets.{at_place, meet_all, meet_begins, meet_none}
 use Rattle.fs_check.proofs.sound.Nodes.{used_at, used_is}
 

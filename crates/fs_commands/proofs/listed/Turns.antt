@@ -12,7 +12,7 @@ use Rattle.crash_stands.specs.Walks.{LeadsTo, node_in}
 use Rattle.fs_inodes.specs.Lookups.{number_at}
 use Rattle.fs_inodes.specs.Listing.{at_and_below}
 use Rattle.engine_blocks.specs.State.{State}
-use Rattle.fs_files.specs.Drafts.{DraftState}
+use Rattle.fs_files.specs.NodeMaps.{NodeMap}
 use Rattle.fs_dirs.specs.Directories.{IsNumber}
 use Rattle.fs_commands.specs.declared.listing.Frame.{Frame}
 use Rattle.fs_commands.specs.declared.listing.Walk.{Walk}
@@ -22,14 +22,14 @@ use Rattle.fs_commands.proofs.listed.Children.{is_slot, place_of_slot, leads_to_
 use Rattle.fs_commands.proofs.listed.Steps.{left_dir, same_paths, walk_mid}
 use Rattle.fs_commands.proofs.listed.Shows.{AtNode, FrontAtNode}
 
-module _ (s : State) (d : DraftState) (w : Walk) (frame : Frame) where
+module _ (s : State) (v : NodeMap) (w : Walk) (frame : Frame) where
   -- the paths that the turn begins with
   abbrev pub coming : Tree → Paths
   coming t = under_names t w.path.items (names_left frame) ++ to_come t w
 
   -- something that holds where the walk comes to the directory, whatever the tree
   abbrev pub AtFrame : (Inodes → Tree → Type 0) → Type 0
-  AtFrame P = (m : Inodes) (t : Tree) → IsMapIn s d m t → IsFrame m w.path.items (length w.frames.items) frame → IsWalk m t (under_names t w.path.items (names_left frame)) w → P m t
+  AtFrame P = (m : Inodes) (t : Tree) → IsMapIn s v m t → IsFrame m w.path.items (length w.frames.items) frame → IsWalk m t (under_names t w.path.items (names_left frame)) w → P m t
 
   -- a prefix was taken of the lines that are still to come
   abbrev pub FrontAtFrame : Option (List ℕ) → Option (List ℕ) → Type 0
@@ -59,19 +59,19 @@ module _ (s : State) (d : DraftState) (w : Walk) (frame : Frame) where
     -- It is shown.
     module _ (mid : Walk) (path : mid.path.items ≡ w.path.items ++ entry.name ∷ []) (frames : mid.frames.items ≡ w.frames.items ++ next ∷ []) (left : mid.left ≡ w.left)
         (last : (m : Inodes) (up : List (List ℕ)) (name : List ℕ) (dir : ℕ) (slots : List Slot) → LeadsTo m up dir → m dir ≡ Some (ADir slots) → number_at m (up ++ name ∷ []) ≡ node_in slots name) where
-      leads_on : (m : Inodes) (t : Tree) → IsMapIn s d m t → IsFrame m w.path.items (length w.frames.items) frame → IsWalk m t (under_names t w.path.items (names_left frame)) w → LeadsTo m mid.path.items entry.node
+      leads_on : (m : Inodes) (t : Tree) → IsMapIn s v m t → IsFrame m w.path.items (length w.frames.items) frame → IsWalk m t (under_names t w.path.items (names_left frame)) w → LeadsTo m mid.path.items entry.node
       leads_on m t h is_frame walk =
           let whole : take (length w.frames.items) w.path.items ≡ w.path.items = take_all (length w.frames.items) w.path.items (omega (arith, walk.depth)) in
           let up = subst (λ p. LeadsTo m p frame.dir) whole is_frame.leads in
           ap (number_at m) path ∙ last m w.path.items entry.name frame.dir is_frame.slots up is_frame.dir
           ∙ leads_to_node is_frame.slots entry (h.map.distinct frame.dir is_frame.slots is_frame.dir) (slot_there m is_frame)
 
-      pub shows_front : (old new : Option (List ℕ)) → FrontAtNode s d mid entry.node old new → FrontAtFrame old new
+      pub shows_front : (old new : Option (List ℕ)) → FrontAtNode s v mid entry.node old new → FrontAtFrame old new
       shows_front old new front m t h is_frame walk =
           subst (λ paths. TakesPrefix old new (lines_of t paths)) (sym (same_paths m t w mid frame next entry takes path frames left walk is_frame))
           (front m t h (leads_on m t h is_frame walk) (walk_mid m t w mid frame next entry takes path frames left walk is_frame))
 
-      pub shows_writes : (new : Walk) (old now : Option (List ℕ)) → AtNode s d mid entry.node (λ m t. HasWritten m t (at_and_below t mid.path.items ++ to_come t mid) new old now)
+      pub shows_writes : (new : Walk) (old now : Option (List ℕ)) → AtNode s v mid entry.node (λ m t. HasWritten m t (at_and_below t mid.path.items ++ to_come t mid) new old now)
           → AtFrame (λ m t. HasWritten m t (coming t) new old now)
       shows_writes new old now goes m t h is_frame walk =
           subst (λ paths. HasWritten m t paths new old now) (sym (same_paths m t w mid frame next entry takes path frames left walk is_frame))

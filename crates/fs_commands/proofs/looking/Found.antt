@@ -1,8 +1,6 @@
 -- What a path leads to, from the number that a walk comes to and what is known of the node. Looks come one behind the other.
-use Rattle.std.proofs.Common.{◌≡◌, ℕ, Bool, false, IsTrue, List, Option, None, Some, Result, Ok, option_map, option_and_then, refl, sym, subst, ap, ap₂, ◌∙◌, arith}
+use Rattle.std.proofs.Common.{◌≡◌, ℕ, Bool, false, IsTrue, List, Option, None, Some, Result, Ok, Err, IfOk, option_map, option_and_then, refl, sym, subst, ap, ap₂, ◌∙◌, arith}
 use Rattle.std.proofs.lemmas.Option.{none-some}
-use mathlib.Core.Logic.Iff.{trans}
-use Rattle.base_types.specs.Counts.{after_call}
 use Rattle.base_types.specs.Seal.{Blocks}
 use Rattle.layout_geometry.specs.Geometry.{Geometry}
 use Rattle.engine_blocks.specs.State.{Bookkeeping, State}
@@ -17,50 +15,23 @@ use Rattle.fs_files.specs.declared.look.FileFacts.{FileFacts}
 use Rattle.fs_files.specs.Calls.{facts_of, files_in}
 use Rattle.fs_files.specs.Drafts.{DraftState, nothing_drafted, drafted}
 use Rattle.fs_files.specs.Effects.{LooksAndSettles, LooksOnly}
-use Rattle.fs_files.specs.Sound.{FitsBooks, IsSoundDraft, IsDraftOf}
+use Rattle.fs_files.specs.Sound.{IsDraftOf}
 use Rattle.fs_dirs.specs.Directories.{inodes_in, IsNumber}
 use Rattle.engine_blocks.specs.Running.{HasNoBare}
+use Rattle.fs_files.specs.declared.refusal.FileRefusal.{FileRefusal}
 use Rattle.fs_session.specs.declared.unused.NodeUse.{NodeUse}
+use Rattle.fs_commands.specs.declared.paths.NodeFound.{NodeFound}
+use Rattle.fs_commands.specs.Looks.{LeadsToFound}
 use Rattle.fs_session.specs.Sessions.{KeepsUsed, MayBegin}
-use Rattle.fs_files.specs.Asks.{MayLook}
-use Rattle.crash_stands.specs.Stands.{AreSound}
+use Rattle.fs_files.specs.Asks.{MayLook, MayLookAt, MayRead}
+use Rattle.crash_stands.specs.Stands.{AreSound, IsTreeOf}
+pub use Rattle.fs_files.specs.NodeMaps.{draft_stays}
+pub use Rattle.fs_files.specs.Places.{looks_more}
+use Rattle.fs_files.specs.NodeMaps.{NodeMap, same_nodes}
 
--- two looks, of which the first didn't fail
-pub looks_more : (tells failed : Bool) (s t u : State) → LooksOnly tells false s t → LooksOnly tells failed t u → LooksOnly tells failed s u
-looks_more tells failed s t u first second = record {
-  books = second.books ∙ first.books;
-  counts = record {
-    read_faults = second.counts.read_faults ∙ ap (λ n. after_call failed n) first.counts.read_faults;
-    faults = second.counts.faults ∙ first.counts.faults;
-    waits = second.counts.waits ∙ first.counts.waits;
-    ticks = second.counts.ticks ∙ first.counts.ticks;
-  };
-  map = λ told. second.map told ∙ first.map told;
-  crash = λ told. let a = first.crash told in let b = second.crash told in record {
-    base = b.base ∙ a.base;
-    log = b.log ∙ a.log;
-    point = λ p m. trans (b.point p m) (a.point p m);
-    left = λ n img. trans (b.left n img) (a.left n img);
-    holds = λ img m. trans (b.holds img m) (a.holds img m);
-    sure = λ log p. trans (b.sure log p) (a.sure log p);
-    records = record { told = b.records.told ∙ a.records.told; starts = λ log n. trans (b.records.starts log n) (a.records.starts log n) };
-    issued = λ m. trans (b.issued m) (a.issued m);
-    awaits = λ p n. trans (b.awaits p n) (a.awaits p n);
-  };
-}
-
-module _ (tells failed : Bool) (s t : State) (d : DraftState) (k : LooksOnly tells failed s t) where
-  -- the files are as before
-  pub same_files : IsTrue tells → files_in t d ≡ files_in s d
-  same_files told = ap₂ (λ (b : Bookkeeping) (m : Blocks). files_of b.geom (drafted d m)) k.books (k.map told)
-
-  -- the draft is one of the blocks still
-  pub draft_stays : IsDraftOf tells s d → IsDraftOf tells t d
-  draft_stays h = record {
-    fits = subst (λ b. FitsBooks b d) (sym k.books) h.fits;
-    sound = λ told. subst (λ b. IsSoundDraft b t.map d) (sym k.books) (subst (λ m. IsSoundDraft s.books m d) (sym (k.map told)) (h.sound told));
-    content = h.content;
-  }
+-- the files of a draft are as before
+pub same_files : (tells failed : Bool) (s t : State) (d : DraftState) → LooksOnly tells failed s t → IsTrue tells → files_in t d ≡ files_in s d
+same_files tells failed s t d looks told = ap (λ (v : NodeMap). v.files) (same_nodes tells failed s t d looks told)
 
 -- so they are where the pipeline may have settled
 pub settled_files : (tells read_failed failed : Bool) (s t : State) → LooksAndSettles tells read_failed failed s t → IsTrue tells → files_in t nothing_drafted ≡ files_in s nothing_drafted
@@ -128,12 +99,34 @@ pub draft_begun : (tells : Bool) (s : State) (d : DraftState) → d ≡ nothing_
 draft_begun tells s d none may law = subst (IsDraftOf tells s) (sym none) (law may.none_bare may.sound)
 
 pub look_begins : (tells : Bool) (s : State) (d : DraftState) (k : ℕ) → d ≡ nothing_drafted → MayBegin tells s → IsNumber s.books.geom.i k → BeginsDraft tells s → MayLook tells s d k
-look_begins tells s d k none may number law = record { going = may.going; from = number.from; upto = number.upto; draft = draft_begun tells s d none may law }
+look_begins tells s d k none may number law = record { going = may.going; from = number.from; upto = number.upto; may = draft_begun tells s d none may law }
 
 pub look_on : (tells : Bool) (s t : State) (d : DraftState) (k : ℕ) → LooksOnly tells false s t → MayLook tells s d k → MayLook tells t d k
 look_on tells s t d k looks may = record {
   going = ap (λ (b : Bookkeeping). b.stopped) looks.books ∙ may.going;
   from = may.from;
   upto = omega (arith, may.upto, ap (λ (b : Bookkeeping). b.geom.i) looks.books);
-  draft = draft_stays tells false s t d looks may.draft;
+  may = draft_stays tells false s t d looks may.may;
+}
+
+-- what a look in an empty draft finds, it finds in the blocks as they are
+pub found_begun : (s : State) (d : DraftState) (path : List (List ℕ)) (r : Result (Result NodeFound Refusal) FileRefusal) → d ≡ nothing_drafted
+    → ((t : Tree) → IsTreeOf s.books.geom s.map t → IsMapOf s.books.geom.i (inodes_of (files_of s.books.geom s.map)) t)
+    → IfOk r (λ found. (t : Tree) → IsMapOf s.books.geom.i (inodes_of (files_in s d)) t → LeadsToFound (files_in s d) path found)
+    → IfOk r (λ found. (t : Tree) → IsTreeOf s.books.geom s.map t → LeadsToFound (files_in s nothing_drafted) path found)
+found_begun s d path (Ok found) none map h = λ t stands. subst (λ e. IsMapOf s.books.geom.i (inodes_of (files_in s e)) t → LeadsToFound (files_in s e) path found) none (h t) (map t stands)
+found_begun s d path (Err why) none map h = tt
+
+pub there_begun : (s : State) (d : DraftState) (r : Result (Result NodeFound Refusal) FileRefusal) → d ≡ nothing_drafted
+    → IfOk r (λ found. IfOk found (λ f. (x : FileNode) × (files_in s d f.number ≡ Some x) × (f.facts ≡ facts_of x)))
+    → IfOk r (λ found. IfOk found (λ f. (x : FileNode) × (files_in s nothing_drafted f.number ≡ Some x) × (f.facts ≡ facts_of x)))
+there_begun s d r none h = subst (λ e. IfOk r (λ found. IfOk found (λ f. (x : FileNode) × (files_in s e f.number ≡ Some x) × (f.facts ≡ facts_of x)))) none h
+
+-- a number of the table may be looked at behind reads
+pub look_stays : (tells : Bool) (s t : State) → LooksOnly tells false s t → (P Q : Type 0) (k : ℕ) → (P → Q) → MayRead P s → IsNumber s.books.geom.i k → MayLookAt Q t k
+look_stays tells s t looks P Q k on may number = record {
+  going = ap (λ (b : Bookkeeping). b.stopped) looks.books ∙ may.going;
+  from = number.from;
+  upto = omega (arith, number.upto, ap (λ (b : Bookkeeping). b.geom.i) looks.books);
+  may = on may.may;
 }

@@ -1,5 +1,5 @@
 -- What the tree answers a command that only looks, from the node at the path.
-use Rattle.std.proofs.Common.{◌≡◌, ℕ, ◌*◌, true, false, List, length, ◌∷◌, [], take, drop, None, Some, option_and_then, Ok, Err, ◌==◌, refl, sym, ap, ◌∙◌}
+use Rattle.std.proofs.Common.{◌≡◌, ℕ, ◌*◌, true, false, List, length, ◌∷◌, [], take, drop, None, Some, option_and_then, Result, Ok, Err, IfOk, ◌==◌, refl, sym, subst, ap, ◌∙◌}
 use Rattle.std.proofs.lemmas.Option.{none-some}
 use Rattle.std.proofs.lemmas.Bool.{true≢false}
 use Rattle.layout_bytes.specs.declared.slot.Slot.{Slot}
@@ -9,25 +9,28 @@ use Rattle.lang_tree.specs.declared.command.Cmd.{Cmd}
 use Rattle.lang_tree.specs.declared.command.Cmd.TheVariants.{Read, Stat as StatCmd, List as ListNames}
 use Rattle.lang_tree.specs.declared.command.Refusal.{Refusal}
 use Rattle.lang_tree.specs.declared.command.Refusal.TheVariants.{IsDir, NotDir}
+use Rattle.lang_tree.specs.declared.command.Reply.{Reply}
 use Rattle.lang_tree.specs.declared.command.Reply.TheVariants.{Bytes, Names as NamesReply, Refused}
 use Rattle.lang_tree.specs.Conditions.{first_reason, when as whenever}
 use Rattle.lang_tree.specs.Points.{answers_point}
 use Rattle.lang_tree.specs.Step.{Session, step}
 use Rattle.lang_tree.specs.Walk.{refusal_in}
-use Rattle.crash_stands.specs.Files.{FileNode}
-use Rattle.crash_stands.specs.Inodes.{Inode, Inodes, ADir, AFile, inode_by, inode_of}
+use Rattle.crash_stands.specs.Files.{FileNode, Files}
+use Rattle.crash_stands.specs.Inodes.{Inode, Inodes, ADir, AFile, inode_by, inode_of, inodes_of}
+use Rattle.crash_stands.specs.Maps.{IsMapOf}
 use Rattle.crash_stands.specs.Walks.{LeadsTo}
 use Rattle.engine_blocks.specs.State.{State}
-use Rattle.fs_files.specs.Calls.{is_dir, files_in}
+use Rattle.fs_files.specs.declared.refusal.FileRefusal.{FileRefusal}
+use Rattle.fs_files.specs.Calls.{files_in, is_dir}
+use Rattle.fs_files.specs.Drafts.{DraftState, nothing_drafted}
 use Rattle.fs_inodes.specs.Lookups.{walk_on, is_dir_inode, is_file_inode, bytes_of, slots_of, inode_at}
 use Rattle.fs_inodes.specs.Names.{names_of, stat_at, stat_by}
 use Rattle.fs_inodes.specs.Replies.{reply_by, reply_of}
-use Rattle.fs_commands.specs.Looks.{stat_of_kind, LeadsToFound}
-use Rattle.fs_session.specs.Sessions.{IsSession, inodes}
+use Rattle.fs_commands.specs.Looks.{stat_of_kind, IsMapOfSession, LeadsToFound}
+use Rattle.fs_session.specs.Sessions.{IsSession}
 use Rattle.fs_commands.proofs.looking.Facts.{file_told, kind_told, not_file}
-use Rattle.fs_commands.proofs.Given.{MapLaw, ReplyLaw, EndsLaw, session_map}
+use Rattle.fs_commands.proofs.Given.{EndsLaw, MapLaw, ReplyLaw}
 use Rattle.fs_commands.specs.declared.paths.NodeFound.{NodeFound}
-use Rattle.fs_files.specs.Drafts.{nothing_drafted}
 use Rattle.fs_files.specs.declared.look.FileFacts.{FileFacts}
 
 -- what is told of a node that reads as an inode is what the inode gives
@@ -80,13 +83,26 @@ module _ (m : Inodes) (limit : ℕ) (path : List (List ℕ)) where
   pub list_dir : (n : ℕ) (slots : List Slot) → walk_on m 1 path ≡ Ok n → LeadsTo m path n → m n ≡ Some (ADir slots) → NamesReply (names_of slots) ≡ reply_of limit m (ListNames path)
   list_dir n slots walked leads here = sym (lists_by n (ADir slots) walked leads here ∙ ap (λ i. NamesReply (names_of (slots_of i))) (at_path n (ADir slots) walked leads here))
 
--- The replies of a session over these blocks.
-module _ (s : State) (f : Session) (h : IsSession s f) (map : MapLaw) (law : ReplyLaw) (path : List (List ℕ)) where
+-- the inodes are the map of the session's tree, by its own limit
+pub session_maps : (limit : ℕ) (m : Inodes) (f : Session) → IsMapOfSession limit m f → IsMapOf f.limit m f.tree
+session_maps limit m f h = subst (λ n. IsMapOf n m f.tree) (sym h.limit_is) h.map
+
+-- what a look in an empty draft answers, it answers for each session over the blocks
+pub answers_begun : (s : State) (d : DraftState) (cmd : Cmd) (r : Result Reply FileRefusal) → d ≡ nothing_drafted → MapLaw
+    → IfOk r (λ reply. (f : Session) → IsMapOfSession s.books.geom.i (inodes_of (files_in s d)) f → reply ≡ (step f cmd).1) → IfOk r (λ reply. (f : Session) → IsSession s f → reply ≡ (step f cmd).1)
+answers_begun s d cmd (Ok reply) none map h = λ f is. h f (record {
+  map = subst (λ e. IsMapOf s.books.geom.i (inodes_of (files_in s e)) f.tree) (sym none) (map s.books.geom s.map f.tree is.tree);
+  limit_is = is.limit;
+})
+answers_begun s d cmd (Err why) none map h = tt
+
+-- The replies of a session whose tree has these inodes as its map.
+module _ (files : Files) (f : Session) (map : IsMapOf f.limit (inodes_of files) f.tree) (law : ReplyLaw) (path : List (List ℕ)) where
   abbrev m : Inodes
-  m = inodes s
+  m = inodes_of files
 
   replies : (cmd : Cmd) → answers_point cmd ≡ false → reply_of f.limit m cmd ≡ (step f cmd).1
-  replies cmd none = sym (law f m cmd (session_map map s f h) none)
+  replies cmd none = sym (law f m cmd map none)
 
   pub stat_nowhere : (why : Refusal) → walk_on m 1 path ≡ Err why → Refused why ≡ (step f (StatCmd path)).1
   stat_nowhere why e = stat_refused m f.limit path why e ∙ replies (StatCmd path) refl
@@ -97,7 +113,7 @@ module _ (s : State) (f : Session) (h : IsSession s f) (map : MapLaw) (law : Rep
   pub list_nowhere : (why : Refusal) → walk_on m 1 path ≡ Err why → Refused why ≡ (step f (ListNames path)).1
   list_nowhere why e = list_refused m f.limit path why e ∙ replies (ListNames path) refl
 
-  module _ (ends : EndsLaw) (found : NodeFound) (led : LeadsToFound (files_in s nothing_drafted) path (Ok found)) where
+  module _ (ends : EndsLaw) (found : NodeFound) (led : LeadsToFound files path (Ok found)) where
     abbrev n : ℕ
     n = found.number
 
@@ -111,10 +127,10 @@ module _ (s : State) (f : Session) (h : IsSession s f) (map : MapLaw) (law : Rep
     leads = ends m path n led.0
 
     abbrev inode : Inode
-    inode = ((session_map map s f h).shows.used path n leads).0
+    inode = (map.shows.used path n leads).0
 
     here : m n ≡ Some inode
-    here = ((session_map map s f h).shows.used path n leads).1
+    here = (map.shows.used path n leads).1
 
     reads : inode_of x ≡ Some inode
     reads = sym (ap (option_and_then inode_of) led.1.1) ∙ here

@@ -26,15 +26,12 @@ use Rattle.fs_session.specs.Plans.{PlanIs, Plans, MakesTree, plan_fails_reading,
 use Rattle.fs_commands.specs.Refusals.{refusal_of}
 use Rattle.fs_session.specs.Sessions.{IsSession, inodes}
 use Rattle.fs_session.specs.Space.{LacksRoom}
-use Rattle.fs_session.specs.Staying.{freed_alike, nothing_issued}
+use Rattle.fs_session.specs.Staying.{freed_alike}
+pub use Rattle.fs_files.specs.Places.{looks_none as no_look}
 use Rattle.fs_commands.proofs.planning.Answers.{tree_refuses, tree_stays}
 use Rattle.fs_commands.proofs.Given.{MapLaw, RefusalLaw, Rests, session_map}
 use Rattle.crash_stands.specs.Stands.{IsTreeOf}
 use Rattle.fs_inodes.specs.Refusals.{reason}
-
--- nothing is read where nothing is done
-pub no_look : (tells : Bool) (s : State) → LooksOnly tells false s s
-no_look tells s = record { books = refl; counts = record { read_faults = refl; faults = refl; waits = refl; ticks = refl }; map = λ told. refl; crash = λ told. nothing_issued s }
 
 -- bookkeeping that is as before
 still : (k l : Bookkeeping) → l ≡ k → MovesPipeline k l

@@ -8,7 +8,7 @@ use Rattle.std.specs.Ordering.{nat_cmp, is_lt}
 use Rattle.std.specs.Cmp.Lexicographic.{slice_cmp}
 use Rattle.layout_bytes.specs.declared.slot.Slot.{Slot}
 use Rattle.engine_blocks.specs.State.{State}
-use Rattle.fs_files.specs.Drafts.{DraftState}
+use Rattle.fs_files.specs.NodeMaps.{NodeMap}
 use Rattle.fs_files.specs.Effects.{LooksOnly}
 use Rattle.fs_dirs.specs.Reading.{HasSlots, HasListed, slots_from}
 use Rattle.fs_dirs.proofs.reading.Looks.{looks_more}
@@ -25,9 +25,9 @@ one_more before old new slots place low is pushed =
     ∙ ap (λ l. before ++ l) (sym (take-suc slots place d low) ∙ ap (λ n. take n slots) {x = suc place} {y = place + 1} (omega arith))
 
 -- those of a block more
-pub block_more : (tells : Bool) (start now new : State) (d : DraftState) (node : List ℕ) (count first : ℕ) (before old all : List Slot) → HasListed tells start now d node count first before old → LooksOnly tells false now new
-    → (IsTrue tells → (slots : List Slot) → HasSlots start d node slots → length slots ≡ count → all ≡ old ++ slots_from first slots) → HasListed tells start new d node count (first + 16) before all
-block_more tells start now new d node count first before old all h looks more = record {
+pub block_more : (tells : Bool) (start now new : State) (v : NodeMap) (node : List ℕ) (count first : ℕ) (before old all : List Slot) → HasListed tells start now v node count first before old → LooksOnly tells false now new
+    → (IsTrue tells → (slots : List Slot) → HasSlots v node slots → length slots ≡ count → all ≡ old ++ slots_from first slots) → HasListed tells start new v node count (first + 16) before all
+block_more tells start now new v node count first before old all h looks more = record {
   looks = looks_more tells false start now new h.looks looks;
   begins = omega (arith, h.begins);
   listed = λ told slots has many.

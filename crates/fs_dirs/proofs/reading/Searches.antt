@@ -10,13 +10,13 @@ use Rattle.crash_stands.specs.Inodes.{Inode, Inodes, ADir}
 use Rattle.crash_stands.specs.Maps.{IsMapOf}
 use Rattle.crash_stands.specs.Walks.{node_in}
 use Rattle.engine_blocks.specs.State.{State}
-use Rattle.fs_files.specs.Drafts.{DraftState}
+use Rattle.fs_files.specs.NodeMaps.{NodeMap}
 use Rattle.fs_files.specs.Effects.{LooksOnly}
 use Rattle.fs_inodes.specs.Changes.{slot_of}
 use Rattle.fs_dirs.specs.declared.lookup.Found.{Found}
 use Rattle.fs_dirs.specs.Directories.{Finds, IsNumber}
 use Rattle.fs_dirs.specs.Reading.{HasSlots, MissesBefore, HasSought, slots_from}
-use Rattle.fs_dirs.proofs.reading.Looks.{looks_more, same_inodes, same_places}
+use Rattle.fs_dirs.proofs.reading.Looks.{looks_more}
 use Rattle.fs_dirs.proofs.reading.Names.{finds_slot, finds_nothing}
 use Rattle.fs_dirs.proofs.reading.Parts.{part_at, part_has, part_length}
 
@@ -59,9 +59,9 @@ module _ (first_law : (name : List ℕ) (slots : List Slot) (i k : ℕ) (s : Slo
       (misses_upto slots name first found.place small before (λ k s low at. first_law name (slots_from first slots) found.place k s (sym h.place) low at))
 
   -- the search goes on behind a block in which nothing was found
-  pub sought_more : (tells : Bool) (start now new : State) (d : DraftState) (node : List ℕ) (count : ℕ) (name : List ℕ) (first : ℕ) → HasSought tells start now d node count name first → LooksOnly tells false now new
-      → (IsTrue tells → (slots : List Slot) → HasSlots start d node slots → length slots ≡ count → Finds (slots_from first slots) name None) → HasSought tells start new d node count name (first + 16)
-  sought_more tells start now new d node count name first h looks none = record {
+  pub sought_more : (tells : Bool) (start now new : State) (v : NodeMap) (node : List ℕ) (count : ℕ) (name : List ℕ) (first : ℕ) → HasSought tells start now v node count name first → LooksOnly tells false now new
+      → (IsTrue tells → (slots : List Slot) → HasSlots v node slots → length slots ≡ count → Finds (slots_from first slots) name None) → HasSought tells start new v node count name (first + 16)
+  sought_more tells start now new v node count name first h looks none = record {
     looks = looks_more tells false start now new h.looks looks;
     begins = omega (arith, h.begins);
     misses = λ told slots has many. misses_more slots name first (h.misses told slots has many) (none_there (slots_from first slots) name (none told slots has many));
@@ -71,20 +71,12 @@ module _ (first_law : (name : List ℕ) (slots : List Slot) (i k : ℕ) (s : Slo
 pub entries_are : (slots : List Slot) (count first entries : ℕ) → length slots ≡ count → entries ≡ min (count - first) 16 → entries ≡ length (slots_from first slots)
 entries_are slots count first entries many e = omega (arith, e, many, part_length 16 first slots)
 
--- a directory with these blocks has its slots still, where blocks were looked at
-pub slots_stay : (tells : Bool) (start now : State) (d : DraftState) (node : List ℕ) (slots : List Slot) → LooksOnly tells false start now → IsTrue tells → HasSlots start d node slots → HasSlots now d node slots
-slots_stay tells start now d node slots looks told h = record {
-  dir = h.dir;
-  is = ap (λ m. m h.dir) (same_inodes tells false start now d looks told) ∙ h.is;
-  blocks = h.blocks ∙ sym (same_places tells false start now d looks h.dir told);
-}
-
 -- the slots of a block that was read, as so many entries
-pub read_entries : (tells : Bool) (start now : State) (d : DraftState) (count first entries : ℕ) (node block : List ℕ) (slots : List Slot) → LooksOnly tells false start now → IsTrue tells
-    → HasSlots start d node slots → length slots ≡ count → entries ≡ min (count - first) 16
-    → ((slots : List Slot) → HasSlots now d node slots → slots_in (length (slots_from first slots)) block ≡ Some (slots_from first slots)) → slots_in entries block ≡ Some (slots_from first slots)
-read_entries tells start now d count first entries node block slots looks told has many e reads =
-    ap (λ n. slots_in n block) (entries_are slots count first entries many e) ∙ reads slots (slots_stay tells start now d node slots looks told has)
+pub read_entries : (v w : NodeMap) (count first entries : ℕ) (node block : List ℕ) (slots : List Slot) → w ≡ v
+    → HasSlots v node slots → length slots ≡ count → entries ≡ min (count - first) 16
+    → ((slots : List Slot) → HasSlots w node slots → slots_in (length (slots_from first slots)) block ≡ Some (slots_from first slots)) → slots_in entries block ≡ Some (slots_from first slots)
+read_entries v w count first entries node block slots same has many e reads =
+    ap (λ n. slots_in n block) (entries_are slots count first entries many e) ∙ reads slots (subst (λ x. HasSlots x node slots) (sym same) has)
 
 -- at the end nothing was found
 pub finds_end : (slots : List Slot) (name : List ℕ) (count first : ℕ) → length slots ≡ count → count ≤ first → MissesBefore slots name first → Finds slots name None

@@ -13,16 +13,15 @@ use Rattle.crash_stands.specs.Inodes.{Inode, Inodes, ADir, AFile}
 use Rattle.crash_stands.specs.Maps.{IsMapOf}
 use Rattle.crash_stands.specs.Walks.{node_in, entry_in}
 use Rattle.engine_blocks.specs.State.{State}
-use Rattle.fs_files.specs.Drafts.{DraftState}
 use Rattle.fs_files.specs.Effects.{LooksOnly}
 use Rattle.fs_inodes.specs.Changes.{slot_of}
 use Rattle.fs_inodes.specs.Lookups.{is_dir_inode, walk_on}
 use Rattle.fs_inodes.specs.Refusals.{dir_reason, parent_reason}
 use Rattle.fs_dirs.specs.declared.lookup.Directory.{Directory}
 use Rattle.fs_dirs.specs.declared.lookup.Found.{Found}
-use Rattle.fs_dirs.specs.Directories.{inodes_in, slot_count, EndsAtParent, Finds, IsNumber}
+use Rattle.fs_dirs.specs.Directories.{slot_count, EndsAtParent, Finds, IsNumber}
 use Rattle.fs_dirs.specs.Reading.{EntersOn, HasWalked}
-use Rattle.fs_dirs.proofs.reading.Looks.{looks_none, looks_more, same_map, same_inodes}
+use Rattle.fs_dirs.proofs.reading.Looks.{looks_none, looks_more, same_map}
 
 -- a node without slots isn't entered
 pub enters_file : (m : Inodes) (k : ℕ) (name : List ℕ) (x : Inode) → m k ≡ Some x → None ≡ slot_count x → EntersOn m k name (Err NotDir)
@@ -66,8 +65,8 @@ ends_with true None why on e = sym e
 ends_with true (Some n) why on e = absurd cc
 
 -- a walk begins at the root
-pub walked_none : (tells : Bool) (s : State) (d : DraftState) (names : List (List ℕ)) → 1 ≤ s.books.geom.i → HasWalked tells s s d names names 1
-walked_none tells s d names many = record {
+pub walked_none : (tells : Bool) (s : State) (m : Inodes) (names : List (List ℕ)) → 1 ≤ s.books.geom.i → HasWalked tells s s m names names 1
+walked_none tells s m names many = record {
   looks = looks_none tells s;
   number = record { from = omega arith; upto = many };
   walks = λ told t map. refl;
@@ -78,37 +77,37 @@ walked_none tells s d names many = record {
 pub next_name : (names : List (List ℕ)) (i : ℕ) (name : List ℕ) → i < length names → name ≡ get_or names i name → drop i names ≡ name ∷ drop (i + 1) names
 next_name names i name low is = drop-cons names i name low ∙ ap (λ n. n ∷ drop (suc i) names) (sym is) ∙ ap (λ k. name ∷ drop k names) {x = suc i} {y = i + 1} (omega arith)
 
-module _ (tells : Bool) (start now new : State) (d : DraftState) (names : List (List ℕ)) (name : List ℕ) (rest : List (List ℕ)) (k : ℕ) (h : HasWalked tells start now d names (name ∷ rest) k) (looks : LooksOnly tells false now new) where
+-- what is entered where the walk has come to, by the inodes as they were at its start
+entered_there : (tells : Bool) (start now : State) (m n : Inodes) (names rest : List (List ℕ)) (name : List ℕ) (k : ℕ) (next : Result ℕ Refusal) → HasWalked tells start now m names rest k → (IsTrue tells → n ≡ m)
+    → (IsTrue tells → (t : Tree) (x : Inode) → IsMapOf now.books.geom.i n t → n k ≡ Some x → EntersOn n k name next)
+    → IsTrue tells → (t : Tree) → IsMapOf start.books.geom.i m t → EntersOn m k name next
+entered_there tells start now m n names rest name k next h same enters told t map =
+    let u = h.used told t map in
+    subst (λ i. EntersOn i k name next) (same told) (enters told t u.0 (same_map tells false start now h.looks m n t (same told) map) (ap (λ i. i k) (same told) ∙ u.1))
+
+module _ (tells : Bool) (start now new : State) (m n : Inodes) (names : List (List ℕ)) (name : List ℕ) (rest : List (List ℕ)) (k : ℕ) (h : HasWalked tells start now m names (name ∷ rest) k) (same : IsTrue tells → n ≡ m) where
   -- a name was entered
-  pub walked_more : (j : ℕ) → IsNumber now.books.geom.i j → (IsTrue tells → (t : Tree) (x : Inode) → IsMapOf now.books.geom.i (inodes_in now d) t → inodes_in now d k ≡ Some x → EntersOn (inodes_in now d) k name (Ok j))
-      → HasWalked tells start new d names rest j
-  walked_more j low enters = record {
+  pub walked_more : (j : ℕ) → LooksOnly tells false now new → IsNumber now.books.geom.i j → (IsTrue tells → (t : Tree) (x : Inode) → IsMapOf now.books.geom.i n t → n k ≡ Some x → EntersOn n k name (Ok j))
+      → HasWalked tells start new m names rest j
+  walked_more j looks low enters = record {
     looks = looks_more tells false start now new h.looks looks;
     number = record { from = low.from; upto = omega (arith, low.upto, ap (λ b. b.geom.i) h.looks.books) };
-    walks = λ told t map. h.walks told t map ∙ goes_on (is_dir_inode (inodes_in start d k)) (entry_in (inodes_in start d k) name) j (λ j. walk_on (inodes_in start d) j rest) (entered told t map).step;
-    used = λ told t map. (entered told t map).used;
+    walks = λ told t map.
+        h.walks told t map
+        ∙ goes_on (is_dir_inode (m k)) (entry_in (m k) name) j (λ j. walk_on m j rest) (entered_there tells start now m n names (name ∷ rest) name k (Ok j) h same enters told t map).step;
+    used = λ told t map. (entered_there tells start now m n names (name ∷ rest) name k (Ok j) h same enters told t map).used;
   }
-    where
-      entered : IsTrue tells → (t : Tree) → IsMapOf start.books.geom.i (inodes_in start d) t → EntersOn (inodes_in start d) k name (Ok j)
-      entered told t map =
-          let u = h.used told t map in
-          let same = same_inodes tells false start now d h.looks told in
-          subst (λ m. EntersOn m k name (Ok j)) same (enters told t u.0 (same_map tells false start now d h.looks t told map) (ap (λ m. m k) same ∙ u.1))
 
--- a name wasn't
-pub walk_refused : (tells : Bool) (start now : State) (d : DraftState) (names : List (List ℕ)) (name : List ℕ) (rest : List (List ℕ)) (k : ℕ) (why : Refusal) → HasWalked tells start now d names (name ∷ rest) k
-    → (IsTrue tells → (t : Tree) (x : Inode) → IsMapOf now.books.geom.i (inodes_in now d) t → inodes_in now d k ≡ Some x → EntersOn (inodes_in now d) k name (Err why))
-    → IsTrue tells → (t : Tree) → IsMapOf start.books.geom.i (inodes_in start d) t → Err why ≡ walk_on (inodes_in start d) 1 names
-walk_refused tells start now d names name rest k why h enters told t map =
-    let u = h.used told t map in
-    let same = same_inodes tells false start now d h.looks told in
-    let entered = subst (λ m. EntersOn m k name (Err why)) same (enters told t u.0 (same_map tells false start now d h.looks t told map) (ap (λ m. m k) same ∙ u.1)) in
-    sym (h.walks told t map ∙ ends_with (is_dir_inode (inodes_in start d k)) (entry_in (inodes_in start d k) name) why (λ j. walk_on (inodes_in start d) j rest) entered.step)
+  -- a name wasn't
+  pub walk_refused : (why : Refusal) → (IsTrue tells → (t : Tree) (x : Inode) → IsMapOf now.books.geom.i n t → n k ≡ Some x → EntersOn n k name (Err why))
+      → IsTrue tells → (t : Tree) → IsMapOf start.books.geom.i m t → Err why ≡ walk_on m 1 names
+  walk_refused why enters told t map =
+      sym (h.walks told t map ∙ ends_with (is_dir_inode (m k)) (entry_in (m k) name) why (λ j. walk_on m j rest) (entered_there tells start now m n names (name ∷ rest) name k (Err why) h same enters told t map).step)
 
 -- at the end of the names
-pub walk_ended : (tells : Bool) (start now : State) (d : DraftState) (names : List (List ℕ)) (i k : ℕ) → HasWalked tells start now d names (drop i names) k → length names ≤ i
-    → IsTrue tells → (t : Tree) → IsMapOf start.books.geom.i (inodes_in start d) t → Ok k ≡ walk_on (inodes_in start d) 1 names
-walk_ended tells start now d names i k h all told t map = sym (h.walks told t map ∙ ap (λ l. walk_on (inodes_in start d) k l) (drop_all i names all))
+pub walk_ended : (tells : Bool) (start now : State) (m : Inodes) (names : List (List ℕ)) (i k : ℕ) → HasWalked tells start now m names (drop i names) k → length names ≤ i
+    → IsTrue tells → (t : Tree) → IsMapOf start.books.geom.i m t → Ok k ≡ walk_on m 1 names
+walk_ended tells start now m names i k h all told t map = sym (h.walks told t map ∙ ap (λ l. walk_on m k l) (drop_all i names all))
 
 -- The directory above a path.
 

@@ -16,7 +16,7 @@ use Rattle.fs_files.specs.Drafts.{DraftState, change_of, drafted}
 use Rattle.fs_files.specs.Effects.{LooksOnly}
 use Rattle.fs_files.proofs.bytes.Overwrites.{overwrite_more, length-overwrite}
 use Rattle.fs_files.proofs.bytes.Joins.{of_place, joined_length, joined_part, joined_put}
-use Rattle.fs_files.proofs.bytes.Looks.{looks_more}
+use Rattle.fs_files.specs.Places.{looks_more}
 use Rattle.fs_files.proofs.bytes.Pieces.{has_one, writes_more, drafted_kept, content_kept}
 
 -- Which block a byte is in.

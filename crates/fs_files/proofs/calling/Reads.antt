@@ -1,6 +1,7 @@
 -- A call on a file that reads its bytes, and one that looks up the rest of it.
-use Rattle.std.proofs.Common.{◌≡◌, ℕ, zero, suc, ◌+◌, ◌-◌, ◌*◌, ◌%◌, ◌≤◌, Bool, true, min, List, [], ◌∷◌, length, take, drop, All, Some, None, option_map, slice_get, refl, sym, ap, ◌∙◌, arith, subst, drop_of_length-le}
+use Rattle.std.proofs.Common.{◌≡◌, ℕ, zero, suc, ◌+◌, ◌-◌, ◌*◌, ◌%◌, ◌<◌, ◌≤◌, ◌&&◌, nat_le, Bool, true, false, min, List, [], ◌∷◌, length, take, drop, All, Option, Some, None, option_map, slice_get, refl, sym, ap, ◌∙◌, arith, subst, drop_of_length-le}
 use Rattle.std.proofs.lemmas.List.{take_all, length-take}
+use Rattle.std.proofs.lemmas.Bool.{false≢true, lt-leb}
 use Rattle.std.proofs.lemmas.Bool.Decides.{nat_tests}
 use Rattle.base_types.specs.Seal.{Blocks}
 use Rattle.base_types.specs.Runs.{run_places}
@@ -9,7 +10,8 @@ use Rattle.layout_geometry.specs.Geometry.{Geometry}
 use Rattle.layout_bytes.specs.declared.node.Node.{Node}
 use Rattle.layout_bytes.specs.declared.node.NodeKind.{NodeKind}
 use Rattle.layout_bytes.specs.declared.node.NodeKind.TheVariants.{Dir}
-use Rattle.layout_bytes.specs.Node.{kind_fits}
+use Rattle.layout_bytes.specs.Bytes.{when}
+use Rattle.layout_bytes.specs.Node.{kind_fits, node_at}
 use Rattle.engine_blocks.specs.Puts.{IsData}
 use Rattle.engine_blocks.specs.State.{Bookkeeping, State}
 use Rattle.crash_stands.specs.Files.{FileNode, file_of, files_of, used_node, joined}
@@ -38,6 +40,15 @@ looked_up s d number o sound used =
 -- and one out of use is none
 pub none_up : (s : State) (d : DraftState) (number : ℕ) → None ≡ used_node s.books.geom (drafted d s.map) number → None ≡ option_map facts_of (files_in s d number)
 none_up s d number none = ap (λ o. option_map facts_of (option_map (file_of (drafted d s.map)) o)) none
+
+none_by : (a b : Bool) (o : Option Node) → b ≡ false → when (a && b) o ≡ None
+none_by true true o e = absurd (false≢true (sym e))
+none_by true false o e = refl
+none_by false b o e = refl
+
+-- a number above the table's is that of no node
+pub none_above : (g : Geometry) (m : Blocks) (k : ℕ) → g.i < k → files_of g m k ≡ None
+none_above g m k above = ap (option_map (file_of m)) (none_by (nat_le 1 k) (nat_le k g.i) (node_at g m k) (lt-leb k g.i above))
 
 -- a directory's bytes are whole slots
 slots : (node : Node) (kind : NodeKind) → kind_fits node kind ≡ true → kind ≡ Dir → node.size % 64 ≡ 0

@@ -15,7 +15,7 @@ use Rattle.fs_files.specs.Effects.{LooksOnly}
 use Rattle.fs_files.specs.Nodes.{block_end, kind_in, node_block, node_byte}
 use Rattle.fs_files.specs.Sound.{IsSoundDraft}
 use Rattle.fs_files.proofs.calling.Nodes.{has_table}
-use Rattle.fs_files.proofs.bytes.Looks.{looks_more}
+use Rattle.fs_files.specs.Places.{looks_more}
 use Rattle.fs_files.proofs.frames.Cells.{when_true, is_number}
 
 -- What the kind byte tells.

@@ -1,8 +1,8 @@
 -- The blocks of a node: data blocks, as many as its bytes need, with as many bytes as its size says and more.
 use Rattle.std.proofs.Common.{◌≡◌, ◌≢◌, ◌⊎◌, inl, inr, ℕ, zero, suc, ◌+◌, ◌*◌, ◌/◌, ◌<◌, ◌≤◌, ◌==◌, ◌||◌, Bool, true, false, List, [], ◌∷◌, length, get_or, slice_get, slice_index, if◌then◌else◌, Option, Some, None, option_map, refl, sym, ap, subst, ◌∙◌, arith}
 use Rattle.std.specs.List.{All, AllPairs}
-use Rattle.std.proofs.lemmas.List.{length-append, length-take-le}
-use Rattle.std.proofs.lemmas.Bool.{cases_order, eqb-true, eq-eqb, false≢true, or_right, or_cases}
+use Rattle.std.proofs.lemmas.List.{length-take-le}
+use Rattle.std.proofs.lemmas.Bool.{cases_order, eqb-true, false≢true, or_cases}
 use Rattle.std.proofs.lemmas.Option.{none-some, same_Some, slice_get_within, slice_get-get_or, get_or_from_slice_get}
 use Rattle.std.proofs.lemmas.Bool.Decides.{nat_tests}
 use Rattle.base_types.specs.Seal.{Blocks}
@@ -16,30 +16,15 @@ use Rattle.layout_bytes.specs.Bytes.{when}
 use Rattle.layout_bytes.specs.Node.{node_of, node_with, node_at, node_bytes, node_fields, node_fits, spare_zeros, used_kind, runs_fit, run_blocks, kind_fits}
 use Rattle.engine_blocks.specs.Running.{has}
 use Rattle.engine_blocks.specs.Puts.{IsData}
-use Rattle.crash_stands.specs.Files.{FileNode, joined, content, used_node, file_of, files_of}
+use Rattle.crash_stands.specs.Files.{FileNode, content, used_node, file_of, files_of}
 use Rattle.crash_stands.specs.Stands.{HasBlock}
 use Rattle.fs_files.specs.Calls.{places_or_none}
 use Rattle.fs_files.specs.Sound.{AreSoundBy}
+pub use Rattle.fs_files.specs.Places.{has_place, joined_length, joined_same, place_of, places_count, read_fits, runs_data, when_some}
 use Rattle.fs_files.proofs.bytes.Joins as joins
 use Rattle.fs_files.proofs.frames.Cells.{number_is}
-use Rattle.fs_files.proofs.drafts.Lists.{has_append}
 
 -- Numbers of a list.
-
--- a number of a list has a place in it
-pub place_of : (xs : List ℕ) (b : ℕ) → has xs b ≡ true → (i : ℕ) × (slice_get xs i ≡ Some b)
-place_of [] b e = absurd (false≢true e)
-place_of (x ∷ xs) b e = by (place_of xs b) (or_cases (b == x) (has xs b) e)
-  where
-    by : (has xs b ≡ true → (i : ℕ) × (slice_get xs i ≡ Some b)) → ((b == x) ≡ true) ⊎ (has xs b ≡ true) → (i : ℕ) × (slice_get (x ∷ xs) i ≡ Some b)
-    by further (inl same) = (0, ap Some (sym (eqb-true b x same)))
-    by further (inr rest) = let r = further rest in (suc r.0, r.1)
-
--- and what has a place is a number of it
-pub has_place : (xs : List ℕ) (i b : ℕ) → slice_get xs i ≡ Some b → has xs b ≡ true
-has_place [] i b e = absurd (none-some b e)
-has_place (x ∷ xs) zero b e = ap (λ t. t || has xs b) (eq-eqb b x (sym (same_Some x b e)))
-has_place (x ∷ xs) (suc i) b e = or_right (b == x) (has xs b) (has_place xs i b e)
 
 -- what holds of each number holds of all
 pub all_of : (P : ℕ → Type 0) (xs : List ℕ) → ((b : ℕ) → has xs b ≡ true → P b) → All P xs
@@ -51,18 +36,7 @@ one_place xs once i j b at_i at_j = grind (arith, nat_tests, cases_order, get_or
 
 -- Bytes of blocks.
 
--- the bytes of blocks that are as before
-pub joined_same : (m n : Blocks) (bs : List ℕ) → ((b : ℕ) → has bs b ≡ true → n b ≡ m b) → joined n bs ≡ joined m bs
-joined_same m n bs same = joins.joined_same m n bs (all_of (λ b. n b ≡ m b) bs same)
-
--- so many blocks have so many bytes
-pub joined_length : (m : Blocks) (bs : List ℕ) → ((b : ℕ) → has bs b ≡ true → length (m b) ≡ 1024) → length (joined m bs) ≡ 1024 * length bs
-joined_length m bs whole = joins.joined_length m bs (all_of (λ b. length (m b) ≡ 1024) bs whole)
-
 -- Nodes that fit.
-
-pub when_some : {A : Type 0} (t : Bool) (x : Option A) (y : A) → when t x ≡ Some y → (t ≡ true) × (x ≡ Some y)
-when_some t x y e = grind (arith, nat_tests)
 
 with_fits : (g : Geometry) (b : List ℕ) (o : Option NodeKind) (node : Node) → node_with g b o ≡ Some node → (kind : NodeKind) × (o ≡ Some kind) × (node_fits g node ≡ true) × (node.kind ≡ kind)
 with_fits g b None node e = absurd (none-some node e)
@@ -71,11 +45,6 @@ with_fits g b (Some kind) node e =
     let fits = when_some (node_fits g (node_fields kind b)) (Some (node_fields kind b)) node spare.1 in
     let same : node_fields kind b ≡ node = same_Some (node_fields kind b) node fits.1 in
     (kind, refl, subst (λ (m : Node). node_fits g m ≡ true) same fits.0, sym (ap (λ (m : Node). m.kind) same))
-
--- a node that is read fits, and isn't a free one
-pub read_fits : (g : Geometry) (b : List ℕ) (node : Node) → node_of g b ≡ Some node → node_fits g node ≡ true
-unfolding node_of
-read_fits g b node e = (with_fits g b (used_kind (slice_index b 0)) node e).2
 
 abbrev is_free : NodeKind → Bool
 is_free Free = true
@@ -122,27 +91,6 @@ blocks_data g x (suc c) b low high e = by (blocks_data g (x + 1) c b (omega (ari
     by : (has (blocks_from (x + 1) c) b ≡ true → IsData g b) → ((b == x) ≡ true) ⊎ (has (blocks_from (x + 1) c) b ≡ true) → IsData g b
     by further (inl same) = let is = eqb-true b x same in record { from = omega (arith, is, low); below = omega (arith, is, high) }
     by further (inr rest) = further rest
-
--- the blocks of a node that fits are data blocks
-pub runs_data : (g : Geometry) (end : ℕ) (rs : List Run) (b : ℕ) → runs_fit g end rs ≡ true → has (run_places rs) b ≡ true → IsData g b
-runs_data g end [] b fits e = absurd (false≢true e)
-runs_data g end (r ∷ rs) b fits e =
-    let f = first_fits g end r rs fits in
-    by f.from f.upto (runs_data g (r.first + r.count) rs b f.rest)
-    (or_cases (has (blocks_from r.first r.count) b) (has (run_places rs) b) (sym (has_append (blocks_from r.first r.count) (run_places rs) b) ∙ e))
-  where
-    by : data_start g ≤ r.first → r.first + r.count ≤ g.n → (has (run_places rs) b ≡ true → IsData g b) → (has (blocks_from r.first r.count) b ≡ true) ⊎ (has (run_places rs) b ≡ true) → IsData g b
-    by low high next (inl here) = blocks_data g r.first r.count b low high here
-    by low high next (inr rest) = next rest
-
-length_blocks : (x c : ℕ) → length (blocks_from x c) ≡ c
-length_blocks x zero = refl
-length_blocks x (suc c) = ap suc (length_blocks (x + 1) c)
-
--- runs have as many blocks as they count
-pub places_count : (rs : List Run) → length (run_places rs) ≡ run_blocks rs
-places_count [] = refl
-places_count (r ∷ rs) = omega (arith, length-append (blocks_from r.first r.count) (run_places rs), length_blocks r.first r.count, places_count rs)
 
 -- A node of sound blocks.
 

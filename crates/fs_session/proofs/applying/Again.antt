@@ -1,15 +1,15 @@
 -- Where no memory is found: what takes none is done, and a sync that is refused so may be given again.
-use Rattle.std.proofs.Common.{◌≡◌, ◌≢◌, ◌⊎◌, inl, inr, ⊎_elim, ℕ, ◌+◌, ◌<◌, ◌==◌, Bool, true, false, List, Result, Ok, Err, refl, sym, ◌∙◌, ap, ap₂, subst, arith}
-use Rattle.std.proofs.lemmas.Bool.{false≢true}
+use Rattle.std.proofs.Common.{◌≡◌, ◌≢◌, ◌⊎◌, inl, inr, ⊎_elim, ℕ, ◌+◌, ◌<◌, ◌==◌, Bool, true, false, List, Result, Ok, Err, refl, sym, ◌∙◌, ap, ap₂, subst, arith, ◌≤◌, nat_le, if◌then◌else◌}
+use Rattle.std.proofs.lemmas.Bool.{false≢true, le-leb}
 use Rattle.base_types.specs.Counts.{Rose, after_call}
 use Rattle.disk_contract.specs.declared.event.Event.{Event}
 use Rattle.disk_contract.specs.Disk.{PollsThenWrites, writes_in}
 use Rattle.lang_tree.specs.declared.command.Cmd.{Cmd}
-use Rattle.lang_tree.specs.declared.command.Cmd.TheVariants.{Osync, Dsync, Durable, Poll, Bad}
+use Rattle.lang_tree.specs.declared.command.Cmd.TheVariants.{Osync, Dsync, Durable, Dwait, Poll, Bad}
 use Rattle.lang_tree.specs.declared.command.Refusal.{Refusal}
 use Rattle.lang_tree.specs.declared.command.Refusal.TheVariants as because
 use Rattle.lang_tree.specs.declared.command.Reply.{Reply}
-use Rattle.lang_tree.specs.declared.command.Reply.TheVariants.{Ok as Done, Refused, Known}
+use Rattle.lang_tree.specs.declared.command.Reply.TheVariants.{Ok as Done, Refused, Known, DurableAt}
 use Rattle.lang_tree.specs.Points.{is_refusal, is_sync}
 use Rattle.engine_blocks.specs.Calls.{MovesPipeline, if_changed}
 use Rattle.engine_blocks.specs.Crashes.{HasMapOfPoint}
@@ -18,8 +18,8 @@ use Rattle.engine_blocks.specs.State.{Bookkeeping, State, Ticking}
 use Rattle.fs_session.specs.Applying.{Applies, Began, Runs, Ticks, reply_for}
 use Rattle.fs_session.specs.Commands.{is_disk_fault}
 use Rattle.fs_session.specs.Staying.{session_stays, session_ticks}
-use Rattle.fs_session.specs.Syncs.{SyncsSession, reply_of_sync}
-use Rattle.fs_session.specs.WithoutMemory.{FindsMemory, IsUnhindered, KeepsTransaction, MakesNextPoint, TakesNoMemory}
+use Rattle.fs_session.specs.Syncs.{SyncsSession, reply_of_sync, WaitsSession, reply_of_wait}
+use Rattle.fs_session.specs.WithoutMemory.{FindsMemory, IsUnhindered, KeepsTransaction, MakesNextPoint, TakesNoMemory, HasItsPoint}
 use Rattle.fs_session.proofs.applying.Cases.{answered_as}
 use Rattle.fs_session.proofs.applying.Causes.{same_reason}
 
@@ -186,18 +186,49 @@ module _ {S : Type 0} (tells : Bool) (state : S → State) where
     asks_done : (old : S) (reply : Reply) → Applies tells state cmd reply old new → IsUnhindered (state old) (state new) → is_refusal reply ≡ false
     asks_done old reply applies well = let x = begun cmd reply old new some well applies in ap is_refusal (x.0.is ∙ ap reply_for (runs x.0.mid x.0.result x.1.1)) ∙ done x.0.mid
 
+  -- A wait for a point takes none.
+
+  waited_by : (n : ℕ) (result : Result Reply Refusal) (mid new : S) → WaitsSession tells n result (state mid) (state new) → (reply_for result ≡ reply_of_wait n (state mid).books.point) ⊎ (result ≡ Err because.DiskFault)
+  waited_by n (Ok reply) mid new waits = inl waits.answers
+  waited_by n (Err why) mid new waits = inr (ap (λ (w : Refusal). Err w) waits.refused)
+
+  no_want : (n point : ℕ) (b : Bool) → (if b then DurableAt n else Refused (because.NoPoint point)) ≡ Refused because.NoMemory → ⊥
+  no_want n point true e = cc e
+  no_want n point false e = cc e
+
+  waited_never : (n : ℕ) (old new : S) (reply : Reply) → Applies tells state (Dwait n) reply old new → reply ≡ Refused because.NoMemory → ⊥
+  waited_never n old new reply applies e = answered_as tells state (Dwait n) reply old new ⊥ applies
+      (λ none r. absurd cc)
+      (λ meant over r. other_reason because.Stopped refl (sym e ∙ r.0))
+      (λ meant used r. other_reason because.Spent refl (sym e ∙ r.0))
+      (λ meant going left b. ⊎_elim
+      (λ failed. other_reason because.DiskFault refl (sym e ∙ b.is ∙ ap reply_for failed.1))
+      (λ ran. ⊎_elim
+      (λ said. no_want n (state b.mid).books.point (nat_le n (state b.mid).books.point) (sym said ∙ sym b.is ∙ e))
+      (λ fault. other_reason because.DiskFault refl (sym e ∙ b.is ∙ ap reply_for fault)) (waited_by n b.result b.mid new ran.1)) b.ran)
+
+  waited_done : (n : ℕ) (old new : S) (reply : Reply) → n ≤ (state old).books.point → Applies tells state (Dwait n) reply old new → IsUnhindered (state old) (state new) → is_refusal reply ≡ false
+  waited_done n old new reply there applies well =
+      let x = begun (Dwait n) reply old new (λ bad. absurd cc) well applies in
+      ⊎_elim
+      (λ said. ap is_refusal (x.0.is ∙ said ∙ ap (λ (b : Bool). if b then DurableAt n else Refused (because.NoPoint (state x.0.mid).books.point)) (le-leb n (state x.0.mid).books.point (omega (arith, there, x.1.0.moves.pipeline.point)))))
+      (λ fault. absurd (well.calm (counted (state old).counts.faults (state x.0.mid).counts.faults (state new).counts.faults x.1.0.moves.disk.faults
+      (x.1.1.runs.disk.faults ∙ ap (λ (r : Result Reply Refusal). after_call (is_disk_fault r) (state x.0.mid).counts.faults) fault)))) (waited_by n x.0.result x.0.mid new x.1.1)
+
   pub never : (cmd : Cmd) (old new : S) (reply : Reply) → TakesNoMemory (state old) cmd → Applies tells state cmd reply old new → reply ≡ Refused because.NoMemory → ⊥
   never Osync old new reply none applies e = idle_never Osync refl old new reply none applies e
   never Dsync old new reply none applies e = idle_never Dsync refl old new reply none applies e
   never Durable old new reply none applies e = asks_never Durable (λ x. absurd cc) (λ mid. Known (state mid).books.floor) new (λ mid result runs. runs.0) (λ mid. refl) old reply applies e
+  never (Dwait n) old new reply none applies e = waited_never n old new reply applies e
   never Poll old new reply none applies e = asks_never Poll (λ x. absurd cc) (λ mid. Done) new (λ mid result runs. runs.0) (λ mid. refl) old reply applies e
   never Bad old new reply none applies e = false≢true (ap is_refusal (sym (applies.bad refl).0 ∙ e))
   never cmd old new reply none applies e = none
 
-  pub done : (cmd : Cmd) (old new : S) (reply : Reply) → TakesNoMemory (state old) cmd → Applies tells state cmd reply old new → IsUnhindered (state old) (state new) → is_refusal reply ≡ false
-  done Osync old new reply none applies well = idle_done Osync refl old new reply none applies well
-  done Dsync old new reply none applies well = idle_done Dsync refl old new reply none applies well
-  done Durable old new reply none applies well = asks_done Durable (λ x. absurd cc) (λ mid. Known (state mid).books.floor) new (λ mid result runs. runs.0) (λ mid. refl) old reply applies well
-  done Poll old new reply none applies well = asks_done Poll (λ x. absurd cc) (λ mid. Done) new (λ mid result runs. runs.0) (λ mid. refl) old reply applies well
-  done Bad old new reply none applies well = ap is_refusal (applies.bad refl).0
-  done cmd old new reply none applies well = absurd none
+  pub done : (cmd : Cmd) (old new : S) (reply : Reply) → TakesNoMemory (state old) cmd → HasItsPoint (state old) cmd → Applies tells state cmd reply old new → IsUnhindered (state old) (state new) → is_refusal reply ≡ false
+  done Osync old new reply none there applies well = idle_done Osync refl old new reply none applies well
+  done Dsync old new reply none there applies well = idle_done Dsync refl old new reply none applies well
+  done Durable old new reply none there applies well = asks_done Durable (λ x. absurd cc) (λ mid. Known (state mid).books.floor) new (λ mid result runs. runs.0) (λ mid. refl) old reply applies well
+  done (Dwait n) old new reply none there applies well = waited_done n old new reply there applies well
+  done Poll old new reply none there applies well = asks_done Poll (λ x. absurd cc) (λ mid. Done) new (λ mid result runs. runs.0) (λ mid. refl) old reply applies well
+  done Bad old new reply none there applies well = ap is_refusal (applies.bad refl).0
+  done cmd old new reply none there applies well = absurd none

@@ -1,7 +1,7 @@
 -- A command is answered as the tree answers it, or refused for a reason of the disk.
-use Rattle.std.proofs.Common.{◌≡◌, inl, inr, ⊎_elim, nat_lt, Bool, true, false, IsTrue, Result, Ok, Err, refl, sym, subst, ap, ◌∙◌, arith}
+use Rattle.std.proofs.Common.{◌≡◌, ℕ, inl, inr, ⊎_elim, nat_lt, Bool, true, false, IsTrue, Result, Ok, Err, refl, sym, subst, ap, ◌∙◌, arith}
 use Rattle.lang_tree.specs.declared.command.Cmd.{Cmd}
-use Rattle.lang_tree.specs.declared.command.Cmd.TheVariants.{Osync, Dsync, Durable, Poll, Bad}
+use Rattle.lang_tree.specs.declared.command.Cmd.TheVariants.{Osync, Dsync, Durable, Dwait, Poll, Bad}
 use Rattle.lang_tree.specs.declared.command.Refusal.{Refusal}
 use Rattle.lang_tree.specs.declared.command.Refusal.TheVariants as because
 use Rattle.lang_tree.specs.declared.command.Reply.{Reply}
@@ -17,7 +17,7 @@ use Rattle.lang_tree.specs.Figures.{Figures}
 use Rattle.fs_session.specs.Commands.{Carries, IsRefusedFor, figures_on}
 use Rattle.fs_session.specs.Sessions.{IsSession, Stands}
 use Rattle.fs_session.specs.Space.{LacksRoom}
-use Rattle.fs_session.specs.Syncs.{SyncsSession}
+use Rattle.fs_session.specs.Syncs.{SyncsSession, WaitsSession}
 use Rattle.fs_session.specs.Staying.{session_ticks}
 use Rattle.fs_session.proofs.applying.Cases.{answered_as}
 
@@ -50,6 +50,10 @@ module _ {S : Type 0} (tells : Bool) (state : S → State) (told : IsTrue tells)
   of_synced orders f cmd (Ok reply) mid new h syncs = let d = syncs.done told f h in as_tree f cmd reply new d.0 d.1
   of_synced orders f cmd (Err why) mid new h syncs = refused_as f cmd (Refused why) why new (⊎_elim (ap is_of_disk) (ap is_of_disk) syncs.refused) refl (syncs.kept told f h)
 
+  of_waited : (f : Session) (n : ℕ) (result : Result Reply Refusal) (mid new : S) → IsSession (state mid) f → WaitsSession tells n result (state mid) (state new) → AnswersSession tells state f (Dwait n) (reply_for result) new
+  of_waited f n (Ok reply) mid new h waits = let d = waits.done told f h in as_tree f (Dwait n) reply new d.0 d.1
+  of_waited f n (Err why) mid new h waits = refused_as f (Dwait n) (Refused why) why new (ap is_of_disk waits.refused) refl (waits.kept told f h)
+
   -- a command that ran
   of_run : (f : Session) (cmd : Cmd) (result : Result Reply Refusal) (mid new : S) → (state mid).books.stopped ≡ false → IsSound (state mid).books → IsSession (state mid) f → Runs tells state cmd result mid new → AnswersSession tells state f cmd (reply_for result) new
   of_run f Osync result mid new going sound h runs = of_synced true f Osync result mid new h runs
@@ -59,6 +63,7 @@ module _ {S : Type 0} (tells : Bool) (state : S → State) (told : IsTrue tells)
     answers = inr (inr (refl, record { asked = refl; point = (state mid).books.floor; is = ap reply_for runs.0; from = h.durable; upto = omega (arith, sound.floor, h.points going); same = refl }));
     session = subst (λ s. IsSession (state s) f) (sym runs.1) h;
   }
+  of_run f (Dwait n) result mid new going sound h runs = of_waited f n result mid new h runs
   of_run f Poll result mid new going sound h runs = as_tree f Poll (reply_for result) new (ap reply_for runs.0) (subst (λ s. IsSession (state s) f) (sym runs.1) h)
   of_run f cmd result mid new going sound h runs = of_carried f cmd result mid new h runs
 

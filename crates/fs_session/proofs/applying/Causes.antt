@@ -3,7 +3,7 @@ use Rattle.std.proofs.Common.{◌≡◌, ◌≢◌, ◌⊎◌, inl, inr, ⊎_eli
 use Rattle.std.proofs.lemmas.Bool.{false≢true}
 use Rattle.base_types.specs.Counts.{after_call}
 use Rattle.lang_tree.specs.declared.command.Cmd.{Cmd}
-use Rattle.lang_tree.specs.declared.command.Cmd.TheVariants.{Osync, Dsync, Durable, Poll}
+use Rattle.lang_tree.specs.declared.command.Cmd.TheVariants.{Osync, Dsync, Durable, Dwait, Poll}
 use Rattle.lang_tree.specs.declared.command.Refusal.{Refusal}
 use Rattle.lang_tree.specs.declared.command.Refusal.TheVariants as because
 use Rattle.lang_tree.specs.declared.command.Reply.{Reply}
@@ -17,7 +17,7 @@ use Rattle.fs_session.specs.Applying.{Applies, Began, Runs, is_spent, reply_for}
 use Rattle.fs_session.specs.Commands.{Carries, IsRefusedFor, figures_on}
 use Rattle.fs_session.specs.Sessions.{IsSession}
 use Rattle.fs_session.specs.Space.{LacksRoom}
-use Rattle.fs_session.specs.Syncs.{SyncsSession}
+use Rattle.fs_session.specs.Syncs.{SyncsSession, WaitsSession}
 use Rattle.fs_session.specs.Staying.{session_ticks}
 use Rattle.fs_session.proofs.applying.Cases.{answered_as}
 
@@ -65,10 +65,15 @@ module _ {S : Type 0} (tells : Bool) (state : S → State) (told : IsTrue tells)
     of_synced orders cmd (Ok reply) mid new h syncs is = absurd (by_tree cmd (sym (syncs.done told f h).0 ∙ is))
     of_synced orders cmd (Err other) mid new h syncs is = ⊎_elim (λ disk. inl (sym (same_reason other why is) ∙ disk)) (λ memory. absurd (own (sym (same_reason other why is) ∙ memory))) syncs.refused
 
+    of_waited : (n : ℕ) (result : Result Reply Refusal) (mid new : S) → IsSession (state mid) f → WaitsSession tells n result (state mid) (state new) → reply_for result ≡ Refused why → Failed tells state f (Dwait n) why new
+    of_waited n (Ok reply) mid new h waits is = absurd (by_tree (Dwait n) (sym (waits.done told f h).0 ∙ is))
+    of_waited n (Err other) mid new h waits is = inl (sym (same_reason other why is) ∙ waits.refused)
+
     of_run : (cmd : Cmd) (result : Result Reply Refusal) (mid new : S) → IsSession (state mid) f → Runs tells state cmd result mid new → reply_for result ≡ Refused why → Failed tells state f cmd why new
     of_run Osync result mid new h runs is = of_synced true Osync result mid new h runs is
     of_run Dsync result mid new h runs is = of_synced false Dsync result mid new h runs is
     of_run Durable result mid new h runs is = absurd (false≢true (ap is_refusal (ap reply_for (sym runs.0) ∙ is)))
+    of_run (Dwait n) result mid new h runs is = of_waited n result mid new h runs is
     of_run Poll result mid new h runs is = absurd (false≢true (ap is_refusal (ap reply_for (sym runs.0) ∙ is)))
     of_run cmd result mid new h runs is = of_carried cmd result mid new h runs is
 

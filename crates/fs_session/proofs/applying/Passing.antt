@@ -1,7 +1,7 @@
 -- Time goes on over a command: through its tick, and through what it does.
 use Rattle.std.proofs.Common.{◌≡◌, ⊎_elim, Bool, true, false, IsTrue, Result, refl, sym, subst, ◌∙◌, arith}
 use Rattle.lang_tree.specs.declared.command.Cmd.{Cmd}
-use Rattle.lang_tree.specs.declared.command.Cmd.TheVariants.{Osync, Dsync, Durable, Poll}
+use Rattle.lang_tree.specs.declared.command.Cmd.TheVariants.{Osync, Dsync, Durable, Dwait, Poll}
 use Rattle.lang_tree.specs.declared.command.Refusal.{Refusal}
 use Rattle.lang_tree.specs.declared.command.Reply.{Reply}
 use Rattle.engine_blocks.specs.Crashes.{Advances}
@@ -35,6 +35,7 @@ module _ {S : Type 0} (tells : Bool) (state : S → State) (told : IsTrue tells)
   of_run Osync result mid new h = of_synced true Osync result mid new h
   of_run Dsync result mid new h = of_synced false Dsync result mid new h
   of_run Durable result mid new h = subst (λ s. PassesTime (state mid) (state s)) (sym h.1) (stays mid)
+  of_run (Dwait n) result mid new h = no_point (state mid) (state new) (h.runs.crash told) h.runs.pipeline.point h.runs.pipeline.geom
   of_run Poll result mid new h = subst (λ s. PassesTime (state mid) (state s)) (sym h.1) (stays mid)
   of_run cmd result mid new h = of_carried cmd result mid new h
 

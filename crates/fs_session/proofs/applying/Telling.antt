@@ -1,15 +1,15 @@
 -- What a command's reply tells of points: how many it made, what it promised, and whether the session has ended.
-use Rattle.std.proofs.Common.{◌≡◌, ◌≢◌, ◌⊎◌, inl, inr, ⊎_elim, ℕ, ◌+◌, ◌<◌, ◌≤◌, ◌==◌, nat_lt, Bool, true, false, IsTrue, ◌&&◌, if◌then◌else◌, List, [], ◌∷◌, length, Result, Ok, Err, refl, sym, ◌∙◌, ap, subst, arith}
+use Rattle.std.proofs.Common.{◌≡◌, ◌≢◌, ◌⊎◌, inl, inr, ⊎_elim, ℕ, ◌+◌, ◌<◌, ◌≤◌, ◌==◌, nat_lt, Bool, true, false, IsTrue, ◌&&◌, if◌then◌else◌, List, [], ◌∷◌, length, Result, Ok, Err, refl, sym, ◌∙◌, ap, subst, arith, nat_le}
 use Rattle.std.proofs.lemmas.Bool.{cases_Bool, cases_eq, cases_lt, cond-true, cond-false, eq-eqb, ne_eqb, lt-ltb, le-ltb, true≢false, false≢true}
 use Rattle.lang_tree.specs.declared.command.Cmd.{Cmd}
-use Rattle.lang_tree.specs.declared.command.Cmd.TheVariants.{Mkdir, Create, Write, Fill, Read, Truncate, Link, Unlink, Rmdir, Rename, Stat, List as ListNames, Osync, Dsync, Durable, Poll, Bad}
+use Rattle.lang_tree.specs.declared.command.Cmd.TheVariants.{Mkdir, Create, Write, Fill, Read, Truncate, Link, Unlink, Rmdir, Rename, Stat, List as ListNames, Osync, Dsync, Durable, Dwait, Poll, Bad}
 use Rattle.lang_tree.specs.declared.command.Refusal.{Refusal}
 use Rattle.lang_tree.specs.declared.command.Refusal.TheVariants as because
 use Rattle.lang_tree.specs.declared.command.Reply.{Reply}
 use Rattle.lang_tree.specs.declared.command.Reply.TheVariants.{Known, Refused}
 use Rattle.lang_tree.specs.Points.{Point, is_sync, asks_for_durability, is_refusal, made_by, may_have_written, promised_by}
 use Rattle.lang_tree.specs.Run.{Answers, is_of_disk}
-use Rattle.lang_tree.specs.Step.{Session, step, osync}
+use Rattle.lang_tree.specs.Step.{Session, step, osync, dwait}
 use Rattle.engine_blocks.specs.Running.{Running}
 use Rattle.engine_blocks.specs.State.{Bookkeeping, State}
 use Rattle.engine_blocks.specs.Calls.{if_changed}
@@ -17,7 +17,7 @@ use Rattle.fs_session.specs.Applying.{Ticks, Runs, Began, Applies, AnswersSessio
 use Rattle.fs_session.specs.Commands.{Carries, is_disk_fault}
 use Rattle.fs_session.specs.Points.{TellsPoints}
 use Rattle.fs_session.specs.Sessions.{IsSession}
-use Rattle.fs_session.specs.Syncs.{SyncsSession}
+use Rattle.fs_session.specs.Syncs.{SyncsSession, WaitsSession}
 
 -- the reason that a reply names
 abbrev reason_of : Reply → Refusal
@@ -116,6 +116,11 @@ module _ {S : Type 0} (tells : Bool) (state : S → State) (told : IsTrue tells)
         calm = λ on. fault_is (Err why) (sym s.disk.stopped ∙ on);
       }
 
+  -- a wait makes none
+  of_waited : (f : Session) (n : ℕ) (result : Result Reply Refusal) (mid new : S) → IsSession (state mid) f → WaitsSession tells n result (state mid) (state new) → CountsMade f (Dwait n) (reply_for result) begun (state mid) (state new)
+  of_waited f n (Ok reply) mid new h w = none f (Dwait n) reply (state mid) (state new) refl w.runs.pipeline.point (λ e. absurd (never f (Dwait n) (sym (w.done told f h).0 ∙ e))) (λ on. fault_is (Ok reply) (sym w.runs.disk.stopped ∙ on))
+  of_waited f n (Err why) mid new h w = none f (Dwait n) (Refused why) (state mid) (state new) refl w.runs.pipeline.point (λ e. w.runs.disk.stopped ∙ is_fault why e) (λ on. fault_is (Err why) (sym w.runs.disk.stopped ∙ on))
+
   -- what is done with no call of the disk
   of_nothing : (f : Session) (cmd : Cmd) (reply : Reply) (mid new : S) → is_sync cmd ≡ false → (state mid).books.stopped ≡ false → new ≡ mid → (reply ≡ Refused because.DiskFault → ⊥) → CountsMade f cmd reply begun (state mid) (state new)
   of_nothing f cmd reply mid new is going same calm = grind (arith, none)
@@ -127,6 +132,7 @@ module _ {S : Type 0} (tells : Bool) (state : S → State) (told : IsTrue tells)
   of_run f Osync result mid new going h runs = of_synced true f Osync result mid new refl (osync_written f f.changed) going h runs
   of_run f Dsync result mid new going h runs = of_synced false f Dsync result mid new refl refl going h runs
   of_run f Durable result mid new going h runs = of_nothing f Durable (reply_for result) mid new refl going runs.1 (λ e. known_calm (state mid).books.floor (sym (ap reply_for runs.0) ∙ e))
+  of_run f (Dwait n) result mid new going h runs = of_waited f n result mid new h runs
   of_run f Poll result mid new going h runs = of_nothing f Poll (reply_for result) mid new refl going runs.1 (λ e. never f Poll (sym (ap reply_for runs.0) ∙ e))
   of_run f (Mkdir path) result mid new going h runs = of_carried f (Mkdir path) result mid new refl h runs
   of_run f (Create path) result mid new going h runs = of_carried f (Create path) result mid new refl h runs
@@ -190,6 +196,15 @@ module _ {S : Type 0} (tells : Bool) (state : S → State) (told : IsTrue tells)
   dsync_promises : (f : Session) (reply : Reply) (next : Session) (new : State) → Answers is_of_disk f Dsync reply next → IsSession new next → promised_by reply ≤ new.books.floor
   dsync_promises f reply next new h1 h2 = grind arith
 
+  dwait_promised : (f : Session) (n : ℕ) (b : Bool) → promised_by (dwait f n b).1 ≤ (dwait f n b).0.durable
+  dwait_promised f n true = omega arith
+  dwait_promised f n false = omega arith
+
+  dwait_promises : (f : Session) (n : ℕ) (reply : Reply) (next : Session) (new : State) → Answers is_of_disk f (Dwait n) reply next → IsSession new next → promised_by reply ≤ new.books.floor
+  dwait_promises f n reply next new (inl is) h = omega (arith, dwait_promised f n (nat_le n f.points), ap (λ (r : Session × Reply). promised_by r.1) is, ap (λ (r : Session × Reply). r.0.durable) is, h.durable)
+  dwait_promises f n reply next new (inr (inl out)) h = omega (arith, ap promised_by out.2)
+  dwait_promises f n reply next new (inr (inr known)) h = cc known.1.asked
+
   module _ (unasked : (f next : Session) (cmd : Cmd) (reply : Reply) → Answers is_of_disk f cmd reply next → asks_for_durability cmd ≡ false → promised_by reply ≡ 0) where
     durable_promises : (reply : Reply) (old new : S) → Began tells state Durable reply old new → promised_by reply ≤ (state new).books.floor
     durable_promises reply old new began = grind (arith, began.ran, began.result, began.mid, began.is)
@@ -197,6 +212,7 @@ module _ {S : Type 0} (tells : Bool) (state : S → State) (told : IsTrue tells)
     promised_of : (f : Session) (cmd : Cmd) (reply : Reply) (old new : S) → AnswersSession tells state f cmd reply new → Began tells state cmd reply old new → promised_by reply ≤ (state new).books.floor
     promised_of f Dsync reply old new a began = dsync_promises f reply a.next (state new) a.answers a.session
     promised_of f Durable reply old new a began = durable_promises reply old new began
+    promised_of f (Dwait n) reply old new a began = dwait_promises f n reply a.next (state new) a.answers a.session
     promised_of f (Mkdir path) reply old new a began = omega (arith, unasked f a.next (Mkdir path) reply a.answers refl)
     promised_of f (Create path) reply old new a began = omega (arith, unasked f a.next (Create path) reply a.answers refl)
     promised_of f (Write path offset bytes) reply old new a began = omega (arith, unasked f a.next (Write path offset bytes) reply a.answers refl)

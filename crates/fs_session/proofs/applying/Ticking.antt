@@ -3,7 +3,7 @@ use Rattle.std.proofs.Common.{◌≡◌, ⊎_elim, Bool, true, false, IsTrue, Li
 use Rattle.disk_contract.specs.declared.event.Event.{Event}
 use Rattle.disk_contract.specs.Disk.{Grows}
 use Rattle.lang_tree.specs.declared.command.Cmd.{Cmd}
-use Rattle.lang_tree.specs.declared.command.Cmd.TheVariants.{Osync, Dsync, Durable, Poll}
+use Rattle.lang_tree.specs.declared.command.Cmd.TheVariants.{Osync, Dsync, Durable, Dwait, Poll}
 use Rattle.lang_tree.specs.declared.command.Refusal.{Refusal}
 use Rattle.lang_tree.specs.declared.command.Reply.{Reply}
 use Rattle.engine_blocks.specs.Effects.{Ticked}
@@ -36,6 +36,7 @@ module _ {S : Type 0} (tells : Bool) (state : S → State) where
   of_run Osync result old mid new t h = of_synced true Osync result old mid new t h
   of_run Dsync result old mid new t h = of_synced false Dsync result old mid new t h
   of_run Durable result old mid new t h = subst (λ s. Ticked tells (state old) (state s)) (sym h.1) t
+  of_run (Dwait n) result old mid new t h = ticked_on tells (state old) (state mid) (state new) t (λ told. (h.runs.crash told).grows) h.ticks
   of_run Poll result old mid new t h = subst (λ s. Ticked tells (state old) (state s)) (sym h.1) t
   of_run cmd result old mid new t h = of_carried cmd result old mid new t h
 

@@ -1,7 +1,7 @@
 -- One command raises the journal's numbers little: by its tick, and by one sync or one settling.
 use Rattle.std.proofs.Common.{◌≡◌, ⊎_elim, ℕ, ◌+◌, ◌^◌, ◌≤◌, Bool, Result, sym, subst, arith}
 use Rattle.lang_tree.specs.declared.command.Cmd.{Cmd}
-use Rattle.lang_tree.specs.declared.command.Cmd.TheVariants.{Osync, Dsync, Durable, Poll}
+use Rattle.lang_tree.specs.declared.command.Cmd.TheVariants.{Osync, Dsync, Durable, Dwait, Poll}
 use Rattle.lang_tree.specs.declared.command.Refusal.{Refusal}
 use Rattle.lang_tree.specs.declared.command.Reply.{Reply}
 use Rattle.engine_blocks.specs.State.{State}
@@ -19,6 +19,7 @@ module _ {S : Type 0} (tells : Bool) (state : S → State) where
   run_turns Osync result mid new runs = runs.turns
   run_turns Dsync result mid new runs = runs.turns
   run_turns Durable result mid new runs = stays (2 ^ 18) mid new runs.1
+  run_turns (Dwait n) result mid new runs = runs.runs.pipeline.turns
   run_turns Poll result mid new runs = stays (2 ^ 18) mid new runs.1
   run_turns cmd result mid new runs = runs.runs.turns
 

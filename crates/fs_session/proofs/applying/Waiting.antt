@@ -1,10 +1,10 @@
 -- A command that needn't wait for the disk has writes alone behind the notices of its tick.
-use Rattle.std.proofs.Common.{◌≡◌, ◌≢◌, inl, inr, ⊎_elim, ◌-◌, ◌≤◌, Bool, false, IsTrue, List, ◌++◌, filter, length, Result, refl, sym, subst, ap, ap₂, ◌∙◌, append_assoc, arith}
+use Rattle.std.proofs.Common.{◌≡◌, ◌≢◌, inl, inr, ⊎_elim, ◌-◌, ◌≤◌, Bool, false, IsTrue, List, ◌++◌, filter, length, Result, refl, sym, subst, ap, ap₂, ◌∙◌, append_assoc, arith, ℕ, ◌⊎◌, ◌<◌}
 use Rattle.disk_contract.specs.declared.event.Event.{Event}
 use Rattle.disk_contract.specs.Disk.{GrowsByWrites, PollsThenWrites}
 use Rattle.layout_geometry.specs.Geometry.{Geometry, data_start}
 use Rattle.lang_tree.specs.declared.command.Cmd.{Cmd}
-use Rattle.lang_tree.specs.declared.command.Cmd.TheVariants.{Osync, Dsync, Durable, Poll, Bad}
+use Rattle.lang_tree.specs.declared.command.Cmd.TheVariants.{Osync, Dsync, Durable, Dwait, Poll, Bad}
 use Rattle.lang_tree.specs.declared.command.Refusal.{Refusal}
 use Rattle.lang_tree.specs.declared.command.Reply.{Reply}
 use Rattle.lang_tree.specs.Step.{Session}
@@ -19,6 +19,7 @@ use Rattle.fs_session.proofs.Logs.{grows_by_none, writes_on}
 use Rattle.fs_session.specs.Staying.{session_ticks}
 use Rattle.fs_session.proofs.applying.Ticking.{ticked_first}
 use Rattle.fs_session.proofs.rooms.Lists.{as_many_kept}
+use Rattle.fs_session.specs.Syncs.{WaitsSession}
 
 -- What a pipeline that moved leaves: as many blocks may be taken, the record has its places, and a command has its figures.
 module _ (k l : Bookkeeping) (moves : MovesPipeline k l) where
@@ -52,11 +53,18 @@ module _ {S : Type 0} (tells : Bool) (state : S → State) (told : IsTrue tells)
   of_carried f cmd result old mid new ticks h enough carries =
       grows_by_none (state mid).crash.log (state new).crash.log (carries.quiet told f h (needs_still (state old) (state mid) f cmd ticks.moves.pipeline enough))
 
+  -- a wait for a point that is durable, or isn't there
+  of_idle : (n : ℕ) (result : Result Reply Refusal) (old mid new : S) → Ticks tells false (state old) (state mid) → (n ≤ (state old).books.floor) ⊎ ((state old).books.point < n) → WaitsSession tells n result (state mid) (state new) → Writes mid new
+  of_idle n result old mid new ticks needs waits = grows_by_none (state mid).crash.log (state new).crash.log (⊎_elim
+      (λ low. ((waits.idles (omega (arith, low, ticks.moves.pipeline.floor))).disk.crash told).log)
+      (λ past. ((waits.none (omega (arith, past, ticks.moves.pipeline.point))).disk.crash told).log) needs)
+
   -- what it does once it began
   of_run : (f : Session) (cmd : Cmd) (result : Result Reply Refusal) (old mid new : S) → cmd ≢ Bad → Ticks tells false (state old) (state mid) → IsSession (state mid) f → NeedsNoWait (state old) f cmd → Runs tells state cmd result mid new → Writes mid new
   of_run f Osync result old mid new good ticks h needs runs = runs.alone told refl (orders_still (state old).books (state mid).books ticks.moves.pipeline needs)
   of_run f Dsync result old mid new good ticks h needs runs = absurd needs
   of_run f Durable result old mid new good ticks h needs runs = of_none mid new runs.1
+  of_run f (Dwait n) result old mid new good ticks h needs runs = of_idle n result old mid new ticks needs runs
   of_run f Poll result old mid new good ticks h needs runs = of_none mid new runs.1
   of_run f Bad result old mid new good ticks h needs runs = absurd (good refl)
   of_run f cmd result old mid new good ticks h needs runs = of_carried f cmd result old mid new ticks h needs runs

@@ -150,7 +150,7 @@ module _ (tells : Bool) (cmd : Cmd) (start mid new : State) (costs : (bitmap : â
   done_so d cost f told going looks h made carried =
       let at_mid = session_settles tells false false start mid f going told looks h in
       let rest = made_rests tells d cost mid new carried in
-      let stay = points_stay f cmd sync in
+      let stay = points_stay f cmd sync made.answer in
       record {
         answer = sym made.answer;
         session = record {

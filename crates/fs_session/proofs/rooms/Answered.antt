@@ -1,12 +1,12 @@
 -- Each command is answered in the room of its session.
-use Rattle.std.proofs.Common.{◌≡◌, ◌≢◌, ◌⊎◌, ◌≤◌, inl, inr, ⊎_elim, Bool, true, false, Ok, Result, refl, sym, subst, ap, ◌∙◌, arith}
+use Rattle.std.proofs.Common.{◌≡◌, ◌≢◌, ◌⊎◌, ◌≤◌, inl, inr, ⊎_elim, Bool, true, false, Ok, Err, Result, refl, sym, subst, ap, ◌∙◌, arith, ℕ}
 use Rattle.std.proofs.lemmas.Bool.{true≢false}
 use Rattle.lang_tree.specs.declared.command.Cmd.{Cmd}
-use Rattle.lang_tree.specs.declared.command.Cmd.TheVariants.{Osync, Dsync, Durable, Poll, Bad}
+use Rattle.lang_tree.specs.declared.command.Cmd.TheVariants.{Osync, Dsync, Durable, Dwait, Poll, Bad}
 use Rattle.lang_tree.specs.declared.command.Refusal.{Refusal}
 use Rattle.lang_tree.specs.declared.command.Reply.{Reply}
 use Rattle.lang_tree.specs.declared.command.Reply.TheVariants.{Ok as Done, Known, Bad as NotUnderstood}
-use Rattle.lang_tree.specs.Step.{Session}
+use Rattle.lang_tree.specs.Step.{Session, step}
 use Rattle.layout_geometry.specs.Geometry.{Geometry}
 use Rattle.engine_blocks.specs.State.{State}
 use Rattle.fs_session.specs.Applying.{Applies, Began, Runs, Ticks, reply_for}
@@ -18,6 +18,9 @@ use Rattle.fs_session.proofs.rooms.Carried.{InMemory, carried_in, stays}
 use Rattle.fs_session.proofs.rooms.Known.{LeavesSession}
 use Rattle.fs_session.proofs.rooms.Same.{never_failed}
 use Rattle.fs_session.proofs.rooms.Synced.{synced_in}
+use Rattle.fs_session.specs.Syncs.{WaitsSession}
+use Rattle.fs_session.specs.Commands.{is_disk_fault}
+use Rattle.base_types.specs.Counts.{after_call}
 
 -- a line is none, or a command
 pub bad_or_not : (cmd : Cmd) → (cmd ≡ Bad) ⊎ (cmd ≢ Bad)
@@ -46,12 +49,26 @@ module _ {S : Type 0} (state : S → State) (f : Session) (result : Result Reply
   )
 
 module _ {S : Type 0} (tells : Bool) (state : S → State) (here : InMemory tells state) where
+  -- a wait for a point: where blocks lie in memory, no call fails
+  waited_in : (f : Session) (n : ℕ) (result : Result Reply Refusal) (old new : S) → IsSession (state old) f → WaitsSession tells n result (state old) (state new) → AnswersRoom state f (Dwait n) (reply_for result) old new
+  waited_in f n (Ok reply) old new h w =
+      let d = w.done here.known.told f h in
+      let moves = w.runs.pipeline in (
+        (step f (Dwait n)).0,
+        d.1,
+        moves.geom,
+        (ap (λ r. ((step f (Dwait n)).0, r)) (sym d.0), stays tells state here old new moves.geom (w.runs.map here.known.told) moves.running moves.reusable),
+      )
+  waited_in f n (Err why) old new h w =
+      absurd (true≢false (never_failed true (state old).counts.faults (state new).counts.faults (w.runs.disk.faults ∙ ap (λ (x : Refusal). after_call (is_disk_fault (Err x)) (state old).counts.faults) w.refused) (here.lies.faults new)))
+
   module _ (f : Session) (result : Result Reply Refusal) (old new : S) (going : (state old).books.stopped ≡ false) (h : IsSession (state old) f) where
     -- a command that ran
     pub run_in : (cmd : Cmd) → cmd ≢ Bad → Runs tells state cmd result old new → AnswersRoom state f cmd (reply_for result) old new
     run_in Osync good ran = synced_in tells state here true f Osync result old new h ran
     run_in Dsync good ran = synced_in tells state here false f Dsync result old new h ran
     run_in Durable good ran = known_in state f result old new h (omega (arith, (here.known.sound old).floor, h.points going)) ran
+    run_in (Dwait n) good ran = waited_in f n result old new h ran
     run_in Poll good ran = polled_in state f result old new h ran
     run_in Bad good ran = absurd (good refl)
     run_in cmd good ran = carried_in tells state here f cmd result old new h ran

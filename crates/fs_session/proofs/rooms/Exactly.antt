@@ -5,7 +5,7 @@ use Rattle.disk_contract.specs.Cell.{is_accepted}
 use Rattle.disk_contract.specs.Manner.{Manner}
 use Rattle.layout_geometry.specs.Geometry.{Geometry}
 use Rattle.lang_tree.specs.declared.command.Cmd.{Cmd}
-use Rattle.lang_tree.specs.declared.command.Cmd.TheVariants.{Osync, Dsync, Durable, Poll, Bad}
+use Rattle.lang_tree.specs.declared.command.Cmd.TheVariants.{Osync, Dsync, Durable, Dwait, Poll, Bad}
 use Rattle.lang_tree.specs.declared.command.Refusal.{Refusal}
 use Rattle.lang_tree.specs.declared.command.Refusal.TheVariants as because
 use Rattle.lang_tree.specs.declared.command.Reply.{Reply}
@@ -22,10 +22,10 @@ use Rattle.fs_session.specs.Commands.{Carries, IsRefusedFor, is_disk_fault, is_o
 use Rattle.fs_session.specs.DiskRoom.{AnswersOver, IsRoomOf, SyncsOver}
 use Rattle.fs_session.specs.Memory.{room_of}
 use Rattle.fs_session.specs.Room.{Room, figures_in, left_in, most_weight}
-use Rattle.fs_session.specs.Serving.{AnswersAt, AnyAt, BeginsAt, EndsSync, LeavesWaiting, Moment, RoomOn, SameWait, ServesCommand, SettlesRoom, SyncsBehind, TicksRoom, moment_of, room_on}
+use Rattle.fs_session.specs.Serving.{AnswersAt, AnyAt, BeginsAt, EndsSync, LeavesWaiting, Moment, RoomOn, SameWait, ServesCommand, SettlesRoom, SyncsBehind, TicksRoom, WaitsBehind, moment_of, room_on}
 use Rattle.fs_session.specs.Sessions.{IsSession}
 use Rattle.fs_session.specs.Space.{FailsToFit, FitsIn, HasRoom}
-use Rattle.fs_session.specs.Syncs.{SyncsSession}
+use Rattle.fs_session.specs.Syncs.{SyncsSession, WaitsSession}
 use Rattle.fs_session.proofs.Logs.{grows_by_none}
 use Rattle.fs_session.proofs.applying.Cases.{answered_as}
 use Rattle.fs_session.proofs.applying.Causes.{same_reason}
@@ -36,7 +36,7 @@ use Rattle.fs_session.proofs.rooms.Answered.{known_in, polled_in}
 use Rattle.fs_session.proofs.rooms.Carried.{EndsOver, done_in, fits_in, refused_back, refused_over, settled_back}
 use Rattle.fs_session.proofs.rooms.Known.{Known, LeavesSession, room_is}
 use Rattle.fs_session.proofs.rooms.Nodes.{marked_is}
-use Rattle.fs_session.proofs.rooms.Over.{begun_over, itself, synced_over, tick_back}
+use Rattle.fs_session.proofs.rooms.Over.{begun_over, itself, synced_over, tick_back, waited_back}
 use Rattle.fs_session.proofs.rooms.Waits.{all_or_none, room_on_with, same_wait, serves_room, syncs_room_on}
 
 -- a point that is waited for since is a new one, and waits for a write behind the tick, which made no point
@@ -212,12 +212,32 @@ module _ {S : Type 0} (tells : Bool) (state : S → State) (known : Known tells 
         × LeavesWaiting (state old).books.geom (moment_of (state old)) (moment_of (state new)) cmd (reply_for result) next (room_on (state old)) (room_on (state new))) → LeavesBehind cmd
     of_other cmd x = (x.0, x.1, x.2, record { ready = room_on (state old); settles = nothing_settles f (figures_in (state old).books.geom f cmd).need old h; full = λ why is fails. same_room (state old).books.geom (room_on (state old)); answers = x.3.0; leaves = x.3.1 })
 
+    -- a wait for a point: the same blocks wait, and it is answered in the room that it leaves
+    waited_at : (n : ℕ) (r : Result Reply Refusal) → is_disk_fault r ≡ false → WaitsSession tells n r (state old) (state new)
+        → LeavesSession state old new (λ next. Behind (state old).books.geom (moment_of (state old)) (moment_of (state new)) f (room_on (state old)) (Dwait n) (reply_for r) next (room_on (state new)))
+    waited_at n (Ok reply) well w =
+        let d = w.done known.told f h in
+        let same = same_wait (state old).books (state new).books w.runs.pipeline.geom (state old) (state new) w.frees in (
+          (step f (Dwait n)).0,
+          d.1,
+          w.runs.pipeline.geom,
+          record {
+            ready = room_on (state new);
+            settles = record { back = waited_back tells state known f n (Ok reply) old new h w; rests = λ enough. same; serves = inl same };
+            full = λ why is fails. same;
+            answers = inl (ap (λ r. ((step f (Dwait n)).0, r)) (sym d.0), refl);
+            leaves = λ b at. refl;
+          },
+        )
+    waited_at n (Err why) well w = absurd (true≢false (sym (ap (λ x. is_disk_fault (Err x)) w.refused) ∙ well))
+
     run_at : (cmd : Cmd) → cmd ≢ Bad → (state old).books.stopped ≡ false → Runs tells state cmd result old new → LeavesBehind cmd
     run_at Osync good going ran = of_other Osync (sync_at true f Osync result old new well h ran)
     run_at Dsync good going ran = of_other Dsync (sync_at false f Dsync result old new well h ran)
     run_at Durable good going ran =
         let x = known_in state f result old new h (omega (arith, (known.sound old).floor, h.points going)) ran in
         of_other Durable (x.0, x.1, x.2, (inl x.3, λ b at. ap (λ s. (state s).books.since b) ran.1))
+    run_at (Dwait n) good going ran = waited_at n result well ran
     run_at Poll good going ran = let x = polled_in state f result old new h ran in of_other Poll (x.0, x.1, x.2, (inl x.3, λ b at. ap (λ s. (state s).books.since b) ran.1))
     run_at Bad good going ran = absurd (good refl)
     run_at cmd good going ran = of_tree cmd refl ran (λ next r x. x) (λ next r x. x)
@@ -284,6 +304,18 @@ module _ {S : Type 0} (tells : Bool) (state : S → State) (known : Known tells 
     unwritten = λ memory. refl;
   }
 
+  -- what a wait for a point did behind its tick
+  waits_behind : (n : ℕ) (result : Result Reply Refusal) (s new : S) → WaitsSession tells n result (state s) (state new) → WaitsBehind n (state s) (state new)
+  waits_behind n result s new w = record {
+    hears = λ alone. w.waits known.told alone;
+    still = w.still known.told;
+    rests = ⊎_elim (λ low. ((w.idles low).disk.crash known.told).log) (λ past. ((w.none past).disk.crash known.told).log);
+  }
+
+  -- where the tick was all
+  nothing_behind : (n : ℕ) (s : S) → WaitsBehind n (state s) (state s)
+  nothing_behind n s = record { hears = λ alone t came. inl came; still = refl; rests = λ either. refl }
+
   -- a sync is no bad line
   sync_is_good : (cmd : Cmd) → is_sync cmd ≡ true → cmd ≢ Bad
   sync_is_good cmd of bad = false≢true (sym (ap is_sync bad) ∙ of)
@@ -297,7 +329,7 @@ module _ {S : Type 0} (tells : Bool) (state : S → State) (known : Known tells 
     begun_at : (f : Session) (cmd : Cmd) (reply : Reply) (old new : S) → cmd ≢ Bad → (state old).books.stopped ≡ false → IsSession (state old) f → Began tells state cmd reply old new → ServesOver f cmd reply old new
     begun_at f cmd reply old new good going h began = ⊎_elim
         (λ failed. let is = began.is ∙ ap reply_for failed.1 in
-        behind_at true new failed.0 (still new) (λ alone. inr (refl, is)) (λ of. ticks_alone cmd reply new is) (faulted new is))
+        behind_at true new failed.0 (still new) (λ alone. inr (refl, is)) (λ of. ticks_alone cmd reply new is) (λ n of. nothing_behind n new) (faulted new is))
         (λ ran. goes began.mid began.result began.is ran.0 ran.1) began.ran
       where
         AnyOver : S → Reply → Session → Type 0
@@ -305,9 +337,9 @@ module _ {S : Type 0} (tells : Bool) (state : S → State) (known : Known tells 
 
         -- this state is that behind its tick
         behind_at : (failed : Bool) (s : S) → Ticks tells failed (state old) (state s) → Advances (state s) (state new)
-            → ((state old).counts.ticks.manner.waits_alone ≡ true → RingIsTold (state s) ⊎ ((new ≡ s) × (reply ≡ Refused because.DiskFault))) → (is_sync cmd ≡ true → SyncsBehind cmd reply (state s) (state new))
+            → ((state old).counts.ticks.manner.waits_alone ≡ true → RingIsTold (state s) ⊎ ((new ≡ s) × (reply ≡ Refused because.DiskFault))) → (is_sync cmd ≡ true → SyncsBehind cmd reply (state s) (state new)) → ((n : ℕ) → cmd ≡ Dwait n → WaitsBehind n (state s) (state new))
             → LeavesSession state old new (AnyOver s reply) → ServesOver f cmd reply old new
-        behind_at failed s ticks then ring sync x =
+        behind_at failed s ticks then ring sync wait x =
             let point = ticks.moves.pipeline.point in
             let first = ticks.moves.crash known.told in (
               x.0,
@@ -324,6 +356,7 @@ module _ {S : Type 0} (tells : Bool) (state : S → State) (known : Known tells 
                 point = point;
                 ring = λ some alive unspent. ring;
                 sync = λ of alive unspent. sync of;
+                wait = λ n is alive unspent. wait n is;
                 still = still_awaits (state old) (state s) (known.agrees s) point first;
                 awaits = λ p t waits. awaits_since (state old) (state s) (state new) (known.agrees s) point first then p t waits;
                 ticks = λ some alive unspent. ticks.writes known.told;
@@ -338,7 +371,7 @@ module _ {S : Type 0} (tells : Bool) (state : S → State) (known : Known tells 
         goes : (s : S) (result : Result Reply Refusal) → reply ≡ reply_for result → Ticks tells false (state old) (state s) → Runs tells state cmd result s new → ServesOver f cmd reply old new
         goes s result is ticks runs =
             behind_at false s ticks (of_run tells state known.told compose still cmd result s new runs).advances (λ alone. inl (ticks.ring known.told alone refl))
-            (λ of. subst (λ (r : Reply). SyncsBehind cmd r (state s) (state new)) (sym is) (syncs_behind f cmd result s new of same runs)) (by (cases_Bool (is_disk_fault result)))
+            (λ of. subst (λ (r : Reply). SyncsBehind cmd r (state s) (state new)) (sym is) (syncs_behind f cmd result s new of same runs)) (λ n of. waits_behind n result s new (subst (λ (c : Cmd). Runs tells state c result s new) of runs)) (by (cases_Bool (is_disk_fault result)))
           where
             same : IsSession (state s) f
             same = session_ticks tells false (state old) (state s) ticks f going known.told h
@@ -367,6 +400,7 @@ module _ {S : Type 0} (tells : Bool) (state : S → State) (known : Known tells 
         point = refl;
         ring = λ some alive unspent. absurd (never some alive unspent);
         sync = λ of alive unspent. absurd (never (sync_is_good cmd of) alive unspent);
+        wait = λ n is alive unspent. absurd (never (λ bad. cc (sym is ∙ bad)) alive unspent);
         still = λ p t waits. waits;
         awaits = λ p t waits. inl waits;
         ticks = λ some alive unspent. absurd (never some alive unspent);

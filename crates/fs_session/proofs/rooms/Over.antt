@@ -1,10 +1,10 @@
 -- Over any map of blocks each command is answered in a room of its session that came back, or refused by the disk.
-use Rattle.std.proofs.Common.{◌≡◌, ◌≢◌, ◌⊎◌, inl, inr, ⊎_elim, ◌<◌, ◌==◌, Bool, true, false, if◌then◌else◌, Ok, Err, Result, refl, sym, subst, ap, ap₂, ◌∙◌, arith}
+use Rattle.std.proofs.Common.{◌≡◌, ◌≢◌, ◌⊎◌, inl, inr, ⊎_elim, ◌<◌, ◌==◌, Bool, true, false, if◌then◌else◌, Ok, Err, Result, refl, sym, subst, ap, ap₂, ◌∙◌, arith, ℕ}
 use Rattle.std.proofs.lemmas.Bool.{cases_Bool, cond-true, cond-false, eqb-true}
 use Rattle.base_types.specs.Seal.{Blocks}
 use Rattle.layout_geometry.specs.Geometry.{Geometry}
 use Rattle.lang_tree.specs.declared.command.Cmd.{Cmd}
-use Rattle.lang_tree.specs.declared.command.Cmd.TheVariants.{Osync, Dsync, Durable, Poll, Bad}
+use Rattle.lang_tree.specs.declared.command.Cmd.TheVariants.{Osync, Dsync, Durable, Dwait, Poll, Bad}
 use Rattle.lang_tree.specs.declared.command.Refusal.{Refusal}
 use Rattle.lang_tree.specs.declared.command.Refusal.TheVariants as because
 use Rattle.lang_tree.specs.declared.command.Reply.{Reply}
@@ -17,7 +17,7 @@ use Rattle.fs_session.specs.DiskRoom.{AnswersOn, AnswersOver, BeginsOver, ComesB
 use Rattle.fs_session.specs.Memory.{room_of}
 use Rattle.fs_session.specs.Room.{RefusesIn, Room}
 use Rattle.fs_session.specs.Sessions.{IsSession}
-use Rattle.fs_session.specs.Syncs.{SyncsSession}
+use Rattle.fs_session.specs.Syncs.{SyncsSession, WaitsSession}
 use Rattle.fs_session.specs.Staying.{session_ticks}
 use Rattle.fs_session.proofs.applying.Cases.{answered_as}
 use Rattle.fs_session.proofs.rooms.Answered.{bad_in, known_in, polled_in}
@@ -92,6 +92,19 @@ module _ {S : Type 0} (tells : Bool) (state : S → State) (known : Known tells 
           let none = syncs.unspent (ap (λ w. Err w) memory) in
           inl (why, (memory, none.1), refl, refl, ap₂ (λ (k : Bookkeeping) (m : Blocks). room_of (record (state old) { books = k; map = m })) none.0 (syncs.map known.told))
 
+  -- a wait for a point is answered in the room that it leaves
+  pub waited_back : (f : Session) (n : ℕ) (result : Result Reply Refusal) (old new : S) → IsSession (state old) f → WaitsSession tells n result (state old) (state new) → ComesBack (state old).books.geom f (room_of (state old)) (room_of (state new))
+  waited_back f n result old new h w =
+      let moves = w.runs.pipeline in
+      brings_back tells state known old new f (w.kept known.told f h) moves.geom (w.runs.map known.told) moves.running moves.reusable
+
+  waited_over : (f : Session) (n : ℕ) (result : Result Reply Refusal) (old new : S) → IsSession (state old) f → WaitsSession tells n result (state old) (state new) → AnswersBack state f (Dwait n) (reply_for result) old new
+  waited_over f n (Ok reply) old new h w =
+      let d = w.done known.told f h in
+      ((step f (Dwait n)).0, d.1, w.runs.pipeline.geom, (room_of (state new), waited_back f n (Ok reply) old new h w, inl (ap (λ r. ((step f (Dwait n)).0, r)) (sym d.0), refl)))
+  waited_over f n (Err why) old new h w =
+      (f, w.kept known.told f h, w.runs.pipeline.geom, (room_of (state new), waited_back f n (Err why) old new h w, inr (why, inl w.refused, refl, refl, refl)))
+
   module _ (f : Session) (result : Result Reply Refusal) (old new : S) (going : (state old).books.stopped ≡ false) (h : IsSession (state old) f) where
     synced_back : (cmd : Cmd) → LeavesSession state old new (λ next. SyncsOver f (room_of (state old)) cmd (reply_for result) next (room_of (state new)))
         → LeavesSession state old new (λ next. (back : Room) × ComesBack (state old).books.geom f (room_of (state old)) back × SyncsOver f back cmd (reply_for result) next (room_of (state new)))
@@ -102,6 +115,7 @@ module _ {S : Type 0} (tells : Bool) (state : S → State) (known : Known tells 
     run_over Osync good ran = synced_back Osync (synced_over true f Osync result old new h ran)
     run_over Dsync good ran = synced_back Dsync (synced_over false f Dsync result old new h ran)
     run_over Durable good ran = let x = known_in state f result old new h (omega (arith, (known.sound old).floor, h.points going)) ran in (x.0, x.1, x.2, (room_of (state old), itself f old h, inl x.3))
+    run_over (Dwait n) good ran = waited_over f n result old new h ran
     run_over Poll good ran = let x = polled_in state f result old new h ran in (x.0, x.1, x.2, (room_of (state old), itself f old h, inl x.3))
     run_over Bad good ran = absurd (good refl)
     run_over cmd good ran = carried_over tells state known f cmd result old new refl h ran

@@ -1,13 +1,13 @@
 -- A run may go on where no memory is found, and where the disk has failed: each command has an answer that leaves the room as it is.
-use Rattle.std.proofs.Common.{◌≡◌, ◌≢◌, ◌⊎◌, inl, inr, ◌<◌, ◌≤◌, ◌==◌, Bool, true, false, if◌then◌else◌, refl, sym, subst, arith}
+use Rattle.std.proofs.Common.{◌≡◌, ◌≢◌, ◌⊎◌, inl, inr, ◌<◌, ◌≤◌, ◌==◌, Bool, true, false, if◌then◌else◌, refl, sym, subst, arith, ℕ, nat_le}
 use Rattle.std.proofs.lemmas.Bool.{cases_Bool, cond-true, cond-false, eqb-true, eqb-false}
 use Rattle.layout_geometry.specs.Geometry.{Geometry}
 use Rattle.lang_tree.specs.declared.command.Cmd.{Cmd}
-use Rattle.lang_tree.specs.declared.command.Cmd.TheVariants.{Osync, Dsync, Durable, Poll, Bad}
+use Rattle.lang_tree.specs.declared.command.Cmd.TheVariants.{Osync, Dsync, Durable, Dwait, Poll, Bad}
 use Rattle.lang_tree.specs.declared.command.Refusal.TheVariants.{Stopped, NoMemory}
 use Rattle.lang_tree.specs.declared.command.Reply.{Reply}
 use Rattle.lang_tree.specs.declared.command.Reply.TheVariants.{Refused}
-use Rattle.lang_tree.specs.Step.{Session, step, osync}
+use Rattle.lang_tree.specs.Step.{Session, step, osync, dwait}
 use Rattle.fs_session.specs.DiskRoom.{AnswersOn, AnswersOver, BeginsOver, IsRoomOf, SyncsOver, without_memory}
 use Rattle.fs_session.specs.Room.{Room}
 use Rattle.fs_session.proofs.rooms.Over.{answers_on}
@@ -19,6 +19,11 @@ GoesOn g f r cmd x = AnswersOn g f r cmd x.1 x.0 r × IsRoomOf g x.0 r
 -- the tree alone makes a room that of a session
 other_session : (g : Geometry) (f next : Session) (r : Room) → next.tree ≡ f.tree → IsRoomOf g f r → IsRoomOf g next r
 other_session g f next r same is = subst (λ t. IsRoomOf g (record next { tree = t }) r) (sym same) assumption
+
+-- a wait leaves the tree as it is
+dwait_tree : (f : Session) (n : ℕ) (b : Bool) → (dwait f n b).0.tree ≡ f.tree
+dwait_tree f n true = refl
+dwait_tree f n false = refl
 
 -- a sync leaves the tree as it is
 osync_tree : (f : Session) (changed : Bool) → (osync f changed).0.tree ≡ f.tree
@@ -57,6 +62,9 @@ module _ (g : Geometry) (f : Session) (r : Room) (is : IsRoomOf g f r) where
   quiet_answer upto Bad = ((refl, refl), is)
   quiet_answer upto Poll = (inr (begins Poll (step f Poll).1 f (inl (refl, refl)) is), is)
   quiet_answer upto Durable = (inr (begins Durable (step f Durable).1 f (inl (record { asked = refl; point = f.durable; is = refl; from = omega arith; upto = upto; same = refl }, refl)) is), is)
+  quiet_answer upto (Dwait n) =
+      let same = other_session g f (step f (Dwait n)).0 r (dwait_tree f n (nat_le n f.points)) is in
+      (inr (begins (Dwait n) (step f (Dwait n)).1 (step f (Dwait n)).0 (inl (refl, refl)) same), same)
   quiet_answer upto Osync = let x = quiet_sync Osync (osync_tree f f.changed) (cases_Bool (r.weight == 0)) in (inr (begins Osync (without_memory f r Osync).1 (without_memory f r Osync).0 x.0 x.1), x.1)
   quiet_answer upto Dsync = let x = quiet_sync Dsync (osync_tree f f.changed) (cases_Bool (r.weight == 0)) in (inr (begins Dsync (without_memory f r Dsync).1 (without_memory f r Dsync).0 x.0 x.1), x.1)
   quiet_answer upto cmd = (inr (begins cmd (Refused NoMemory) f (inl (inr (NoMemory, inr (inr refl), refl, refl, refl))) is), is)

@@ -4,7 +4,7 @@ use Rattle.std.proofs.lemmas.Bool.{false≢true}
 use Rattle.std.proofs.lemmas.List.{length-drop}
 use Rattle.layout_geometry.specs.Geometry.{Geometry, bitmap_blocks, data_start}
 use Rattle.lang_tree.specs.declared.command.Cmd.{Cmd}
-use Rattle.lang_tree.specs.declared.command.Cmd.TheVariants.{Mkdir, Create, Write, Fill, Truncate, Link, Rename, Osync, Dsync, Durable, Poll, Bad}
+use Rattle.lang_tree.specs.declared.command.Cmd.TheVariants.{Mkdir, Create, Write, Fill, Truncate, Link, Rename, Osync, Dsync, Durable, Dwait, Poll, Bad}
 use Rattle.lang_tree.specs.declared.command.Refusal.{Refusal}
 use Rattle.lang_tree.specs.declared.command.Reply.{Reply}
 use Rattle.lang_tree.specs.declared.command.Reply.TheVariants.{Ok as Done}
@@ -105,6 +105,8 @@ module _ (g : Geometry) (f : Session) (reply : Reply) (next : Session) where
   over Bad old new before after (inr refused) = of_refused _ Bad old new refused
   over Poll old new before after (inl x) = of_same Poll old new x.1
   over Poll old new before after (inr refused) = of_refused _ Poll old new refused
+  over (Dwait n) old new before after (inl x) = of_same (Dwait n) old new x.1
+  over (Dwait n) old new before after (inr refused) = of_refused _ (Dwait n) old new refused
   over Durable old new before after (inl x) = of_same Durable old new x.1
   over Durable old new before after (inr refused) = of_refused _ Durable old new refused
   over Osync old new before after x = of_sync Osync old new before after x

@@ -7,37 +7,11 @@ use Rattle.std.proofs.lemmas.Bool.{cases_Bool, cases_order, eqb-true, eq-eqb, fa
 use Rattle.std.proofs.lemmas.List.FromFn.{get_or-range_with_len, length-range_with_len}
 use Rattle.std.proofs.lemmas.List.Kept.{AllPairs-filter}
 use Rattle.std.proofs.lemmas.Map.Made.{IsDistinct-from_AllPairs, length-le_from_is_member}
-use Rattle.std.proofs.lemmas.Option.{none-some, same_Some, slice_get-get_or}
+use Rattle.std.proofs.lemmas.Option.{slice_get-get_or}
 use Rattle.engine_blocks.specs.Running.{has}
+pub use Rattle.fs_files.specs.Places.{has_append, has_place, in_append, place_of}
 
 -- Places in a list.
-
--- a number of a list has a place in it
-pub place_of : (xs : List ℕ) (b : ℕ) → has xs b ≡ true → (i : ℕ) × (slice_get xs i ≡ Some b)
-place_of [] b e = absurd (false≢true e)
-place_of (x ∷ xs) b e = by (place_of xs b) (or_cases (b == x) (has xs b) e)
-  where
-    by : (has xs b ≡ true → (i : ℕ) × (slice_get xs i ≡ Some b)) → ((b == x) ≡ true) ⊎ (has xs b ≡ true) → (i : ℕ) × (slice_get (x ∷ xs) i ≡ Some b)
-    by further (inl same) = (0, ap Some (sym (eqb-true b x same)))
-    by further (inr rest) = let r = further rest in (suc r.0, r.1)
-
--- and what has a place is a number of it
-pub has_place : (xs : List ℕ) (i b : ℕ) → slice_get xs i ≡ Some b → has xs b ≡ true
-has_place [] i b e = absurd (none-some b e)
-has_place (x ∷ xs) zero b e = ap (λ t. t || has xs b) (eq-eqb b x (sym (same_Some x b e)))
-has_place (x ∷ xs) (suc i) b e = or_right (b == x) (has xs b) (has_place xs i b e)
-
--- a number of two lists, one behind the other, is in one of them
-pub has_append : (xs ys : List ℕ) (b : ℕ) → has (xs ++ ys) b ≡ (has xs b || has ys b)
-has_append [] ys b = refl
-has_append (x ∷ xs) ys b = ap (λ t. (b == x) || t) (has_append xs ys b) ∙ either (b == x)
-  where
-    either : (t : Bool) → (t || (has xs b || has ys b)) ≡ ((t || has xs b) || has ys b)
-    either true = refl
-    either false = refl
-
-pub in_append : (xs ys : List ℕ) (b : ℕ) → has (xs ++ ys) b ≡ true → (has xs b ≡ true) ⊎ (has ys b ≡ true)
-in_append xs ys b e = or_cases (has xs b) (has ys b) (sym (has_append xs ys b) ∙ e)
 
 -- Lists without repeats.
 

@@ -2,7 +2,7 @@ use Rattle.std.proofs.Common.{◌≡◌, false, Err, sym, subst, ◌∙◌}
 use Rattle.std.proofs.lemmas.Result.{err_from_is_err_and}
 use Rattle.fs_check.specs.Calls.{fails_reading}
 use Rattle.fs_check.specs.Meeting.{AreBits}
-use Rattle.fs_check.proofs.sound.Looks.{looks_more}
+use Rattle.fs_files.specs.Places.{looks_more}
 use Rattle.fs_check.proofs.sound.Whole.{broken_first, sound_first, unsound_where, written_back}
 use Rattle.fs_check.proofs.blocks.check_blocks.Goals as goal
 

@@ -1,7 +1,6 @@
 use Rattle.std.proofs.Common.{subst}
 use Rattle.std.proofs.lemmas.Result.{err_from_is_err_and}
 use Rattle.crash_stands.specs.Inodes.{AreDistinct}
-use Rattle.fs_files.specs.Calls.{files_in}
 use Rattle.fs_check.specs.Damage.{IsBroken}
 use Rattle.fs_check.specs.Slots.{Repeats, AreCounted, NameUsed, IsBrokenIn}
 use Rattle.fs_check.proofs.Looking.{none_broken}
@@ -9,21 +8,21 @@ use Rattle.fs_check.proofs.Seeing.{if_some, if_none, dir_some, dir_none, dir_use
 use Rattle.fs_check.proofs.directories.check_directory.Goals as goal
 
 pub read_slots-requires-clause-used : goal.read_slots-requires-clause-used
-read_slots-requires-clause-used g c = λ tells. dir_used (files_in (g.S.Blocks.state c.args.blocks.now) c.args.draft.now) c.args.nodes.now c.args.dir c.args.size (c.requires.seen tells) c.requires.dir
+read_slots-requires-clause-used g c = λ tells. dir_used (g.N.Nodes.nodes (g.S.Blocks.state c.args.blocks.now) c.args.files.now).files c.args.nodes.now c.args.dir c.args.size (c.requires.seen tells) c.requires.dir
 
 pub returns-in_err-slots-clause-broken : goal.returns-in_err-slots-clause-broken
 returns-in_err-slots-clause-broken g c = λ tells.
     let s = g.S.Blocks.state c.args.blocks.now in
     let p = err_from_is_err_and c.from_residual.result c.from_residual.ensures.1 in
-    rw (p.1, p.2) (none_broken (IsBroken s.books.geom.i (files_in s c.args.draft.now)) c.in_err-slots.field-0.0 c.in_err-slots.ensures.refused)
+    rw (p.1, p.2) (none_broken (IsBroken s.books.geom.i (g.N.Nodes.nodes s c.args.files.now).files) c.in_err-slots.field-0.0 c.in_err-slots.ensures.refused)
 
 pub returns-in_default-clause-broken : goal.returns-in_default-clause-broken
 returns-in_default-clause-broken g c = λ tells.
-    dir_none c.in_ok-slots.field-0 (λ v. v.items) (files_in (g.S.Blocks.state c.args.blocks.now) c.args.draft.now) c.args.nodes.now c.args.dir c.args.size (c.requires.seen tells) c.requires.dir (c.in_ok-slots.ensures.slots tells) c.in_default.is
+    dir_none c.in_ok-slots.field-0 (λ v. v.items) (g.N.Nodes.nodes (g.S.Blocks.state c.args.blocks.now) c.args.files.now).files c.args.nodes.now c.args.dir c.args.size (c.requires.seen tells) c.requires.dir (c.in_ok-slots.ensures.slots tells) c.in_default.is
 
 pub returns-in-Some-2-clause-broken : goal.returns-in-Some-2-clause-broken
 returns-in-Some-2-clause-broken g c = λ tells.
-    let files = files_in (g.S.Blocks.state c.args.blocks.now) c.args.draft.now in
+    let files = (g.N.Nodes.nodes (g.S.Blocks.state c.args.blocks.now) c.args.files.now).files in
     repeats_name files c.args.dir c.in-Some-2.place c.in-Some.slots.items
     (dir_some c.in_ok-slots.field-0 c.in-Some.slots (λ v. v.items) files c.args.nodes.now c.args.dir c.args.size (c.requires.seen tells) c.requires.dir (c.in_ok-slots.ensures.slots tells) c.in-Some.is)
     (subst (λ xs. Repeats xs c.in-Some-2.place) c.as_slice.ensures.value (if_some c.in_ok-place.field-0 c.in-Some-2.place (Repeats c.as_slice.result.now) c.in-Some-2.is c.in_ok-place.ensures.repeats))
@@ -31,7 +30,7 @@ returns-in-Some-2-clause-broken g c = λ tells.
 pub returns-in_err-count_slots-clause-broken : goal.returns-in_err-count_slots-clause-broken
 returns-in_err-count_slots-clause-broken g c = λ tells.
     let s = g.S.Blocks.state c.args.blocks.now in
-    let files = files_in s c.args.draft.now in
+    let files = (g.N.Nodes.nodes s c.args.files.now).files in
     let p = err_from_is_err_and c.from_residual-in_err-count_slots.result c.from_residual-in_err-count_slots.ensures.1 in
     rw (p.1, p.2)
     (broken_in s.books.geom.i files c.args.nodes.now c.args.dir c.in-Some.slots.items c.in_err-count_slots.field-0.0 (c.requires.seen tells)
@@ -40,7 +39,7 @@ returns-in_err-count_slots-clause-broken g c = λ tells.
 
 pub returns-clause-went : goal.returns-clause-went
 returns-clause-went g c = λ tells.
-    let files = files_in (g.S.Blocks.state c.args.blocks.now) c.args.draft.now in
+    let files = (g.N.Nodes.nodes (g.S.Blocks.state c.args.blocks.now) c.args.files.now).files in
     record {
       slots = c.in-Some.slots.items;
       is_dir = dir_some c.in_ok-slots.field-0 c.in-Some.slots (λ v. v.items) files c.args.nodes.now c.args.dir c.args.size (c.requires.seen tells) c.requires.dir (c.in_ok-slots.ensures.slots tells) c.in-Some.is;

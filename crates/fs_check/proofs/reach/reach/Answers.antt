@@ -1,9 +1,9 @@
 use Rattle.std.proofs.Common.{◌≡◌, ◌+◌, ◌<◌, false, [], ◌∷◌, length, replicate, slice_get, Some, refl, sym, ap, ◌∙◌, subst, arith}
 use Rattle.std.proofs.lemmas.Option.{slice_get-get_or}
 use Rattle.crash_stands.specs.Inodes.{inodes_of}
-use Rattle.fs_files.specs.Calls.{files_in}
+use Rattle.fs_check.specs.Looked.{AreSeen}
 use Rattle.fs_check.specs.Marks.{Marks, Searches, IsQueue}
-use Rattle.fs_check.proofs.Looking.{looks_none, looks_more, same_files}
+use Rattle.fs_check.proofs.Looking.{looks_none, looks_more, read_stays, same_files}
 use Rattle.fs_check.proofs.Searching.{queue_first, searches_first, queue_more, searches_more, all_reached, good_slots, fewer}
 use Rattle.fs_check.proofs.Wholes.{whole_list}
 use Rattle.fs_check.proofs.reach.reach.Goals as goal
@@ -24,8 +24,17 @@ loop-at-init g c =
     record {
       looks = looks_none g.S.Blocks.tells s;
       queued = subst (λ xs. IsQueue nodes xs queue) (sym whole) (queue_first nodes n new queue refl first);
-      search = λ tells. subst (λ xs. Searches nodes (inodes_of (files_in s c.args.draft.now)) xs queue 0) (sym whole) (searches_first nodes (inodes_of (files_in s c.args.draft.now)) n new queue refl c.requires.root first);
+      search = λ tells. subst (λ xs. Searches nodes (inodes_of (g.N.Nodes.nodes s c.args.files.now).files) xs queue 0) (sym whole) (searches_first nodes (inodes_of (g.N.Nodes.nodes s c.args.files.now).files) n new queue refl c.requires.root first);
     }
+
+pub mark_directory-requires-clause-read : goal.mark_directory-requires-clause-read
+mark_directory-requires-clause-read g c =
+    let looks = c.loop-at.invariant.looks in
+    read_stays g.S.Blocks.tells _ _ _ _ looks (c.laws.ensures.stays false c.args.blocks.now c.loop-at.blocks looks) c.requires.read
+
+pub mark_directory-requires-clause-seen : goal.mark_directory-requires-clause-seen
+mark_directory-requires-clause-seen g c = λ tells.
+    subst (λ f. AreSeen f c.args.nodes.now) (sym (same_files _ _ (c.laws.ensures.same false c.args.blocks.now c.loop-at.blocks c.loop-at.invariant.looks tells))) (c.requires.seen tells)
 
 pub mark_directory-requires-clause-dir : goal.mark_directory-requires-clause-dir
 mark_directory-requires-clause-dir g c =
@@ -43,7 +52,6 @@ loop-at-preserved g c =
     let s = g.S.Blocks.state c.args.blocks.now in
     let t = g.S.Blocks.state c.loop-at.blocks in
     let u = g.S.Blocks.state c.mark_directory.new.blocks in
-    let d = c.args.draft.now in
     let nodes = c.args.nodes.now in
     let at = c.loop-at.at in
     let dir = c.index-dir.result.now in
@@ -63,9 +71,9 @@ loop-at-preserved g c =
       looks = looks_more g.S.Blocks.tells false s t u c.loop-at.invariant.looks c.in_ok-mark_directory.ensures.looks;
       queued = subst (λ xs. IsQueue nodes xs next) (sym whole) (queue_more nodes m.named items new queue next sets c.loop-at.invariant.queued);
       search = λ tells.
-          let w = inodes_of (files_in s d) in
+          let w = inodes_of (g.N.Nodes.nodes s c.args.files.now).files in
           let good = good_slots nodes w dir was (c.requires.good tells dir) in
-          let is = ap (λ f. inodes_of f dir) (same_files g.S.Blocks.tells false s t d c.loop-at.invariant.looks tells) ∙ good.is_dir in
+          let is = ap (λ f. inodes_of f dir) (same_files _ _ (c.laws.ensures.same false c.args.blocks.now c.loop-at.blocks c.loop-at.invariant.looks tells)) ∙ good.is_dir in
           subst (λ xs. Searches nodes w xs next (at + 1)) (sym whole)
           (searches_more c.a_walk_goes_on.ensures.last c.a_name_stands_at_its_place.ensures.only nodes w items new queue next at dir good.slots (c.loop-at.invariant.search tells) c.loop-at.invariant.queued here good.is_dir good.distinct good.names
           (subst (λ ns. Marks nodes ns items new queue next) (m.those tells good.slots is) sets));
@@ -73,5 +81,5 @@ loop-at-preserved g c =
 
 pub returns-clause-reached : goal.returns-clause-reached
 returns-clause-reached g c = λ tells.
-    all_reached (files_in (g.S.Blocks.state c.args.blocks.now) c.args.draft.now) c.args.nodes.now c.loop-at.marks.items c.loop-at.queue.items c.loop-at.at (c.requires.seen tells) (c.loop-at.invariant.search tells)
+    all_reached (g.N.Nodes.nodes (g.S.Blocks.state c.args.blocks.now) c.args.files.now).files c.args.nodes.now c.loop-at.marks.items c.loop-at.queue.items c.loop-at.at (c.requires.seen tells) (c.loop-at.invariant.search tells)
     (omega (arith, c.loop-at-test.false, c.len.ensures, c.loop-at.queue.ok.0))

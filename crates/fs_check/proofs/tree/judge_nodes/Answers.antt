@@ -1,7 +1,6 @@
 use Rattle.std.proofs.Common.{false, length, sym, subst}
 use Rattle.std.proofs.lemmas.Result.{err_from_is_err_and}
 use Rattle.crash_stands.specs.Inodes.{inodes_of}
-use Rattle.fs_files.specs.Calls.{files_in}
 use Rattle.fs_check.specs.Judged.{Agree, IsWrong}
 use Rattle.fs_check.specs.Looked.{seen}
 use Rattle.fs_check.specs.Marks.{AreReached}
@@ -16,14 +15,14 @@ reach-requires-clause-good g c = λ tells k.
     let s = g.S.Blocks.state c.args.blocks.now in
     let t = g.S.Blocks.state c.check_directories.new.blocks in
     let nodes = c.args.nodes.now in
-    subst (λ f. IsGoodDir nodes (inodes_of f) k (seen nodes k)) (sym (same_files g.S.Blocks.tells false s t c.args.draft.now c.in_ok-named.ensures.looks tells))
-    (good_all nodes (inodes_of (files_in s c.args.draft.now)) c.in_ok-named.named.items (c.in_ok-named.ensures.went tells) k)
+    subst (λ f. IsGoodDir nodes (inodes_of f) k (seen nodes k)) (sym (same_files _ _ (c.laws.ensures.same false c.args.blocks.now c.check_directories.new.blocks c.in_ok-named.ensures.looks tells)))
+    (good_all nodes (inodes_of (g.N.Nodes.nodes s c.args.files.now).files) c.in_ok-named.named.items (c.in_ok-named.ensures.went tells) k)
 
 pub returns-in_err-judge-clause-broken : goal.returns-in_err-judge-clause-broken
 returns-in_err-judge-clause-broken g c = λ tells.
     let s = g.S.Blocks.state c.args.blocks.now in
     let t = g.S.Blocks.state c.check_directories.new.blocks in
-    let files = files_in s c.args.draft.now in
+    let files = (g.N.Nodes.nodes s c.args.files.now).files in
     let nodes = c.args.nodes.now in
     let named = c.in_ok-named.named.items in
     let marks = c.in_ok-marks.marks.items in
@@ -31,7 +30,7 @@ returns-in_err-judge-clause-broken g c = λ tells.
       seen_all = c.requires.seen tells;
       places = c.requires.places;
       went = c.in_ok-named.ensures.went tells;
-      reached = subst (λ f. AreReached (inodes_of f) marks) (same_files g.S.Blocks.tells false s t c.args.draft.now c.in_ok-named.ensures.looks tells) (c.in_ok-marks.ensures.reached tells);
+      reached = subst (λ f. AreReached (inodes_of f) marks) (same_files _ _ (c.laws.ensures.same false c.args.blocks.now c.check_directories.new.blocks c.in_ok-named.ensures.looks tells)) (c.in_ok-marks.ensures.reached tells);
     } in
     let why = c.in_err-judge.field-0.0 in
     let p = err_from_is_err_and c.from_residual-in_err-judge.result c.from_residual-in_err-judge.ensures.1 in
@@ -43,7 +42,7 @@ pub returns-clause-rules : goal.returns-clause-rules
 returns-clause-rules g c = λ tells.
     let s = g.S.Blocks.state c.args.blocks.now in
     let t = g.S.Blocks.state c.check_directories.new.blocks in
-    let files = files_in s c.args.draft.now in
+    let files = (g.N.Nodes.nodes s c.args.files.now).files in
     let nodes = c.args.nodes.now in
     let named = c.in_ok-named.named.items in
     let marks = c.in_ok-marks.marks.items in
@@ -51,7 +50,7 @@ returns-clause-rules g c = λ tells.
       seen_all = c.requires.seen tells;
       places = c.requires.places;
       went = c.in_ok-named.ensures.went tells;
-      reached = subst (λ f. AreReached (inodes_of f) marks) (same_files g.S.Blocks.tells false s t c.args.draft.now c.in_ok-named.ensures.looks tells) (c.in_ok-marks.ensures.reached tells);
+      reached = subst (λ f. AreReached (inodes_of f) marks) (same_files _ _ (c.laws.ensures.same false c.args.blocks.now c.check_directories.new.blocks c.in_ok-named.ensures.looks tells)) (c.in_ok-marks.ensures.reached tells);
     } in
     tree_files s.books.geom.i files nodes named marks found c.requires.root
     (subst (λ xs. Agree nodes xs marks (length nodes)) c.as_slice.ensures.value (subst (λ ys. Agree nodes c.as_slice.result.now ys (length nodes)) c.as_slice-2.ensures.value c.in_ok-judge.ensures.agree))

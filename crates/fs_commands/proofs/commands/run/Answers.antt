@@ -5,3 +5,6 @@ returns-in-Osync-clause-between g c = c.osync.ensures.between c.args.unused.now 
 
 pub returns-in-Dsync-clause-between : goal.returns-in-Dsync-clause-between
 returns-in-Dsync-clause-between g c = c.dsync.ensures.between c.args.unused.now c.requires.between
+
+pub returns-in-Dwait-clause-between : goal.returns-in-Dwait-clause-between
+returns-in-Dwait-clause-between g c = c.dwait.ensures.between c.args.unused.now c.requires.between

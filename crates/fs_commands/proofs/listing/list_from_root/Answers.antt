@@ -1,4 +1,4 @@
-use Rattle.std.proofs.Common.{refl, false, subst, ap, ◌∙◌, arith}
+use Rattle.std.proofs.Common.{◌≡◌, [], rules, refl, false, subst, ap, ◌∙◌, arith}
 use Rattle.layout_geometry.specs.Geometry.{Geometry}
 use Rattle.engine_blocks.specs.State.{Bookkeeping}
 use Rattle.fs_commands.specs.Listing.{turns_in, HaveNumbers}
@@ -6,13 +6,13 @@ use Rattle.fs_commands.proofs.looking.Found.{looks_more}
 use Rattle.fs_commands.proofs.listed.Texts.{on_err}
 use Rattle.fs_commands.proofs.listed.Reads.{map_stays}
 use Rattle.fs_commands.proofs.listed.Walks.{turns_join}
-use Rattle.fs_commands.proofs.listed.Whole.{whole_front, whole_writes, numbers_split, turn_front, turn_writes}
+use Rattle.fs_commands.proofs.listed.Whole.{whole_front, whole_writes, numbers_split, turn_front, turn_writes, ended}
 use Rattle.fs_commands.proofs.listing.list_from_root.Goals as goal
 
 pub returns-in_err-show-clause-front : goal.returns-in_err-show-clause-front
 returns-in_err-show-clause-front g c = λ told.
     let s = g.S.Blocks.state c.args.blocks.now in
-    on_err _ _ (whole_front s c.args.draft.now _ c.new.ensures.items c.new-2.ensures.items (c.i.ensures ∙ ap (λ (x : Geometry). x.i) c.geom-geom.ensures) c.a_map_is_of_one_tree.ensures.sound c.paths_are_counted.ensures.directory c.a_listing_goes_down.ensures.whole
+    on_err _ _ (whole_front s (g.N.Nodes.nodes s c.args.files.now) _ c.new.ensures.items c.new-2.ensures.items (c.i.ensures ∙ ap (λ (x : Geometry). x.i) c.geom-geom.ensures) c.a_map_is_of_one_tree.ensures.sound c.paths_are_counted.ensures.directory c.a_listing_goes_down.ensures.whole
     _ _ (c.in_err-show.ensures.front told))
 
 pub loop-frame-init : goal.loop-frame-init
@@ -22,8 +22,16 @@ loop-frame-init g c =
       looks = c.in_ok-show.ensures.lists.looks;
       faults = c.in_ok-show.ensures.lists.pushes.1;
       numbers = c.in_ok-show.ensures.numbers;
-      text = λ told. whole_writes s c.args.draft.now _ c.new.ensures.items c.new-2.ensures.items (c.i.ensures ∙ ap (λ (x : Geometry). x.i) c.geom-geom.ensures) c.a_map_is_of_one_tree.ensures.sound c.paths_are_counted.ensures.directory c.a_listing_goes_down.ensures.whole
+      text = λ told. whole_writes s (g.N.Nodes.nodes s c.args.files.now) _ c.new.ensures.items c.new-2.ensures.items (c.i.ensures ∙ ap (λ (x : Geometry). x.i) c.geom-geom.ensures) c.a_map_is_of_one_tree.ensures.sound c.paths_are_counted.ensures.directory c.a_listing_goes_down.ensures.whole
           _ _ _ (c.in_ok-show.ensures.writes told);
+    }
+
+pub turn-requires-clause-read : goal.turn-requires-clause-read
+turn-requires-clause-read g c =
+    let looks = c.loop-frame.invariant.looks in
+    record {
+      going = ap (λ (b : Bookkeeping). b.stopped) looks.books ∙ c.requires.read.going;
+      may = c.laws.ensures.stays false c.args.blocks.now c.loop-frame.blocks looks c.requires.read.may;
     }
 
 pub turn-requires-clause-numbers : goal.turn-requires-clause-numbers
@@ -45,8 +53,8 @@ loop-frame-preserved g c =
       looks = looks_more g.S.Blocks.tells false s mid (g.S.Blocks.state c.turn.new.blocks) invariant.looks c.in_ok-turn.ensures.lists.looks;
       faults = c.in_ok-turn.ensures.lists.pushes.1 ∙ invariant.faults;
       numbers = subst (λ n. HaveNumbers n c.turn.new.walk.frames.items) (ap (λ (b : Bookkeeping). b.geom.i) invariant.looks.books) c.in_ok-turn.ensures.numbers;
-      text = λ told. turn_writes s mid c.args.draft.now (g.K.Sink.taken c.args.out.now) c.loop-frame.walk c.in-Some.frame _ refl c.in-Some.ensures.items refl (g.K.Sink.taken c.loop-frame.out) (invariant.text told)
-          c.turn.new.walk (g.K.Sink.taken c.turn.new.out) (λ m t h. map_stays g.S.Blocks.tells false s mid c.args.draft.now invariant.looks m t told h) (c.in_ok-turn.ensures.writes told);
+      text = λ told. turn_writes s mid (g.N.Nodes.nodes s c.args.files.now) (g.N.Nodes.nodes mid c.args.files.now) (g.K.Sink.taken c.args.out.now) c.loop-frame.walk c.in-Some.frame _ refl c.in-Some.ensures.items refl (g.K.Sink.taken c.loop-frame.out) (invariant.text told)
+          c.turn.new.walk (g.K.Sink.taken c.turn.new.out) (map_stays g.S.Blocks.tells false s mid _ _ invariant.looks (c.laws.ensures.same false c.args.blocks.now c.loop-frame.blocks invariant.looks told)) (c.in_ok-turn.ensures.writes told);
     }
 
 pub loop-frame-smaller : goal.loop-frame-smaller
@@ -56,5 +64,10 @@ pub returns-in_err-turn-clause-front : goal.returns-in_err-turn-clause-front
 returns-in_err-turn-clause-front g c = λ told.
     let s = g.S.Blocks.state c.args.blocks.now in
     let mid = g.S.Blocks.state c.loop-frame.blocks in
-    on_err _ _ (turn_front s mid c.args.draft.now (g.K.Sink.taken c.args.out.now) c.loop-frame.walk c.in-Some.frame _ refl c.in-Some.ensures.items refl (g.K.Sink.taken c.loop-frame.out) (c.loop-frame.invariant.text told)
-    _ c.prefixes_join.ensures.second c.a_listing_goes_down.ensures.whole (λ m t h. map_stays g.S.Blocks.tells false s mid c.args.draft.now c.loop-frame.invariant.looks m t told h) (c.in_err-turn.ensures.front told))
+    on_err _ _ (turn_front s mid (g.N.Nodes.nodes s c.args.files.now) (g.N.Nodes.nodes mid c.args.files.now) (g.K.Sink.taken c.args.out.now) c.loop-frame.walk c.in-Some.frame _ refl c.in-Some.ensures.items refl (g.K.Sink.taken c.loop-frame.out) (c.loop-frame.invariant.text told)
+    _ c.prefixes_join.ensures.second c.a_listing_goes_down.ensures.whole (map_stays g.S.Blocks.tells false s mid _ _ c.loop-frame.invariant.looks (c.laws.ensures.same false c.args.blocks.now c.loop-frame.blocks c.loop-frame.invariant.looks told)) (c.in_err-turn.ensures.front told))
+
+pub returns-clause-all : goal.returns-clause-all
+returns-clause-all g c = λ told m t h.
+    let none : c.loop-frame.walk.frames.items ≡ [] = search rules in
+    ended m t c.loop-frame.walk _ _ none (c.a_listing_goes_down.ensures.whole t) h.map.shows.alone (c.loop-frame.invariant.text told m t h)

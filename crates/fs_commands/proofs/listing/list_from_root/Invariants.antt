@@ -11,7 +11,7 @@ invariant-loop-frame g l = record {
   looks : LooksOnly g.S.Blocks.tells false (g.S.Blocks.state l.fn.blocks) (g.S.Blocks.state l.blocks);
   faults : g.K.Sink.faults l.out ≡ g.K.Sink.faults l.fn.out;
   numbers : HaveNumbers (g.S.Blocks.state l.fn.blocks).books.geom.i l.walk.frames.items;
-  text : IsTrue g.S.Blocks.tells → (m : Inodes) (t : Tree) → IsMapIn (g.S.Blocks.state l.fn.blocks) l.draft m t
+  text : IsTrue g.S.Blocks.tells → (m : Inodes) (t : Tree) → IsMapIn (g.S.Blocks.state l.fn.blocks) (g.N.Nodes.nodes (g.S.Blocks.state l.fn.blocks) l.files) m t
       → HasWritten m t (at_and_below t []) l.walk (g.K.Sink.taken l.fn.out) (g.K.Sink.taken l.out);
 }
 

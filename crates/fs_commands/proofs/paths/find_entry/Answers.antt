@@ -12,7 +12,7 @@ look-requires g c = record {
   going = search rules;
   from = search rules;
   upto = search rules;
-  draft = draft_stays g.S.Blocks.tells false (g.S.Blocks.state c.args.blocks.now) (g.S.Blocks.state c.find_in_directory.new.blocks) c.args.draft.now c.in_ok-found.ensures.looks c.requires.draft;
+  may = draft_stays g.S.Blocks.tells false (g.S.Blocks.state c.args.blocks.now) (g.S.Blocks.state c.find_in_directory.new.blocks) c.args.draft.now c.in_ok-found.ensures.looks c.requires.draft;
 }
 
 pub returns-in_err-facts-clause-looks : goal.returns-in_err-facts-clause-looks

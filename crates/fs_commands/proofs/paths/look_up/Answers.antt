@@ -4,11 +4,20 @@ use Rattle.lang_tree.specs.declared.command.Refusal.{Refusal}
 use Rattle.fs_files.specs.Calls.{files_in}
 use Rattle.fs_files.specs.Content.{fails_reading}
 use Rattle.fs_files.specs.Drafts.{nothing_drafted}
+use Rattle.fs_files.specs.NodeMaps.{nodes_in}
 use Rattle.fs_dirs.specs.declared.lookup.Directory.{Directory}
 use Rattle.fs_dirs.specs.Reading.{IsOpened}
 use Rattle.fs_commands.proofs.looking.Entries.{above_as, comes_inside, entry_stays}
 use Rattle.fs_commands.proofs.looking.Found.{looks_more, draft_stays, draft_begun}
 use Rattle.fs_commands.proofs.paths.look_up.Goals as goal
+
+pub walk_to_parent-requires : goal.walk_to_parent-requires
+walk_to_parent-requires g c = record {
+  read = record {
+    going = c.requires.begin.going;
+    may = draft_begun g.S.Blocks.tells (g.S.Blocks.state c.args.blocks.now) c.new-draft.result c.new-draft.ensures c.requires.begin c.a_draft_begins.ensures.draft;
+  };
+}
 
 pub returns-in-Ok-None-clause-comes : goal.returns-in-Ok-None-clause-comes
 returns-in-Ok-None-clause-comes g c = λ told t h.
@@ -26,7 +35,7 @@ find_entry-requires-clause-draft g c =
 
 pub find_entry-requires-clause-opened : goal.find_entry-requires-clause-opened
 find_entry-requires-clause-opened g c =
-    subst (λ (r : Result (Option Directory) Refusal). IfOk r (λ up. IfSome up (IsOpened g.S.Blocks.tells (g.S.Blocks.state c.walk_to_parent.new.blocks) c.new-draft.result))) (c.in-Ok-Some.is ∙ ap Ok c.in-Ok-Some.field-0-is) c.in_ok-above.ensures.opened
+    subst (λ (r : Result (Option Directory) Refusal). IfOk r (λ up. IfSome up (IsOpened g.S.Blocks.tells (g.S.Blocks.state c.walk_to_parent.new.blocks) (nodes_in (g.S.Blocks.state c.walk_to_parent.new.blocks) c.new-draft.result)))) (c.in-Ok-Some.is ∙ ap Ok c.in-Ok-Some.field-0-is) c.in_ok-above.ensures.opened
 
 pub returns-in_err-entry-clause-looks : goal.returns-in_err-entry-clause-looks
 returns-in_err-entry-clause-looks g c =

@@ -19,12 +19,15 @@ use Rattle.fs_commands.proofs.growing.Refused.{growth_refused}
 use Rattle.fs_commands.proofs.planning.Looking.{growth_plan, looked_calmly}
 use Rattle.fs_commands.proofs.sizing.Resized.{need_is, resized_tree, Sized}
 use Rattle.fs_commands.proofs.writing.Written.{moved_to, used_stays, AtFile, at_file}
-use Rattle.fs_commands.proofs.looking.Found.{settled_files, uses_of}
+use Rattle.fs_commands.proofs.looking.Found.{look_begins, settled_files, uses_of}
 use Rattle.fs_commands.proofs.looking.InUse.{all_read}
 use Rattle.fs_commands.proofs.sizes.plan_size.Given as given
 use Rattle.fs_session.specs.Sessions.{IsSession, inodes}
 use Rattle.fs_commands.proofs.sizes.plan_size.Goals as goal
 use Rattle.fs_commands.proofs.sizes.plan_size.Goals.{After-resize, In-Ok}
+
+pub resize-requires-clause-look : goal.resize-requires-clause-look
+resize-requires-clause-look g c = look_begins g.S.Blocks.tells _ _ _ c.new-draft.ensures c.requires.may.begin c.requires.number c.a_draft_begins.ensures.draft
 
 pub resize-requires-clause-used : goal.resize-requires-clause-used
 resize-requires-clause-used g c = λ told. subst (λ d. IsUsed (files_in (g.S.Blocks.state c.args.blocks.now) d) c.args.number) (sym c.new-draft.ensures) ((c.requires.file told).0, (c.requires.file told).1)

@@ -19,7 +19,7 @@ write_at-requires-clause-used g c = λ told.
 
 pub write_at-requires-clause-slots : goal.write_at-requires-clause-slots
 write_at-requires-clause-slots g c = λ told x at dir.
-    still_whole (length x.bytes) c.args.count (64 * c.from.result) (length c.as_slice.result.now) (c.a_directory_has_whole_slots.ensures c.args.blocks.now c.args.draft.now c.args.dir x told c.requires.look.draft at dir)
+    still_whole (length x.bytes) c.args.count (64 * c.from.result) (length c.as_slice.result.now) (c.a_directory_has_whole_slots.ensures c.args.blocks.now c.args.draft.now c.args.dir x told c.requires.look.may at dir)
     (omega (arith, c.from.ensures)) (search rules)
 
 pub returns : goal.returns
@@ -30,7 +30,7 @@ returns g c =
     let after = files_in new c.write_at.new.self in
     let size : length c.as_slice.result.now ≡ 64 = search rules in
     let node : IsTrue g.S.Blocks.tells → (slots : List Slot) → inodes_in s c.args.draft.now c.args.dir ≡ Some (ADir slots) → DirNode (before c.args.dir) slots = λ told slots is.
-    dir_node (before c.args.dir) slots is (λ x at dir. c.a_directory_has_whole_slots.ensures c.args.blocks.now c.args.draft.now c.args.dir x told c.requires.look.draft at dir) c.slots_follow_the_bytes.ensures.count in
+    dir_node (before c.args.dir) slots is (λ x at dir. c.a_directory_has_whole_slots.ensures c.args.blocks.now c.args.draft.now c.args.dir x told c.requires.look.may at dir) c.slots_follow_the_bytes.ensures.count in
     let many : IsTrue g.S.Blocks.tells → (slots : List Slot) → inodes_in s c.args.draft.now c.args.dir ≡ Some (ADir slots) → c.args.count ≡ length slots = λ told slots is. count_of_slots _ c.args.count slots (c.requires.there told) is in
     record {
       slots = λ told.
@@ -66,7 +66,7 @@ returns g c =
           alters_behind new.books s.books.geom c.args.dir (min (64 * c.from.result) (length r.file.bytes)) (64 * c.from.result + length c.as_slice.result.now) slots r.file
           (places_in s c.args.draft.now c.args.dir) (places_in new c.write_at.new.self c.args.dir) c.args.draft.now c.write_at.new.self
           (grows r.file r.is (omega (arith, size))) r.kind r.long (omega (arith, c.from.ensures, count, r.long)) (omega (arith, c.from.ensures, count, size))
-          (c.a_file_has_its_blocks.ensures c.args.blocks.now c.args.draft.now c.args.dir r.file told c.requires.look.draft r.is) (among r.file r.is))
+          (c.a_file_has_its_blocks.ensures c.args.blocks.now c.args.draft.now c.args.dir r.file told c.requires.look.may r.is) (among r.file r.is))
           (c.write_at.ensures.grows told) (c.write_at.ensures.among told);
       refused = λ told.
           IfErr-weaker c.write_at.result _ _ (λ why refused slots is.

@@ -23,7 +23,7 @@ module _ (g : _) (c : goal.In_ok-cut_to g) where
   node : IsTrue g.S.Blocks.tells → (slots : List Slot) → inodes_in s c.args.draft.now c.args.dir ≡ Some (ADir slots) → DirNode (files_in s c.args.draft.now c.args.dir) slots
   node told slots is =
       dir_node (files_in s c.args.draft.now c.args.dir) slots is
-      (λ x at dir. c.a_directory_has_whole_slots.ensures c.args.blocks.now c.args.draft.now c.args.dir x told c.requires.look.draft at dir) c.slots_follow_the_bytes.ensures.count
+      (λ x at dir. c.a_directory_has_whole_slots.ensures c.args.blocks.now c.args.draft.now c.args.dir x told c.requires.look.may at dir) c.slots_follow_the_bytes.ensures.count
 
 pub returns : goal.returns
 returns g c = record {
@@ -39,7 +39,7 @@ returns g c = record {
   alters = λ told slots is.
       let r = node g c told slots is in
       alters_cut (s g c).books.geom c.args.dir c.args.count (64 * c.from.result) slots _ r (places_in (s g c) c.args.draft.now c.args.dir) (places_in (g.S.Blocks.state c.cut_to.new.blocks) c.cut_to.new.self c.args.dir) c.args.draft.now c.cut_to.new.self
-      (omega (arith, c.from.ensures)) (c.a_file_has_its_blocks.ensures c.args.blocks.now c.args.draft.now c.args.dir r.file told c.requires.look.draft r.is)
+      (omega (arith, c.from.ensures)) (c.a_file_has_its_blocks.ensures c.args.blocks.now c.args.draft.now c.args.dir r.file told c.requires.look.may r.is)
       (c.in_ok-cut_to.ensures.shrinks told r.file r.is) (c.in_ok-cut_to.ensures.among told r.file r.is);
   refused = tt;
   looks = c.in_ok-cut_to.ensures.looks;

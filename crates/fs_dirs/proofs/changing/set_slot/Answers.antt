@@ -22,7 +22,7 @@ module _ (g : _) (c : goal.In_ok-overwrite g) where
   node : IsTrue g.S.Blocks.tells → (slots : List Slot) → inodes_in (g.S.Blocks.state c.args.blocks.now) c.args.draft.now c.args.dir ≡ Some (ADir slots) → DirNode (files_in (g.S.Blocks.state c.args.blocks.now) c.args.draft.now c.args.dir) slots
   node told slots is =
       dir_node (files_in (g.S.Blocks.state c.args.blocks.now) c.args.draft.now c.args.dir) slots is
-      (λ x at dir. c.a_directory_has_whole_slots.ensures c.args.blocks.now c.args.draft.now c.args.dir x told c.requires.look.draft at dir) c.slots_follow_the_bytes.ensures.count
+      (λ x at dir. c.a_directory_has_whole_slots.ensures c.args.blocks.now c.args.draft.now c.args.dir x told c.requires.look.may at dir) c.slots_follow_the_bytes.ensures.count
 
 pub returns : goal.returns
 returns g c = record {

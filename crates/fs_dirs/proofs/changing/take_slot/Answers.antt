@@ -8,6 +8,7 @@ use Rattle.crash_stands.specs.Inodes.{ADir}
 use Rattle.engine_blocks.specs.State.{Bookkeeping, State}
 use Rattle.fs_files.specs.Calls.{files_in, places_in}
 use Rattle.fs_files.specs.Effects.{LooksOnly}
+use Rattle.fs_files.specs.NodeMaps.{nodes_in}
 use Rattle.fs_dirs.specs.Changing.{Alters, IsWithSlots, TakesSlot}
 use Rattle.fs_dirs.specs.Directories.{inodes_in}
 use Rattle.fs_dirs.specs.Reading.{IsOpened}
@@ -23,7 +24,7 @@ pub returns-in_default : goal.returns-in_default
 returns-in_default g c = record {
   slots = λ told slots is. absurd (none-some _ (of_none _ c.in_default.is (c.in_ok-directory.ensures.none told) (ADir slots) is));
   places = λ told slots is. absurd (none-some _ (of_none _ c.in_default.is (c.in_ok-directory.ensures.none told) (ADir slots) is));
-  draft = draft_stays g.S.Blocks.tells false _ _ c.args.draft.now c.in_ok-directory.ensures.looks c.requires.look.draft;
+  draft = draft_stays g.S.Blocks.tells false _ _ c.args.draft.now c.in_ok-directory.ensures.looks c.requires.look.may;
   alters = λ told slots is. absurd (none-some _ (of_none _ c.in_default.is (c.in_ok-directory.ensures.none told) (ADir slots) is));
   refused = tt;
   looks = c.in_ok-directory.ensures.looks;
@@ -37,7 +38,7 @@ module _ (g : _) (c : In-Some g) where
   abbrev t : State
   t = g.S.Blocks.state c.open_directory.new.blocks
 
-  opened : (c.in-Some.directory.number ≡ c.args.dir) × IsOpened g.S.Blocks.tells t c.args.draft.now c.in-Some.directory
+  opened : (c.in-Some.directory.number ≡ c.args.dir) × IsOpened g.S.Blocks.tells t (nodes_in t c.args.draft.now) c.in-Some.directory
   opened = of_found _ _ _ c.in-Some.is c.in_ok-directory.ensures.opened
 
   place_low : IsTrue g.S.Blocks.tells → (slots : List Slot) → inodes_in s c.args.draft.now c.args.dir ≡ Some (ADir slots) → c.args.place < length slots
@@ -56,7 +57,7 @@ returns-in_default-last_place g c =
     record {
       slots = λ told slots is. absurd (none-some _ (sym c.in_default-last_place.is ∙ c.last_place.ensures.last (some g b told slots is)));
       places = λ told slots is. absurd (none-some _ (sym c.in_default-last_place.is ∙ c.last_place.ensures.last (some g b told slots is)));
-      draft = draft_stays g.S.Blocks.tells false _ _ c.args.draft.now c.in_ok-directory.ensures.looks c.requires.look.draft;
+      draft = draft_stays g.S.Blocks.tells false _ _ c.args.draft.now c.in_ok-directory.ensures.looks c.requires.look.may;
       alters = λ told slots is. absurd (none-some _ (sym c.in_default-last_place.is ∙ c.last_place.ensures.last (some g b told slots is)));
       refused = tt;
       looks = c.in_ok-directory.ensures.looks;
@@ -76,7 +77,7 @@ pub slot_at-requires-clause-going : goal.slot_at-requires-clause-going
 slot_at-requires-clause-going g c = ap (λ (b : Bookkeeping). b.stopped) c.in_ok-directory.ensures.looks.books ∙ c.requires.look.going
 
 pub slot_at-requires-clause-draft : goal.slot_at-requires-clause-draft
-slot_at-requires-clause-draft g c = draft_stays g.S.Blocks.tells false _ _ c.args.draft.now c.in_ok-directory.ensures.looks c.requires.look.draft
+slot_at-requires-clause-draft g c = draft_stays g.S.Blocks.tells false _ _ c.args.draft.now c.in_ok-directory.ensures.looks c.requires.look.may
 
 pub slot_at-requires-clause-opened : goal.slot_at-requires-clause-opened
 slot_at-requires-clause-opened g c = (of_found _ _ _ c.in-Some.is c.in_ok-directory.ensures.opened).1
@@ -93,7 +94,7 @@ returns-in_default-2 g c =
     record {
       slots = λ told slots is. never _ told slots is;
       places = λ told slots is. never _ told slots is;
-      draft = draft_stays g.S.Blocks.tells false (s g d) (g.S.Blocks.state c.slot_at.new.blocks) c.args.draft.now looks c.requires.look.draft;
+      draft = draft_stays g.S.Blocks.tells false (s g d) (g.S.Blocks.state c.slot_at.new.blocks) c.args.draft.now looks c.requires.look.may;
       alters = λ told slots is. never _ told slots is;
       refused = tt;
       looks = looks;

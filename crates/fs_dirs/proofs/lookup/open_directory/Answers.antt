@@ -1,6 +1,5 @@
 use Rattle.std.proofs.Common.{◌≡◌, ◌<◌, ◌^◌, false, All, option_map, refl, sym, ap, ◌∙◌}
 use Rattle.engine_blocks.specs.Puts.{IsData}
-use Rattle.fs_files.specs.Calls.{files_in, places_in}
 use Rattle.fs_files.specs.declared.node_blocks.OpenFile.{OpenFile}
 use Rattle.fs_dirs.proofs.reading.Kinds.{counts, facts_are}
 use Rattle.fs_dirs.proofs.reading.Looks.{of_found, opened_stays}
@@ -10,13 +9,13 @@ pub returns-in_default-slots_of : goal.returns-in_default-slots_of
 returns-in_default-slots_of g c = record {
   opened = tt;
   none = λ told x is.
-      let o = files_in (g.S.Blocks.state c.args.blocks.now) c.args.draft.now in
+      let o = (g.N.Nodes.nodes (g.S.Blocks.state c.args.blocks.now) c.args.files.now).files in
       sym c.in_default-slots_of.is
       ∙ counts (o c.args.number) x c.in-Some.file.facts c.slots_of.result is
       (facts_are (o c.args.number) _ c.in-Some.file.facts (c.in_ok-file.ensures.facts told) (ap (option_map (λ (f : OpenFile). f.facts)) c.in-Some.is))
       c.slots_of.ensures.file c.slots_of.ensures.dir
-      (λ file slots at kind reads. c.slots_follow_the_bytes.ensures.count file slots reads (c.a_directory_has_whole_slots.ensures c.args.blocks.now c.args.draft.now c.args.number file told c.requires.draft at kind))
-      (λ file at. c.a_file_fits_the_disk.ensures c.args.draft.now c.args.number file told c.requires.draft at);
+      (λ file slots at kind reads. c.slots_follow_the_bytes.ensures.count file slots reads (c.laws.ensures.slots told c.requires.may c.args.number file at kind))
+      (λ file at. c.laws.ensures.few told c.requires.may c.args.number file at);
   looks = c.in_ok-file.ensures.looks;
 }
 
@@ -24,21 +23,22 @@ pub returns : goal.returns
 returns g c =
     let s = g.S.Blocks.state c.args.blocks.now in
     let t = g.S.Blocks.state c.open.new.blocks in
-    let o = files_in s c.args.draft.now in
+    let v = g.N.Nodes.nodes s c.args.files.now in
+    let o = v.files in
     record {
       opened = (
         refl,
-        opened_stays g.S.Blocks.tells false s t c.args.draft.now c.in_ok-file.ensures.looks _ (record {
+        opened_stays g.S.Blocks.tells false s t c.in_ok-file.ensures.looks v _ _ (c.laws.ensures.same false c.args.blocks.now c.open.new.blocks c.in_ok-file.ensures.looks) (record {
           number = record { from = c.requires.from; upto = c.requires.upto };
           count = λ told x is.
               sym c.in-Some-slots_of.is
               ∙ counts (o c.args.number) x c.in-Some.file.facts c.slots_of.result is
               (facts_are (o c.args.number) _ c.in-Some.file.facts (c.in_ok-file.ensures.facts told) (ap (option_map (λ (f : OpenFile). f.facts)) c.in-Some.is))
               c.slots_of.ensures.file c.slots_of.ensures.dir
-              (λ file slots at kind reads. c.slots_follow_the_bytes.ensures.count file slots reads (c.a_directory_has_whole_slots.ensures c.args.blocks.now c.args.draft.now c.args.number file told c.requires.draft at kind))
-              (λ file at. c.a_file_fits_the_disk.ensures c.args.draft.now c.args.number file told c.requires.draft at);
+              (λ file slots at kind reads. c.slots_follow_the_bytes.ensures.count file slots reads (c.laws.ensures.slots told c.requires.may c.args.number file at kind))
+              (λ file at. c.laws.ensures.few told c.requires.may c.args.number file at);
           few = of_found (λ n. n < 2 ^ 24) _ _ c.in-Some-slots_of.is c.slots_of.ensures.few;
-          blocks = λ told. of_found (λ (f : OpenFile). f.blocks ≡ places_in s c.args.draft.now c.args.number) _ _ c.in-Some.is (c.in_ok-file.ensures.places told);
+          blocks = λ told. of_found (λ (f : OpenFile). f.blocks ≡ v.places c.args.number) _ _ c.in-Some.is (c.in_ok-file.ensures.places told);
           inside = of_found (λ (f : OpenFile). All (IsData s.books.geom) f.blocks) _ _ c.in-Some.is c.in_ok-file.ensures.data;
         }),
       );

@@ -1,6 +1,6 @@
 use Rattle.std.proofs.Common.{sym, subst, true, false, ◌+◌}
 use Rattle.std.proofs.lemmas.Result.{err_from_is_err_and}
-use Rattle.fs_files.proofs.bytes.Looks.{looks_more}
+use Rattle.fs_files.specs.Places.{looks_more}
 use Rattle.fs_files.proofs.bytes.Loops.{ReadsUpTo, reads_more}
 use Rattle.fs_files.proofs.content.read_content.Goals as goal
 

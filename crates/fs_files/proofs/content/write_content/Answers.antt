@@ -4,7 +4,7 @@ use Rattle.engine_blocks.specs.Puts.{IsData}
 use Rattle.fs_files.specs.Bytes.{overwrite}
 use Rattle.fs_files.specs.Drafts.{drafted}
 use Rattle.fs_files.proofs.bytes.Joins.{of_place}
-use Rattle.fs_files.proofs.bytes.Looks.{looks_more}
+use Rattle.fs_files.specs.Places.{looks_more}
 use Rattle.fs_files.proofs.bytes.Loops.{writes_on}
 use Rattle.fs_files.proofs.content.write_content.Goals as goal
 

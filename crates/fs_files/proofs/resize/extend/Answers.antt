@@ -4,7 +4,7 @@ use Rattle.fs_files.specs.declared.refusal.FileRefusal.TheVariants as refusal
 use Rattle.fs_files.specs.Content.{fails_reading, fails_settling}
 use Rattle.fs_files.specs.Effects.{LooksOnly, LooksAndSettles}
 use Rattle.fs_files.specs.Growing.{more_blocks}
-use Rattle.fs_files.proofs.bytes.Looks.{looks_more}
+use Rattle.fs_files.specs.Places.{looks_more}
 use Rattle.fs_files.proofs.calling.Extends.{ExtendsNode, extend_steps, extended_draft, extended_file, extended_places, extended_grows, extended_changes, unread_settles}
 use Rattle.fs_files.proofs.calling.WriteLooks.{looks_then, looked, look_passed}
 use Rattle.fs_files.proofs.drafts.Refused.{same_error}

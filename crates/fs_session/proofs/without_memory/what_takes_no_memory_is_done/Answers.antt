@@ -5,4 +5,4 @@ pub returns-clause-never : goal.returns-clause-never
 returns-clause-never g c = λ old new cmd reply none applies is. never g.S.Blocks.tells g.S.Blocks.state cmd old new reply none applies is
 
 pub returns-clause-done : goal.returns-clause-done
-returns-clause-done g c = λ old new cmd reply none applies well. done g.S.Blocks.tells g.S.Blocks.state cmd old new reply none applies well
+returns-clause-done g c = λ old new cmd reply none applies there well. done g.S.Blocks.tells g.S.Blocks.state cmd old new reply none there applies well

@@ -5,7 +5,7 @@ use Rattle.engine_blocks.specs.State.{Bookkeeping, State}
 use Rattle.crash_stands.specs.Files.{FileNode}
 use Rattle.fs_files.specs.Calls.{files_in, places_in, cut_blocks, ChangesAmong, Shrinks}
 use Rattle.fs_files.specs.Nodes.{IsOpen, node_of_open}
-use Rattle.fs_files.proofs.bytes.Looks.{looks_more}
+use Rattle.fs_files.specs.Places.{looks_more}
 use Rattle.fs_files.proofs.frames.Carry.{draft_looks, places_look}
 use Rattle.fs_files.proofs.calling.Nodes.{has_table}
 use Rattle.fs_files.proofs.calling.Resized.{IsRead, read_at, read_size, since_read, cut_read}
@@ -24,10 +24,10 @@ module _ (g : _) (c : In-Some g) where
   read x known at = record {
     known = known;
     looks = c.in_ok-node.ensures.looks;
-    draft = c.requires.look.draft;
+    draft = c.requires.look.may;
     fits = subst (λ f. IfSome f (IsOpen s.books.geom)) c.in-Some.is c.in_ok-node.ensures.open;
     is = ap (option_map node_of_open) (sym c.in-Some.is)
-        ∙ c.in_ok-node.ensures.node known (has_table s c.args.self.now c.args.number (subst IsGeometry c.geom.ensures c.lawful.ensures.limits) c.requires.look.from c.requires.look.upto (c.requires.look.draft.sound known));
+        ∙ c.in_ok-node.ensures.node known (has_table s c.args.self.now c.args.number (subst IsGeometry c.geom.ensures c.lawful.ensures.limits) c.requires.look.from c.requires.look.upto (c.requires.look.may.sound known));
     at = at;
     places = c.a_list_has_its_runs.ensures.places;
   }
@@ -39,7 +39,7 @@ returns-then-node-size g c =
     record {
       file = λ told x at. absurd (omega (arith, c.if-node-size.true, c.requires.cuts.shorter told x at, longer told x at));
       places = λ told. let there = c.requires.used told in absurd (omega (arith, c.if-node-size.true, c.requires.cuts.shorter told there.0 there.1, longer told there.0 there.1));
-      draft = draft_looks g.S.Blocks.tells false (s g b) (t g b) c.args.self.now c.in_ok-node.ensures.looks c.requires.look.draft;
+      draft = draft_looks g.S.Blocks.tells false (s g b) (t g b) c.args.self.now c.in_ok-node.ensures.looks c.requires.look.may;
       shrinks = λ told x at. absurd (omega (arith, c.if-node-size.true, c.requires.cuts.shorter told x at, longer told x at));
       among = λ told x at. absurd (omega (arith, c.if-node-size.true, c.requires.cuts.shorter told x at, longer told x at));
       refused = tt;

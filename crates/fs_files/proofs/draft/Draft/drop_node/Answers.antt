@@ -23,7 +23,7 @@ module _ (g : _) (c : goal.In_ok-store g) where
   k = s.books
 
   fits : FitsBooks k c.store.new.draft
-  fits = drop_fits k c.geom-geom.result c.args.number c.in-Some.node.places _ c.args.self.now c.shrink.new.draft c.store.new.draft c.geom-geom.ensures c.lawful.ensures.limits c.requires.look.from c.requires.look.upto c.requires.look.draft.fits
+  fits = drop_fits k c.geom-geom.result c.args.number c.in-Some.node.places _ c.args.self.now c.shrink.new.draft c.store.new.draft c.geom-geom.ensures c.lawful.ensures.limits c.requires.look.from c.requires.look.upto c.requires.look.may.fits
       opened.«data» c.in_ok-shrink.ensures.frees c.in_ok-store.ensures.ok
 
   changed : ChangesSome c.store.new.draft
@@ -33,10 +33,10 @@ module _ (g : _) (c : goal.In_ok-store g) where
   made : IsTrue g.S.Blocks.tells → IsSoundDraft k s.map c.store.new.draft × IsWithFile (files_in s c.args.self.now) (files_of k.geom (drafted c.store.new.draft s.map)) c.args.number None × SetsNode k.geom c.args.number (places_in s c.args.self.now c.args.number) c.args.self.now c.store.new.draft
       × IsWithPlaces (places_in s c.args.self.now) (places_of k.geom (drafted c.store.new.draft s.map)) c.args.number []
   made tells =
-      let sound = c.requires.look.draft.sound tells in
+      let sound = c.requires.look.may.sound tells in
       let there = has_table s c.args.self.now c.args.number (subst IsGeometry c.geom-geom.ensures c.lawful.ensures.limits) c.requires.look.from c.requires.look.upto sound in
       drops k s.map c.geom-geom.result c.args.number c.in-Some.node c.free_node.result c.load.new.table c.args.self.now c.shrink.new.draft c.store.new.draft
-      c.geom-geom.ensures c.lawful.ensures.limits c.requires.look.from c.requires.look.upto c.requires.look.draft.fits sound opened.«data» (c.a_list_has_its_runs.ensures.places c.in-Some.node.places)
+      c.geom-geom.ensures c.lawful.ensures.limits c.requires.look.from c.requires.look.upto c.requires.look.may.fits sound opened.«data» (c.a_list_has_its_runs.ensures.places c.in-Some.node.places)
       (ap (option_map node_of_open) (sym c.in-Some.is) ∙ c.in_ok-node.ensures.node tells there) (c.in_ok-node.ensures.table tells there)
       c.in_ok-shrink.ensures.frees c.free_node.ensures c.in_ok-store.ensures.ok c.in_ok-store.ensures.back
 

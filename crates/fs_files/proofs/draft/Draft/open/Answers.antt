@@ -8,11 +8,11 @@ use Rattle.fs_files.proofs.draft.Draft.open.Goals as goal
 pub returns-in_default-clause-facts : goal.returns-in_default-clause-facts
 returns-in_default-clause-facts g c = λ tells.
     let s = g.S.Blocks.state c.args.blocks.now in
-    let there = has_table s c.args.self.now c.args.number (subst IsGeometry c.geom.ensures c.lawful.ensures.limits) c.requires.from c.requires.upto (c.requires.draft.sound tells) in
+    let there = has_table s c.args.self.now c.args.number (subst IsGeometry c.geom.ensures c.lawful.ensures.limits) c.requires.from c.requires.upto (c.requires.may.sound tells) in
     none_up s c.args.self.now c.args.number (ap (option_map node_of_open) (sym c.in_default.is) ∙ c.in_ok-node.ensures.node tells there)
 
 pub returns-clause-facts : goal.returns-clause-facts
 returns-clause-facts g c = λ tells.
     let s = g.S.Blocks.state c.args.blocks.now in
-    let there = has_table s c.args.self.now c.args.number (subst IsGeometry c.geom.ensures c.lawful.ensures.limits) c.requires.from c.requires.upto (c.requires.draft.sound tells) in
-    looked_up s c.args.self.now c.args.number c.in-Some.node (c.requires.draft.sound tells) (ap (option_map node_of_open) (sym c.in-Some.is) ∙ c.in_ok-node.ensures.node tells there)
+    let there = has_table s c.args.self.now c.args.number (subst IsGeometry c.geom.ensures c.lawful.ensures.limits) c.requires.from c.requires.upto (c.requires.may.sound tells) in
+    looked_up s c.args.self.now c.args.number c.in-Some.node (c.requires.may.sound tells) (ap (option_map node_of_open) (sym c.in-Some.is) ∙ c.in_ok-node.ensures.node tells there)

@@ -13,7 +13,7 @@ use Rattle.fs_files.specs.Content.{HasContent, WritesContent}
 use Rattle.fs_files.specs.Drafts.{drafted}
 use Rattle.fs_files.specs.Effects.{LooksOnly}
 use Rattle.fs_files.specs.Nodes.{node_of_open, IsOpen}
-use Rattle.fs_files.proofs.bytes.Looks.{looks_more}
+use Rattle.fs_files.specs.Places.{looks_more}
 use Rattle.fs_files.proofs.frames.Carry.{draft_looks}
 use Rattle.fs_files.proofs.calling.Nodes.{has_table}
 use Rattle.fs_files.proofs.drafts.Refused.{same_error}
@@ -36,17 +36,17 @@ module _ (g : _) (c : In-Some g) where
   used : IsTrue g.S.Blocks.tells → Some (node_of_open c.in-Some.node) ≡ used_node s.books.geom (drafted c.args.self.now s.map) c.args.number
   used told =
       ap (option_map node_of_open) (sym c.in-Some.is)
-      ∙ c.in_ok-node.ensures.node told (has_table s c.args.self.now c.args.number (subst IsGeometry c.geom.ensures c.lawful.ensures.limits) c.requires.look.from c.requires.look.upto (c.requires.look.draft.sound told))
+      ∙ c.in_ok-node.ensures.node told (has_table s c.args.self.now c.args.number (subst IsGeometry c.geom.ensures c.lawful.ensures.limits) c.requires.look.from c.requires.look.upto (c.requires.look.may.sound told))
 
 pub returns-then-node-offset : goal.returns-then-node-offset
 returns-then-node-offset g c =
     let b = (goal.at.returns-then-node-offset g c).In-Some in
     let there = c.requires.used in
-    let short = λ (told : IsTrue g.S.Blocks.tells). is_long g.S.Blocks.tells (s g b) (t g b) c.args.number c.args.self.now c.in-Some.node c.in_ok-node.ensures.looks told (c.requires.look.draft.sound told) (opened g b) (used g b told) (there told).0 (there told).1 in
+    let short = λ (told : IsTrue g.S.Blocks.tells). is_long g.S.Blocks.tells (s g b) (t g b) c.args.number c.args.self.now c.in-Some.node c.in_ok-node.ensures.looks told (c.requires.look.may.sound told) (opened g b) (used g b told) (there told).0 (there told).1 in
     record {
       file = λ told x at. absurd (omega (arith, c.if-node-offset.true, c.requires.within told (there told).0 (there told).1, short told));
       places = λ told. absurd (omega (arith, c.if-node-offset.true, c.requires.within told (there told).0 (there told).1, short told));
-      draft = draft_looks g.S.Blocks.tells false (s g b) (t g b) c.args.self.now c.in_ok-node.ensures.looks c.requires.look.draft;
+      draft = draft_looks g.S.Blocks.tells false (s g b) (t g b) c.args.self.now c.in_ok-node.ensures.looks c.requires.look.may;
       overwrites = λ told. absurd (omega (arith, c.if-node-offset.true, c.requires.within told (there told).0 (there told).1, short told));
       changes = λ told some. absurd (omega (arith, c.if-node-offset.true, c.requires.within told (there told).0 (there told).1, short told));
       refused = tt;
@@ -72,10 +72,10 @@ module _ (g : _) (c : goal.In_ok-write_content g) where
     geom = subst IsGeometry c.geom.ensures c.lawful.ensures.limits;
     from = c.requires.look.from;
     upto = c.requires.look.upto;
-    draft = c.requires.look.draft;
+    draft = c.requires.look.may;
     opened = subst (λ f. IfSome f (IsOpen old.books.geom)) c.in-Some.is c.in_ok-node.ensures.open;
     used = λ told. ap (option_map node_of_open) (sym c.in-Some.is)
-        ∙ c.in_ok-node.ensures.node told (has_table old c.args.self.now c.args.number (subst IsGeometry c.geom.ensures c.lawful.ensures.limits) c.requires.look.from c.requires.look.upto (c.requires.look.draft.sound told));
+        ∙ c.in_ok-node.ensures.node told (has_table old c.args.self.now c.args.number (subst IsGeometry c.geom.ensures c.lawful.ensures.limits) c.requires.look.from c.requires.look.upto (c.requires.look.may.sound told));
     within = omega (arith, c.if-node-offset.false);
     few = c.requires.size;
     some = omega (arith, eqb-false (length c.args.bytes.now) 0 ((sym c.is_empty.ensures ∙ c.if-is_empty.false)));

@@ -10,7 +10,7 @@ use Rattle.fs_files.specs.Changing.{ResizesFile}
 use Rattle.fs_files.specs.Content.{fails_reading}
 use Rattle.fs_files.specs.Effects.{LooksAndSettles}
 use Rattle.fs_files.specs.Nodes.{IsOpen, node_of_open}
-use Rattle.fs_files.proofs.bytes.Looks.{looks_more}
+use Rattle.fs_files.specs.Places.{looks_more}
 use Rattle.fs_files.proofs.frames.Carry.{draft_looks}
 use Rattle.fs_files.proofs.calling.Nodes.{has_table, none_found}
 use Rattle.fs_files.proofs.calling.Resized.{IsRead, read_at, read_growth, since_read, same_file, kept_places, cut_places, grown_places, same_resizes, cut_resizes, grown_resizes, grown_refused, few_read}
@@ -31,10 +31,10 @@ module _ (g : _) (c : goal.In-Some g) where
   read x known at = record {
     known = known;
     looks = c.in_ok-node.ensures.looks;
-    draft = c.requires.look.draft;
+    draft = c.requires.look.may;
     fits = subst (λ f. IfSome f (IsOpen s.books.geom)) c.in-Some.is c.in_ok-node.ensures.open;
     is = ap (option_map node_of_open) (sym c.in-Some.is)
-        ∙ c.in_ok-node.ensures.node known (has_table s c.args.self.now c.args.number (subst IsGeometry c.geom.ensures c.lawful.ensures.limits) c.requires.look.from c.requires.look.upto (c.requires.look.draft.sound known));
+        ∙ c.in_ok-node.ensures.node known (has_table s c.args.self.now c.args.number (subst IsGeometry c.geom.ensures c.lawful.ensures.limits) c.requires.look.from c.requires.look.upto (c.requires.look.may.sound known));
     at = at;
     places = c.a_list_has_its_runs.ensures.places;
   }
@@ -80,11 +80,11 @@ returns-in_default g c =
     let t = g.S.Blocks.state c.load.new.blocks in
     let d = c.args.self.now in
     let geom = subst IsGeometry c.geom.ensures c.lawful.ensures.limits in
-    let node = λ (known : IsTrue g.S.Blocks.tells). c.in_ok-node.ensures.node known (has_table s d c.args.number geom c.requires.look.from c.requires.look.upto (c.requires.look.draft.sound known)) in
+    let node = λ (known : IsTrue g.S.Blocks.tells). c.in_ok-node.ensures.node known (has_table s d c.args.number geom c.requires.look.from c.requires.look.upto (c.requires.look.may.sound known)) in
     record {
       file = λ known x at. none_found s d c.args.number x c.in_ok-node.field-0 c.in_default.is (node known) at;
       places = λ known x at. none_found s d c.args.number x c.in_ok-node.field-0 c.in_default.is (node known) at;
-      draft = draft_looks g.S.Blocks.tells false s t d c.in_ok-node.ensures.looks c.requires.look.draft;
+      draft = draft_looks g.S.Blocks.tells false s t d c.in_ok-node.ensures.looks c.requires.look.may;
       resizes = λ known x at. none_found s d c.args.number x c.in_ok-node.field-0 c.in_default.is (node known) at;
       refused = λ known. tt;
       settles = looked g.S.Blocks.state g.S.Blocks.tells c.calls_compose.ensures.advances c.calls_compose.ensures.rests false c.args.blocks.now c.load.new.blocks c.requires.look.going c.in_ok-node.ensures.looks;
@@ -97,7 +97,7 @@ returns-then-size-node g c =
     record {
       file = λ known x at. same_file g.S.Blocks.tells (s g b) (t g b) c.args.number c.args.size c.in-Some.node x c.args.self.now (read g b x known at) c.if-size-node.true;
       places = λ known x at. kept_places g.S.Blocks.tells (s g b) (t g b) c.args.number c.args.size c.in-Some.node x c.args.self.now (read g b x known at) (t g b).books c.if-size-node.true;
-      draft = draft_looks g.S.Blocks.tells false (s g b) (t g b) c.args.self.now c.in_ok-node.ensures.looks c.requires.look.draft;
+      draft = draft_looks g.S.Blocks.tells false (s g b) (t g b) c.args.self.now c.in_ok-node.ensures.looks c.requires.look.may;
       resizes = λ known x at. same_resizes g.S.Blocks.tells (s g b) (t g b) c.args.number c.args.size c.in-Some.node x c.args.self.now (read g b x known at) (t g b).books _ c.if-size-node.true;
       refused = λ told. tt;
       settles = looked g.S.Blocks.state g.S.Blocks.tells c.calls_compose.ensures.advances c.calls_compose.ensures.rests false c.args.blocks.now c.load.new.blocks c.requires.look.going c.in_ok-node.ensures.looks;
@@ -141,7 +141,7 @@ returns-then-not-may_grow g c =
       places = λ known x at.
           let no = c.if-not-may_grow.ensures.no refl in
           absurd (no.1 (c.requires.grows.once known x at (omega (arith, no.0, read_growth g.S.Blocks.tells (s g b) (t g b) c.args.number c.args.size c.in-Some.node x c.args.self.now (read g b x known at)))));
-      draft = draft_looks g.S.Blocks.tells false (s g b) (t g b) c.args.self.now c.in_ok-node.ensures.looks c.requires.look.draft;
+      draft = draft_looks g.S.Blocks.tells false (s g b) (t g b) c.args.self.now c.in_ok-node.ensures.looks c.requires.look.may;
       resizes = λ known x at.
           let no = c.if-not-may_grow.ensures.no refl in
           absurd (no.1 (c.requires.grows.once known x at (omega (arith, no.0, read_growth g.S.Blocks.tells (s g b) (t g b) c.args.number c.args.size c.in-Some.node x c.args.self.now (read g b x known at)))));

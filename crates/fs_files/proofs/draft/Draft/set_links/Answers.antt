@@ -20,7 +20,7 @@ module _ (g : _) (c : goal.In_ok-store g) where
   k = s.books
 
   fits : FitsBooks k c.store.new.draft
-  fits = put_still_fits k c.geom-geom.result c.args.number _ c.args.self.now c.store.new.draft c.geom-geom.ensures c.lawful.ensures.limits c.requires.look.from c.requires.look.upto c.requires.look.draft.fits c.in_ok-store.ensures.ok
+  fits = put_still_fits k c.geom-geom.result c.args.number _ c.args.self.now c.store.new.draft c.geom-geom.ensures c.lawful.ensures.limits c.requires.look.from c.requires.look.upto c.requires.look.may.fits c.in_ok-store.ensures.ok
 
   changed : ChangesSome c.store.new.draft
   changed = put_changes k c.geom-geom.result c.args.number _ c.args.self.now c.store.new.draft c.geom-geom.ensures c.lawful.ensures.limits c.requires.look.from c.requires.look.upto fits c.in_ok-store.ensures.ok
@@ -30,11 +30,11 @@ module _ (g : _) (c : goal.In_ok-store g) where
       → IsSoundDraft k s.map c.store.new.draft × IsWithFile (files_in s c.args.self.now) (files_of k.geom (drafted c.store.new.draft s.map)) c.args.number (Some (with_links x c.args.links))
       × IsWithPlaces (places_in s c.args.self.now) (places_of k.geom (drafted c.store.new.draft s.map)) c.args.number (places_in s c.args.self.now c.args.number)
   made tells x at =
-      let sound = c.requires.look.draft.sound tells in
+      let sound = c.requires.look.may.sound tells in
       let there = has_table s c.args.self.now c.args.number (subst IsGeometry c.geom-geom.ensures c.lawful.ensures.limits) c.requires.look.from c.requires.look.upto sound in
       let opened : IsOpen k.geom c.in-Some.node = search rules in
       links_set k s.map c.geom-geom.result c.args.number c.args.links c.in-Some.node c.to_node.result x c.load.new.table c.args.self.now c.store.new.draft
-      c.geom-geom.ensures c.lawful.ensures.limits c.requires.look.from c.requires.look.upto c.requires.look.draft.fits sound opened c.requires.some c.requires.most
+      c.geom-geom.ensures c.lawful.ensures.limits c.requires.look.from c.requires.look.upto c.requires.look.may.fits sound opened c.requires.some c.requires.most
       (ap (option_map node_of_open) (sym c.in-Some.is) ∙ c.in_ok-node.ensures.node tells there) (c.in_ok-node.ensures.table tells there) c.to_node.ensures
       c.in_ok-store.ensures.ok c.in_ok-store.ensures.back at
 
@@ -44,11 +44,11 @@ returns-in_default g c =
     let t = g.S.Blocks.state c.load.new.blocks in
     let d = c.args.self.now in
     let geom = subst IsGeometry c.geom-geom.ensures c.lawful.ensures.limits in
-    let node = λ (tells : IsTrue g.S.Blocks.tells). c.in_ok-node.ensures.node tells (has_table s d c.args.number geom c.requires.look.from c.requires.look.upto (c.requires.look.draft.sound tells)) in
+    let node = λ (tells : IsTrue g.S.Blocks.tells). c.in_ok-node.ensures.node tells (has_table s d c.args.number geom c.requires.look.from c.requires.look.upto (c.requires.look.may.sound tells)) in
     record {
       file = λ tells x at. none_found s d c.args.number x c.in_ok-node.field-0 c.in_default.is (node tells) at;
       places = λ tells. let used = c.requires.used tells in none_found s d c.args.number used.0 c.in_ok-node.field-0 c.in_default.is (node tells) used.1;
-      draft = draft_looks g.S.Blocks.tells false s t d c.in_ok-node.ensures.looks c.requires.look.draft;
+      draft = draft_looks g.S.Blocks.tells false s t d c.in_ok-node.ensures.looks c.requires.look.may;
       among = λ tells. let used = c.requires.used tells in none_found s d c.args.number used.0 c.in_ok-node.field-0 c.in_default.is (node tells) used.1;
       changes = λ tells. let used = c.requires.used tells in none_found s d c.args.number used.0 c.in_ok-node.field-0 c.in_default.is (node tells) used.1;
       refused = tt;
@@ -64,7 +64,7 @@ returns g c = record {
   draft =
       draft_looks g.S.Blocks.tells _ (s g c) (g.S.Blocks.state c.load.new.blocks) c.store.new.draft c.load.ensures.looks
       (record { fits = fits g c; sound = λ tells. let used = c.requires.used tells in (made g c tells used.0 used.1).0; content = λ b some. changed g c });
-  among = λ tells. put_sets (k g c) c.geom-geom.result c.args.number _ c.args.self.now c.store.new.draft c.geom-geom.ensures c.lawful.ensures.limits c.requires.look.from c.requires.look.upto c.requires.look.draft.fits c.in_ok-store.ensures.ok;
+  among = λ tells. put_sets (k g c) c.geom-geom.result c.args.number _ c.args.self.now c.store.new.draft c.geom-geom.ensures c.lawful.ensures.limits c.requires.look.from c.requires.look.upto c.requires.look.may.fits c.in_ok-store.ensures.ok;
   changes = λ tells. changed g c;
   refused = tt;
   looks = c.in_ok-node.ensures.looks;

@@ -12,7 +12,7 @@ use Rattle.fs_files.specs.Changing.{WritesAt}
 use Rattle.fs_files.specs.Content.{fails_reading}
 use Rattle.fs_files.specs.Drafts.{change_of, drafted}
 use Rattle.fs_files.specs.Nodes.{node_of_open, IsOpen}
-use Rattle.fs_files.proofs.bytes.Looks.{looks_more}
+use Rattle.fs_files.specs.Places.{looks_more}
 use Rattle.fs_files.proofs.frames.Carry.{draft_looks}
 use Rattle.fs_files.proofs.calling.Nodes.{has_table, none_found}
 use Rattle.fs_files.proofs.calling.WriteAt.{once_then, slots_then, refused_then, few_then, file_then, grows_then, has_then, among_then, none_come}
@@ -34,7 +34,7 @@ module _ (g : _) (c : In-Some g) where
 
   used : IsTrue g.S.Blocks.tells → Some (node_of_open c.in-Some.node) ≡ used_node s.books.geom (drafted c.args.self.now s.map) c.args.number
   used told =
-      let there = c.in_ok-node.ensures.node told (has_table s c.args.self.now c.args.number (subst IsGeometry c.geom-geom.ensures c.lawful.ensures.limits) c.requires.look.from c.requires.look.upto (c.requires.look.draft.sound told)) in
+      let there = c.in_ok-node.ensures.node told (has_table s c.args.self.now c.args.number (subst IsGeometry c.geom-geom.ensures c.lawful.ensures.limits) c.requires.look.from c.requires.look.upto (c.requires.look.may.sound told)) in
       search (rules, there)
 
 -- the geometry stays
@@ -44,12 +44,12 @@ geom_same g c = c.write_loaded.ensures.settles.pipeline.geom ∙ ap (λ (k : Boo
 pub write_loaded-requires-clause-once : goal.write_loaded-requires-clause-once
 write_loaded-requires-clause-once g c = λ told more.
     let b = (goal.at.write_loaded-requires-clause-once g c).In-Some in
-    once_then g.S.Blocks.tells (s g b) (t g b) c.args.number c.args.self.now c.in-Some.node c.in_ok-node.ensures.looks told (c.requires.look.draft.sound told) (opened g b) (used g b told) (c.args.offset + length c.args.bytes.now) (c.requires.grows.once told) more
+    once_then g.S.Blocks.tells (s g b) (t g b) c.args.number c.args.self.now c.in-Some.node c.in_ok-node.ensures.looks told (c.requires.look.may.sound told) (opened g b) (used g b told) (c.args.offset + length c.args.bytes.now) (c.requires.grows.once told) more
 
 pub write_loaded-requires-clause-slots : goal.write_loaded-requires-clause-slots
 write_loaded-requires-clause-slots g c = λ told dir.
     let b = (goal.at.write_loaded-requires-clause-slots g c).In-Some in
-    slots_then g.S.Blocks.tells (s g b) (t g b) c.args.number c.args.self.now c.in-Some.node c.in_ok-node.ensures.looks told (c.requires.look.draft.sound told) (opened g b) (used g b told) (c.args.offset + length c.args.bytes.now) (c.requires.slots told) dir
+    slots_then g.S.Blocks.tells (s g b) (t g b) c.args.number c.args.self.now c.in-Some.node c.in_ok-node.ensures.looks told (c.requires.look.may.sound told) (opened g b) (used g b told) (c.args.offset + length c.args.bytes.now) (c.requires.slots told) dir
 
 pub returns-then-is_empty : goal.returns-then-is_empty
 returns-then-is_empty g c =
@@ -60,7 +60,7 @@ returns-then-is_empty g c =
     record {
       file = λ told x at. record { own = at ∙ ap (λ (q : Bool). Some (with_bytes x (if q then x.bytes else written c.args.offset ys x.bytes))) {x = true} {y = length ys == 0} (sym none); others = λ l other. refl };
       places = λ told x at. record { own = none_come (places_in s d c.args.number) (reusable_blocks s.books) ys x c.args.offset none; others = λ l other. refl };
-      draft = c.requires.look.draft;
+      draft = c.requires.look.may;
       grows = λ told x at some. absurd (omega (arith, some, eqb-true (length ys) 0 none));
       among = λ told x at b some. or_right _ (is_some (change_of d.changed b)) some;
       changes = λ told some. absurd (omega (arith, some, eqb-true (length ys) 0 none));
@@ -93,12 +93,12 @@ returns g c =
           on_ok_weaker c.write_loaded.result (λ w some. (grows_then (s g b) (t g b) u c.args.number c.args.offset c.args.bytes.now c.args.self.now c.write_loaded.new.draft geom (c.in_ok-node.ensures.looks.map told) (sym (c.write_loaded.ensures.settles.map told)) w there.0 there.1).changes)
           (c.write_loaded.ensures.file told);
       refused = λ told.
-          err_maps c.write_loaded.result (λ why h x at. refused_then g.S.Blocks.tells (s g b) (t g b) c.args.number c.args.self.now c.in-Some.node c.in_ok-node.ensures.looks told (c.requires.look.draft.sound told) (opened g b) (used g b told)
+          err_maps c.write_loaded.result (λ why h x at. refused_then g.S.Blocks.tells (s g b) (t g b) c.args.number c.args.self.now c.in-Some.node c.in_ok-node.ensures.looks told (c.requires.look.may.sound told) (opened g b) (used g b told)
           (c.args.offset + length c.args.bytes.now) x (g.S.Blocks.state c.write_loaded.new.blocks).books why c.a_list_has_its_runs.ensures.places at h) c.write_loaded.ensures.refused;
       settles = looks_then g.S.Blocks.state g.S.Blocks.tells c.calls_compose.ensures.advances c.calls_compose.ensures.rests _ _ c.args.blocks.now c.load.new.blocks c.write_loaded.new.blocks c.requires.look.going c.in_ok-node.ensures.looks c.write_loaded.ensures.settles;
       looks = λ told x at few.
           looks_more g.S.Blocks.tells (fails_reading c.write_loaded.result) (s g b) (t g b) (g.S.Blocks.state c.write_loaded.new.blocks) c.in_ok-node.ensures.looks
-          (c.write_loaded.ensures.looks (few_then g.S.Blocks.tells (s g b) (t g b) c.args.number c.args.self.now c.in-Some.node c.in_ok-node.ensures.looks told (c.requires.look.draft.sound told) (opened g b) (used g b told) (c.args.offset + length c.args.bytes.now) x at few));
+          (c.write_loaded.ensures.looks (few_then g.S.Blocks.tells (s g b) (t g b) c.args.number c.args.self.now c.in-Some.node c.in_ok-node.ensures.looks told (c.requires.look.may.sound told) (opened g b) (used g b told) (c.args.offset + length c.args.bytes.now) x at few));
     }
 
 pub returns-in_default : goal.returns-in_default
@@ -107,11 +107,11 @@ returns-in_default g c =
     let t = g.S.Blocks.state c.load.new.blocks in
     let d = c.args.self.now in
     let geom = subst IsGeometry c.geom-geom.ensures c.lawful.ensures.limits in
-    let node = λ (told : IsTrue g.S.Blocks.tells). c.in_ok-node.ensures.node told (has_table s d c.args.number geom c.requires.look.from c.requires.look.upto (c.requires.look.draft.sound told)) in
+    let node = λ (told : IsTrue g.S.Blocks.tells). c.in_ok-node.ensures.node told (has_table s d c.args.number geom c.requires.look.from c.requires.look.upto (c.requires.look.may.sound told)) in
     record {
       file = λ told x at. none_found s d c.args.number x c.in_ok-node.field-0 c.in_default.is (node told) at;
       places = λ told x at. none_found s d c.args.number x c.in_ok-node.field-0 c.in_default.is (node told) at;
-      draft = draft_looks g.S.Blocks.tells false s t d c.in_ok-node.ensures.looks c.requires.look.draft;
+      draft = draft_looks g.S.Blocks.tells false s t d c.in_ok-node.ensures.looks c.requires.look.may;
       grows = λ told x at some. none_found s d c.args.number x c.in_ok-node.field-0 c.in_default.is (node told) at;
       among = λ told x at. none_found s d c.args.number x c.in_ok-node.field-0 c.in_default.is (node told) at;
       changes = λ told some. let there = c.requires.used told in none_found s d c.args.number there.0 c.in_ok-node.field-0 c.in_default.is (node told) there.1;
