@@ -2,7 +2,7 @@
 use Rattle.std.proofs.Common.{◌≡◌, ◌≢◌, ◌⊎◌, inl, inr, Bool, true, false, Result, Err, refl, sym, ap, ◌∙◌}
 use Rattle.std.proofs.lemmas.Bool.{cases_Bool, false≢true}
 use Rattle.lang_tree.specs.declared.command.Cmd.{Cmd}
-use Rattle.lang_tree.specs.declared.command.Cmd.TheVariants.{Osync, Dsync, Durable, Poll, Bad}
+use Rattle.lang_tree.specs.declared.command.Cmd.TheVariants.{Osync, Dsync, Durable, Dwait, Poll, Bad}
 use Rattle.lang_tree.specs.declared.command.Refusal.{Refusal}
 use Rattle.lang_tree.specs.declared.command.Refusal.TheVariants as because
 use Rattle.lang_tree.specs.declared.command.Reply.{Reply}
@@ -54,6 +54,7 @@ module _ {S : Type 0} (tells : Bool) (state : S → State) (cmd : Cmd) (reply : 
   goes_after Osync result mid calm run runs = runs.disk.stopped ∙ no_fault result calm
   goes_after Dsync result mid calm run runs = runs.disk.stopped ∙ no_fault result calm
   goes_after Durable result mid calm run runs = ap (λ (s : S). (state s).books.stopped) runs.1 ∙ run
+  goes_after (Dwait n) result mid calm run runs = runs.runs.disk.stopped ∙ no_fault result calm
   goes_after Poll result mid calm run runs = ap (λ (s : S). (state s).books.stopped) runs.1 ∙ run
   goes_after other result mid calm run runs = runs.runs.stopped ∙ no_fault result calm
 

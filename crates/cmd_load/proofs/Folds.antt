@@ -3,7 +3,7 @@ use Rattle.std.proofs.Common.{◌≡◌, ◌⊎◌, inl, inr, sym, refl, ap, ◌
 use Rattle.std.proofs.lemmas.Bool.{cases_eq, cond-true, cond-false, eq-eqb, false≢true, le-ltb, lt-ltb, ne_eqb}
 use Rattle.layout_geometry.specs.Geometry.{bitmap_blocks, data_start}
 use Rattle.lang_tree.specs.declared.command.Cmd.{Cmd}
-use Rattle.lang_tree.specs.declared.command.Cmd.TheVariants.{Read, Stat, List as ListNames, Osync, Dsync, Durable, Poll, Bad, Write, Fill, Truncate, Rename}
+use Rattle.lang_tree.specs.declared.command.Cmd.TheVariants.{Read, Stat, List as ListNames, Osync, Dsync, Durable, Dwait, Poll, Bad, Write, Fill, Truncate, Rename}
 use Rattle.lang_tree.specs.declared.command.Refusal.{Refusal}
 use Rattle.lang_tree.specs.declared.command.Refusal.TheVariants.{DiskFault, Full, ReadFault, Spent, Stopped, TooBig}
 use Rattle.lang_tree.specs.declared.command.Reply.{Reply}
@@ -242,6 +242,7 @@ module _ (p : Progress) (r : Room) (reply : Reply) (next : Session) (room : Room
   comes Osync law (inr b) = sync_began Osync law refl refl refl b b.answers
   comes Dsync law (inr b) = sync_began Dsync law refl refl refl b b.answers
   comes Durable law answers = absurd law
+  comes (Dwait n) law answers = absurd law
   comes Poll law answers = absurd law
   comes Bad law answers = absurd law
   comes other law (inr b) = tree_began other law refl b b.answers

@@ -16,7 +16,7 @@ use Rattle.std.proofs.lemmas.Option.{same_Some, none-some}
 use Rattle.base_types.specs.Draws.{drawn, draws, next_state}
 use Rattle.lang_load.specs.Load.{command, kind_of, kinds, name, next_command, next_kind, part, parts, path}
 use Rattle.lang_tree.specs.declared.command.Cmd.{Cmd}
-use Rattle.lang_tree.specs.declared.command.Cmd.TheVariants.{Mkdir, Create, Write, Fill, Truncate, Link, Unlink, Rmdir, Rename, Osync, Dsync}
+use Rattle.lang_tree.specs.declared.command.Cmd.TheVariants.{Mkdir, Create, Write, Fill, Truncate, Link, Unlink, Rmdir, Rename, Osync, Dsync, Dwait}
 use Rattle.lang_tree.specs.declared.command.Refusal.{Refusal}
 use Rattle.lang_tree.specs.declared.command.Reply.TheVariants.{Ok as Done}
 use Rattle.lang_tree.specs.Conditions.{least_unused}
@@ -197,7 +197,7 @@ record IsKept (P : Tree → Type 0) : Type 0 where
 
 names_kept : IsKept (λ t. AreNamed t.names)
 names_kept = record {
-  made = λ limit t path thing law small h. make t path thing law h (least_unused limit t.nodes);
+  made = λ limit t path thing law small h. make t path thing law h (least_unused limit t);
   changed = λ t path change same h. change_at t change h (get t.names path);
   tied = λ t path other law h. link t other law h (get t.names path);
   gone = λ t path h. out t path h (get t.names path);
@@ -222,7 +222,7 @@ names_kept = record {
 
 files_kept : IsKept (λ t. Small t.nodes)
 files_kept = record {
-  made = λ limit t path thing law small h. make t path thing small h (least_unused limit t.nodes);
+  made = λ limit t path thing law small h. make t path thing small h (least_unused limit t);
   changed = λ t path change same h. change_at t change same h (get t.names path);
   tied = λ t path other law h. link t other h (get t.names path);
   gone = λ t path h. out t path h (get t.names path);
@@ -290,6 +290,7 @@ module _ (P : Tree → Type 0) (kept : IsKept P) where
   accepted_keeps s (Rename from to) law h = rename_keeps s from to law h
   accepted_keeps s Osync law h = sync_keeps s s.changed h
   accepted_keeps s Dsync law h = sync_keeps s s.changed h
+  accepted_keeps s (Dwait n) law h = absurd law
   accepted_keeps s other law h = h
 
   answered_keeps : (s : Session) (cmd : Cmd) (o : Option Refusal) → IsLoadCommand cmd → P s.tree → P (answered s cmd o).0.tree

@@ -62,7 +62,8 @@ pub(crate) fn refusals_in(reply: &Reply) -> Result<u32, NoMemory>
             | Refusal::Scattered { .. }
             | Refusal::ReadFault
             | Refusal::Stopped
-            | Refusal::Spent,
+            | Refusal::Spent
+            | Refusal::NoPoint { .. },
         ) => Ok(1),
         Reply::Ok
         | Reply::Bytes(_)

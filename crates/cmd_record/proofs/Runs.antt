@@ -24,7 +24,7 @@ use Rattle.cmd_trace.specs.Contents.{Each, front_of}
 use Rattle.cmd_trace.specs.Line.{command_line, geometry_line, event_lines}
 use Rattle.cmd_trace.specs.Trace.{Ascend, entry}
 use Rattle.lang_tree.specs.declared.command.Cmd.{Cmd}
-use Rattle.lang_tree.specs.declared.command.Cmd.TheVariants.{Mkdir, Create, Write, Fill, Read, Truncate, Link, Unlink, Rmdir, Rename, Stat, List as ListNames, Osync, Dsync, Durable, Poll, Bad}
+use Rattle.lang_tree.specs.declared.command.Cmd.TheVariants.{Mkdir, Create, Write, Fill, Read, Truncate, Link, Unlink, Rmdir, Rename, Stat, List as ListNames, Osync, Dsync, Durable, Dwait, Poll, Bad}
 use Rattle.lang_tree.specs.declared.command.Refusal.TheVariants.{DiskFault, Spent, Stopped}
 use Rattle.lang_tree.specs.declared.command.Reply.{Reply}
 use Rattle.lang_tree.specs.declared.command.Reply.TheVariants.{Bad as NotUnderstood, Refused}
@@ -79,6 +79,7 @@ module _ (g : Geometry) (f : Session) (r : Room) (is : IsRoomOf g f r) where
   ends_in_room true Osync = inl (Stopped, inl refl, refl, refl, refl)
   ends_in_room true Dsync = inl (Stopped, inl refl, refl, refl, refl)
   ends_in_room true Durable = inl (Stopped, inl refl, refl, refl, refl)
+  ends_in_room true (Dwait n) = inl (Stopped, inl refl, refl, refl, refl)
   ends_in_room true Poll = inl (Stopped, inl refl, refl, refl, refl)
   ends_in_room true (Mkdir path) = inl (Stopped, inl refl, refl, refl, refl)
   ends_in_room true (Create path) = inl (Stopped, inl refl, refl, refl, refl)
@@ -95,6 +96,7 @@ module _ (g : Geometry) (f : Session) (r : Room) (is : IsRoomOf g f r) where
   ends_in_room false Osync = inr (record { back = r; comes_back = back_at_once g f r is; answers = inr (inr (refl, refl, kept)); is_room = is })
   ends_in_room false Dsync = inr (record { back = r; comes_back = back_at_once g f r is; answers = inr (inr (refl, refl, kept)); is_room = is })
   ends_in_room false Durable = inr (record { back = r; comes_back = back_at_once g f r is; answers = inr (DiskFault, inl refl, refl, refl, refl); is_room = is })
+  ends_in_room false (Dwait n) = inr (record { back = r; comes_back = back_at_once g f r is; answers = inr (DiskFault, inl refl, refl, refl, refl); is_room = is })
   ends_in_room false Poll = inr (record { back = r; comes_back = back_at_once g f r is; answers = inr (DiskFault, inl refl, refl, refl, refl); is_room = is })
   ends_in_room false (Mkdir path) = inr (record { back = r; comes_back = back_at_once g f r is; answers = inr (DiskFault, inl refl, refl, refl, refl); is_room = is })
   ends_in_room false (Create path) = inr (record { back = r; comes_back = back_at_once g f r is; answers = inr (DiskFault, inl refl, refl, refl, refl); is_room = is })

@@ -13,6 +13,7 @@ use Rattle.disk_contract.specs.declared.event.Event.TheVariants.{Wrote, Lost, No
 use Rattle.disk_contract.specs.Cell.{cell_of}
 use Rattle.disk_contract.specs.Disk.{writes_in}
 use Rattle.disk_contract.specs.Manner.{Manner}
+use Rattle.disk_contract.specs.Logs.{writes_in-append as writes_both}
 use Rattle.layout_geometry.specs.Geometry.{Geometry, data_start}
 use Rattle.layout_journal.specs.Formatted.{formatted}
 use Rattle.layout_journal.specs.declared.header.Header.{Header}
@@ -65,12 +66,6 @@ none_written g epoch [] none = refl
 none_written g epoch (Wrote t b x ∷ es) none = absurd (omega (arith, none))
 none_written g epoch (Lost b x ∷ es) none = absurd (omega (arith, none))
 none_written g epoch (Noticed t ∷ es) none = none_written g epoch es none
-
-writes_both : (xs ys : List Event) → writes_in (xs ++ ys) ≡ writes_in xs + writes_in ys
-writes_both [] ys = omega arith
-writes_both (Wrote t b x ∷ xs) ys = omega (arith, writes_both xs ys)
-writes_both (Lost b x ∷ xs) ys = omega (arith, writes_both xs ys)
-writes_both (Noticed t ∷ xs) ys = writes_both xs ys
 
 -- a test that all pass keeps all
 keeps_all : (p : ℕ → Bool) (ys : List ℕ) → ((b : ℕ) → has ys b ≡ true → p b ≡ true) → filter p ys ≡ ys

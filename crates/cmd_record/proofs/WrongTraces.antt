@@ -5,6 +5,7 @@ use Rattle.std.proofs.Math.Logic.{∥∥₁_elim, ∥∥₁_map}
 use Rattle.std.proofs.Math.Seq.{take-take}
 use Rattle.std.proofs.lemmas.Bool.{cases_Bool, false≢true, true≢false}
 use Rattle.std.proofs.lemmas.List.{take-append-drop}
+use Rattle.std.proofs.lemmas.Option.{slice_get_within}
 use Rattle.std.specs.List.{slice_get}
 use Rattle.base_types.specs.Seal.{Blocks}
 use Rattle.disk_contract.specs.declared.event.Event.{Event}
@@ -20,7 +21,7 @@ use Rattle.layout_journal.specs.Run.{places_from, writes_stood_for}
 use Rattle.crash_argument.specs.Points.{MountedSession}
 use Rattle.engine_checkpoint.specs.Serving.{IsNewestAtRest}
 use Rattle.lang_tree.specs.declared.command.Cmd.{Cmd}
-use Rattle.lang_tree.specs.declared.command.Cmd.TheVariants.{Dsync, Durable, Osync, Stat}
+use Rattle.lang_tree.specs.declared.command.Cmd.TheVariants.{Dsync, Durable, Dwait, Osync, Stat}
 use Rattle.lang_tree.specs.declared.command.Refusal.{Refusal}
 use Rattle.lang_tree.specs.declared.command.Refusal.TheVariants.{DiskFault}
 use Rattle.lang_tree.specs.declared.command.Reply.{Reply}
@@ -145,6 +146,27 @@ module _ (s : MountedSession) (base : Blocks) (m : Manner) (log : List Event) (r
       by (inl before) = absurd (true≢false (sym before ∙ not_yet))
       by (inr some) = ∥∥₁_elim some (search props) (λ (x : (k : ℕ) × (span : Span) × (slice_get (new.taken.spans ++ (if is_refusal reply then failed ∷ [] else [])) k ≡ Some span) × CameIn (take new.events log) span t).
           in_all x.0 x.1 x.3 (at_end_or (is_refusal reply) new.taken.spans failed x.1 x.0 x.2))
+
+-- A wait for a point.
+
+-- what stands among the first n stands at its place below n
+get_from_take : {A : Type 0} (n : ℕ) (xs : List A) (i : ℕ) (x : A) → slice_get (take n xs) i ≡ Some x → (i < n) × (slice_get xs i ≡ Some x)
+get_from_take zero xs i x is = absurd (omega (arith, slice_get_within [] i x is))
+get_from_take (suc n) [] i x is = absurd (omega (arith, slice_get_within [] i x is))
+get_from_take (suc n) (y ∷ xs) zero x is = (omega arith, is)
+get_from_take (suc n) (y ∷ xs) (suc i) x is = let rest = get_from_take n xs i x is in (omega (arith, rest.0), rest.1)
+
+module _ (s : MountedSession) (base : Blocks) (m : Manner) (log : List Event) (n : ℕ) (reply : Reply) (old new : Pace) (step : StepsBy s base m log (Dwait n) reply old new) (goes : Goes m reply old) where
+  pub waits_beyond : (p : Polled) (t : ℕ) → after_polls m 64 old.polls (take old.events log) ≡ Some p → ((k : ℕ) (span : Span) → k < n → slice_get old.taken.spans k ≡ Some span → CameIn (take new.events log) span t → ⊥) → is_noticed t p.log ≡ false → IsNoticed t (take new.events log) → ⊥
+  waits_beyond p t polled none not_yet noticed = by (step.does.waits_upto n refl goes.going goes.unspent goes.alone p polled t noticed)
+    where
+      by : IsNoticed t p.log ⊎ ∥ ((k : ℕ) × (span : Span) × (slice_get (take n old.taken.spans) k ≡ Some span) × CameIn (take new.events log) span t) ∥₁ → ⊥
+      by (inl before) = true≢false (sym before ∙ not_yet)
+      by (inr some) = ∥∥₁_elim some (λ one other. absurd one) (λ (x : (k : ℕ) × (span : Span) × (slice_get (take n old.taken.spans) k ≡ Some span) × CameIn (take new.events log) span t).
+          let at = get_from_take n old.taken.spans x.0 x.1 x.2 in none x.0 x.1 at.0 at.1 x.3)
+
+  pub waits_for_none : (n ≤ old.durable) ⊎ (old.taken.session.points < n) → WaitsForNothing m log old new
+  waits_for_none idle = step.does.calm (λ is. cc) goes.going goes.unspent goes.alone idle
 
 -- What is known.
 

@@ -1,6 +1,6 @@
 //! Laws of what a recording writes, and of disks that nothing is written to. They run nothing.
 
-ghost use Rattle.std.specs.Prelude.{◌≡◌, ◌≢◌, ◌↔◌, ◌⊎◌, ◌+◌, ◌-◌, ◌≤◌, ℕ, false, true, length, take, slice_get, List, [], Some};
+ghost use Rattle.std.specs.Prelude.{◌≡◌, ◌≢◌, ◌↔◌, ◌⊎◌, ◌+◌, ◌-◌, ◌<◌, ◌≤◌, ℕ, false, true, length, take, slice_get, List, [], Some};
 ghost use Rattle.base_types.specs.Seal.{Blocks};
 ghost use Rattle.disk_contract.specs.declared.event.Event.{Event};
 ghost use Rattle.disk_contract.specs.Cell.{IsNoticed, is_accepted, is_noticed};
@@ -11,7 +11,7 @@ ghost use Rattle.layout_journal.specs.Formatted.{formatted};
 ghost use Rattle.crash_argument.specs.Points.{MountedSession};
 ghost use Rattle.engine_store.specs.SessionView.{IsSure, Starts};
 ghost use Rattle.lang_tree.specs.declared.command.Cmd.{Cmd};
-ghost use Rattle.lang_tree.specs.declared.command.Cmd.TheVariants.{Dsync, Durable, Osync, Stat};
+ghost use Rattle.lang_tree.specs.declared.command.Cmd.TheVariants.{Dsync, Durable, Dwait, Osync, Stat};
 ghost use Rattle.lang_tree.specs.declared.command.Refusal.TheVariants.{DiskFault, Spent};
 ghost use Rattle.lang_tree.specs.declared.command.Reply.{Reply};
 ghost use Rattle.lang_tree.specs.declared.command.Reply.TheVariants.{Known, Refused, Synced};
@@ -88,8 +88,9 @@ pub fn what_need_not_come_back_is_there()
 
 /// Traces that a wrong program could write are refused, each by a field of the clause. A command that lost a write is
 /// refused for it, and no other one is. Before the first sync nothing is written. A sync waits for nothing where its record
-/// fits a ring without records, a look never does, and a dsync for no write of its own tick. And `durable` is not answered by a
-/// point behind which another one is known.
+/// fits a ring without records, a look never does, and a dsync for no write of its own tick. A dwait waits for no write of a
+/// later point's record, and for nothing where its point is known to be durable or isn't there. And `durable` is not
+/// answered by a point behind which another one is known.
 pub fn wrong_traces_are_refused()
     ensures lost { (s : MountedSession) (base : Blocks) (m : Manner) → m.waits_alone ≡ true → (log : List Event) (cmd : Cmd) (reply : Reply) (old new : Pace)
         → StepsBy s base m log cmd reply old new → LosesOwn log old new → (n : ℕ) → reply ≢ Synced n }
@@ -111,6 +112,13 @@ pub fn wrong_traces_are_refused()
         → after_polls m 64 old.polls (take old.events log) ≡ Some p
         → ((k : ℕ) (span : Span) → slice_get old.taken.spans k ≡ Some span → CameIn (take new.events log) span t → ⊥) → is_noticed t p.log ≡ false
         → IsNoticed t (take new.events log) → is_accepted t (take step.room.behind log) ≡ false }
+    ensures beyond { (s : MountedSession) (base : Blocks) (m : Manner) (log : List Event) (n : ℕ) (reply : Reply) (old new : Pace) (p : Polled)
+        (t : ℕ) → StepsBy s base m log (Dwait n) reply old new → Goes m reply old → after_polls m 64 old.polls (take old.events log) ≡ Some p
+        → ((k : ℕ) (span : Span) → k < n → slice_get old.taken.spans k ≡ Some span → CameIn (take new.events log) span t → ⊥)
+        → is_noticed t p.log ≡ false → IsNoticed t (take new.events log) → ⊥ }
+    ensures rests { (s : MountedSession) (base : Blocks) (m : Manner) (log : List Event) (n : ℕ) (reply : Reply) (old new : Pace)
+        → StepsBy s base m log (Dwait n) reply old new → Goes m reply old → (n ≤ old.durable) ⊎ (old.taken.session.points < n)
+        → WaitsForNothing m log old new }
     ensures known { (s : MountedSession) (base : Blocks) (m : Manner) (log : List Event) (n : ℕ) (span : Span) (old new : Pace)
         → StepsBy s base m log Durable (Known n) old new → m.waits_alone ≡ true → slice_get old.taken.spans n ≡ Some span
         → IsHeard (take new.events log) span → ⊥ }

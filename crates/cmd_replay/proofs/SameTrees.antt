@@ -1,5 +1,6 @@
 -- Of the points of a trace those whose tree has the listing of a tree that stands are those whose tree is that one.
 use Rattle.std.proofs.Common.{◌≡◌, ℕ, ◌<◌, ◌^◌, List, slice_get, Option, None, Some, sym, ap, ◌∙◌}
+use Rattle.std.specs.FinMap.{empty}
 use Rattle.base_types.specs.Seal.{Blocks}
 use Rattle.crash_stands.specs.Stands.{StandsFor}
 use Rattle.lang_tree.specs.Listing.{listing}
@@ -14,10 +15,11 @@ use Rattle.cmd_replay.specs.Walking.{IsListedAs}
 
 -- what laws say of listings, of the points of a trace, and of a tree that stands
 pub record HasTreeLaws (c : Contents) : Type 0 where
-  pub listings : (limit more : ℕ) (s t : Tree) → limit < 2 ^ 64 → more < 2 ^ 64 → IsSound limit s → IsSound more t → HasLawfulNames s → HasLawfulNames t → HasBytes s → listing s ≡ listing t → s ≡ t
+  pub listings : (limit more : ℕ) (s t : Tree) → limit < 2 ^ 64 → more < 2 ^ 64 → IsSound limit s → IsSound more t → HasLawfulNames s → HasLawfulNames t → HasBytes s → s.snapshots ≡ empty → t.snapshots ≡ empty → listing s ≡ listing t → s ≡ t
   pub sound : (number : ℕ) (p : Point) → slice_get (points_in c) number ≡ Some p → IsSound c.geometry.i p.tree
   pub names : (number : ℕ) (p : Point) → slice_get (points_in c) number ≡ Some p → HasLawfulNames p.tree
   pub bytes : (number : ℕ) (p : Point) → slice_get (points_in c) number ≡ Some p → HasBytes p.tree
+  pub alone : (number : ℕ) (p : Point) → slice_get (points_in c) number ≡ Some p → p.tree.snapshots ≡ empty
   pub stands : (n : ℕ) (img : Blocks) (t : Tree) → StandsFor n img t → (i : ℕ) × (i < 2 ^ 64) × IsSound i t × HasLawfulNames t
 
 module _ (c : Contents) (is : IsTrace c) (laws : HasTreeLaws c) (n : ℕ) (img : Blocks) (tree : Tree) (text : List ℕ) (stands : StandsFor n img tree) (listed : text ≡ listing tree) where
@@ -27,7 +29,7 @@ module _ (c : Contents) (is : IsTrace c) (laws : HasTreeLaws c) (n : ℕ) (img :
       record {
         point = s.point;
         is = s.is;
-        such = laws.listings c.geometry.i found.0 s.point.tree tree is.lawful.nodes found.1 (laws.sound number s.point s.is) found.2 (laws.names number s.point s.is) found.3 (laws.bytes number s.point s.is) (s.such ∙ listed);
+        such = laws.listings c.geometry.i found.0 s.point.tree tree is.lawful.nodes found.1 (laws.sound number s.point s.is) found.2 (laws.names number s.point s.is) found.3 (laws.bytes number s.point s.is) (laws.alone number s.point s.is) stands.tree.map.shows.alone (s.such ∙ listed);
       }
 
   one_listing : (number : ℕ) → IsSuch (λ t. t ≡ tree) (points_in c) number → IsSuch (IsListedAs text) (points_in c) number

@@ -25,6 +25,7 @@ pub(crate) fn is_sync(cmd: &Cmd) -> bool
         | Cmd::Stat(_)
         | Cmd::List(_)
         | Cmd::Durable
+        | Cmd::Dwait(_)
         | Cmd::Poll
         | Cmd::Bad => false,
     }
@@ -69,7 +70,8 @@ pub(crate) fn may_have_written(reply: &Reply) -> bool
             | Refusal::ReadFault
             | Refusal::Stopped
             | Refusal::Spent
-            | Refusal::NoMemory,
+            | Refusal::NoMemory
+            | Refusal::NoPoint { .. },
         ) => false,
         Reply::Ok
         | Reply::Bytes(_)

@@ -2,6 +2,7 @@
 //! and of an image are of these. They run nothing.
 
 ghost use Rattle.std.specs.Prelude.{◌≡◌, ◌<◌, ◌^◌, ℕ, slice_get, slice_index, Some};
+ghost use Rattle.std.specs.FinMap.{empty};
 ghost use Rattle.base_types.specs.Seal.{Blocks};
 ghost use Rattle.cmd_replay.specs.Named.{HasBytes, HasLawfulNames};
 ghost use Rattle.cmd_replay.specs.Points.{points_in};
@@ -16,16 +17,21 @@ ghost use Rattle.lang_tree.specs.Step.{Session, start, step};
 ghost use Rattle.lang_tree.specs.Tree.{Tree, IsSound};
 
 use crash_stands::a_tree_that_stands_is_sound;
-use lang_tree::commands_keep_a_tree_sound;
+use lang_tree::{
+    commands_keep_a_tree_sound, commands_keep_snapshots,
+    without_snapshots_there_are_paths_and_nodes,
+};
 use layout_geometry::geometries_are_within_limits;
 use layout_journal::journal_blocks_keep_to_their_bounds;
 
-/// Two trees with one listing are one tree, where both are sound with numbers of 64 bits and their names are lawful,
-/// and the bytes of one of them are below 256.
+/// Two trees without snapshots and with one listing are one tree, where both are sound with numbers of 64 bits and
+/// their names are lawful, and the bytes of one of them are below 256.
 pub fn a_listing_says_the_tree()
     ensures { (limit more : ℕ) (s t : Tree) → limit < 2 ^ 64 → more < 2 ^ 64 → IsSound limit s → IsSound more t → HasLawfulNames s → HasLawfulNames t
-        → HasBytes s → listing s ≡ listing t → s ≡ t }
-{}
+        → HasBytes s → s.snapshots ≡ empty → t.snapshots ≡ empty → listing s ≡ listing t → s ≡ t }
+{
+    without_snapshots_there_are_paths_and_nodes();
+}
 
 /// The tree that an image stands for is sound, with numbers of 64 bits, and its names are lawful. Where each byte of
 /// the image is below 256, so is each byte of the tree's files.
@@ -48,12 +54,14 @@ pub fn commands_keep_names_lawful()
 {}
 
 /// The tree of each sync point of a trace is sound, with at most as many numbers as the geometry says; its names are
-/// lawful, and its bytes are below 256.
+/// lawful, its bytes are below 256, and it has no snapshot.
 pub fn points_of_a_trace_have_lawful_names()
     ensures sound { (c : Contents) → IsTrace c → (number : ℕ) (p : Point) → slice_get (points_in c) number ≡ Some p → IsSound c.geometry.i p.tree }
     ensures names { (c : Contents) → IsTrace c → (number : ℕ) (p : Point) → slice_get (points_in c) number ≡ Some p → HasLawfulNames p.tree }
     ensures bytes { (c : Contents) → IsTrace c → (number : ℕ) (p : Point) → slice_get (points_in c) number ≡ Some p → HasBytes p.tree }
+    ensures alone { (c : Contents) → IsTrace c → (number : ℕ) (p : Point) → slice_get (points_in c) number ≡ Some p → p.tree.snapshots ≡ empty }
 {
     geometries_are_within_limits();
     commands_keep_a_tree_sound();
+    commands_keep_snapshots();
 }

@@ -157,7 +157,8 @@ fn is_sought(tree: &PlainTree, number: u64, low: u64, text: &[u8]) -> bool
 
 // Has the tree answer a command, and tells its last point then, where this is the one before.
 fn answer(alloc: Global, tree: &mut PlainTree, cmd: &Cmd, synced: u64) -> Result<u64, NoMemory>
-    requires { synced ≡ tree.old.points }
+    requires same { synced ≡ tree.old.points }
+    requires few { synced < 2 ^ 64 }
     ensures { IfOk result (λ now. (tree.new ≡ (step tree.old cmd.now).0) × (now ≡ tree.new.points)) }
 {
     a_tree_in_memory_refuses_for_no_disk();

@@ -22,7 +22,7 @@ use Rattle.fs_session.specs.Commands.{Carries, is_disk_fault}
 use Rattle.fs_session.specs.DiskRoom.{IsRoomOf}
 use Rattle.fs_session.specs.Memory.{room_of}
 use Rattle.fs_session.specs.Sessions.{IsSession}
-use Rattle.fs_session.specs.Syncs.{SyncsSession}
+use Rattle.fs_session.specs.Syncs.{SyncsSession, WaitsSession}
 use Rattle.cmd_session.specs.Answered.{StepsOn, WaitsOn}
 
 -- a line that is none is told apart
@@ -62,8 +62,11 @@ module _ {S : Type 0} (tells : Bool) (state : S → State) (told : IsTrue tells)
       synced : (orders : Bool) (c : Cmd) (result : Result Reply Refusal) (mid : S) → SyncsSession tells orders c result (state mid) (state new) → (state new).counts.faults ≡ (state mid).counts.faults
       synced orders c result mid x = unless (is_disk_fault result) (state mid) (state new) calm x.disk.stopped x.disk.faults
 
+      waited : (n : ℕ) (result : Result Reply Refusal) (mid : S) → WaitsSession tells n result (state mid) (state new) → (state new).counts.faults ≡ (state mid).counts.faults
+      waited n result mid x = unless (is_disk_fault result) (state mid) (state new) calm x.runs.disk.stopped x.runs.disk.faults
+
       ran : (c : Cmd) (result : Result Reply Refusal) (mid : S) → Runs tells state c result mid new → (state new).counts.faults ≡ (state mid).counts.faults
-      ran c result mid h1 = grind (arith, synced, same, carried)
+      ran c result mid h1 = grind (arith, synced, waited, same, carried)
 
       begun : Began tells state cmd reply old new → (state new).counts.faults ≡ (state old).counts.faults
       begun b = grind (arith, state old, state new, b.ran, b.result, b.mid, unless, ran)

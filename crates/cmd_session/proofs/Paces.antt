@@ -15,13 +15,13 @@ use Rattle.layout_journal.specs.declared.record.Commit.{Commit}
 use Rattle.crash_argument.specs.Points.{MountedSession}
 use Rattle.cmd_trace.specs.Trace.{Ascend}
 use Rattle.lang_tree.specs.declared.command.Cmd.{Cmd}
-use Rattle.lang_tree.specs.declared.command.Cmd.TheVariants.{Bad, Dsync, Durable}
+use Rattle.lang_tree.specs.declared.command.Cmd.TheVariants.{Bad, Dsync, Durable, Dwait}
 use Rattle.lang_tree.specs.declared.command.Refusal.{Refusal}
 use Rattle.lang_tree.specs.declared.command.Refusal.TheVariants as because
 use Rattle.lang_tree.specs.declared.command.Reply.{Reply}
 use Rattle.lang_tree.specs.declared.command.Reply.TheVariants as replied
 use Rattle.lang_tree.specs.declared.command.Reply.TheVariants.{Refused}
-use Rattle.lang_tree.specs.Points.{after_reply, is_refusal, is_sync}
+use Rattle.lang_tree.specs.Points.{after_reply, is_refusal, is_sync, promised_by}
 use Rattle.lang_tree.specs.Step.{Session}
 use Rattle.engine_blocks.specs.State.{State}
 use Rattle.cmd_trace.specs.Shared.{from_le}
@@ -126,12 +126,16 @@ module _ (ses : MountedSession) (base : Blocks) (m : Manner) (log more : List Ev
         calm = λ meant going unspent alone finds.
             subst (λ (es : List Event). PollsThenWrites m 64 p.polls es q.polls (take q.events (log ++ more))) (sym (front p.events low))
             (subst (λ (es : List Event). PollsThenWrites m 64 p.polls (take p.events log) q.polls es) (sym (front q.events low_next))
-            (does.calm meant going unspent alone (subst (λ (own : List Commit). FindsRoom ses base (take behind log) p.taken p.room.room (places_wanted reply p.taken.weight own) cmd) same
-            (subst (λ (es : List Event). FindsRoom ses base es p.taken p.room.room (places_wanted reply p.taken.weight (own_records ses (log ++ more) behind q.events)) cmd) (front behind within) finds))));
+            (does.calm meant going unspent alone (subst (λ (own : List Commit). FindsRoom ses base (take behind log) p.taken p.room.room p.durable (places_wanted reply p.taken.weight own) cmd) same
+            (subst (λ (es : List Event). FindsRoom ses base es p.taken p.room.room p.durable (places_wanted reply p.taken.weight (own_records ses (log ++ more) behind q.events)) cmd) (front behind within) finds))));
         waits = λ is going unspent alone finds x polled.
             subst (λ (es : List Event). HearsIn (q.taken.spans ++ (if is_refusal reply then record { begun = behind; mark = q.events } ∷ [] else [])) x.log es) (sym (front q.events low_next))
             (does.waits is going unspent alone (subst (λ (own : List Commit). OrdersAtOnce ses base (take behind log) p.taken (places_wanted reply p.taken.weight own)) same
             (orders_shorter behind (places_wanted reply p.taken.weight (own_records ses (log ++ more) behind q.events)) p.taken within finds)) x (ap (λ (es : List Event). after_polls m 64 p.polls es) (sym (front p.events low)) ∙ polled));
+        waits_upto = λ n is going unspent alone x polled.
+            subst (λ (es : List Event). HearsIn (take n p.taken.spans) x.log es) (sym (front q.events low_next))
+            (does.waits_upto n is going unspent alone x (ap (λ (es : List Event). after_polls m 64 p.polls es) (sym (front p.events low)) ∙ polled));
+        quiet = λ n is going unspent. ap writes_in (front q.events low_next) ∙ does.quiet n is going unspent ∙ ap writes_in (sym (front behind within));
       }
 
   steps_longer : (cmd : Cmd) (reply : Reply) (p q : Pace) → p.events ≤ length log → q.events ≤ length log → StepsBy ses base m log cmd reply p q → StepsBy ses base m (log ++ more) cmd reply p q
@@ -147,6 +151,7 @@ module _ (ses : MountedSession) (base : Blocks) (m : Manner) (log more : List Ev
         (subst (λ (es : List Event). PollsFirst m 64 p.polls (take p.events log) q.polls es) (sym (front q.events low_next)) (step.ticks meant going unspent));
     known = λ n is said alone. subst (λ (es : List Event). KnowsUpTo p.taken.spans es n) (sym (front q.events low_next)) (step.known n is said alone);
     told = step.told;
+    promised = step.promised;
     rises = step.rises;
     stops = step.stops;
     halts = step.halts;
@@ -197,12 +202,15 @@ module _ (cmd : Cmd) (reply : Reply) (old new : State) (s : StepsOn cmd reply ol
     pub written : is_done_sync cmd reply ≡ true → old.books.stopped ≡ false → 0 < t.weight → WritesRecordBy ses base m new.crash.log t.weight (length behind) begun (length new.crash.log)
     pub idle : is_done_sync cmd reply ≡ true → old.books.stopped ≡ false → t.weight ≡ 0 → writes_in new.crash.log ≡ writes_in behind
     pub unwritten : is_sync cmd ≡ true → old.books.stopped ≡ false → reply ≡ Refused because.NoMemory → length new.crash.log ≡ length behind
-    pub calm : m.waits_alone ≡ true → cmd ≢ Bad → old.books.stopped ≡ false → reply ≢ Refused because.Spent → FindsRoom ses base behind t (room_of old) (places_wanted reply t.weight (own_records ses new.crash.log (length behind) (length new.crash.log))) cmd
+    pub calm : m.waits_alone ≡ true → cmd ≢ Bad → old.books.stopped ≡ false → reply ≢ Refused because.Spent → FindsRoom ses base behind t (room_of old) old.books.floor (places_wanted reply t.weight (own_records ses new.crash.log (length behind) (length new.crash.log))) cmd
         → PollsThenWrites old.counts.ticks.manner 64 old.counts.ticks.polls old.crash.log new.counts.ticks.polls new.crash.log
     pub hears : m.waits_alone ≡ true → cmd ≡ Dsync → old.books.stopped ≡ false → reply ≢ Refused because.Spent → OrdersAtOnce ses base behind t (places_wanted reply t.weight (own_records ses new.crash.log (length behind) (length new.crash.log))) → (p : Polled) → after_polls old.counts.ticks.manner 64 old.counts.ticks.polls old.crash.log ≡ Some p
         → HearsIn ((taken_by ses.geom t cmd reply (own_records ses new.crash.log (length behind) (length new.crash.log)) (record { begun = begun; mark = length new.crash.log })).spans ++ (if is_refusal reply then record { begun = length behind; mark = length new.crash.log } ∷ [] else [])) p.log new.crash.log
+    pub hears_upto : (n : ℕ) → m.waits_alone ≡ true → cmd ≡ Dwait n → old.books.stopped ≡ false → reply ≢ Refused because.Spent → (p : Polled) → after_polls old.counts.ticks.manner 64 old.counts.ticks.polls old.crash.log ≡ Some p → HearsIn (take n t.spans) p.log new.crash.log
+    pub quiet : (n : ℕ) → cmd ≡ Dwait n → old.books.stopped ≡ false → reply ≢ Refused because.Spent → writes_in new.crash.log ≡ writes_in behind
     pub knows : (n : ℕ) → cmd ≡ Durable → reply ≡ replied.Known n → new.counts.ticks.manner.waits_alone ≡ true → KnowsUpTo t.spans new.crash.log n
     pub told : (n : ℕ) → cmd ≡ Durable → reply ≡ replied.Known n → n ≡ new.books.floor
+    pub promised : promised_by reply ≤ new.books.floor
     pub rises : old.books.floor ≤ new.books.floor
     pub spends : writes_in (take (length new.crash.log) new.crash.log) ≤ writes_in (take ses.mounted new.crash.log) + (taken_by ses.geom t cmd reply (own_records ses new.crash.log (length behind) (length new.crash.log)) (record { begun = begun; mark = length new.crash.log })).budget
     pub placed : StaysPlaced ses.geom base (after_reply t.session cmd reply) new
@@ -247,10 +255,14 @@ module _ (cmd : Cmd) (reply : Reply) (old new : State) (s : StepsOn cmd reply ol
           subst (λ (es : List Event). PollsThenWrites m 64 old.counts.ticks.polls es new.counts.ticks.polls (take (length new.crash.log) new.crash.log)) (sym earlier)
           (subst (λ (es : List Event). PollsThenWrites m 64 old.counts.ticks.polls old.crash.log new.counts.ticks.polls es) (sym all)
           (subst (λ (x : Manner). PollsThenWrites x 64 old.counts.ticks.polls old.crash.log new.counts.ticks.polls new.crash.log) is
-          (waits.calm alone meant run unspent (subst (λ (es : List Event). FindsRoom ses base es t (room_of old) (places_wanted reply t.weight own) cmd) cut finds))));
+          (waits.calm alone meant run unspent (subst (λ (es : List Event). FindsRoom ses base es t (room_of old) old.books.floor (places_wanted reply t.weight own) cmd) cut finds))));
       waits = λ sync run unspent alone finds p polled.
           subst (λ (es : List Event). HearsIn (then_pace.taken.spans ++ (if is_refusal reply then record { begun = length behind; mark = length new.crash.log } ∷ [] else [])) p.log es) (sym all)
           (waits.hears alone sync run unspent (subst (λ (es : List Event). OrdersAtOnce ses base es t (places_wanted reply t.weight own)) cut finds) p (ap (λ (x : Manner). after_polls x 64 old.counts.ticks.polls old.crash.log) is ∙ ap (λ (es : List Event). after_polls m 64 old.counts.ticks.polls es) (sym earlier) ∙ polled));
+      waits_upto = λ n upto run unspent alone p polled.
+          subst (λ (es : List Event). HearsIn (take n t.spans) p.log es) (sym all)
+          (waits.hears_upto n alone upto run unspent p (ap (λ (x : Manner). after_polls x 64 old.counts.ticks.polls old.crash.log) is ∙ ap (λ (es : List Event). after_polls m 64 old.counts.ticks.polls es) (sym earlier) ∙ polled));
+      quiet = λ n upto run unspent. ap writes_in all ∙ waits.quiet n upto run unspent ∙ ap writes_in (sym cut);
     }
 
     pub step_now : (m.waits_alone ≡ true → old.books.stopped ≡ false → has_lost old.crash.log ≡ false) → (m.waits_alone ≡ true → new.books.stopped ≡ false → has_lost new.crash.log ≡ false) → (f : Session) → IsSession old f → (room : AnswersBy ses base m new.crash.log cmd reply (pace_of t old) then_pace) → room.behind ≡ length behind
@@ -270,6 +282,7 @@ module _ (cmd : Cmd) (reply : Reply) (old new : State) (s : StepsOn cmd reply ol
               (subst (λ (x : Manner). PollsFirst x 64 old.counts.ticks.polls old.crash.log new.counts.ticks.polls new.crash.log) is (s.ticks meant run unspent)));
           known = λ n asked said alone. subst (λ (es : List Event). KnowsUpTo t.spans es n) (sym all) (waits.knows n asked said (ap (λ (x : Manner). x.waits_alone) same ∙ alone));
           told = waits.told;
+          promised = waits.promised;
           rises = waits.rises;
           stops = λ late. s.stops f session late;
           halts = s.halts;

@@ -3,7 +3,7 @@ use Rattle.std.proofs.Common.{◌≡◌, ◌⊎◌, inl, inr, ⊎_elim, ℕ, ◌
 use Rattle.std.proofs.Math.Logic.{∥∥₁_map}
 use Rattle.std.proofs.Math.Seq.{take-append_seam}
 use Rattle.std.proofs.lemmas.List.{length-append}
-use Rattle.std.proofs.lemmas.Bool.{and_from, and_parts, cases_Bool, cases_lt, leb-true, le-leb, lt-ltb, true≢false}
+use Rattle.std.proofs.lemmas.Bool.{and_from, and_parts, cases_Bool, cases_lt, false≢true, leb-true, le-leb, lt-ltb, true≢false}
 use Rattle.std.specs.FinMap.{get}
 use Rattle.base_types.specs.Seal.{Blocks}
 use Rattle.layout_geometry.specs.Geometry.{Geometry, IsGeometry, bitmap_start, data_start}
@@ -17,13 +17,14 @@ use Rattle.lang_tree.specs.declared.command.Cmd.TheVariants as cmds
 use Rattle.lang_tree.specs.declared.command.Refusal.{Refusal}
 use Rattle.lang_tree.specs.declared.command.Reply.{Reply}
 use Rattle.lang_tree.specs.Conditions.{refusal}
-use Rattle.lang_tree.specs.Points.{after_reply, is_sync, may_have_written}
-use Rattle.lang_tree.specs.Step.{Session, dsync, osync, step}
+use Rattle.lang_tree.specs.Points.{after_reply, may_have_written}
+use Rattle.lang_tree.specs.Step.{Session, dsync, dwait, osync, step}
 use Rattle.lang_tree.specs.Tree.{Dir, File, IsSound, Thing, Tree}
 use Rattle.crash_argument.specs.Ledger.{HoldsUnder, issued}
 use Rattle.engine_blocks.specs.Crashes.{HasLiveBlocks, HasMapOfPoint, StandsForLast}
 use Rattle.engine_blocks.specs.State.{State}
 use Rattle.fs_files.specs.Calls.{places_of, places_or_none}
+use Rattle.fs_session.specs.Commands.{is_on_tree}
 use Rattle.fs_session.specs.DiskRoom.{AnswersOn, AnswersOver, BeginsOver, IsRoomOf, SyncsOver}
 use Rattle.fs_session.specs.Memory.{room_of}
 use Rattle.fs_session.specs.Room.{HoldsTree, IsDoneIn, RefusesIn, Room, figures_in}
@@ -60,13 +61,13 @@ module _ (g : Geometry) (laws : PlaceLaws g) (img other m : Blocks) (same : (b :
       let one = laws.newest g.n other held.slot h.held.slot held.header h.held.header held.newest (newest_same h.held.slot h.held.header h.held.newest) in
       record { held = held; geom = ap (λ (x : Header). x.geom) one.1 ∙ h.geom }
 
--- A command that leaves nothing changed since the last point leaves the session as it was, but for a sync.
+-- A command on the tree that leaves nothing changed since the last point leaves the session as it was.
 
 if_same : (f : Session) (c : Bool) (done : Reply) (x : Session × Reply) → x.0.changed ≡ true → (if c then (f, done) else x).0.changed ≡ false → (if c then (f, done) else x).0 ≡ f
 if_same f c done x h1 h2 = grind arith
 
-same_session : (f : Session) (cmd : Cmd) → is_sync cmd ≡ false → (step f cmd).0.changed ≡ false → (step f cmd).0 ≡ f
-same_session f cmd other clean = grind (arith, refusal f.limit f.tree cmd, f.limit, f.tree, if_same)
+same_session : (f : Session) (cmd : Cmd) → is_on_tree cmd ≡ true → (step f cmd).0.changed ≡ false → (step f cmd).0 ≡ f
+same_session f cmd on_tree clean = grind (arith, refusal f.limit f.tree cmd, f.limit, f.tree, if_same, false≢true)
 
 -- a sync that is done and makes no point had nothing to commit
 clean_osync : (f : Session) (c : Bool) → (c && may_have_written (osync f c).1) ≡ false → c ≡ false
@@ -74,6 +75,11 @@ clean_osync f c h1 = grind arith
 
 clean_dsync : (f : Session) (c : Bool) → (c && may_have_written (dsync f c).1) ≡ false → c ≡ false
 clean_dsync f c h1 = grind arith
+
+-- a wait changes nothing of the tree
+waited_changed : (f : Session) (n : ℕ) (b : Bool) → (dwait f n b).0.changed ≡ f.changed
+waited_changed f n true = refl
+waited_changed f n false = refl
 
 -- Rooms that hold the same tree have as many blocks of each node.
 
@@ -103,14 +109,14 @@ module _ (g : Geometry) (f : Session) (reply : Reply) (next : Session) (clean : 
   refused : (P : Refusal → Type 0) (back : Room) → back.places ≡ r.places → RefusesIn P f back reply next room → Keeps
   refused P back places x = rests x.3 (ap (λ (q : Room). q.places) x.4 ∙ places)
 
-  done : (cmd : Cmd) (back : Room) → is_sync cmd ≡ false → back.places ≡ r.places → IsDoneIn g f back cmd reply next room → Keeps
-  done cmd back other places d = (ap (λ (x : Session). x.changed) (sym same) ∙ clean, kept)
+  done : (cmd : Cmd) (back : Room) → is_on_tree cmd ≡ true → back.places ≡ r.places → IsDoneIn g f back cmd reply next room → Keeps
+  done cmd back of_tree places d = (ap (λ (x : Session). x.changed) (sym same) ∙ clean, kept)
     where
       after : (step f cmd).0 ≡ next
       after = ap (λ (x : Session × Reply). x.0) d.answer
 
       same : next ≡ f
-      same = sym after ∙ same_session f cmd other (ap (λ (x : Session). x.changed) after ∙ clean)
+      same = sym after ∙ same_session f cmd of_tree (ap (λ (x : Session). x.changed) after ∙ clean)
 
       kept : (k : ℕ) → room.places k ≡ r.places k
       kept k = same_front (room.places k) (r.places k) (take (figures_in g f cmd).need back.takeable) (same_length limit f.tree sound r room holds (subst (λ (x : Session). HoldsTree x.tree room) same d.holds) k)
@@ -119,7 +125,7 @@ module _ (g : Geometry) (f : Session) (reply : Reply) (next : Session) (clean : 
   synced : (cmd : Cmd) (back : Room) → back.places ≡ r.places → (step f cmd ≡ (next, reply) → f.changed ≡ false) → SyncsOver f back cmd reply next room → Keeps
   synced cmd back h1 h2 h3 = grind (arith, refused, rests)
 
-  on_tree : (P Q : Refusal → Type 0) (cmd : Cmd) (back : Room) → is_sync cmd ≡ false → back.places ≡ r.places → (IsDoneIn g f back cmd reply next room ⊎ RefusesIn P f back reply next room) ⊎ RefusesIn Q f back reply next room → Keeps
+  on_tree : (P Q : Refusal → Type 0) (cmd : Cmd) (back : Room) → is_on_tree cmd ≡ true → back.places ≡ r.places → (IsDoneIn g f back cmd reply next room ⊎ RefusesIn P f back reply next room) ⊎ RefusesIn Q f back reply next room → Keeps
   on_tree P Q cmd back h1 h2 h3 = grind (arith, done, refused)
 
   over : (cmd : Cmd) (back : Room) → makes_point f cmd reply ≡ false → back.places ≡ r.places → AnswersOver g f back cmd reply next room → Keeps
@@ -127,6 +133,8 @@ module _ (g : Geometry) (f : Session) (reply : Reply) (next : Session) (clean : 
   over cmds.Bad back none places (inr x) = refused _ back places x
   over cmds.Poll back none places (inl x) = rests (ap (λ (y : Session × Reply). y.0) (sym x.0)) (ap (λ (q : Room). q.places) x.1 ∙ places)
   over cmds.Poll back none places (inr x) = refused _ back places x
+  over (cmds.Dwait n) back none places (inl x) = (sym (waited_changed f n (nat_le n f.points)) ∙ ap (λ (y : Session × Reply). y.0.changed) x.0 ∙ clean, λ k. ap (λ (at : ℕ → List ℕ). at k) (ap (λ (q : Room). q.places) x.1 ∙ places))
+  over (cmds.Dwait n) back none places (inr x) = refused _ back places x
   over cmds.Durable back none places (inl x) = rests x.0.same (ap (λ (q : Room). q.places) x.1 ∙ places)
   over cmds.Durable back none places (inr x) = refused _ back places x
   over cmds.Osync back none places x = synced cmds.Osync back places (λ is. clean_osync f f.changed (ap (λ (y : Session × Reply). f.changed && may_have_written y.1) is ∙ none)) x
@@ -150,6 +158,7 @@ module _ (g : Geometry) (f : Session) (reply : Reply) (next : Session) (clean : 
   keeps : (cmd : Cmd) → makes_point f cmd reply ≡ false → AnswersOn g f r cmd reply next room → Keeps
   keeps cmds.Bad none x = rests (ap (λ (y : Session × Reply). y.0) (sym x.0)) (ap (λ (q : Room). q.places) x.1)
   keeps cmds.Poll none x = began _ cmds.Poll none x
+  keeps (cmds.Dwait n) none x = began _ (cmds.Dwait n) none x
   keeps cmds.Durable none x = began _ cmds.Durable none x
   keeps cmds.Osync none x = began _ cmds.Osync none x
   keeps cmds.Dsync none x = began _ cmds.Dsync none x

@@ -30,13 +30,13 @@ use Rattle.fs_session.specs.Applying.{is_spent}
 use Rattle.fs_session.specs.DiskRoom.{AnswersOn, AnswersOver, BeginsOver, SyncsOver}
 use Rattle.fs_session.specs.Memory.{room_of}
 use Rattle.fs_session.specs.Room.{IsDoneIn, RefusesIn, Room}
-use Rattle.fs_session.specs.Serving.{AnswersAt, SaysNoMore, ServesCommand, SyncsBehind, moment_of, room_on}
+use Rattle.fs_session.specs.Serving.{AnswersAt, SaysNoMore, ServesCommand, SyncsBehind, WaitsBehind, moment_of, room_on}
 use Rattle.fs_session.specs.Moments.{answer_at_others, answer_in_room}
 use Rattle.cmd_session.specs.Records.{own_records}
 use Rattle.cmd_session.specs.Going.{pace_of}
 use Rattle.cmd_session.specs.Pacing.{AnswersBy, DoneInRing, FindsPlaces, Pace, moment_by}
 use Rattle.cmd_session.specs.Taking.{Span, Taken, places_wanted, taken_by}
-use Rattle.cmd_session.specs.Answered.{AnsweredIn, FitsAmong, FreesBy, SyncsIn, moment_over}
+use Rattle.cmd_session.specs.Answered.{AnsweredIn, FitsAmong, FreesBy, SyncsIn, WaitsIn, moment_over}
 use Rattle.cmd_session.proofs.Pending.{rests_alike}
 
 -- The session that follows is the one that the reply tells.
@@ -57,6 +57,8 @@ module _ (g : Geometry) (f : Session) (reply : Reply) (next : Session) where
   over : (r : Room) (cmd : Cmd) (room : Room) → AnswersOver g f r cmd reply next room → Said cmd
   over r cmds.Bad room (inl x) = inl x.0
   over r cmds.Bad room (inr why) = refused _ r cmds.Bad room why
+  over r (cmds.Dwait n) room (inl x) = inl x.0
+  over r (cmds.Dwait n) room (inr why) = refused _ r (cmds.Dwait n) room why
   over r cmds.Poll room (inl x) = inl x.0
   over r cmds.Poll room (inr why) = refused _ r cmds.Poll room why
   over r cmds.Durable room (inl x) = inr (inr (refl, x.0))
@@ -82,6 +84,7 @@ module _ (g : Geometry) (f : Session) (reply : Reply) (next : Session) where
 
   pub said : (r : Room) (cmd : Cmd) (room : Room) → AnswersOn g f r cmd reply next room → Said cmd
   said r cmds.Bad room x = inl x.0
+  said r (cmds.Dwait n) room x = began _ r (cmds.Dwait n) room x
   said r cmds.Poll room x = began _ r cmds.Poll room x
   said r cmds.Durable room x = began _ r cmds.Durable room x
   said r cmds.Osync room x = began _ r cmds.Osync room x
@@ -165,6 +168,19 @@ module _ {S : Type 0} (state : S → State) (f : Session) (cmd : Cmd) (reply : R
       heard t (inr (inl some)) = inr (inl (∥∥₁_map some (λ (x : (p : ℕ) × mid.crash.awaits p t). (x.0, served.still x.0 t x.1))))
       heard t (inr (inr late)) = inr (inr late)
 
+  waits_meant : (n : ℕ) → cmd ≡ cmds.Dwait n → cmd ≢ cmds.Bad
+  waits_meant n is bad = cc (sym is ∙ bad)
+
+  waits_in : (n : ℕ) → WaitsBehind n mid (state new) → WaitsIn n (state old) mid.crash.log (state new)
+  waits_in n w = record {
+    hears = λ alone t came. heard t (w.hears (ap (λ (m : Manner). m.waits_alone) served.manner ∙ alone) t came);
+    still = w.still;
+  }
+    where
+      heard : (t : ℕ) → IsNoticed t mid.crash.log ⊎ ∥ ((p : ℕ) × (1 ≤ p) × (p ≤ n) × mid.crash.awaits p t) ∥₁ → IsNoticed t mid.crash.log ⊎ ∥ ((q : ℕ) × (1 ≤ q) × (q ≤ n) × (state old).crash.awaits q t) ∥₁
+      heard t (inl was) = inl was
+      heard t (inr some) = inr (∥∥₁_map some (λ (x : (p : ℕ) × (1 ≤ p) × (p ≤ n) × mid.crash.awaits p t). (x.0, x.1, x.2, served.still x.0 t x.3)))
+
   says_end : SaysNoMore (moment_of (state new)) (moment_over (state old) (state new).crash.log ⊥)
   says_end = grind (arith, served.begins.sure, served.goes_on.sure, rests_alike)
 
@@ -178,6 +194,7 @@ module _ {S : Type 0} (state : S → State) (f : Session) (cmd : Cmd) (reply : R
     awaits = served.awaits;
     free = mid.books.free_places;
     ring = λ meant going unspent alone. ⊎_elim (λ told. inl (frees told)) (λ all. inr (ap (λ (x : S). (state x).crash.log) all.0, all.1)) (served.ring meant going (left meant going unspent) alone);
+    wait = λ n is going unspent. waits_in n (served.wait n is going (left (waits_meant n is) going unspent));
     sync = λ of going unspent. syncs_in (served.sync of going (left (sync_is_meant cmd of) going unspent));
     answers = answer_at_others (state old).books.geom (moment_of mid) (moment_of (state new)) (moment_over (state old) mid.crash.log (commit_places (state old).books ≤ mid.books.free_places)) (moment_over (state old) (state new).crash.log ⊥)
         says_behind says_end f (room_on (state old)) cmd reply next (room_on (state new)) served.answers;

@@ -4,7 +4,7 @@ use Rattle.std.proofs.lemmas.Bool.{and_from, cases_Bool, cond-true, true≢false
 use Rattle.disk_contract.specs.Disk.{writes_in}
 use Rattle.layout_geometry.specs.Geometry.{Geometry, bitmap_blocks}
 use Rattle.lang_tree.specs.declared.command.Cmd.{Cmd}
-use Rattle.lang_tree.specs.declared.command.Cmd.TheVariants.{Mkdir, Create, Write, Fill, Read, Truncate, Link, Unlink, Rmdir, Rename, Stat, List as ListNames, Osync, Dsync, Durable, Poll, Bad}
+use Rattle.lang_tree.specs.declared.command.Cmd.TheVariants.{Mkdir, Create, Write, Fill, Read, Truncate, Link, Unlink, Rmdir, Rename, Stat, List as ListNames, Osync, Dsync, Durable, Dwait, Poll, Bad}
 use Rattle.lang_tree.specs.declared.command.Refusal.{Refusal}
 use Rattle.lang_tree.specs.declared.command.Refusal.TheVariants as because
 use Rattle.lang_tree.specs.declared.command.Reply.{Reply}
@@ -64,6 +64,7 @@ module _ {S : Type 0} (tells : Bool) (state : S → State) (told : IsTrue tells)
   of_run f Osync result mid new h runs = of_synced true f Osync result mid new refl (osync_begun f f.changed) h runs
   of_run f Dsync result mid new h runs = of_synced false f Dsync result mid new refl refl h runs
   of_run f Durable result mid new h runs = same_writes (writes_of Durable (reply_for result) (state mid).books) mid new runs.1
+  of_run f (Dwait n) result mid new h runs = omega (arith, runs.runs.writes told)
   of_run f Poll result mid new h runs = same_writes (writes_of Poll (reply_for result) (state mid).books) mid new runs.1
   of_run f (Mkdir path) result mid new h runs = of_carried (Mkdir path) result 0 mid new runs
   of_run f (Create path) result mid new h runs = of_carried (Create path) result 0 mid new runs

@@ -30,12 +30,13 @@ use Rattle.cmd_session.specs.Going.{AnswersOnDisk, BeginsByLog, GoesByLog, IsOfM
 use Rattle.cmd_session.specs.Histories.{session_after}
 use Rattle.cmd_session.specs.Pacing.{AnswersBy, Pace, PacesBy, StepsBy, is_fault}
 use Rattle.cmd_session.specs.Records.{own_records}
+use Rattle.cmd_session.specs.Shared.{floor_at_last}
 use Rattle.cmd_session.specs.Taking.{Span, Taken, makes_point, nothing_taken, taken_by}
 use Rattle.cmd_session.proofs.Answering.{left_over, manner_stays, steps_on, waits_on}
 use Rattle.cmd_session.proofs.Paces.{Waits, over_now, paces_longer, step_now}
 use Rattle.cmd_session.proofs.Placed.{one_more, placed_first, placed_in}
 use Rattle.cmd_session.proofs.Rooms.{answered_by, answered_in}
-use Rattle.cmd_session.proofs.Waiting.{Own, calm_on, done_fits, hears_on, idle_on, keeps_at_first, keeps_on, knows_on, own_begun, ring_on, spends_on, unwritten_on}
+use Rattle.cmd_session.proofs.Waiting.{Own, calm_on, done_fits, hears_on, hears_upto_on, idle_on, keeps_at_first, keeps_on, knows_on, own_begun, ring_on, spends_on, unwritten_on}
 
 -- What the file system and the blocks say of such a call.
 pub record CallLaws {S : Type 0} (tells : Bool) (state : S → State) (cmd : Cmd) (reply : Reply) (old new : S) : Type 0 where
@@ -130,8 +131,11 @@ module _ {S : Type 0} (tells : Bool) (state : S → State) (told : IsTrue tells)
     unwritten = unwritten_on cmd reply s u waits grows mount base m tree cmds replies marks x.before x.after x.weighs over h.taken h.keeps h.of_mount.records h.of_mount.late answer.0 room h.manner;
     calm = λ alone. calm_on cmd reply s u waits grows mount base m tree cmds replies marks x.before x.after x.weighs over h.taken h.keeps h.of_mount.records h.of_mount.late answer.0 room h.manner alone steps.ticks;
     hears = λ alone. hears_on cmd reply s u waits grows mount base m tree cmds replies marks x.before x.after x.weighs over h.taken h.keeps h.of_mount.records h.of_mount.late answer.0 room h.manner mine.0 mine.1 alone x.disk.lawful;
+    hears_upto = λ n alone. hears_upto_on cmd reply s u waits grows mount base m tree cmds replies marks x.before x.after x.weighs over h.taken h.keeps h.of_mount.records h.of_mount.late answer.0 room h.manner mine.0 mine.1 n alone;
+    quiet = λ n is going unspent. (room.wait n is going unspent).still;
     knows = knows_on cmd reply s u waits grows mount base m tree cmds replies marks x.before x.after x.weighs over h.taken h.keeps h.of_mount.records h.of_mount.late answer.0 room h.manner;
     told = λ n asks said. (waits.known n asks said).0;
+    promised = omega (arith, x.after.goes_on.promised (length u.crash.log), floor_at_last (length u.crash.log) replies marks reply (length u.crash.log) x.before.marked (omega arith));
     rises = waits.floor;
     spends = spends_on cmd reply s u waits grows mount base m tree cmds replies marks x.before x.after x.weighs over h.taken h.keeps h.of_mount.records h.of_mount.late answer.0 room h.manner mine.0 mine.1 rests;
     placed = placed;

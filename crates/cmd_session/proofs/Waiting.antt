@@ -14,6 +14,7 @@ use Rattle.disk_contract.specs.Cell.{cell_of, is_accepted, is_noticed, IsNoticed
 use Rattle.disk_contract.specs.Disk.{AreWrites, Grows, GrowsByWrites, PollsFirst, PollsThenWrites, writes_in}
 use Rattle.disk_contract.specs.Lawful.{AreLawfulAfter, IsLawful}
 use Rattle.disk_contract.specs.Manner.{Manner, Polled, after_polls}
+use Rattle.disk_contract.specs.Logs.{writes_in-append as writes_on}
 use Rattle.layout_geometry.specs.Geometry.{Geometry, bitmap_blocks}
 use Rattle.layout_journal.specs.declared.header.Header.{Header}
 use Rattle.layout_journal.specs.declared.record.Commit.{Commit}
@@ -51,7 +52,7 @@ use Rattle.cmd_session.specs.Answered.{AnsweredIn, FitsAmong, FreesBy, WaitsOn, 
 use Rattle.cmd_session.specs.Going.{KeepsTaken, pace_of, session_at}
 use Rattle.cmd_session.specs.Pacing.{DoneInRing, FindsPlaces, FindsRoom, FitsUnder, HearsIn, KnowsUpTo, OrdersAtOnce, TellsRing, WritesRecordBy, is_fault}
 use Rattle.cmd_session.specs.Taking.{CameIn, Span, Taken, is_done_sync, makes_point, nothing_taken, places_wanted, stands_for, taken_by}
-use Rattle.cmd_session.proofs.Histories.{points_more}
+use Rattle.cmd_session.proofs.Histories.{none_is, points_more}
 use Rattle.cmd_session.proofs.Rooms.{sync_is_meant}
 
 -- Accepted and noticed tickets of a log, and of its fronts.
@@ -102,6 +103,13 @@ module _ (g : Geometry) where
   weight_more s w (c ∷ cmds) [] cmd reply same = absurd (omega (arith, same))
   weight_more s w (c ∷ cmds) (r ∷ replies) cmd reply same = weight_more (after_reply s c r) (weight_by (bitmap_blocks g) s w c r) cmds replies cmd reply (omega (arith, same))
 
+-- what stands at a place of the first n
+get_in_take : {A : Type 0} (n : ℕ) (xs : List A) (i : ℕ) (x : A) → i < n → slice_get xs i ≡ Some x → slice_get (take n xs) i ≡ Some x
+get_in_take zero xs i x low is = absurd (omega (arith, low))
+get_in_take (suc n) [] i x low is = absurd (none_is i x is)
+get_in_take (suc n) (y ∷ xs) zero x low is = is
+get_in_take (suc n) (y ∷ xs) (suc i) x low is = get_in_take n xs i x (omega (arith, low)) is
+
 -- how many points a command makes
 abbrev one_if : Bool → ℕ
 one_if b = if b then 1 else 0
@@ -125,12 +133,6 @@ records_on : (ses : MountedSession) (xs ys : List Event) → ses.mounted ≤ len
 records_on ses xs ys late = ap (commits_told ses.geom ses.epoch) (drop-append-le ses.mounted xs ys late) ∙ commits_on ses.geom ses.epoch (drop ses.mounted xs) ys
 
 -- Writes in a log.
-
-writes_on : (xs ys : List Event) → writes_in (xs ++ ys) ≡ writes_in xs + writes_in ys
-writes_on [] ys = omega arith
-writes_on (Wrote t b x ∷ xs) ys = omega (arith, writes_on xs ys)
-writes_on (Lost b x ∷ xs) ys = omega (arith, writes_on xs ys)
-writes_on (Noticed t ∷ xs) ys = writes_on xs ys
 
 -- where no write came, none was accepted
 none_accepted : (t : ℕ) (xs ys : List Event) → writes_in ys ≡ 0 → is_accepted t (xs ++ ys) ≡ is_accepted t xs
@@ -636,6 +638,25 @@ module _ (cmd : Cmd) (reply : Reply) (old new : State) (w : WaitsOn cmd reply ol
         by_ring (inl frees) = by_heard frees ((a.sync sync going unspent).hears (ap (λ (x : Manner). x.waits_alone) is_manner ∙ alone) (fits_among sync going frees finds) ticket noticed)
         by_ring (inr all) = inl (already (subst (IsNoticed ticket) all.0 noticed))
 
+    -- A dwait hears of the writes of its points' records.
+    pub hears_upto_on : (n : ℕ) → m.waits_alone ≡ true → cmd ≡ cmds.Dwait n → old.books.stopped ≡ false → reply ≢ Refused because.Spent → (p : Polled) → after_polls old.counts.ticks.manner 64 old.counts.ticks.polls old.crash.log ≡ Some p → HearsIn (take n t.spans) p.log new.crash.log
+    hears_upto_on n alone is going unspent p polled ticket noticed = by ((a.wait n is going unspent).hears (ap (λ (x : Manner). x.waits_alone) is_manner ∙ alone) ticket noticed)
+      where
+        meant : cmd ≢ cmds.Bad
+        meant bad = cc (sym is ∙ bad)
+
+        ticked : GrowsByWrites p.log behind
+        ticked = (a.ticks meant going unspent p polled).1
+
+        already : IsNoticed ticket behind → IsNoticed ticket p.log
+        already was = sym (noticed_on ticket p.log ticked.more ticked.writes) ∙ ap (is_noticed ticket) (sym ticked.log) ∙ was
+
+        by : IsNoticed ticket behind ⊎ ∥ ((q : ℕ) × (1 ≤ q) × (q ≤ n) × old.crash.awaits q ticket) ∥₁ → IsNoticed ticket p.log ⊎ ∥ ((k : ℕ) × (s : Span) × (slice_get (take n t.spans) k ≡ Some s) × CameIn new.crash.log s ticket) ∥₁
+        by (inl was) = inl (already was)
+        by (inr some) = inr (∥∥₁_map some (λ (x : (q : ℕ) × (1 ≤ q) × (q ≤ n) × old.crash.awaits q ticket).
+            let k = keeps.awaits going x.0 ticket x.3 in
+            (x.0 - 1, k.0, get_in_take n t.spans (x.0 - 1) k.0 (omega (arith, x.1, x.2)) k.1, came_still k.0 ticket k.2 k.3)))
+
   pub unwritten_on : is_sync cmd ≡ true → old.books.stopped ≡ false → reply ≡ Refused because.NoMemory → length new.crash.log ≡ length behind
   unwritten_on sync going memory = grind (arith, a.sync, false≢true)
 
@@ -661,28 +682,29 @@ module _ (cmd : Cmd) (reply : Reply) (old new : State) (w : WaitsOn cmd reply ol
   finds_blocks : (c : Cmd) → (figures_in g t.session c).need ≤ length (room_of old).takeable → (figures_on old f c).need ≤ length (reusable_blocks old.books)
   finds_blocks c finds = omega (arith, finds, need_same c)
 
-  needs_none : (c : Cmd) → FindsRoom ses base behind t (room_of old) wanted c → (c ≡ cmds.Osync) ⊎ NeedsNoWait old f c
-  needs_none cmds.Osync finds = inl refl
-  needs_none cmds.Dsync finds = absurd finds
-  needs_none cmds.Durable finds = inr finds
-  needs_none cmds.Poll finds = inr finds
-  needs_none cmds.Bad finds = inr finds
-  needs_none (cmds.Mkdir path) finds = inr (finds_blocks (cmds.Mkdir path) finds)
-  needs_none (cmds.Create path) finds = inr (finds_blocks (cmds.Create path) finds)
-  needs_none (cmds.Write path offset bytes) finds = inr (finds_blocks (cmds.Write path offset bytes) finds)
-  needs_none (cmds.Fill path offset count byte) finds = inr (finds_blocks (cmds.Fill path offset count byte) finds)
-  needs_none (cmds.Read path offset count) finds = inr (finds_blocks (cmds.Read path offset count) finds)
-  needs_none (cmds.Truncate path size) finds = inr (finds_blocks (cmds.Truncate path size) finds)
-  needs_none (cmds.Link path other) finds = inr (finds_blocks (cmds.Link path other) finds)
-  needs_none (cmds.Unlink path) finds = inr (finds_blocks (cmds.Unlink path) finds)
-  needs_none (cmds.Rmdir path) finds = inr (finds_blocks (cmds.Rmdir path) finds)
-  needs_none (cmds.Rename from to) finds = inr (finds_blocks (cmds.Rename from to) finds)
-  needs_none (cmds.Stat path) finds = inr (finds_blocks (cmds.Stat path) finds)
-  needs_none (cmds.List path) finds = inr (finds_blocks (cmds.List path) finds)
+  needs_none : (c : Cmd) → old.books.stopped ≡ false → FindsRoom ses base behind t (room_of old) old.books.floor wanted c → (c ≡ cmds.Osync) ⊎ NeedsNoWait old f c
+  needs_none cmds.Osync going finds = inl refl
+  needs_none cmds.Dsync going finds = absurd finds
+  needs_none cmds.Durable going finds = inr finds
+  needs_none (cmds.Dwait n) going finds = inr (⊎_elim (λ known. inl known) (λ later. inr (omega (arith, later, ap (λ (s : Session). s.points) keeps.session, is_session.points going))) finds)
+  needs_none cmds.Poll going finds = inr finds
+  needs_none cmds.Bad going finds = inr finds
+  needs_none (cmds.Mkdir path) going finds = inr (finds_blocks (cmds.Mkdir path) finds)
+  needs_none (cmds.Create path) going finds = inr (finds_blocks (cmds.Create path) finds)
+  needs_none (cmds.Write path offset bytes) going finds = inr (finds_blocks (cmds.Write path offset bytes) finds)
+  needs_none (cmds.Fill path offset count byte) going finds = inr (finds_blocks (cmds.Fill path offset count byte) finds)
+  needs_none (cmds.Read path offset count) going finds = inr (finds_blocks (cmds.Read path offset count) finds)
+  needs_none (cmds.Truncate path size) going finds = inr (finds_blocks (cmds.Truncate path size) finds)
+  needs_none (cmds.Link path other) going finds = inr (finds_blocks (cmds.Link path other) finds)
+  needs_none (cmds.Unlink path) going finds = inr (finds_blocks (cmds.Unlink path) finds)
+  needs_none (cmds.Rmdir path) going finds = inr (finds_blocks (cmds.Rmdir path) finds)
+  needs_none (cmds.Rename from to) going finds = inr (finds_blocks (cmds.Rename from to) finds)
+  needs_none (cmds.Stat path) going finds = inr (finds_blocks (cmds.Stat path) finds)
+  needs_none (cmds.List path) going finds = inr (finds_blocks (cmds.List path) finds)
 
-  pub calm_on : m.waits_alone ≡ true → (cmd ≢ cmds.Bad → old.books.stopped ≡ false → reply ≢ Refused because.Spent → PollsFirst old.counts.ticks.manner 64 old.counts.ticks.polls old.crash.log new.counts.ticks.polls new.crash.log) → cmd ≢ cmds.Bad → old.books.stopped ≡ false → reply ≢ Refused because.Spent → FindsRoom ses base behind t (room_of old) wanted cmd
+  pub calm_on : m.waits_alone ≡ true → (cmd ≢ cmds.Bad → old.books.stopped ≡ false → reply ≢ Refused because.Spent → PollsFirst old.counts.ticks.manner 64 old.counts.ticks.polls old.crash.log new.counts.ticks.polls new.crash.log) → cmd ≢ cmds.Bad → old.books.stopped ≡ false → reply ≢ Refused because.Spent → FindsRoom ses base behind t (room_of old) old.books.floor wanted cmd
       → PollsThenWrites old.counts.ticks.manner 64 old.counts.ticks.polls old.crash.log new.counts.ticks.polls new.crash.log
-  calm_on alone polls meant going unspent finds = by (needs_none cmd finds)
+  calm_on alone polls meant going unspent finds = by (needs_none cmd going finds)
     where
       by_ring : cmd ≡ cmds.Osync → OrdersAtOnce ses base behind t wanted → FreesBy old a.behind a.free ⊎ ((new.crash.log ≡ a.behind) × (reply ≡ Refused because.DiskFault)) → PollsThenWrites old.counts.ticks.manner 64 old.counts.ticks.polls old.crash.log new.counts.ticks.polls new.crash.log
       by_ring is at_once (inl frees) =
@@ -696,7 +718,7 @@ module _ (cmd : Cmd) (reply : Reply) (old new : State) (w : WaitsOn cmd reply ol
       by_ring is at_once (inr all) = λ p polled. ((polls meant going unspent p polled).0, subst (GrowsByWrites p.log) (sym all.0) (a.ticks meant going unspent p polled).1)
 
       by : (cmd ≡ cmds.Osync) ⊎ NeedsNoWait old f cmd → PollsThenWrites old.counts.ticks.manner 64 old.counts.ticks.polls old.crash.log new.counts.ticks.polls new.crash.log
-      by (inl is) = by_ring is (subst (FindsRoom ses base behind t (room_of old) wanted) is finds) (ring_told meant going unspent alone)
+      by (inl is) = by_ring is (subst (FindsRoom ses base behind t (room_of old) old.books.floor wanted) is finds) (ring_told meant going unspent alone)
       by (inr needs) = w.calm meant going unspent f is_session needs
 
   -- a write of the point behind n has no notice

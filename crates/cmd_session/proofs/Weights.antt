@@ -3,7 +3,7 @@ use Rattle.std.proofs.Common.{◌≡◌, ◌⊎◌, ◌≢◌, inl, inr, ⊎_eli
 use Rattle.std.proofs.lemmas.Bool.{cases_Bool, cases_eq, eq-eqb, ne_eqb, cond-true, cond-false, true≢false, false≢true}
 use Rattle.layout_geometry.specs.Geometry.{Geometry, bitmap_blocks}
 use Rattle.lang_tree.specs.declared.command.Cmd.{Cmd}
-use Rattle.lang_tree.specs.declared.command.Cmd.TheVariants.{Mkdir, Create, Write, Fill, Read, Truncate, Link, Unlink, Rmdir, Rename, Stat, List as ListNames, Osync, Dsync, Durable, Poll, Bad}
+use Rattle.lang_tree.specs.declared.command.Cmd.TheVariants.{Mkdir, Create, Write, Fill, Read, Truncate, Link, Unlink, Rmdir, Rename, Stat, List as ListNames, Osync, Dsync, Durable, Dwait, Poll, Bad}
 use Rattle.lang_tree.specs.declared.command.Refusal.{Refusal}
 use Rattle.lang_tree.specs.declared.command.Refusal.TheVariants as because
 use Rattle.lang_tree.specs.declared.command.Reply.{Reply}
@@ -19,7 +19,7 @@ use Rattle.fs_session.specs.Applying.{Ticks, Runs, Began, Applies, reply_for, is
 use Rattle.fs_session.specs.Commands.{Carries, is_disk_fault}
 use Rattle.fs_session.specs.Sessions.{IsSession}
 use Rattle.fs_session.specs.Staying.{session_ticks}
-use Rattle.fs_session.specs.Syncs.{SyncsSession}
+use Rattle.fs_session.specs.Syncs.{SyncsSession, WaitsSession}
 use Rattle.cmd_session.specs.Budget.{sync_budget, sync_places, weight_by}
 
 pub is_bad : (cmd : Cmd) → (cmd ≡ Bad) ⊎ (cmd ≢ Bad)
@@ -87,11 +87,18 @@ module _ {S : Type 0} (tells : Bool) (state : S → State) (told : IsTrue tells)
   of_nothing : (cmd : Cmd) (reply : Reply) (mid new : S) → new ≡ mid → weight_by (bitmap_blocks g) f (state mid).books.running.weight cmd reply ≡ (state mid).books.running.weight → Weighs cmd reply (state mid) (state new)
   of_nothing cmd reply mid new same free going = ap (λ (s : S). (state s).books.running.weight) same ∙ sym free
 
+  -- a wait weighs nothing, also where it is refused
+  of_waited : (n : ℕ) (result : Result Reply Refusal) (mid new : S) → IsSession (state mid) f → WaitsSession tells n result (state mid) (state new) → Weighs (Dwait n) (reply_for result) (state mid) (state new)
+  of_waited n (Ok reply) mid new h w going =
+      ap (λ (r : Running). r.weight) w.runs.pipeline.running ∙ sym (weight_answered (bitmap_blocks g) f (state mid).books.running.weight (Dwait n) reply (w.done told f h).0 refl ∙ omega arith)
+  of_waited n (Err why) mid new h w going = ap (λ (r : Running). r.weight) w.runs.pipeline.running
+
   of_run : (cmd : Cmd) (result : Result Reply Refusal) (mid new : S) → (state mid).books.geom ≡ g → IsSession (state mid) f → Runs tells state cmd result mid new → Weighs cmd (reply_for result) (state mid) (state new)
   of_run Osync result mid new geom h runs = of_synced true Osync result mid new refl (osync_done f f.changed) h runs
   of_run Dsync result mid new geom h runs = of_synced false Dsync result mid new refl refl h runs
   of_run Durable result mid new geom h runs = of_nothing Durable (reply_for result) mid new runs.1
       (weight_done (bitmap_blocks g) f (state mid).books.running.weight Durable (reply_for result) (ap is_refusal (ap reply_for runs.0)) refl ∙ omega arith)
+  of_run (Dwait n) result mid new geom h runs = of_waited n result mid new h runs
   of_run Poll result mid new geom h runs = of_nothing Poll (reply_for result) mid new runs.1
       (weight_done (bitmap_blocks g) f (state mid).books.running.weight Poll (reply_for result) (ap is_refusal (ap reply_for runs.0)) refl ∙ omega arith)
   of_run (Mkdir path) result mid new geom h runs = of_carried (Mkdir path) result mid new refl geom h runs

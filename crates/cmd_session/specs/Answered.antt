@@ -11,7 +11,7 @@ use Rattle.layout_journal.specs.declared.record.Commit.{Commit}
 use Rattle.layout_journal.specs.Layout.{descriptor_count}
 use Rattle.layout_journal.specs.Run.{HeldIs, Newest, places_from, writes_told}
 use Rattle.lang_tree.specs.declared.command.Cmd.{Cmd}
-use Rattle.lang_tree.specs.declared.command.Cmd.TheVariants.{Bad, Durable, Osync}
+use Rattle.lang_tree.specs.declared.command.Cmd.TheVariants.{Bad, Durable, Dwait, Osync}
 use Rattle.lang_tree.specs.declared.command.Refusal.{Refusal}
 use Rattle.lang_tree.specs.declared.command.Refusal.TheVariants.{DiskFault, NoMemory, ReadFault, Spent, Stopped}
 use Rattle.lang_tree.specs.declared.command.Reply.{Reply}
@@ -117,6 +117,11 @@ pub record SyncsIn (cmd : Cmd) (reply : Reply) (old : State) (behind : List Even
   pub idle : is_refusal reply ≡ false → old.books.running.weight ≡ 0 → (old.crash.records.told new.crash.log ≡ old.crash.records.told behind) × (writes_in new.crash.log ≡ writes_in behind)
   pub unwritten : reply ≡ Refused NoMemory → new.crash.log ≡ behind
 
+-- What a wait for point n did behind these events: no write came, and each notice that came is of a ticket for which one of the points 1 to n waited.
+pub record WaitsIn (n : ℕ) (old : State) (behind : List Event) (new : State) : Type 0 where
+  pub hears : old.counts.ticks.manner.waits_alone ≡ true → (t : ℕ) → IsNoticed t new.crash.log → IsNoticed t behind ⊎ ∥ ((q : ℕ) × (1 ≤ q) × (q ≤ n) × old.crash.awaits q t) ∥₁
+  pub still : writes_in new.crash.log ≡ writes_in behind
+
 -- A command was answered in the room of its session with what waits: with these events behind its tick, where so many ring places are free.
 pub record AnsweredIn (f : Session) (cmd : Cmd) (reply : Reply) (next : Session) (old new : State) : Type 0 where
   pub behind : List Event
@@ -130,6 +135,7 @@ pub record AnsweredIn (f : Session) (cmd : Cmd) (reply : Reply) (next : Session)
   -- as the log tells it, unless the tick was all
   pub ring : cmd ≢ Bad → old.books.stopped ≡ false → reply ≢ Refused Spent → old.counts.ticks.manner.waits_alone ≡ true → FreesBy old behind free ⊎ ((new.crash.log ≡ behind) × (reply ≡ Refused DiskFault))
   pub sync : is_sync cmd ≡ true → old.books.stopped ≡ false → reply ≢ Refused Spent → SyncsIn cmd reply old behind free new
+  pub wait : (n : ℕ) → cmd ≡ Dwait n → old.books.stopped ≡ false → reply ≢ Refused Spent → WaitsIn n old behind new
   pub answers : AnswersAt old.books.geom (moment_over old behind (commit_places old.books ≤ free)) (moment_over old new.crash.log ⊥) f (room_on old) cmd reply next (room_on new)
 
 -- While no call of the disk failed and nothing changed since the last point, each node has its blocks where the room says, in that point's map, and in one that the image with all that was issued holds.

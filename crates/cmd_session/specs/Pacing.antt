@@ -11,11 +11,11 @@ use Rattle.layout_journal.specs.Run.{places_from, places_told, writes_told}
 use Rattle.crash_argument.specs.Points.{MountedSession, records_told}
 use Rattle.engine_checkpoint.specs.Serving.{IsNewestAtRest}
 use Rattle.lang_tree.specs.declared.command.Cmd.{Cmd}
-use Rattle.lang_tree.specs.declared.command.Cmd.TheVariants.{Osync, Dsync, Durable, Poll, Bad}
+use Rattle.lang_tree.specs.declared.command.Cmd.TheVariants.{Osync, Dsync, Durable, Dwait, Poll, Bad}
 use Rattle.lang_tree.specs.declared.command.Refusal.TheVariants.{ReadFault, DiskFault, Stopped, Spent, NoMemory}
 use Rattle.lang_tree.specs.declared.command.Reply.{Reply}
 use Rattle.lang_tree.specs.declared.command.Reply.TheVariants.{Known, Refused}
-use Rattle.lang_tree.specs.Points.{is_refusal, is_sync}
+use Rattle.lang_tree.specs.Points.{is_refusal, is_sync, promised_by}
 use Rattle.engine_store.specs.SessionView.{IsSure}
 use Rattle.fs_session.specs.Room.{Room, figures_in}
 use Rattle.fs_session.specs.Serving.{AnswersAt, Moment, RoomOn}
@@ -39,14 +39,15 @@ FindsPlaces s base behind wanted = ∥ ((header : Header) × FitsUnder s base be
 abbrev pub OrdersAtOnce : MountedSession → Blocks → List Event → Taken → ℕ → Type 0
 OrdersAtOnce s base behind t wanted = (t.weight ≡ 0) ⊎ FindsPlaces s base behind wanted
 
--- The command has no reason to wait for the disk, in the room before it, where it wants so many ring places behind its tick: one that only orders needs none or finds them; one on the tree finds that as many blocks may be taken as it needs; and any other needs nothing. A dsync always has a reason.
-abbrev pub FindsRoom : MountedSession → Blocks → List Event → Taken → Room → ℕ → Cmd → Type 0
-FindsRoom s base behind t r wanted Osync = OrdersAtOnce s base behind t wanted
-FindsRoom s base behind t r wanted Dsync = ⊥
-FindsRoom s base behind t r wanted Durable = ⊤
-FindsRoom s base behind t r wanted Poll = ⊤
-FindsRoom s base behind t r wanted Bad = ⊤
-FindsRoom s base behind t r wanted cmd = (figures_in s.geom t.session cmd).need ≤ length r.takeable
+-- The command has no reason to wait for the disk, in the room before it, where all points up to one are known to be durable, and where it wants so many ring places behind its tick: one that only orders needs none or finds them; one on the tree finds that as many blocks may be taken as it needs; one that waits for a point finds that it is known to be durable, or isn't there; and any other needs nothing. A dsync always has a reason.
+abbrev pub FindsRoom : MountedSession → Blocks → List Event → Taken → Room → ℕ → ℕ → Cmd → Type 0
+FindsRoom s base behind t r known wanted Osync = OrdersAtOnce s base behind t wanted
+FindsRoom s base behind t r known wanted Dsync = ⊥
+FindsRoom s base behind t r known wanted Durable = ⊤
+FindsRoom s base behind t r known wanted (Dwait n) = (n ≤ known) ⊎ (t.session.points < n)
+FindsRoom s base behind t r known wanted Poll = ⊤
+FindsRoom s base behind t r known wanted Bad = ⊤
+FindsRoom s base behind t r known wanted cmd = (figures_in s.geom t.session cmd).need ≤ length r.takeable
 
 -- each notice of the log is one of those before, or that of a write which came in one of these spans
 abbrev pub HearsIn : List Span → List Event → List Event → Type 0
@@ -120,7 +121,7 @@ pub record TellsRing (s : MountedSession) (base : Blocks) (behind : List Event) 
   pub told : records_told s behind ≡ records
   pub header : ∥ ((header : Header) × IsNewestAtRest s.geom.n (cell_of base behind) header) ∥₁
 
--- What one command does behind its tick, by the log. With no reason to wait no notice comes. A dsync that needs no ring places, or finds them, waits for the writes of records alone, where a wait brings the notice of its own ticket alone; one that fails may have written of its own.
+-- What one command does behind its tick, by the log. With no reason to wait no notice comes. A dsync that needs no ring places, or finds them, waits for the writes of records alone, where a wait brings the notice of its own ticket alone; one that fails may have written of its own. A dwait writes nothing, and waits for the writes of its points' records alone.
 pub record DoesBehind (s : MountedSession) (base : Blocks) (m : Manner) (log : List Event) (cmd : Cmd) (reply : Reply) (old new : Pace) (behind : ℕ) : Type 0 where
   -- the writes of its record come behind so many events
   pub begun : ℕ
@@ -132,9 +133,11 @@ pub record DoesBehind (s : MountedSession) (base : Blocks) (m : Manner) (log : L
   pub written : is_done_sync cmd reply ≡ true → old.over ≡ false → 0 < old.taken.weight → WritesRecordBy s base m log old.taken.weight behind begun new.events
   pub idle : is_done_sync cmd reply ≡ true → old.over ≡ false → old.taken.weight ≡ 0 → writes_in (take new.events log) ≡ writes_in (take behind log)
   pub unwritten : is_sync cmd ≡ true → old.over ≡ false → reply ≡ Refused NoMemory → new.events ≡ behind
-  pub calm : cmd ≢ Bad → old.over ≡ false → reply ≢ Refused Spent → m.waits_alone ≡ true → FindsRoom s base (take behind log) old.taken old.room.room (places_wanted reply old.taken.weight (own_records s log behind new.events)) cmd → PollsThenWrites m 64 old.polls (take old.events log) new.polls (take new.events log)
+  pub calm : cmd ≢ Bad → old.over ≡ false → reply ≢ Refused Spent → m.waits_alone ≡ true → FindsRoom s base (take behind log) old.taken old.room.room old.durable (places_wanted reply old.taken.weight (own_records s log behind new.events)) cmd → PollsThenWrites m 64 old.polls (take old.events log) new.polls (take new.events log)
   pub waits : cmd ≡ Dsync → old.over ≡ false → reply ≢ Refused Spent → m.waits_alone ≡ true → OrdersAtOnce s base (take behind log) old.taken (places_wanted reply old.taken.weight (own_records s log behind new.events)) → (p : Polled) → after_polls m 64 old.polls (take old.events log) ≡ Some p
       → HearsIn (new.taken.spans ++ (if is_refusal reply then record { begun = behind; mark = new.events } ∷ [] else [])) p.log (take new.events log)
+  pub waits_upto : (n : ℕ) → cmd ≡ Dwait n → old.over ≡ false → reply ≢ Refused Spent → m.waits_alone ≡ true → (p : Polled) → after_polls m 64 old.polls (take old.events log) ≡ Some p → HearsIn (take n old.taken.spans) p.log (take new.events log)
+  pub quiet : (n : ℕ) → cmd ≡ Dwait n → old.over ≡ false → reply ≢ Refused Spent → writes_in (take new.events log) ≡ writes_in (take behind log)
 
 -- One command of a run on a disk of this manner. A line that is none brings no event, nothing does once a call of the disk has failed, and no command that is refused as spent does. Any other command begins with the notices of its tick: those of 64 polls, or of the polls up to the first that has none; and there is no other poll. A command is refused as stopped just then. It is refused for a failed read only where reads may fail. Where no write was lost before it, it is refused for another failed call only where its own last event is a lost write, or the disk's manner lets a call fail here. Where a wait brings the notice of its own ticket alone that needn't be known, and where a write was lost among the command's events it is refused so.
 pub record StepsBy (s : MountedSession) (base : Blocks) (m : Manner) (log : List Event) (cmd : Cmd) (reply : Reply) (old new : Pace) : Type 0 where
@@ -150,6 +153,8 @@ pub record StepsBy (s : MountedSession) (base : Blocks) (m : Manner) (log : List
   -- `durable` is answered by no earlier point than is known, where a wait brings the notice of its own ticket alone; and what it is answered by never falls
   pub known : (n : ℕ) → cmd ≡ Durable → reply ≡ Known n → m.waits_alone ≡ true → KnowsUpTo old.taken.spans (take new.events log) n
   pub told : (n : ℕ) → cmd ≡ Durable → reply ≡ Known n → n ≡ new.durable
+  -- what a reply promises is known to be durable
+  pub promised : promised_by reply ≤ new.durable
   pub rises : old.durable ≤ new.durable
   pub stops : reply ≡ Refused Stopped → old.over ≡ true
   pub halts : cmd ≢ Bad → old.over ≡ true → reply ≡ Refused Stopped

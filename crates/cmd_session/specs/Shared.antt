@@ -1,6 +1,6 @@
 -- Lemmas on runs, their points, and lists, that crates above cite too. They add no meaning to the promises.
-use Rattle.std.proofs.Common.{◌≡◌, ◌⊎◌, inl, inr, ⊎_elim, ℕ, zero, suc, ◌+◌, ◌==◌, ◌||◌, Bool, true, List, [], ◌∷◌, ◌++◌, length, slice_get, Some, unwrap_or, refl, sym, ap, ◌∙◌, arith}
-use Rattle.std.proofs.lemmas.Bool.{cases_Bool, false≢true, or_left, or_right}
+use Rattle.std.proofs.Common.{◌≡◌, ◌⊎◌, inl, inr, ⊎_elim, ℕ, zero, suc, ◌+◌, ◌≤◌, ◌==◌, ◌||◌, nat_le, Bool, true, List, [], ◌∷◌, ◌++◌, length, slice_get, Some, unwrap_or, refl, sym, ap, ◌∙◌, arith}
+use Rattle.std.proofs.lemmas.Bool.{cases_Bool, cond-true, false≢true, le-leb, or_left, or_right}
 use Rattle.disk_contract.specs.declared.disk.Disk.{Ghosts}
 use Rattle.disk_contract.specs.declared.event.Event.{Event}
 use Rattle.disk_contract.specs.declared.event.Event.TheVariants.{Wrote, Lost, Noticed}
@@ -9,7 +9,7 @@ use Rattle.disk_contract.specs.Disk as disk
 use Rattle.layout_geometry.specs.Geometry.{Geometry}
 use Rattle.lang_tree.specs.declared.command.Cmd.{Cmd}
 use Rattle.lang_tree.specs.declared.command.Reply.{Reply}
-use Rattle.lang_tree.specs.Points.{Point, begun_by}
+use Rattle.lang_tree.specs.Points.{Point, begun_by, floor, promised_by}
 use Rattle.lang_tree.specs.Tree.{Tree}
 use Rattle.engine_blocks.specs.State.{State}
 use Rattle.engine_store.specs.declared.store.Store.{Store}
@@ -33,6 +33,13 @@ has_run g t mounted cmds replies marks s served = record { run = served.run; sto
 pub begun_append : (k : ℕ) (xs ys : List Point) → begun_by k (xs ++ ys) ≡ begun_by k xs + begun_by k ys
 begun_append k [] ys = omega arith
 begun_append k (x ∷ xs) ys = omega (arith, begun_append k xs ys)
+
+-- from its mark on, no crash goes back behind the point that the last reply promises
+pub floor_at_last : (k : ℕ) (replies : List Reply) (marks : List ℕ) (reply : Reply) (mark : ℕ) → length marks ≡ length replies → mark ≤ k → promised_by reply ≤ floor k (replies ++ reply ∷ []) (marks ++ mark ∷ [])
+floor_at_last k [] [] reply mark same le = omega (arith, cond-true {A = ℕ} (nat_le mark k) (promised_by reply) 0 (le-leb mark k le))
+floor_at_last k [] (m ∷ marks) reply mark same le = absurd (omega (arith, same))
+floor_at_last k (r ∷ replies) [] reply mark same le = absurd (omega (arith, same))
+floor_at_last k (r ∷ replies) (m ∷ marks) reply mark same le = omega (arith, floor_at_last k replies marks reply mark (omega (arith, same)) le)
 
 -- a ticket that was accepted stays so in a longer log
 pub accepted_on : (t : ℕ) (xs ys : List Event) → is_accepted t xs ≡ true → is_accepted t (xs ++ ys) ≡ true

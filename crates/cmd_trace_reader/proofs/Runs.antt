@@ -4,6 +4,7 @@ use Rattle.std.proofs.lemmas.List.{append-nil, length-append, length-take-le}
 use Rattle.std.proofs.Math.Seq.{take-add}
 use Rattle.disk_contract.specs.declared.event.Event.{Event}
 use Rattle.disk_contract.specs.Lawful.{AreLawfulAfter, AreEventsOf}
+use Rattle.disk_contract.specs.Logs.{lawful_behind, lawful_front}
 use Rattle.lang_tree.specs.declared.command.Cmd.{Cmd}
 use Rattle.lang_tree.specs.declared.command.Reply.{Reply}
 use Rattle.lang_script.specs.Text.{text_of_reply}
@@ -31,14 +32,6 @@ come_front (x ∷ xs) ys s t h =
     (rest.0, (h.0, h.1, rest.1), rest.2)
 
 -- ---- parts of a log
-
-lawful_front : (before xs ys : List Event) → AreLawfulAfter before (xs ++ ys) → AreLawfulAfter before xs
-lawful_front before [] ys h = tt
-lawful_front before (x ∷ xs) ys h = (h.0, lawful_front (before ++ x ∷ []) xs ys h.1)
-
-lawful_behind : (before xs ys : List Event) → AreLawfulAfter before (xs ++ ys) → AreLawfulAfter (before ++ xs) ys
-lawful_behind before [] ys h = subst (λ (l : List Event). AreLawfulAfter l ys) (sym (append-nil before)) h
-lawful_behind before (x ∷ xs) ys h = subst (λ (l : List Event). AreLawfulAfter l ys) (append_assoc before (x ∷ []) xs) (lawful_behind (before ++ x ∷ []) xs ys h.1)
 
 lawful_taken : (log : List Event) (k : ℕ) → AreLawfulAfter [] log → AreLawfulAfter [] (take k log)
 lawful_taken log k h = lawful_front [] (take k log) (drop k log) (subst (AreLawfulAfter []) (sym (take-append-drop k log)) h)

@@ -1,14 +1,15 @@
 -- What a step of the tree answers and leaves: the numbers of its points, and no refusal from outside.
-use Rattle.std.proofs.Common.{◌≡◌, sym, ap, refl, ◌∙◌, subst, arith, ℕ, Bool, true, false, inl, inr, List, Option, Some, None}
+use Rattle.std.proofs.Common.{◌≡◌, sym, ap, refl, ◌∙◌, subst, arith, ℕ, ◌<◌, ◌^◌, nat_le, Bool, true, false, inl, inr, List, Option, Some, None}
 use Rattle.std.specs.Prelude.{◌⊎◌, replicate}
 use Rattle.lang_tree.specs.declared.command.Cmd.{Cmd}
-use Rattle.lang_tree.specs.declared.command.Cmd.TheVariants.{Write, Fill, Truncate, Rename, Stat, Osync, Dsync}
+use Rattle.lang_tree.specs.declared.command.Cmd.TheVariants.{Write, Fill, Truncate, Rename, Stat, Osync, Dsync, Dwait}
 use Rattle.lang_tree.specs.declared.command.Reply.{Reply}
 use Rattle.lang_tree.specs.declared.command.Reply.TheVariants.{Refused}
 use Rattle.lang_tree.specs.declared.command.Refusal.{Refusal}
 use Rattle.lang_tree.specs.declared.command.Refusal.TheVariants.{Full, TooBig, Scattered, DiskFault, NoMemory}
 use Rattle.lang_tree.specs.Conditions.{refusal}
-use Rattle.lang_tree.specs.Step.{Session, step, answered, write, truncate, rename, stat, osync, dsync}
+use Rattle.lang_tree.specs.Step.{Session, step, answered, write, truncate, rename, stat, osync, dsync, dwait}
+use Rattle.std.proofs.lemmas.Bool.{leb-true}
 use Rattle.lang_tree.specs.Points.{CountsPoints}
 use Rattle.lang_tree.specs.Run.{Answers, is_of_memory, is_of_disk}
 use Rattle.cmd_trace.specs.ReadsAs.{HasSmallFigures}
@@ -34,22 +35,50 @@ rename_counts s from to = grind arith
 osync_counts : (s : Session) (changed : Bool) → Counts s (osync s changed)
 osync_counts s changed = grind arith
 
-dsync_counts : (s : Session) (changed : Bool) → Counts s (dsync s changed)
-dsync_counts s changed = grind arith
+-- a dsync answers no point below the last one, nor one below what was answered
+dsync_counts : (s : Session) (changed : Bool) → CountsPoints s → Counts s (dsync s changed)
+dsync_counts s true ok = record { points = omega (arith, ok.low); durable = omega (arith, ok.made, ok.low) }
+dsync_counts s false ok = record { points = omega arith; durable = omega (arith, ok.made) }
 
-answered_counts : (s : Session) (cmd : Cmd) (o : Option Refusal) → Counts s (answered s cmd o)
-answered_counts s cmd (Some why) = record { points = refl; durable = refl }
-answered_counts s (Write path offset bytes) None = write_counts s path offset bytes
-answered_counts s (Fill path offset count byte) None = write_counts s path offset (replicate count byte)
-answered_counts s (Truncate path size) None = truncate_counts s path size
-answered_counts s (Rename from to) None = rename_counts s from to
-answered_counts s (Stat path) None = stat_counts s path
-answered_counts s Osync None = osync_counts s s.changed
-answered_counts s Dsync None = dsync_counts s s.changed
-answered_counts s other None = record { points = refl; durable = refl }
+dwait_counts : (s : Session) (n : ℕ) (b : Bool) → nat_le n s.points ≡ b → Counts s (dwait s n b)
+dwait_counts s n true is = record { points = omega (arith, leb-true n s.points is); durable = refl }
+dwait_counts s n false is = record { points = refl; durable = refl }
 
-pub step_counts : (s : Session) (cmd : Cmd) → Counts s (step s cmd)
-step_counts s cmd = answered_counts s cmd (refusal s.limit s.tree cmd)
+answered_counts : (s : Session) (cmd : Cmd) (o : Option Refusal) → CountsPoints s → Counts s (answered s cmd o)
+answered_counts s cmd (Some why) ok = record { points = refl; durable = refl }
+answered_counts s (Write path offset bytes) None ok = write_counts s path offset bytes
+answered_counts s (Fill path offset count byte) None ok = write_counts s path offset (replicate count byte)
+answered_counts s (Truncate path size) None ok = truncate_counts s path size
+answered_counts s (Rename from to) None ok = rename_counts s from to
+answered_counts s (Stat path) None ok = stat_counts s path
+answered_counts s Osync None ok = osync_counts s s.changed
+answered_counts s Dsync None ok = dsync_counts s s.changed ok
+answered_counts s (Dwait n) None ok = dwait_counts s n (nat_le n s.points) refl
+answered_counts s other None ok = record { points = refl; durable = refl }
+
+pub step_counts : (s : Session) (cmd : Cmd) → CountsPoints s → Counts s (step s cmd)
+step_counts s cmd ok = answered_counts s cmd (refusal s.limit s.tree cmd) ok
+
+-- the points alone, where their number has 64 bits
+
+dsync_points : (s : Session) (changed : Bool) → s.points < 2 ^ 64 → (dsync s changed).0.points ≡ points_by (dsync s changed).1 s.points
+dsync_points s true low = omega (arith, low)
+dsync_points s false low = omega arith
+
+answered_points : (s : Session) (cmd : Cmd) (o : Option Refusal) → s.points < 2 ^ 64 → (answered s cmd o).0.points ≡ points_by (answered s cmd o).1 s.points
+answered_points s cmd (Some why) low = refl
+answered_points s (Write path offset bytes) None low = (write_counts s path offset bytes).points
+answered_points s (Fill path offset count byte) None low = (write_counts s path offset (replicate count byte)).points
+answered_points s (Truncate path size) None low = (truncate_counts s path size).points
+answered_points s (Rename from to) None low = (rename_counts s from to).points
+answered_points s (Stat path) None low = (stat_counts s path).points
+answered_points s Osync None low = (osync_counts s s.changed).points
+answered_points s Dsync None low = dsync_points s s.changed low
+answered_points s (Dwait n) None low = (dwait_counts s n (nat_le n s.points) refl).points
+answered_points s other None low = refl
+
+pub step_points : (s : Session) (cmd : Cmd) → s.points < 2 ^ 64 → (step s cmd).0.points ≡ points_by (step s cmd).1 s.points
+step_points s cmd low = answered_points s cmd (refusal s.limit s.tree cmd) low
 
 -- ---- a step refuses by no reason from outside
 
@@ -94,7 +123,7 @@ counts_kept law more old new cmd reply points durable keeps answers = go (law.ex
     go (inl stepped) =
         let session : (step old cmd).0 ≡ new = ap (λ (r : Session × Reply). r.0) stepped in
         let answer : (step old cmd).1 ≡ reply = ap (λ (r : Session × Reply). r.1) stepped in
-        let counts = step_counts old cmd in (
+        let counts = step_counts old cmd keeps.2 in (
           ap (points_by reply) keeps.0 ∙ ap (λ r. points_by r old.points) (sym answer) ∙ sym counts.points ∙ ap (λ (s : Session). s.points) session,
           ap (durable_by reply) keeps.1 ∙ ap (λ r. durable_by r old.durable) (sym answer) ∙ sym counts.durable ∙ ap (λ (s : Session). s.durable) session,
           subst CountsPoints session (more old cmd keeps.2),

@@ -8,13 +8,13 @@ use Rattle.lang_tree.specs.declared.command.Cmd.TheVariants.{Durable, Bad}
 use Rattle.lang_tree.specs.declared.command.Reply.{Reply}
 use Rattle.lang_tree.specs.declared.command.Reply.TheVariants.{Known, Bad as NotUnderstood, Refused}
 use Rattle.lang_tree.specs.declared.command.Refusal.{Refusal}
-use Rattle.lang_tree.specs.declared.command.Refusal.TheVariants.{Full, TooBig, Scattered, Stopped}
+use Rattle.lang_tree.specs.declared.command.Refusal.TheVariants.{Full, TooBig, Scattered, Stopped, NoPoint}
 use Rattle.lang_tree.specs.Step.{Session, step}
 use Rattle.lang_tree.specs.Run.{Answers, is_of_disk}
 use Rattle.lang_tree.specs.Points.{CountsPoints, after_reply}
 use Rattle.lang_script.specs.Text.{text_of_reply, refusal_text}
 use Rattle.lang_script.specs.Values.{IsReply, HasFigures}
-use Rattle.cmd_trace.specs.ReadsAs.{IsReadAs, IsOutside, HasSmallFigures}
+use Rattle.cmd_trace.specs.ReadsAs.{IsReadAs, IsOutside}
 use Rattle.cmd_trace_reader.specs.Replies.{Kept, MayReply, TellsSmallFigures, Takes, Applies, IsKnown, RefusedSo, after, is_bad, is_durable, is_stopped, is_fault, points_by}
 use Rattle.cmd_trace_reader.proofs.Steps.{Alone, step_is_small}
 
@@ -47,11 +47,12 @@ stopped_is : (why : Refusal) → is_stopped why ≡ true → why ≡ Stopped
 stopped_is Stopped h = refl
 stopped_is other h = cc h
 
-wide_figures : (why : Refusal) → HasSmallFigures why → HasFigures why
-wide_figures (Full need left) h = (omega (arith, h.0), omega (arith, h.1))
-wide_figures (TooBig weight cost room) h = (omega (arith, h.0), omega (arith, h.1), omega (arith, h.2))
-wide_figures (Scattered runs) h = omega (arith, h)
-wide_figures other h = tt
+wide_figures : (why : Refusal) → IsOutside why → HasFigures why
+wide_figures (Full need left) out = (omega (arith, out.figures.0), omega (arith, out.figures.1))
+wide_figures (TooBig weight cost room) out = (omega (arith, out.figures.0), omega (arith, out.figures.1), omega (arith, out.figures.2))
+wide_figures (Scattered runs) out = omega (arith, out.figures)
+wide_figures (NoPoint last) out = absurd (true_is_not_false (sym out.number))
+wide_figures other out = tt
 
 abbrev why_of : Reply → Bool
 why_of (Refused why) = is_stopped why
@@ -105,7 +106,7 @@ refused_reply s stopped cmd why reply other out may e = record {
 
 other_refusal : OneReply → (why : Refusal) (text : List ℕ) → IsOutside why → refusal_text why ≡ text → is_stopped why ≡ false → text_of_reply (Refused Stopped) ≡ text → ⊥
 other_refusal law why text out spelled other same =
-    let one : Refused Stopped ≡ Refused why = law.same (Refused Stopped) (Refused why) tt (wide_figures why out.figures) (same ∙ sym spelled) in
+    let one : Refused Stopped ≡ Refused why = law.same (Refused Stopped) (Refused why) tt (wide_figures why out) (same ∙ sym spelled) in
     true_is_not_false (ap why_of one ∙ other)
 
 pub takes_refused : OneReply → (k new : Kept) (cmd : Cmd) (text : List ℕ) (why : Refusal) (found : Option Reply) → is_bad cmd ≡ false → IsOutside why → refusal_text why ≡ text
@@ -113,7 +114,7 @@ pub takes_refused : OneReply → (k new : Kept) (cmd : Cmd) (text : List ℕ) (w
 takes_refused law k new cmd text why (Some reply) other out spelled so = record {
   reads = (refused_reply k.session k.stopped cmd why reply other out so.1 so.0, ap text_of_reply so.0 ∙ spelled);
   after = λ r e. so.2 ∙ ap (after k cmd) (sym so.0 ∙ same_Some reply r e);
-  lawful = subst IsReply (sym so.0) (wide_figures why out.figures);
+  lawful = subst IsReply (sym so.0) (wide_figures why out);
 }
 takes_refused law k new cmd text why None other out spelled so = record {
   reads = λ reply may e.

@@ -1,11 +1,12 @@
 -- What one more event does to the greatest ticket, and to which tickets are accepted and noticed.
 use Rattle.std.proofs.Common.{◌≡◌, sym, ap, refl, ◌∙◌, subst, arith, ℕ, ◌<◌, ◌==◌, Bool, true, false, ◌||◌, List, [], ◌∷◌, ◌++◌}
-use Rattle.std.specs.Prelude.{◌&&◌, max}
+use Rattle.std.specs.Prelude.{◌&&◌}
 use Rattle.std.proofs.lemmas.Bool.{eqb-true}
 use Rattle.disk_contract.specs.declared.event.Event.{Event}
 use Rattle.disk_contract.specs.declared.event.Event.TheVariants.{Wrote, Lost, Noticed}
 use Rattle.disk_contract.specs.Cell.{greatest_ticket, is_accepted, is_noticed}
 use Rattle.disk_contract.specs.Disk.{IsOpen}
+use Rattle.disk_contract.specs.Logs.{greatest-append as greatest_join, is_noticed-append as noticed_join}
 use Rattle.engine_notes.specs.declared.notes.Note.{Note}
 use Rattle.engine_notes.specs.Notes.{is_expected, is_noticed as is_marked}
 use Rattle.cmd_trace_reader.specs.Events.{IsTracked}
@@ -22,16 +23,6 @@ accepted_join : (u : ℕ) (log more : List Event) → is_accepted u (log ++ more
 accepted_join u [] more = refl
 accepted_join u (Wrote t b x ∷ log) more = ap (λ c. (t == u) || c) (accepted_join u log more) ∙ grouped (t == u) (is_accepted u log) (is_accepted u more)
 accepted_join u (other ∷ log) more = accepted_join u log more
-
-noticed_join : (u : ℕ) (log more : List Event) → is_noticed u (log ++ more) ≡ (is_noticed u log || is_noticed u more)
-noticed_join u [] more = refl
-noticed_join u (Noticed t ∷ log) more = ap (λ c. (t == u) || c) (noticed_join u log more) ∙ grouped (t == u) (is_noticed u log) (is_noticed u more)
-noticed_join u (other ∷ log) more = noticed_join u log more
-
-greatest_join : (log more : List Event) → greatest_ticket (log ++ more) ≡ max (greatest_ticket log) (greatest_ticket more)
-greatest_join [] more = omega arith
-greatest_join (Lost b x ∷ log) more = greatest_join log more
-greatest_join (other ∷ log) more = omega (arith, greatest_join log more)
 
 none_more : (b : Bool) → (b || false) ≡ b
 none_more b = grind arith

@@ -1,5 +1,5 @@
 -- How a command of a trace may be answered. The rule is described in docs/TRACE.md.
-use Rattle.std.specs.Prelude.{◌≡◌, ◌≢◌, ◌≤◌, ◌||◌, ℕ, Bool, true, false, List, Option, Some, None, IfSome}
+use Rattle.std.specs.Prelude.{◌≡◌, ◌≢◌, ◌≤◌, ◌||◌, ℕ, max, Bool, true, false, List, Option, Some, None, IfSome}
 use Rattle.lang_tree.specs.declared.command.Cmd.{Cmd}
 use Rattle.lang_tree.specs.declared.command.Cmd.TheVariants.{Bad, Durable}
 use Rattle.lang_tree.specs.declared.command.Reply.{Reply}
@@ -64,15 +64,15 @@ is_fault reply = false
 -- the last point, by a reply to a command
 abbrev pub points_by : Reply → ℕ → ℕ
 points_by (Synced n) points = n
-points_by (DurableAt n) points = n
+points_by (DurableAt n) points = max points n
 points_by reply points = points
 
--- the last point that a dsync answered, by a reply to a command
+-- the greatest point that a dsync or a dwait answered, by a reply to a command
 abbrev pub durable_by : Reply → ℕ → ℕ
-durable_by (DurableAt n) durable = n
+durable_by (DurableAt n) durable = max durable n
 durable_by reply durable = durable
 
--- A session with what a reader keeps of it: the last point, the last one that a dsync answered, and whether a fault of the disk ended it.
+-- A session with what a reader keeps of it: the last point, the greatest one that a dsync or a dwait answered, and whether a fault of the disk ended it.
 pub record Kept : Type 0 where
   pub session : Session
   pub points : ℕ

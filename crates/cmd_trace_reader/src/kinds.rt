@@ -27,6 +27,7 @@ pub fn is_bad(cmd: &Cmd) -> bool
         | Cmd::Osync
         | Cmd::Dsync
         | Cmd::Durable
+        | Cmd::Dwait(_)
         | Cmd::Poll => false,
     }
 }
@@ -51,6 +52,7 @@ pub fn is_durable(cmd: &Cmd) -> bool
         | Cmd::List(_)
         | Cmd::Osync
         | Cmd::Dsync
+        | Cmd::Dwait(_)
         | Cmd::Poll
         | Cmd::Bad => false,
     }
@@ -77,7 +79,8 @@ pub fn is_stopped(why: Refusal) -> bool
         | Refusal::ReadFault
         | Refusal::DiskFault
         | Refusal::Spent
-        | Refusal::NoMemory => false,
+        | Refusal::NoMemory
+        | Refusal::NoPoint { .. } => false,
     }
 }
 
@@ -102,7 +105,8 @@ pub fn is_disk_fault(why: Refusal) -> bool
         | Refusal::ReadFault
         | Refusal::Stopped
         | Refusal::Spent
-        | Refusal::NoMemory => false,
+        | Refusal::NoMemory
+        | Refusal::NoPoint { .. } => false,
     }
 }
 
@@ -143,18 +147,19 @@ fn is_no_memory(why: Refusal) -> bool
         | Refusal::ReadFault
         | Refusal::DiskFault
         | Refusal::Stopped
-        | Refusal::Spent => false,
+        | Refusal::Spent
+        | Refusal::NoPoint { .. } => false,
     }
 }
 
-/// The last point, and the last one that a dsync answered, behind a reply, where these are those before it.
+/// The last point, and the greatest one that a dsync or a dwait answered, behind a reply, where these are those before it.
 pub fn numbers_by(reply: &Reply, points: u64, durable: u64) -> (u64, u64)
     ensures points { result.0 ≡ points_by reply.now points }
     ensures durable { result.1 ≡ durable_by reply.now durable }
 {
     match reply {
         Reply::Synced(point) => (*point, durable),
-        Reply::DurableAt(point) => (*point, *point),
+        Reply::DurableAt(point) => (points.max(*point), durable.max(*point)),
         Reply::Ok
         | Reply::Bytes(_)
         | Reply::Stat(_)

@@ -1,7 +1,7 @@
 //! Laws: the lines that may come are those of traces, bytes have one wrong line, a trace is of a run, and which point a
 //! reply tells. They run nothing.
 
-ghost use Rattle.std.specs.Prelude.{◌≡◌, ◌↔◌, true, List, [], ◌++◌, ℕ, Option, Some, None};
+ghost use Rattle.std.specs.Prelude.{◌≡◌, ◌↔◌, ◌<◌, ◌^◌, true, List, [], ◌++◌, ℕ, Option, Some, None};
 ghost use Rattle.lang_tree.specs.declared.command.Cmd.{Cmd};
 ghost use Rattle.lang_tree.specs.Step.{Session, start, step};
 ghost use Rattle.lang_tree.specs.Run.{Run, StopsAfterFault, is_of_disk};
@@ -47,7 +47,8 @@ pub fn a_trace_is_a_run()
     a_reply_tells_the_session();
 }
 
-/// The last point behind a command of a session is the one that the reply tells, and where it tells none the one before.
+/// The last point behind a command of a session is the one that the reply tells, or the one before it where that is later
+/// or where the reply tells none.
 pub fn a_reply_tells_the_last_point()
-    ensures { (s : Session) (cmd : Cmd) → (step s cmd).0.points ≡ points_by (step s cmd).1 s.points }
+    ensures { (s : Session) (cmd : Cmd) → s.points < 2 ^ 64 → (step s cmd).0.points ≡ points_by (step s cmd).1 s.points }
 {}

@@ -1,6 +1,5 @@
 -- What a run of commands comes to, and what its last reply promises.
-use Rattle.std.proofs.Common.{◌≡◌, ℕ, ◌+◌, ◌<◌, ◌≤◌, nat_le, List, [], ◌∷◌, ◌++◌, length, get_or, take, take_all, sym, ap, ◌∙◌, subst, arith}
-use Rattle.std.proofs.lemmas.Bool.{le-leb, cond-true}
+use Rattle.std.proofs.Common.{◌≡◌, ℕ, ◌+◌, ◌<◌, ◌≤◌, List, [], ◌∷◌, ◌++◌, length, get_or, take, take_all, sym, ap, ◌∙◌, subst, arith}
 use Rattle.std.proofs.lemmas.List.{take_more}
 use Rattle.base_types.specs.Seal.{Blocks}
 use Rattle.disk_contract.specs.declared.event.Event.{Event}
@@ -14,15 +13,8 @@ use Rattle.lang_tree.specs.Tree.{Tree}
 use Rattle.engine_blocks.specs.State.{State}
 use Rattle.cmd_session.specs.Ending.{HasRun}
 use Rattle.cmd_session.specs.Serving.{HasServed}
-use Rattle.cmd_session.specs.Shared.{has_run}
+use Rattle.cmd_session.specs.Shared.{floor_at_last, has_run}
 use Rattle.example_embedding.specs.Serving.{Keeps}
-
--- from its mark on, no crash goes back behind the point that the last reply promises
-pub floor_at_last : (k : ℕ) (replies : List Reply) (marks : List ℕ) (reply : Reply) (mark : ℕ) → length marks ≡ length replies → mark ≤ k → promised_by reply ≤ floor k (replies ++ reply ∷ []) (marks ++ mark ∷ [])
-floor_at_last k [] [] reply mark same le = omega (arith, cond-true {A = ℕ} (nat_le mark k) (promised_by reply) 0 (le-leb mark k le))
-floor_at_last k [] (m ∷ marks) reply mark same le = absurd (omega (arith, same))
-floor_at_last k (r ∷ replies) [] reply mark same le = absurd (omega (arith, same))
-floor_at_last k (r ∷ replies) (m ∷ marks) reply mark same le = omega (arith, floor_at_last k replies marks reply mark (omega (arith, same)) le)
 
 -- So many commands of a list were answered: none yet, one more, and all of them.
 

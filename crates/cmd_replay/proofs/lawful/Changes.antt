@@ -15,12 +15,12 @@ use Rattle.lang_script.specs.Grammar.{fits}
 use Rattle.lang_script.specs.Values.{IsCommand}
 use Rattle.cmd_trace.specs.Contents.{Each}
 use Rattle.lang_tree.specs.declared.command.Cmd.{Cmd}
-use Rattle.lang_tree.specs.declared.command.Cmd.TheVariants.{Mkdir, Create, Write, Fill, Read, Truncate, Link, Unlink, Rmdir, Rename, Stat, List as ListNames, Osync, Dsync, Durable, Poll, Bad}
+use Rattle.lang_tree.specs.declared.command.Cmd.TheVariants.{Mkdir, Create, Write, Fill, Truncate, Link, Unlink, Rmdir, Rename, Osync, Dsync, Dwait}
 use Rattle.lang_tree.specs.declared.command.Reply.TheVariants.{Ok as Done}
 use Rattle.lang_tree.specs.Conditions.{least_unused, refusal}
 use Rattle.lang_tree.specs.Names.{path_count, renamed}
 use Rattle.lang_tree.specs.Paths.{strip, moved_by, moved_path}
-use Rattle.lang_tree.specs.Step.{Session, start, step, answered, accepted, osync, write, truncate, rename, written, resized, with_node, added, with_bytes, edited_at, edited, linked_by, linked, removed_by, removed, moved, changed_to}
+use Rattle.lang_tree.specs.Step.{Session, start, step, answered, accepted, osync, dwait, write, truncate, rename, written, resized, with_node, added, with_bytes, edited_at, edited, linked_by, linked, removed_by, removed, moved, changed_to}
 use Rattle.lang_tree.specs.Tree.{Tree, Names, Nodes, Thing, Dir, File, path_cmp}
 use Rattle.lang_tree.specs.Walk.{content, is_same_node}
 use Rattle.cmd_replay.specs.Named.{HasLawfulNames, HasBytes}
@@ -150,7 +150,7 @@ record IsKept (P : Tree → Type 0) : Type 0 where
 
 names_kept : IsKept HasLawfulNames
 names_kept = record {
-  made = λ limit t path thing law bytes h. make t path thing law h (least_unused limit t.nodes);
+  made = λ limit t path thing law bytes h. make t path thing law h (least_unused limit t);
   changed = λ t path change same h. change_at t change h (get t.names path);
   tied = λ t path other law h. link t other law h (get t.names path);
   gone = λ t path h. out t path h (get t.names path);
@@ -175,7 +175,7 @@ names_kept = record {
 
 bytes_kept : IsKept HasBytes
 bytes_kept = record {
-  made = λ limit t path thing law bytes h. make t path thing bytes h (least_unused limit t.nodes);
+  made = λ limit t path thing law bytes h. make t path thing bytes h (least_unused limit t);
   changed = λ t path change same h. change_at t change same h (get t.names path);
   tied = λ t path other law h. link t other h (get t.names path);
   gone = λ t path h. out t path h (get t.names path);
@@ -232,6 +232,10 @@ module _ (P : Tree → Type 0) (kept : IsKept P) where
   sync_keeps s true h = h
   sync_keeps s false h = h
 
+  wait_keeps : (s : Session) (n : ℕ) (b : Bool) → P s.tree → P (dwait s n b).0.tree
+  wait_keeps s n true h = h
+  wait_keeps s n false h = h
+
   accepted_keeps : (s : Session) (cmd : Cmd) → IsCommand cmd → P s.tree → P (accepted s cmd).0.tree
   accepted_keeps s (Mkdir path) law h = kept.made s.limit s.tree path Dir law tt h
   accepted_keeps s (Create path) law h = kept.made s.limit s.tree path (File []) law refl h
@@ -254,6 +258,7 @@ module _ (P : Tree → Type 0) (kept : IsKept P) where
   accepted_keeps s (Rename from to) law h = rename_keeps s from to (and_parts (list_all is_name from) (list_all is_name to) law).1 h
   accepted_keeps s Osync law h = sync_keeps s s.changed h
   accepted_keeps s Dsync law h = sync_keeps s s.changed h
+  accepted_keeps s (Dwait n) law h = wait_keeps s n (nat_le n s.points) h
   accepted_keeps s other law h = h
 
   step_keeps : (s : Session) (cmd : Cmd) → IsCommand cmd → P s.tree → P (step s cmd).0.tree

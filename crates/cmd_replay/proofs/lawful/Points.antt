@@ -1,7 +1,8 @@
--- The trees of a trace's sync points are sound, have lawful names, and have bytes.
+-- The trees of a trace's sync points are sound, have lawful names, have bytes, and have no snapshot.
 use Rattle.std.proofs.Common.{◌≡◌, sym, refl, ◌∙◌, subst, arith, ℕ, zero, suc, ◌≤◌, Bool, true, false, if◌then◌else◌, List, [], ◌∷◌, ◌++◌, slice_get, Some}
 use Rattle.std.specs.Prelude.{◌&&◌}
 use Rattle.std.proofs.lemmas.Option.{same_Some}
+use Rattle.std.specs.FinMap.{empty}
 use Rattle.layout_geometry.specs.Geometry.{Geometry, IsGeometry, geometry_fits}
 use Rattle.lang_script.specs.Values.{IsCommand}
 use Rattle.cmd_trace.specs.Contents.{Contents, Each}
@@ -21,6 +22,7 @@ pub record IsListable (limit : ℕ) (t : Tree) : Type 0 where
   pub sound : IsSound limit t
   pub names : HasLawfulNames t
   pub bytes : HasBytes t
+  pub alone : t.snapshots ≡ empty
 
 each_at : {A : Type 0} (P : A → Type 0) (xs : List A) (i : ℕ) (x : A) → Each P xs → slice_get xs i ≡ Some x → P x
 each_at P [] i x h e = cc e
@@ -34,7 +36,9 @@ record IsOn (limit : ℕ) (s : Session) : Type 0 where
 
 module _ (sound_start : (limit : ℕ) → 1 ≤ limit → IsSound limit (start limit).tree)
     (sound_step : (s : Session) (cmd : Cmd) → IsSound s.limit s.tree → IsSound s.limit (step s cmd).0.tree)
-    (same_limit : (s : Session) (cmd : Cmd) → (step s cmd).0.limit ≡ s.limit) (limit : ℕ) where
+    (same_limit : (s : Session) (cmd : Cmd) → (step s cmd).0.limit ≡ s.limit)
+    (none_first : (limit : ℕ) → (start limit).tree.snapshots ≡ empty)
+    (same_snapshots : (s : Session) (cmd : Cmd) → (step s cmd).0.tree.snapshots ≡ s.tree.snapshots) (limit : ℕ) where
   after : (s : Session) (cmd : Cmd) (reply : Reply) → IsCommand cmd → IsOn limit s → IsOn limit (after_reply s cmd reply)
   after s cmd reply law h = by (is_refusal reply)
     where
@@ -46,6 +50,7 @@ module _ (sound_start : (limit : ℕ) → 1 ≤ limit → IsSound limit (start l
           sound = subst (λ n. IsSound n (step s cmd).0.tree) h.limited (sound_step s cmd (subst (λ n. IsSound n s.tree) (sym h.limited) h.tree.sound));
           names = step_names s cmd law h.tree.names;
           bytes = step_bytes s cmd law h.tree.bytes;
+          alone = same_snapshots s cmd ∙ h.tree.alone;
         };
       }
 
@@ -63,16 +68,18 @@ module _ (sound_start : (limit : ℕ) → 1 ≤ limit → IsSound limit (start l
   points_are s begun other replies marks law h = tt
 
   begins : 1 ≤ limit → IsOn limit (start limit)
-  begins low = record { limited = refl; tree = record { sound = sound_start limit low; names = start_names limit; bytes = start_bytes limit } }
+  begins low = record { limited = refl; tree = record { sound = sound_start limit low; names = start_names limit; bytes = start_bytes limit; alone = none_first limit } }
 
 -- each point of a trace has such a tree
 pub point_is : ((limit : ℕ) → 1 ≤ limit → IsSound limit (start limit).tree)
     → ((s : Session) (cmd : Cmd) → IsSound s.limit s.tree → IsSound s.limit (step s cmd).0.tree)
     → ((s : Session) (cmd : Cmd) → (step s cmd).0.limit ≡ s.limit)
+    → ((limit : ℕ) → (start limit).tree.snapshots ≡ empty)
+    → ((s : Session) (cmd : Cmd) → (step s cmd).0.tree.snapshots ≡ s.tree.snapshots)
     → ((g : Geometry) → geometry_fits g ≡ true → IsGeometry g)
     → (c : Contents) → IsTrace c → (number : ℕ) (p : Point) → slice_get (points_in c) number ≡ Some p → IsListable c.geometry.i p.tree
-point_is sound_start sound_step same_limit limits c is number p at =
+point_is sound_start sound_step same_limit none_first same_snapshots limits c is number p at =
     let least = (limits c.geometry is.fits).least_nodes in
-    let on = begins sound_start sound_step same_limit c.geometry.i (omega (arith, least)) in
+    let on = begins sound_start sound_step same_limit none_first same_snapshots c.geometry.i (omega (arith, least)) in
     each_at (λ p. IsListable c.geometry.i p.tree) (points_in c) number p
-    (on.tree, points_are sound_start sound_step same_limit c.geometry.i (start c.geometry.i) c.mounted c.cmds c.replies c.marks is.lawful.cmds on) at
+    (on.tree, points_are sound_start sound_step same_limit none_first same_snapshots c.geometry.i (start c.geometry.i) c.mounted c.cmds c.replies c.marks is.lawful.cmds on) at

@@ -3,10 +3,10 @@ use Rattle.std.proofs.Common.{◌≡◌, sym, ap, ap₂, refl, ◌∙◌, arith,
 use Rattle.std.specs.List.{list_all, flat_map}
 use Rattle.std.specs.Cmp.{nat_cmp_total}
 use Rattle.std.specs.Cmp.Lexicographic.{lists_total}
-use Rattle.std.specs.FinMap.{get, entries, get-entries, same_map, same_entries_map, nat_cmp-IsAntisymmetric}
+use Rattle.std.specs.FinMap.{get, empty, entries, get-entries, same_map, same_entries_map, nat_cmp-IsAntisymmetric}
 use Rattle.base_types.specs.Name.{is_name}
 use Rattle.cmd_trace.specs.Contents.{Each}
-use Rattle.lang_tree.specs.Listing.{line_of, listing}
+use Rattle.lang_tree.specs.Listing.{line_of, path_lines, listing}
 use Rattle.lang_tree.specs.Tree.{Tree, Nodes, Names, Thing, Dir, File, IsSound, path_cmp}
 use Rattle.cmd_replay.specs.Named.{HasLawfulNames, HasBytes}
 use Rattle.cmd_replay.proofs.telling.Maps.{each_of, entry_each, found_such}
@@ -57,15 +57,13 @@ same_lines sn tn bytes (e ∷ es) (f ∷ fs) h k is =
       (here.is ∙ ap Some line.thing ∙ sym there.is ∙ ap (get tn) (sym line.number), rest.1),
     )
 
-pub one_tree : (limit more : ℕ) (s t : Tree) → limit < 2 ^ 64 → more < 2 ^ 64 → IsSound limit s → IsSound more t → HasLawfulNames s → HasLawfulNames t → HasBytes s
-    → listing s ≡ listing t → s ≡ t
-one_tree limit more s t small tiny sound other lawful named bytes is = ap₂ (λ (a : Names) (b : Nodes). tree_with a b) names nodes
+pub one_tree : ((t : Tree) → t.snapshots ≡ empty → listing t ≡ path_lines t.names t.nodes) → (limit more : ℕ) (s t : Tree) → limit < 2 ^ 64 → more < 2 ^ 64 → IsSound limit s → IsSound more t → HasLawfulNames s → HasLawfulNames t → HasBytes s
+    → s.snapshots ≡ empty → t.snapshots ≡ empty → listing s ≡ listing t → s ≡ t
+one_tree listed limit more s t small tiny sound other lawful named bytes none no_more is = λ i. record { names = names i; nodes = nodes i; snapshots = (none ∙ sym no_more) i }
   where
-    tree_with : Names → Nodes → Tree
-    tree_with a b = record { names = a; nodes = b }
-
     same : (entries s.names ≡ entries t.names) × Each (λ e. get s.nodes e.1 ≡ get t.nodes e.1) (entries s.names)
-    same = same_lines s.nodes t.nodes bytes (entries s.names) (entries t.names) (are_entries limit s small sound lawful) (are_entries more t tiny other named) is
+    same = same_lines s.nodes t.nodes bytes (entries s.names) (entries t.names) (are_entries limit s small sound lawful) (are_entries more t tiny other named)
+        (sym (listed s none) ∙ is ∙ listed t no_more)
 
     names : s.names ≡ t.names
     names = same_entries_map s.names t.names same.0
