@@ -1,16 +1,14 @@
 -- How a run begins: over a store that was just mounted, whose file system was opened.
-use Rattle.std.proofs.Common.{◌≡◌, ℕ, ◌+◌, ◌-◌, Bool, false, true, true≢false, IsTrue, List, [], ◌∷◌, length, take, take_all, Option, None, refl, sym, ap, ap₂, ◌∙◌, subst, arith}
+use Rattle.std.proofs.Common.{◌≡◌, ℕ, ◌+◌, ◌-◌, Bool, false, true, true≢false, IsTrue, List, [], ◌∷◌, length, take, take_all, Option, None, sym, ap, ap₂, ◌∙◌, subst, arith}
 use mathlib.Core.Path.{fun_ext}
 use Rattle.base_types.specs.Seal.{Blocks}
 use Rattle.disk_contract.specs.declared.bay.Mark.{Mark}
 use Rattle.disk_contract.specs.declared.event.Event.{Event}
 use Rattle.disk_contract.specs.Cell.{has_lost}
-use Rattle.disk_contract.specs.Crash.{Window}
 use Rattle.disk_contract.specs.Disk as disk
 use Rattle.disk_contract.specs.Disk.{writes_in}
 use Rattle.disk_contract.specs.Manner.{Manner}
 use Rattle.layout_geometry.specs.Geometry.{Geometry, IsGeometry, data_start}
-use Rattle.crash_argument.specs.Ledger.{HoldsUnder}
 use Rattle.crash_argument.specs.Points.{MountedSession}
 use Rattle.lang_tree.specs.Figures.{blocks}
 use Rattle.lang_tree.specs.Step.{Session, session_on}
@@ -29,26 +27,39 @@ use Rattle.fs_session.specs.Space.{left_of}
 use Rattle.cmd_session.specs.Budget.{KeepsBudget, SpendsByMarks}
 use Rattle.cmd_session.specs.Going.{BeginsByLog, GoesByLog, pace_of, session_at}
 use Rattle.cmd_session.specs.Pacing.{Pace}
-use Rattle.cmd_session.specs.Serving.{HasServed, IsMountedWith}
+use Rattle.cmd_session.specs.Serving.{HasServed}
 use Rattle.cmd_session.specs.Taking.{nothing_taken}
 use Rattle.cmd_image.specs.Runs.{IsRoomAtMount}
 use Rattle.cmd_image.specs.Serves.{pace_at_mount}
 use Rattle.cmd_image.specs.Steps.{IsJustMounted, KnownSoFar, SoFar, mark_in}
 use Rattle.cmd_image.proofs.Rooms.{mount_stays}
 
-module _ (tells : Bool) (told : IsTrue tells) (first : disk.State) (s : State) (h : IsJustMounted tells first s) where
-  -- the store has the map of its image, and so has each image so far
-  pub mounted_with : IsMountedWith s.books.geom s.map s
-  mounted_with =
-      let held = h.on.held told in
-      record {
-        geom = refl;
-        map = refl;
-        only = (h.begins told).only;
-        images = subst (λ (n : ℕ). Window n s.crash.base s.crash.log 0 (λ img. HoldsUnder n s.books.geom img s.map)) (sym h.on.blocks)
-            (subst (λ (x : Blocks). Window first.blocks x s.crash.log 0 (λ img. HoldsUnder first.blocks s.books.geom img s.map)) (sym (h.on.base told)) held.images);
-      }
+-- The room of a session that begins over such a store is that of its tree.
+module _ (tells : Bool) (told : IsTrue tells) (first : disk.State) (s : State) (h : IsJustMounted tells first s) (u : State) (t : Tree) (begun : IsBegun s) (looks : LooksOnly tells false s u) (session : IsSession u (session_on s.books.geom.i t))
+    (room : (f : Session) → IsSession u f → IsRoomOf u.books.geom f (room_of u)) (left : (f : Session) → IsSession u f → left_of u.books ≡ u.books.area - blocks f.tree - u.books.running.held) (takeable : left_of u.books ≡ length (reusable_blocks u.books) + u.books.waiting) (sound : IsSound u.books) where
+  abbrev shape : Geometry
+  shape = s.books.geom
 
+  abbrev root : Session
+  root = session_on shape.i t
+
+  -- no block waits, so that as many may be taken as the tree leaves
+  all : length (reusable_blocks u.books) ≡ (shape.n - data_start shape) - blocks t - u.books.running.held
+  all =
+      omega (arith, ap (λ (k : Bookkeeping). k.waiting) looks.books, (h.begins told).waiting, takeable)
+      ∙ left root session
+      ∙ ap (λ (n : ℕ). n - blocks t - u.books.running.held) (sound.area ∙ ap (λ (k : Bookkeeping). k.geom.n - data_start k.geom) looks.books)
+
+  pub begins_room : IsRoomAtMount shape s.map root (room_of u)
+  begins_room = record {
+    weight = ap (λ (k : Bookkeeping). k.running.weight) looks.books ∙ begun.weight;
+    held = ap (λ (k : Bookkeeping). k.running.held) looks.books ∙ begun.held;
+    is_room = subst (λ (k : Geometry). IsRoomOf k root (room_of u)) (ap (λ (k : Bookkeeping). k.geom) looks.books) (room root session);
+    places = λ k. ap (λ (m : Blocks). places_of u.books.geom m k) (looks.map told) ∙ ap (λ (b : Bookkeeping). places_of b.geom s.map k) looks.books;
+    all = all;
+  }
+
+module _ (tells : Bool) (told : IsTrue tells) (first : disk.State) (s : State) (h : IsJustMounted tells first s) where
   -- What is said of the blocks once the file system was opened.
   module _ (u : State) (t : Tree) (mark : Mark) (begun : IsBegun s) (looks : LooksOnly tells false s u) (tree : IsTreeOf s.books.geom s.map t)
       (served : HasServed s.books.geom t (length s.crash.log) [] [] [] u) (budget : KeepsBudget s.books.geom t (writes_in s.crash.log + s.books.owed) [] [] u)
@@ -60,24 +71,8 @@ module _ (tells : Bool) (told : IsTrue tells) (first : disk.State) (s : State) (
     abbrev f : Session
     f = session_on g.i t
 
-    session : IsSession u f
-    session = served.goes_on.session
-
-    -- no block waits, so that as many may be taken as the tree leaves
-    all : length (reusable_blocks u.books) ≡ (g.n - data_start g) - blocks t - u.books.running.held
-    all =
-        omega (arith, ap (λ (k : Bookkeeping). k.waiting) looks.books, (h.begins told).waiting, takeable)
-        ∙ left f session
-        ∙ ap (λ (n : ℕ). n - blocks t - u.books.running.held) (sound.area ∙ ap (λ (k : Bookkeeping). k.geom.n - data_start k.geom) looks.books)
-
-    pub begins_room : IsRoomAtMount g s.map f (room_of u)
-    begins_room = record {
-      weight = ap (λ (k : Bookkeeping). k.running.weight) looks.books ∙ begun.weight;
-      held = ap (λ (k : Bookkeeping). k.running.held) looks.books ∙ begun.held;
-      is_room = subst (λ (k : Geometry). IsRoomOf k f (room_of u)) (ap (λ (k : Bookkeeping). k.geom) looks.books) (room f session);
-      places = λ k. ap (λ (m : Blocks). places_of u.books.geom m k) (looks.map told) ∙ ap (λ (b : Bookkeeping). places_of b.geom s.map k) looks.books;
-      all = all;
-    }
+    room_first : IsRoomAtMount g s.map f (room_of u)
+    room_first = begins_room tells told first s h u t begun looks served.goes_on.session room left takeable sound
 
     same_log : u.crash.log ≡ s.crash.log
     same_log = (looks.crash told).log
@@ -136,7 +131,7 @@ module _ (tells : Bool) (told : IsTrue tells) (first : disk.State) (s : State) (
           moments = [];
           served = served;
           first_room = room_of u;
-          begins = begins_room;
+          begins = room_first;
           mount = mount;
           is_mount = record { found = numbers.found; is_found = numbers.is_found; geom = numbers.geom; epoch = numbers.epoch; mounted = numbers.mounted; first = numbers.first };
           goes = subst (λ (p : Pace). GoesByLog mount first.base first.manner p t [] [] [] u) pace_first (goes mount first.base first.manner t begins_log);

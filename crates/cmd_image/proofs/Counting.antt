@@ -5,7 +5,7 @@ use Rattle.base_types.specs.Counts.{after_call}
 use Rattle.base_types.specs.Seal.{Blocks}
 use Rattle.layout_geometry.specs.Geometry.{Geometry}
 use Rattle.lang_tree.specs.declared.command.Cmd.{Cmd}
-use Rattle.lang_tree.specs.declared.command.Cmd.TheVariants.{Mkdir, Create, Write, Fill, Read, Truncate, Link, Unlink, Rmdir, Rename, Stat, List as ListNames, Osync, Dsync, Durable, Poll, Bad}
+use Rattle.lang_tree.specs.declared.command.Cmd.TheVariants.{Mkdir, Create, Write, Fill, Read, Truncate, Link, Unlink, Rmdir, Rename, Stat, List as ListNames, Osync, Dsync, Durable, Dwait, Poll, Bad}
 use Rattle.lang_tree.specs.declared.command.Refusal.{Refusal}
 use Rattle.lang_tree.specs.declared.command.Refusal.TheVariants as because
 use Rattle.lang_tree.specs.declared.command.Reply.{Reply}
@@ -19,7 +19,7 @@ use Rattle.cmd_session.specs.Ending.{is_none}
 use Rattle.fs_session.specs.Applying.{Applies, Began, Runs, Ticks, is_spent, reply_for}
 use Rattle.fs_session.specs.Commands.{Carries, is_disk_fault, is_read_fault}
 use Rattle.fs_session.specs.Sessions.{IsSession}
-use Rattle.fs_session.specs.Syncs.{SyncsSession}
+use Rattle.fs_session.specs.Syncs.{SyncsSession, WaitsSession}
 use Rattle.cmd_image.specs.Refusals.{is_failed, is_unread}
 
 -- a line that is none is told apart
@@ -28,6 +28,7 @@ none_or_one Bad = inl refl
 none_or_one Osync = inr (λ e. false≢true (ap is_none e))
 none_or_one Dsync = inr (λ e. false≢true (ap is_none e))
 none_or_one Durable = inr (λ e. false≢true (ap is_none e))
+none_or_one (Dwait n) = inr (λ e. false≢true (ap is_none e))
 none_or_one Poll = inr (λ e. false≢true (ap is_none e))
 none_or_one (Mkdir path) = inr (λ e. false≢true (ap is_none e))
 none_or_one (Create path) = inr (λ e. false≢true (ap is_none e))
@@ -77,6 +78,7 @@ calm_refusal because.DiskFault (inr memory) = absurd (false≢true (ap (λ (w : 
 calm_refusal because.Stopped of = (refl, refl)
 calm_refusal because.Spent of = (refl, refl)
 calm_refusal because.NoMemory of = (refl, refl)
+calm_refusal (because.NoPoint last) of = (refl, refl)
 
 calm_reply : (r : Reply) → ((why : Refusal) → r ≡ replies.Refused why → (is_of_disk why ≡ false) ⊎ (why ≡ because.NoMemory)) → (is_unread r ≡ false) × (is_failed r ≡ false)
 calm_reply replies.Ok of = (refl, refl)
@@ -136,6 +138,20 @@ module _ {S : Type 0} (tells : Bool) (state : S → State) where
     over = λ before. over_by (is_disk_fault result) _ _ _ syncs.disk.stopped syncs.disk.faults;
   })
 
+  -- nor is a wait for a point
+  wait_unread : (result : Result Reply Refusal) → IfErr result (λ why. why ≡ because.DiskFault) → is_read_fault result ≡ false
+  wait_unread (Ok reply) of = refl
+  wait_unread (Err why) fault = ap (λ (w : Refusal). is_read_fault (Err w)) fault
+
+  waited : (n : ℕ) (result : Result Reply Refusal) (mid new : S) → WaitsSession tells n result (state mid) (state new) → Counted (is_read_fault result) (is_disk_fault result) (state mid) (state new)
+  waited n result mid new waits = subst (λ (unread : Bool). Counted unread (is_disk_fault result) (state mid) (state new)) (sym (wait_unread result waits.refused)) (record {
+    geom = waits.runs.pipeline.geom;
+    read_faults = waits.runs.disk.read_faults;
+    faults = waits.runs.disk.faults;
+    stops = λ going. waits.runs.disk.stopped;
+    over = λ before. over_by (is_disk_fault result) _ _ _ waits.runs.disk.stopped waits.runs.disk.faults;
+  })
+
   asked : (reply : Reply) (result : Result Reply Refusal) (mid new : S) → (result ≡ Ok reply) × (new ≡ mid) → Counted (is_read_fault result) (is_disk_fault result) (state mid) (state new)
   asked reply result mid new same = subst (λ (r : Result Reply Refusal). Counted (is_read_fault r) (is_disk_fault r) (state mid) (state new)) (sym same.0) (still mid new same.1)
 
@@ -143,6 +159,7 @@ module _ {S : Type 0} (tells : Bool) (state : S → State) where
   ran Osync result mid new runs = synced true Osync result mid new runs
   ran Dsync result mid new runs = synced false Dsync result mid new runs
   ran Durable result mid new runs = asked _ result mid new runs
+  ran (Dwait n) result mid new runs = waited n result mid new runs
   ran Poll result mid new runs = asked _ result mid new runs
   ran (Mkdir path) result mid new runs = carried (Mkdir path) result mid new runs
   ran (Create path) result mid new runs = carried (Create path) result mid new runs
@@ -223,6 +240,10 @@ module _ {S : Type 0} (tells : Bool) (state : S → State) where
       says_synced orders c (Ok r) mid h syncs = answers f c r (syncs.done told f h).0
       says_synced orders c (Err why) mid h syncs = (refl, refl)
 
+      says_waited : (n : ℕ) (result : Result Reply Refusal) (mid : S) → IsSession (state mid) f → WaitsSession tells n result (state mid) (state new) → Says (reply_for result) result
+      says_waited n (Ok r) mid h waits = answers f (Dwait n) r (waits.done told f h).0
+      says_waited n (Err why) mid h waits = (refl, refl)
+
       says_asked : (r : Reply) (result : Result Reply Refusal) → is_unread r ≡ false → is_failed r ≡ false → result ≡ Ok r → Says (reply_for result) result
       says_asked r result unread failed is = subst (λ (x : Result Reply Refusal). Says (reply_for x) x) (sym is) (unread, failed)
 
@@ -230,6 +251,7 @@ module _ {S : Type 0} (tells : Bool) (state : S → State) where
       says_ran Osync result mid h runs = says_synced true Osync result mid h runs
       says_ran Dsync result mid h runs = says_synced false Dsync result mid h runs
       says_ran Durable result mid h runs = says_asked (replies.Known (state mid).books.floor) result refl refl runs.0
+      says_ran (Dwait n) result mid h runs = says_waited n result mid h runs
       says_ran Poll result mid h runs = says_asked replies.Ok result refl refl runs.0
       says_ran (Mkdir path) result mid h runs = says_carried (Mkdir path) result mid h runs
       says_ran (Create path) result mid h runs = says_carried (Create path) result mid h runs

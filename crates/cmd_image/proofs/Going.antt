@@ -1,5 +1,5 @@
 -- A run of one command more.
-use Rattle.std.proofs.Common.{◌≡◌, ◌⊎◌, inl, inr, ℕ, ◌+◌, ◌-◌, ◌*◌, ◌^◌, ◌<◌, ◌≤◌, Bool, false, true, IsTrue, List, [], ◌∷◌, ◌++◌, length, length-append, take, take_all, slice_get, Some, refl, sym, ap, ap₂, ◌∙◌, subst, arith}
+use Rattle.std.proofs.Common.{◌≡◌, ◌⊎◌, inl, inr, ℕ, ◌+◌, ◌-◌, ◌*◌, ◌^◌, ◌<◌, ◌≤◌, Bool, false, true, IsTrue, List, [], ◌∷◌, ◌++◌, length, length-append, take, take_all, slice_get, Some, refl, sym, ap, ◌∙◌, subst, arith}
 use Rattle.std.proofs.lemmas.List.{take-append-le}
 use Rattle.std.proofs.lemmas.Bool.{leb-true}
 use Rattle.base_types.specs.Seal.{Blocks}
@@ -30,6 +30,7 @@ use Rattle.cmd_session.specs.Shared.{get_split_at}
 use Rattle.cmd_image.specs.Refusals.{is_failed, is_unread}
 use Rattle.cmd_image.specs.Runs.{HasReason, HaveReasons, IsSpentByNumbers, Marks, MarksGo}
 use Rattle.cmd_image.specs.Serves.{pace_at_mount}
+use Rattle.cmd_image.specs.Shared.{within_more, within_on}
 use Rattle.cmd_image.specs.Steps.{AreWithin, KnownSoFar, SoFar, mark_in}
 use Rattle.cmd_image.proofs.Counting.{Counted, over_by}
 use Rattle.cmd_image.proofs.Lists.{get_behind}
@@ -43,15 +44,6 @@ marks_on before mid now [] (k ∷ moments) marks reply moment go next = absurd g
 marks_on before mid now (r ∷ replies) [] marks reply moment go next = absurd go
 marks_on before mid now (r ∷ replies) (k ∷ moments) [] reply moment go next = absurd go
 marks_on before mid now (r ∷ replies) (k ∷ moments) (m ∷ marks) reply moment go next = (go.0, marks_on m mid now replies moments marks reply moment go.1 next)
-
--- moments stay among the events as more come, and one of them more is
-within_more : (n k : ℕ) (moments : List ℕ) → n ≤ k → AreWithin n moments → AreWithin k moments
-within_more n k [] more within = tt
-within_more n k (m ∷ moments) more within = (omega (arith, more, within.0), within_more n k moments more within.1)
-
-within_on : (n : ℕ) (moments : List ℕ) (moment : ℕ) → AreWithin n moments → moment ≤ n → AreWithin n (moments ++ moment ∷ [])
-within_on n [] moment within low = (low, tt)
-within_on n (m ∷ moments) moment within low = (within.0, within_on n moments moment within.1 low)
 
 -- reasons stay as events come behind, and with one more they are of one command more
 reasons_stay : (m : Manner) (old more : List Event) (replies : List Reply) (moments : List ℕ) → AreWithin (length old) moments → HaveReasons m old replies moments → HaveReasons m (old ++ more) replies moments
@@ -190,9 +182,3 @@ more_so_far tells first cmd reply mark s u cmds replies marks unread failed move
   blocks = ap (λ (g : Geometry). g.n) moved.geom ∙ h.blocks;
   known = λ t. known_more first cmd reply mark s u cmds replies marks (step t) (h.known t);
 }
-
--- the mark of blocks, by its parts
-pub is_mark_in : (mark : Mark) (s : State) → mark.moment ≡ length s.crash.log → mark.read_faults ≡ s.counts.read_faults → mark.faults ≡ s.counts.faults → mark ≡ mark_in s
-is_mark_in mark s moment reads others =
-    ap (λ (n : ℕ). record { moment = n; read_faults = mark.read_faults; faults = mark.faults }) moment
-    ∙ ap₂ (λ (r q : ℕ). record { moment = length s.crash.log; read_faults = r; faults = q }) reads others

@@ -16,7 +16,7 @@ use Rattle.cmd_image.specs.declared.ending.RunRefusal.{RunRefusal}
 use Rattle.cmd_image.specs.declared.ending.RunRefusal.TheVariants.{Fault, Damaged, Spent, SinkFault, NoMemory}
 use Rattle.cmd_image.specs.Refusals.{is_run_fault, opens_nothing, run_answer_of, run_fails_pushing, run_refusal_of_bay}
 use Rattle.cmd_image.specs.Runs.{ComesOf, ComesOfDisk, CountsFaults, HasRunCause, HasRunReason, RunHandsBack, Streams}
-use Rattle.cmd_image.proofs.ShowBays.{failed_by, has_blocks}
+use Rattle.cmd_image.specs.Shared.{failed_by, has_blocks}
 
 -- whether the answer is a fault
 faulty : Result Ending RunRefusal → Bool

@@ -1,6 +1,6 @@
 -- What becomes of the bay, and what is said of the image under the name, once a disk of it was shown and handed back.
-use Rattle.std.proofs.Common.{◌≡◌, ◌⊎◌, inl, inr, ℕ, ◌<◌, ◌≤◌, nat_lt, Bool, true, false, IsTrue, if◌then◌else◌, List, [], length, take_all, Option, Some, None, Result, Ok, Err, OnOk, IfErr, refl, sym, ap, ◌∙◌, subst, arith}
-use Rattle.std.proofs.lemmas.Bool.{false≢true, ltb-true, or_cases}
+use Rattle.std.proofs.Common.{◌≡◌, ◌⊎◌, inl, inr, ℕ, ◌<◌, ◌≤◌, Bool, true, false, IsTrue, if◌then◌else◌, List, [], length, take_all, Option, Some, None, Result, Ok, Err, OnOk, IfErr, refl, sym, ap, ◌∙◌, subst, arith}
+use Rattle.std.proofs.lemmas.Bool.{false≢true}
 use Rattle.std.specs.Io.KnownBytes.{Appends, Keeps}
 use Rattle.base_types.specs.Counts.{next_count}
 use Rattle.base_types.specs.Seal.{Blocks}
@@ -8,12 +8,13 @@ use Rattle.disk_contract.specs.declared.bay.Mark.{Mark}
 use Rattle.disk_contract.specs.declared.bay.BayFault.{BayFault}
 use Rattle.disk_contract.specs.declared.bay.BayFault.TheVariants as bay
 use Rattle.disk_contract.specs.Bay.{BayState, BeginsWith, Closes, HasBlocks, Kept, Opens, has_faults}
-use Rattle.disk_contract.specs.Disk.{State, HasFailed}
+use Rattle.disk_contract.specs.Disk.{State}
 use Rattle.lang_tree.specs.Listing.{listing}
+use Rattle.cmd_image.specs.Shared.{failed_by, has_blocks}
 use Rattle.cmd_image.specs.Staying.{keeps}
 use Rattle.cmd_image.specs.declared.show_refusal.ShowRefusal.{ShowRefusal}
 use Rattle.cmd_image.specs.declared.show_refusal.ShowRefusal.TheVariants.{Fault, Damaged, Spent, SinkFault, NoMemory}
-use Rattle.cmd_image.specs.Mounted.{IsFresh, ShowsDisk, answer_of, is_fault, of_bay}
+use Rattle.cmd_image.specs.Mounted.{ShowsDisk, answer_of, is_fault, of_bay}
 use Rattle.cmd_image.specs.Shows.{CountsFault, FailedByManner, HandsBack, HandsOutNone, HasFaultReason, HasImage, HasMarks, HasShowCause, LeavesBay, Lists, ListsFront, MayFailToOpen, Refuses, RefusesOn, fails_pushing, says_nothing}
 
 -- another refusal isn't a fault
@@ -48,27 +49,6 @@ unopened state tells taken name bay.NoMemory old new opens = record {
 }
 
 -- A disk that was handed out.
-
-fresh_by : (kept : Option Kept) (d : State) → BeginsWith kept d → d.log ≡ []
-fresh_by None d none = absurd none
-fresh_by (Some kept) d begins = begins.log
-
--- it has no event yet
-pub fresh : {D : Type 0} (state : D → State) (tells : Bool) (name : List ℕ) (d : D) (old new : BayState) → Opens tells state name (Ok d) old new → IsFresh tells (state d)
-fresh state tells name d old new opens = record { counts = opens.counts; nothing = λ t. fresh_by (old.kept name) (state d) (opens.disk t) }
-
--- a disk with faults, on which calls fail as its manner lets them
-pub failed_by : (d : State) → has_faults d ≡ true → (0 < d.read_faults → d.manner.reads_fail ≡ true) → (0 < d.faults → HasFailed d) → FailedByManner d
-failed_by d some reads others = by (or_cases (nat_lt 0 d.read_faults) (nat_lt 0 d.faults) some)
-  where
-    by : (nat_lt 0 d.read_faults ≡ true) ⊎ (nat_lt 0 d.faults ≡ true) → FailedByManner d
-    by (inl unread) = let more = ltb-true 0 d.read_faults unread in inl (more, reads more)
-    by (inr failed) = let more = ltb-true 0 d.faults failed in inr (more, others more)
-
--- a disk that began with an image has as many blocks
-pub has_blocks : (kept : Option Kept) (first last : State) → BeginsWith kept first → last.blocks ≡ first.blocks → HasBlocks last.blocks kept
-has_blocks None first last none same = none
-has_blocks (Some kept) first last begins same = sym (same ∙ begins.blocks)
 
 -- what holds of its blocks holds of the image under the name
 image : (kept : Option Kept) (d : State) (P : ℕ → Blocks → Type 0) → BeginsWith kept d → P d.blocks d.base → HasImage kept P

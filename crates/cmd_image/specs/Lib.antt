@@ -7,3 +7,4 @@ pub mod Runs
 pub mod Serves
 pub mod Steps
 pub mod Staying
+pub mod Shared

@@ -26,7 +26,7 @@ pub use ending::{Ending, RunRefusal, of_show, run_refusal_of_bay};
 pub use formatted_laws::a_formatted_image_can_be_mounted;
 pub use image_laws::{
     a_reply_tells_which_call_failed, a_run_stands_where_accepted_writes_do,
-    what_is_read_stays_mounted,
+    a_session_begins_in_the_room_of_its_tree, what_is_read_stays_mounted,
 };
 pub use lent::LentDisk;
 pub use make::make_image;

@@ -12,6 +12,7 @@ use Rattle.disk_contract.specs.Disk.{HasFailed}
 use Rattle.disk_contract.specs.Bay.{has_faults}
 use Rattle.lang_tree.specs.declared.command.Refusal.{Refusal}
 use Rattle.lang_tree.specs.declared.command.Refusal.TheVariants as because
+use Rattle.lang_tree.specs.declared.command.Reply.TheVariants as replied
 use Rattle.lang_tree.specs.Tree.{Tree}
 use Rattle.lang_log.specs.declared.call.LogCall.{LogCall}
 use Rattle.lang_log.specs.declared.call.LogReply.{LogReply}
@@ -22,7 +23,8 @@ use Rattle.engine_store.specs.StoreOf.{disk_in, state_of}
 use Rattle.engine_store.specs.declared.store.Store.{Store}
 use Rattle.fs_log.specs.declared.refusal.OpenRefusal.{OpenRefusal}
 use Rattle.fs_log.specs.declared.refusal.OpenRefusal.TheVariants as open_by
-use Rattle.fs_log.specs.Opening.{HasOpenCause, IsNotOpened, MakesNoPoint, StandsIn, is_of_room}
+use Rattle.fs_log.specs.Causes.{HasAsked, WasAnswered}
+use Rattle.fs_log.specs.Opening.{AsksToOpen, HasOpenCause, IsNotOpened, MakesNoPoint, StandsIn, is_of_room}
 use Rattle.cmd_session.specs.Shared.{drawn}
 use Rattle.cmd_image.specs.declared.ending.Ending.{Ending}
 use Rattle.cmd_image.specs.declared.ending.RunRefusal.{RunRefusal}
@@ -37,9 +39,11 @@ use Rattle.cmd_image.specs.Runs.{Streams}
 use Rattle.cmd_image.specs.Shows.{FailedByManner, fails_pushing as shows_pushing}
 use Rattle.cmd_log.specs.declared.refusal.LogRunRefusal.{LogRunRefusal}
 use Rattle.cmd_log.specs.declared.refusal.LogRunRefusal.TheVariants.{BadLog, NoRoom, Run}
+use Rattle.cmd_log.specs.Causes.{HasRoomCause, RefusesRoom}
 use Rattle.cmd_log.specs.Logs.{ComesOfLogDisk, CountsLogFaults, IsLogRun, IsUnlogged, LogsDisk, RefusesLog, StandsUnlogged, log_fails_pushing, log_opens_nothing, log_says_nothing}
 use Rattle.cmd_log.specs.Steps.{KeepsToManner, KnownOpened, KnownSoFar, RunsTo, Said, answer_for, if_counted, log_refusal_of, log_refusal_of_fs}
-use Rattle.cmd_log.proofs.Going.{FailsFor, ReplyLaws, fails_for}
+use Rattle.cmd_log.proofs.Causes.{OpensNot, ReplyLaws, opens_not}
+use Rattle.cmd_log.proofs.Going.{FailsFor, fails_for}
 use Rattle.cmd_log.proofs.Opening.{PointLaws, stands_in, still_stands}
 
 -- A disk over which a log was kept.
@@ -65,6 +69,7 @@ module _ {D : Type 0} {k : Ghosts D} (known : D → disk.State) (tells : Bool) (
     marked = h.marked;
     manner = h.manner;
     reasons = h.reasons;
+    causes = h.causes;
   }
 
   is_log_run : (answer : Result Ending LogRunRefusal) (before after : Streams) → RunsTo tells first marks (state_of known store) answer before after → IsLogRun tells first (known (disk_in store)) marks answer before after
@@ -153,6 +158,7 @@ of_room_fs counted because.DiskFault = of_room_counted counted
 of_room_fs counted because.Stopped = of_room_counted counted
 of_room_fs counted because.Spent = tt
 of_room_fs counted because.NoMemory = tt
+of_room_fs counted (because.NoPoint point) = of_room_counted counted
 
 of_room : (counted : Bool) (e : OpenRefusal) → OfRoom (log_refusal_of counted e)
 of_room counted open_by.BadLog = tt
@@ -181,6 +187,7 @@ silent_fs counted because.DiskFault = silent_counted counted
 silent_fs counted because.Stopped = silent_counted counted
 silent_fs counted because.Spent = refl
 silent_fs counted because.NoMemory = refl
+silent_fs counted (because.NoPoint point) = silent_counted counted
 
 pub silent_open : (counted : Bool) (e : OpenRefusal) → log_fails_pushing (Err (log_refusal_of counted e)) ≡ false
 silent_open counted open_by.BadLog = refl
@@ -213,6 +220,7 @@ module _ (tells : Bool) (first last : disk.State) (before after : Streams) where
   goes_fs counted because.Stopped h = goes_counted counted h
   goes_fs counted because.Spent h = inr h
   goes_fs counted because.NoMemory h = inr (inl h)
+  goes_fs counted (because.NoPoint point) h = goes_counted counted h
 
   goes : (counted : Bool) (e : OpenRefusal) → Goes (log_refusal_of counted e)
   goes counted open_by.BadLog h = h
@@ -231,8 +239,8 @@ module _ {D : Type 0} {k : Ghosts D} (known : D → disk.State) (tells : Bool) (
       subst (λ (n : ℕ). ∥ StandsFor n img h.tree ∥₁) (sym n_is)
       (still_stands first (state_of known old) (state_of known new) h time (drawn known new) points moment img upto (subst (λ (n : ℕ). IsHonest n last.base (take moment last.log) img) n_is honest))
 
-  pub stands : (why : LogRunRefusal) → RefusesLog why h.tree last → StandsUnlogged first last why
-  stands why says = record {
+  pub stands : (why : LogRunRefusal) → RefusesLog why h.tree last → HasRoomCause first h.image.stands.held.header.geom h.image.stands.map h.tree why → StandsUnlogged first last why
+  stands why says room = record {
     tree = h.tree;
     image = h.image;
     blocks = n_is ∙ h.blocks;
@@ -240,6 +248,7 @@ module _ {D : Type 0} {k : Ghosts D} (known : D → disk.State) (tells : Bool) (
     manner = time.manner ∙ h.manner;
     crash = crash;
     says = says;
+    room = room;
   }
 
 -- What each reason says of the tree and of the disk.
@@ -270,14 +279,14 @@ module _ {D : Type 0} {k : Ghosts D} (known : D → disk.State) (tells : Bool) (
   by_counts fault = says_counted counted (sym counts) fault
 
   says_fs : (why : Refusal) → Cause why → RefusesLog (log_refusal_of_fs counted why) h.tree (known (disk_in new))
-  says_fs because.NotFound cause = early 1 _ refl (omega arith) (cause.cause.late told)
-  says_fs because.Exists cause = early 2 _ refl (omega arith) (cause.cause.late told)
-  says_fs because.NotDir cause = early 3 _ refl (omega arith) (cause.cause.late told)
-  says_fs because.IsDir cause = early 4 _ refl (omega arith) (cause.cause.late told)
-  says_fs because.NotEmpty cause = early 5 _ refl (omega arith) (cause.cause.late told)
-  says_fs because.BelowItself cause = early 6 _ refl (omega arith) (cause.cause.late told)
-  says_fs because.TooLarge cause = early 7 _ refl (omega arith) (cause.cause.late told)
-  says_fs because.TooManyLinks cause = early 8 _ refl (omega arith) (cause.cause.late told)
+  says_fs because.NotFound cause = early 1 _ refl (omega arith) (cause.cause.late told).0
+  says_fs because.Exists cause = early 2 _ refl (omega arith) (cause.cause.late told).0
+  says_fs because.NotDir cause = early 3 _ refl (omega arith) (cause.cause.late told).0
+  says_fs because.IsDir cause = early 4 _ refl (omega arith) (cause.cause.late told).0
+  says_fs because.NotEmpty cause = early 5 _ refl (omega arith) (cause.cause.late told).0
+  says_fs because.BelowItself cause = early 6 _ refl (omega arith) (cause.cause.late told).0
+  says_fs because.TooLarge cause = early 7 _ refl (omega arith) (cause.cause.late told).0
+  says_fs because.TooManyLinks cause = early 8 _ refl (omega arith) (cause.cause.late told).0
   says_fs because.NoNode cause = (refl, (cause.room told refl).free h.tree (stands_in first (state_of known old) h))
   says_fs (because.Full need left) cause = (refl, (cause.room told refl).free h.tree (stands_in first (state_of known old) h))
   says_fs (because.TooBig weight cost room) cause = absurd (true≢false (cause.cause.fits told))
@@ -287,6 +296,45 @@ module _ {D : Type 0} {k : Ghosts D} (known : D → disk.State) (tells : Bool) (
   says_fs because.Stopped cause = by_counts (failed_so ((failed because.Stopped cause).stopped refl))
   says_fs because.Spent cause = tt
   says_fs because.NoMemory cause = tt
+  says_fs (because.NoPoint point) cause = absurd (omega (arith, (cause.cause.late told).1))
+
+  -- the making of `/log` was refused so, in the mount's room
+  refuses_room : (why : Refusal) → is_of_room why ≡ true → Cause why → RefusesRoom first h.image.stands.held.header.geom h.image.stands.map h.tree why
+  refuses_room why wants cause = subst (λ g. RefusesRoom first g h.image.stands.map h.tree why) (sym h.shape) (by cause.cause.cause)
+    where
+      of : OpensNot why h.mounted (state_of known old) → RefusesRoom first (state_of known old).books.geom h.image.stands.map h.tree why
+      of not = record { mounted = h.mounted; at_mount = h.at_mount; end = not.end; opening = not.ran; refused = not.refused }
+
+      by : ((why ≡ because.NoMemory) × HasAsked tells (state_of known) AsksToOpen old new) ⊎ WasAnswered tells (state_of known) AsksToOpen (replied.Refused why) old new → RefusesRoom first (state_of known old).books.geom h.image.stands.map h.tree why
+      by (inl (memory, asked)) = absurd (true≢false (sym wants ∙ ap is_of_room memory))
+      by (inr was) = of (opens_not tells (state_of known) laws old new h.mounted h.at h.over why (was.way told))
+
+  abbrev RoomCause : LogRunRefusal → Type 0
+  RoomCause why = HasRoomCause first h.image.stands.held.header.geom h.image.stands.map h.tree why
+
+  room_fs : (why : Refusal) → Cause why → RoomCause (log_refusal_of_fs counted why)
+  room_fs because.NotFound cause = tt
+  room_fs because.Exists cause = tt
+  room_fs because.NotDir cause = tt
+  room_fs because.IsDir cause = tt
+  room_fs because.NotEmpty cause = tt
+  room_fs because.BelowItself cause = tt
+  room_fs because.TooLarge cause = tt
+  room_fs because.TooManyLinks cause = tt
+  room_fs because.NoNode cause = refuses_room because.NoNode refl cause
+  room_fs (because.Full need left) cause = refuses_room (because.Full need left) refl cause
+  room_fs (because.TooBig weight cost room) cause = tt
+  room_fs (because.Scattered runs) cause = refuses_room (because.Scattered runs) refl cause
+  room_fs because.ReadFault cause = tt
+  room_fs because.DiskFault cause = tt
+  room_fs because.Stopped cause = tt
+  room_fs because.Spent cause = tt
+  room_fs because.NoMemory cause = tt
+  room_fs (because.NoPoint point) cause = tt
+
+  pub has_room_cause : (e : OpenRefusal) → IsNotOpened tells (state_of known) e old new → RoomCause (log_refusal_of counted e)
+  has_room_cause open_by.BadLog cause = tt
+  has_room_cause (open_by.Fs why) cause = room_fs why cause
 
   pub says : (e : OpenRefusal) → IsNotOpened tells (state_of known) e old new → (e ≡ open_by.BadLog → (t : Tree) → StandsIn (state_of known old) t → HasNoLog t) → RefusesLog (log_refusal_of counted e) h.tree (known (disk_in new))
   says open_by.BadLog cause none = none refl h.tree (stands_in first (state_of known old) h)
@@ -299,20 +347,20 @@ unlogged_back known tells first last marks counted e result before after none le
     subst (λ (ms : List Mark). ComesOfLogDisk tells first (known last) ms (Err result) before after) (sym none) (by said)
   where
     -- whatever the output took, the disk is as it is
-    again : (why : LogRunRefusal) → ((t : Tree) → RefusesLog why t (known last)) → StandsUnlogged first (known last) (log_refusal_of counted e) → StandsUnlogged first (known last) why
-    again why says h = record { tree = h.tree; image = h.image; blocks = h.blocks; base = h.base; manner = h.manner; crash = h.crash; says = says h.tree }
+    again : (why : RunRefusal) → ((t : Tree) → RefusesLog (Run why) t (known last)) → StandsUnlogged first (known last) (log_refusal_of counted e) → StandsUnlogged first (known last) (Run why)
+    again why says h = record { tree = h.tree; image = h.image; blocks = h.blocks; base = h.base; manner = h.manner; crash = h.crash; says = says h.tree; room = tt }
 
     by : Said (log_refusal_of counted e) result before.taken after.taken → ComesOfLogDisk tells first (known last) [] (Err result) before after
     by (inl (is, took)) = subst (λ (w : LogRunRefusal). ComesOfLogDisk tells first (known last) [] (Err w) before after) (sym is)
         (goes tells first (known last) before after counted e (record { none = refl; left = left; source = source; took = took; stands = stands }))
     by (inr (refusal, is, inl (memory, same))) = subst (λ (w : LogRunRefusal). ComesOfLogDisk tells first (known last) [] (Err w) before after) (sym memory)
-        (inr (inl (record { none = refl; left = left; source = source; took = same; stands = λ t. again (Run run.NoMemory) (λ tree. tt) (stands t) })))
+        (inr (inl (record { none = refl; left = left; source = source; took = same; stands = λ t. again run.NoMemory (λ tree. tt) (stands t) })))
     by (inr (refusal, is, inr (fault, took))) = subst (λ (w : LogRunRefusal). ComesOfLogDisk tells first (known last) [] (Err w) before after) (sym fault)
-        (inl (record { none = refl; left = left; source = source; took = (refusal, subst OfRoom is (of_room counted e), took); stands = λ t. again (Run run.SinkFault) (λ tree. tt) (stands t) }))
+        (inl (record { none = refl; left = left; source = source; took = (refusal, subst OfRoom is (of_room counted e), took); stands = λ t. again run.SinkFault (λ tree. tt) (stands t) }))
 
 -- what is known of the disk, as the function has it
 pub stands_back : {D : Type 0} {k : Ghosts D} (known : D → disk.State) (tells : Bool) (told : IsTrue tells) (first : disk.State) (old new given : Store D k) (back : D) (counted : Bool) (e : OpenRefusal) → (h : KnownOpened first (state_of known old)) → MakesNoPoint (state_of known old) (state_of known new) → PointLaws (state_of known old) (state_of known new)
-    → (known (disk_in given)).blocks ≡ (state_of known given).books.geom.n → back ≡ disk_in given → given ≡ new → RefusesLog (log_refusal_of counted e) h.tree (known (disk_in new)) → StandsUnlogged first (known back) (log_refusal_of counted e)
-stands_back {D = D} {k = k} known tells told first old new given back counted e h time points size back_is given_is refuses =
+    → (known (disk_in given)).blocks ≡ (state_of known given).books.geom.n → back ≡ disk_in given → given ≡ new → RefusesLog (log_refusal_of counted e) h.tree (known (disk_in new)) → HasRoomCause first h.image.stands.held.header.geom h.image.stands.map h.tree (log_refusal_of counted e) → StandsUnlogged first (known back) (log_refusal_of counted e)
+stands_back {D = D} {k = k} known tells told first old new given back counted e h time points size back_is given_is refuses room =
     subst (λ (x : D). StandsUnlogged first (known x) (log_refusal_of counted e)) (sym (back_is ∙ ap disk_in given_is))
-    (stands known tells told first old new h time points (subst (λ (x : Store D k). (known (disk_in x)).blocks ≡ (state_of known x).books.geom.n) given_is size) (log_refusal_of counted e) refuses)
+    (stands known tells told first old new h time points (subst (λ (x : Store D k). (known (disk_in x)).blocks ≡ (state_of known x).books.geom.n) given_is size) (log_refusal_of counted e) refuses room)

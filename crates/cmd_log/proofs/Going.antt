@@ -1,7 +1,6 @@
 -- A log of one call more.
-use Rattle.std.proofs.Common.{◌≡◌, ◌⊎◌, inl, inr, ℕ, ◌+◌, ◌<◌, ◌≤◌, Bool, false, true, IsTrue, List, [], ◌∷◌, ◌++◌, length, length-append, take, take_all, refl, sym, ap, ap₂, ◌∙◌, subst, arith}
+use Rattle.std.proofs.Common.{◌≡◌, ◌⊎◌, inl, inr, ℕ, ◌+◌, ◌<◌, ◌≤◌, Bool, true, IsTrue, List, [], ◌∷◌, ◌++◌, length, length-append, take, take_all, refl, sym, ap, ◌∙◌, subst, arith}
 use Rattle.std.proofs.lemmas.List.{take-append-le}
-use Rattle.base_types.specs.Counts.{after_call}
 use Rattle.disk_contract.specs.declared.bay.Mark.{Mark}
 use Rattle.disk_contract.specs.declared.event.Event.{Event}
 use Rattle.disk_contract.specs.Disk as disk
@@ -10,35 +9,26 @@ use Rattle.layout_geometry.specs.Geometry.{Geometry}
 use Rattle.lang_tree.specs.declared.command.Cmd.{Cmd}
 use Rattle.lang_tree.specs.declared.command.Refusal.{Refusal}
 use Rattle.lang_tree.specs.declared.command.Refusal.TheVariants as because
-use Rattle.lang_tree.specs.declared.command.Reply.{Reply}
 use Rattle.lang_tree.specs.declared.command.Reply.TheVariants as replied
-use Rattle.lang_tree.specs.Step.{Session}
 use Rattle.lang_log.specs.declared.call.LogCall.{LogCall}
 use Rattle.lang_log.specs.declared.call.LogReply.{LogReply}
 use Rattle.lang_log.specs.declared.call.LogReply.TheVariants as answered
-use Rattle.lang_log.specs.History.{History}
+use Rattle.lang_log.specs.History.{History, opened_with}
 use Rattle.lang_log.specs.Log.{Log}
 use Rattle.engine_blocks.specs.State.{State}
-use Rattle.fs_session.specs.Applying.{Applies}
-use Rattle.fs_session.specs.Points.{TellsPoints}
-use Rattle.fs_session.specs.Sessions.{IsSession}
-use Rattle.fs_log.specs.Causes.{HasLogCause, WasAnswered}
+use Rattle.fs_log.specs.Causes.{HasAsked, HasLogCause, WasAnswered}
 use Rattle.fs_log.specs.Keeping.{Goes, Keeps}
-use Rattle.cmd_image.specs.Refusals.{CountsByReply, is_failed}
+use Rattle.cmd_image.specs.Refusals.{is_failed}
+use Rattle.cmd_image.specs.Shared.{within_more, within_on}
 use Rattle.cmd_image.specs.Steps.{AreWithin, mark_in}
 use Rattle.cmd_log.specs.Answering.{HasAnswerCause, IfRefused, TakesCall}
+use Rattle.cmd_log.specs.Causes.{AnswersBy, Situation}
 use Rattle.cmd_log.specs.Logs.{HasLogReason, HaveLogReasons, LogMarksGo, MarksReply}
 use Rattle.cmd_log.specs.Serving.{HasLogged}
-use Rattle.cmd_log.specs.Steps.{KeepsToManner, KnownSoFar, SoFar}
+use Rattle.cmd_log.specs.Steps.{IsAt, KeepsToManner, KnownSoFar, SoFar}
+use Rattle.cmd_log.proofs.Causes.{CountsStop, LeadsCall, ReplyLaws, calls_more, counted_one}
 
 -- A refusal for the disk.
-
--- What fs_session and cmd_image say of the reply to a command.
-pub record ReplyLaws {S : Type 0} (tells : Bool) (state : S → State) : Type 1 where
-  pub read : (old new : S) (f : Session) (cmd : Cmd) (reply : Reply) → IsSession (state old) f → Applies tells state cmd reply old new → reply ≡ replied.Refused because.ReadFault → 0 < (state new).counts.read_faults
-  pub stopped : (old new : S) (f : Session) (cmd : Cmd) (reply : Reply) → IsSession (state old) f → Applies tells state cmd reply old new → reply ≡ replied.Refused because.Stopped → (state old).books.stopped ≡ true
-  pub counts : (old new : S) (f : Session) (cmd : Cmd) (reply : Reply) → IsSession (state old) f → Applies tells state cmd reply old new → CountsByReply reply (state old).counts (state new).counts
-  pub points : (old new : S) (f : Session) (cmd : Cmd) (reply : Reply) (begun : ℕ) → IsSession (state old) f → Applies tells state cmd reply old new → TellsPoints f cmd reply begun (state old) (state new)
 
 -- What is known of blocks behind a refusal: a failed read was counted, or another call that failed, by which they have stopped.
 pub record FailsFor (why : Refusal) (u : State) : Type 0 where
@@ -47,16 +37,12 @@ pub record FailsFor (why : Refusal) (u : State) : Type 0 where
   pub fault : why ≡ because.DiskFault → u.books.stopped ≡ true
   pub stopped : why ≡ because.Stopped → u.books.stopped ≡ true
 
-counted_one : (failed : Bool) (n m : ℕ) → failed ≡ true → m ≡ after_call failed n → 0 < m
-counted_one true n m is counts = omega (arith, counts)
-counted_one false n m is counts = absurd cc
-
 -- so much is known behind a call that the file system refused
 pub fails_for : {S : Type 0} (tells : Bool) (state : S → State) → IsTrue tells → ReplyLaws tells state → (asks : Cmd → Type 0) (why : Refusal) (old new : S) → HasLogCause tells state asks why old new → FailsFor why (state new)
 fails_for {S = S} tells state told laws asks why old new h = by h.cause
   where
-    by : (why ≡ because.NoMemory) ⊎ WasAnswered tells state asks (replied.Refused why) old new → FailsFor why (state new)
-    by (inl memory) = record {
+    by : ((why ≡ because.NoMemory) × HasAsked tells state asks old new) ⊎ WasAnswered tells state asks (replied.Refused why) old new → FailsFor why (state new)
+    by (inl (memory, asked)) = record {
       read_faults = λ is. absurd cc;
       faults = λ is. absurd cc;
       fault = λ is. absurd cc;
@@ -91,11 +77,13 @@ reason_for because.DiskFault u h keeps = keeps.fails (h.fault refl)
 reason_for because.Stopped u h keeps = keeps.fails (h.stopped refl)
 reason_for because.Spent u h keeps = tt
 reason_for because.NoMemory u h keeps = tt
+reason_for (because.NoPoint last) u h keeps = tt
 
 -- What is known of the disk behind an answer.
 pub record HasCounted (reply : LogReply) (u : State) : Type 0 where
   pub read_faults : reply ≡ answered.Refused because.ReadFault → 0 < u.counts.read_faults
   pub faults : reply ≡ answered.Refused because.DiskFault → 0 < u.counts.faults
+  pub stopped : reply ≡ answered.Refused because.Stopped → u.books.stopped ≡ true
   pub reason : HasLogReason u.counts.ticks.manner u.crash.log reply
 
 -- why a call was refused, where it was
@@ -109,19 +97,19 @@ module _ {S : Type 0} (tells : Bool) (state : S → State) (told : IsTrue tells)
   fails_for_answer why (inr misread) = absurd (misread.1.0 told)
 
   pub counted_by : (reply : LogReply) → IfRefused reply (λ why. HasAnswerCause tells state asks why old new) → HasCounted reply (state new)
-  counted_by (answered.Number number) cause = record { read_faults = λ is. absurd cc; faults = λ is. absurd cc; reason = tt }
-  counted_by (answered.Bytes bytes) cause = record { read_faults = λ is. absurd cc; faults = λ is. absurd cc; reason = tt }
-  counted_by (answered.Low low) cause = record { read_faults = λ is. absurd cc; faults = λ is. absurd cc; reason = tt }
-  counted_by (answered.Range low next) cause = record { read_faults = λ is. absurd cc; faults = λ is. absurd cc; reason = tt }
-  counted_by (answered.Ordered point) cause = record { read_faults = λ is. absurd cc; faults = λ is. absurd cc; reason = tt }
-  counted_by (answered.Durable point) cause = record { read_faults = λ is. absurd cc; faults = λ is. absurd cc; reason = tt }
-  counted_by answered.Bad cause = record { read_faults = λ is. absurd cc; faults = λ is. absurd cc; reason = tt }
-  counted_by (answered.NoRecord low next) cause = record { read_faults = λ is. absurd cc; faults = λ is. absurd cc; reason = tt }
-  counted_by answered.TooLong cause = record { read_faults = λ is. absurd cc; faults = λ is. absurd cc; reason = tt }
-  counted_by answered.LogEnd cause = record { read_faults = λ is. absurd cc; faults = λ is. absurd cc; reason = tt }
+  counted_by (answered.Number number) cause = record { read_faults = λ is. absurd cc; faults = λ is. absurd cc; stopped = λ is. absurd cc; reason = tt }
+  counted_by (answered.Bytes bytes) cause = record { read_faults = λ is. absurd cc; faults = λ is. absurd cc; stopped = λ is. absurd cc; reason = tt }
+  counted_by (answered.Low low) cause = record { read_faults = λ is. absurd cc; faults = λ is. absurd cc; stopped = λ is. absurd cc; reason = tt }
+  counted_by (answered.Range low next) cause = record { read_faults = λ is. absurd cc; faults = λ is. absurd cc; stopped = λ is. absurd cc; reason = tt }
+  counted_by (answered.Ordered point) cause = record { read_faults = λ is. absurd cc; faults = λ is. absurd cc; stopped = λ is. absurd cc; reason = tt }
+  counted_by (answered.Durable point) cause = record { read_faults = λ is. absurd cc; faults = λ is. absurd cc; stopped = λ is. absurd cc; reason = tt }
+  counted_by answered.Bad cause = record { read_faults = λ is. absurd cc; faults = λ is. absurd cc; stopped = λ is. absurd cc; reason = tt }
+  counted_by (answered.NoRecord low next) cause = record { read_faults = λ is. absurd cc; faults = λ is. absurd cc; stopped = λ is. absurd cc; reason = tt }
+  counted_by answered.TooLong cause = record { read_faults = λ is. absurd cc; faults = λ is. absurd cc; stopped = λ is. absurd cc; reason = tt }
+  counted_by answered.LogEnd cause = record { read_faults = λ is. absurd cc; faults = λ is. absurd cc; stopped = λ is. absurd cc; reason = tt }
   counted_by (answered.Refused why) cause =
       let h = fails_for_answer why cause in
-      record { read_faults = λ is. h.read_faults (ap why_in is); faults = λ is. h.faults (ap why_in is); reason = reason_for why (state new) h keeps }
+      record { read_faults = λ is. h.read_faults (ap why_in is); faults = λ is. h.faults (ap why_in is); stopped = λ is. h.stopped (ap why_in is); reason = reason_for why (state new) h keeps }
 
 -- The marks and the reasons.
 
@@ -134,15 +122,6 @@ marks_on before mid now [] (k ∷ moments) marks reply moment go next = absurd g
 marks_on before mid now (r ∷ replies) [] marks reply moment go next = absurd go
 marks_on before mid now (r ∷ replies) (k ∷ moments) [] reply moment go next = absurd go
 marks_on before mid now (r ∷ replies) (k ∷ moments) (m ∷ marks) reply moment go next = (go.0, marks_on m mid now replies moments marks reply moment go.1 next)
-
--- moments stay among the events as more come, and one of them more is
-within_more : (n k : ℕ) (moments : List ℕ) → n ≤ k → AreWithin n moments → AreWithin k moments
-within_more n k [] more within = tt
-within_more n k (m ∷ moments) more within = (omega (arith, more, within.0), within_more n k moments more within.1)
-
-within_on : (n : ℕ) (moments : List ℕ) (moment : ℕ) → AreWithin n moments → moment ≤ n → AreWithin n (moments ++ moment ∷ [])
-within_on n [] moment within low = (low, tt)
-within_on n (m ∷ moments) moment within low = (within.0, within_on n moments moment within.1 low)
 
 -- reasons stay as events come behind, and with one more they are of one call more
 reasons_stay : (m : Manner) (old more : List Event) (replies : List LogReply) (moments : List ℕ) → AreWithin (length old) moments → HaveLogReasons m old replies moments → HaveLogReasons m (old ++ more) replies moments
@@ -166,6 +145,7 @@ pub record Stepped (call : LogCall) (reply : LogReply) (mark : Mark) (s u : Stat
   pub takes : (h : History) → Keeps h s → TakesCall h call reply s u
   pub counted : HasCounted reply u
   pub is_mark : mark ≡ mark_in u
+  pub leads : (at : Situation) → IsAt s at → CountsStop s → LeadsCall call reply at s u
 
 module _ (first : disk.State) (call : LogCall) (reply : LogReply) (mark : Mark) (s u : State) (calls : List LogCall) (replies : List LogReply) (marks : List Mark) (step : Stepped call reply mark s u) (h : KnownSoFar first calls replies marks s) where
   took : TakesCall h.logged.now call reply s u
@@ -189,6 +169,13 @@ module _ (first : disk.State) (call : LogCall) (reply : LogReply) (mark : Mark) 
   reasons_now = reasons_on first.manner u.crash.log replies h.moments reply (length u.crash.log)
       (subst (λ (es : List Event). HaveLogReasons first.manner es replies h.moments) (sym goes.advances.grows.log) (reasons_stay first.manner s.crash.log goes.advances.grows.more replies h.moments h.among h.reasons)) reason_now
 
+  -- the commands behind the call lead on
+  led : LeadsCall call reply h.causes.end s u
+  led = step.leads h.causes.end h.at h.over
+
+  then_took : TakesCall h.causes.last call reply s u
+  then_took = step.takes h.causes.last h.keeps
+
   pub known_more : KnownSoFar first (calls ++ call ∷ []) (replies ++ reply ∷ []) (marks ++ mark ∷ []) u
   known_more = record {
     geom = h.geom;
@@ -208,20 +195,28 @@ module _ (first : disk.State) (call : LogCall) (reply : LogReply) (mark : Mark) 
       moment = h.marked.moment;
       is = ap (λ (ms : List Mark). ms ++ mark ∷ []) h.marked.is;
       go = subst (λ (m : Mark). LogMarksGo h.marked.first (replies ++ reply ∷ []) (h.moments ++ length u.crash.log ∷ []) (h.marked.later ++ m ∷ []) (mark_in u)) (sym step.is_mark)
-          (marks_on h.marked.first (mark_in s) (mark_in u) replies h.moments h.marked.later reply (length u.crash.log) h.marked.go (record { moment = refl; read_faults = step.counted.read_faults; faults = step.counted.faults }));
+          (marks_on h.marked.first (mark_in s) (mark_in u) replies h.moments h.marked.later reply (length u.crash.log) h.marked.go (record { moment = refl; read_faults = step.counted.read_faults; faults = step.counted.faults; stopped = λ is. led.over (step.counted.stopped is) }));
     };
     manner = same_manner;
     among = within_on (length u.crash.log) h.moments (length u.crash.log) (within_more (length s.crash.log) (length u.crash.log) h.moments longer h.among) (omega arith);
     reasons = reasons_now;
+    causes = record {
+      mounted = h.causes.mounted;
+      at_mount = h.causes.at_mount;
+      begun = h.causes.begun;
+      opening = h.causes.opening;
+      is_log = h.causes.is_log;
+      end = led.next;
+      last = then_took.behind;
+      goes = calls_more h.geom 1048576 h.causes.begun h.causes.end led.next (opened_with h.opened) h.causes.last then_took.behind calls replies call reply h.causes.goes
+          (subst (λ (g : Geometry). AnswersBy g 1048576 call reply h.causes.end led.next) h.logged.geom led.by) then_took.answers (then_took.goes.keeps.now led.next.session.tree led.is.session.tree);
+    };
+    at = led.is;
+    keeps = then_took.goes.keeps;
+    over = led.over;
   }
 
 -- the same of blocks that may tell or not
 pub more_so_far : (tells : Bool) (first : disk.State) (call : LogCall) (reply : LogReply) (mark : Mark) (s u : State) (calls : List LogCall) (replies : List LogReply) (marks : List Mark) → (IsTrue tells → Stepped call reply mark s u) → SoFar tells first calls replies marks s
     → SoFar tells first (calls ++ call ∷ []) (replies ++ reply ∷ []) (marks ++ mark ∷ []) u
 more_so_far tells first call reply mark s u calls replies marks step h = λ t. known_more first call reply mark s u calls replies marks (step t) (h t)
-
--- the mark of blocks, by its parts
-pub is_mark_in : (mark : Mark) (s : State) → mark.moment ≡ length s.crash.log → mark.read_faults ≡ s.counts.read_faults → mark.faults ≡ s.counts.faults → mark ≡ mark_in s
-is_mark_in mark s moment reads others =
-    ap (λ (n : ℕ). record { moment = n; read_faults = mark.read_faults; faults = mark.faults }) moment
-    ∙ ap₂ (λ (r q : ℕ). record { moment = length s.crash.log; read_faults = r; faults = q }) reads others

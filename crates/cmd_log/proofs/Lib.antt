@@ -1,3 +1,5 @@
+pub mod Lacking
+pub mod Causes
 pub mod Answering
 pub mod Histories
 pub mod Moments

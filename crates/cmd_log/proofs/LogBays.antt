@@ -1,17 +1,17 @@
 -- What becomes of the bay once a log was kept over a disk of it, which went back; and where none was handed out.
-use Rattle.std.proofs.Common.{◌≡◌, ◌⊎◌, inl, inr, ℕ, ◌<◌, ◌≤◌, nat_lt, ◌||◌, Bool, true, false, IsTrue, if◌then◌else◌, List, [], Option, None, Some, Result, Ok, Err, refl, sym, ap, ◌∙◌, subst, arith}
+use Rattle.std.proofs.Common.{◌≡◌, ◌⊎◌, inl, inr, ℕ, ◌<◌, ◌≤◌, nat_lt, ◌||◌, Bool, true, false, IsTrue, if◌then◌else◌, List, [], Option, Result, Ok, Err, refl, sym, ap, ◌∙◌, subst, arith}
 use Rattle.std.proofs.Math.Logic.{∥∥₁_elim}
 use Rattle.std.proofs.Props.{props}
-use Rattle.std.proofs.lemmas.Bool.{false≢true, lt-ltb, ltb-true, or_cases}
+use Rattle.std.proofs.lemmas.Bool.{false≢true, lt-ltb}
 use Rattle.std.proofs.lemmas.Result.{err_from_is_err_and}
 use Rattle.std.specs.Result.{IsErrAnd}
 use Rattle.base_types.specs.Counts.{next_count}
 use Rattle.disk_contract.specs.declared.bay.Mark.{Mark}
 use Rattle.disk_contract.specs.declared.bay.BayFault.{BayFault}
 use Rattle.disk_contract.specs.declared.bay.BayFault.TheVariants as bay
-use Rattle.disk_contract.specs.Bay.{BayState, BeginsWith, Closes, HasBlocks, Kept, Opens, has_faults}
-use Rattle.disk_contract.specs.Disk.{State, HasFailed}
-use Rattle.cmd_image.specs.Mounted.{IsFresh}
+use Rattle.disk_contract.specs.Bay.{BayState, Closes, HasBlocks, Kept, Opens, has_faults}
+use Rattle.disk_contract.specs.Disk.{State}
+use Rattle.cmd_image.specs.Shared.{failed_by, has_blocks}
 use Rattle.cmd_image.specs.Shows.{CountsFault, FailedByManner, MayFailToOpen}
 use Rattle.cmd_image.specs.declared.ending.Ending.{Ending}
 use Rattle.cmd_image.specs.declared.ending.Ending.TheVariants.{End, SourceFault, LongInput}
@@ -97,14 +97,6 @@ unlent_by state tells result name fault old new streams is opens =
 
 -- A disk that was handed out.
 
-fresh_by : (kept : Option Kept) (d : State) → BeginsWith kept d → d.log ≡ []
-fresh_by None d none = absurd none
-fresh_by (Some kept) d begins = begins.log
-
--- it has no event yet
-pub fresh : {D : Type 0} (state : D → State) (tells : Bool) (name : List ℕ) (d : D) (old new : BayState) → Opens tells state name (Ok d) old new → IsFresh tells (state d)
-fresh state tells name d old new opens = record { counts = opens.counts; nothing = λ t. fresh_by (old.kept name) (state d) (opens.disk t) }
-
 -- a disk on which calls failed as its manner lets them has faults
 counts_some : (d : State) → FailedByManner d → has_faults d ≡ true
 counts_some d (inl unread) = ap (λ (b : Bool). b || nat_lt 0 d.faults) (lt-ltb 0 d.read_faults unread.0)
@@ -113,19 +105,6 @@ counts_some d (inr failed) = ap (λ (b : Bool). nat_lt 0 d.read_faults || b) (lt
     or_true : (b : Bool) → (b || true) ≡ true
     or_true true = refl
     or_true false = refl
-
--- and one that has faults is one on which calls failed so
-failed_by : (d : State) → has_faults d ≡ true → (0 < d.read_faults → d.manner.reads_fail ≡ true) → (0 < d.faults → HasFailed d) → FailedByManner d
-failed_by d some reads others = by (or_cases (nat_lt 0 d.read_faults) (nat_lt 0 d.faults) some)
-  where
-    by : (nat_lt 0 d.read_faults ≡ true) ⊎ (nat_lt 0 d.faults ≡ true) → FailedByManner d
-    by (inl unread) = let more = ltb-true 0 d.read_faults unread in inl (more, reads more)
-    by (inr failed) = let more = ltb-true 0 d.faults failed in inr (more, others more)
-
--- a disk that began with an image has as many blocks
-has_blocks : (kept : Option Kept) (first last : State) → BeginsWith kept first → last.blocks ≡ first.blocks → HasBlocks last.blocks kept
-has_blocks None first last none same = none
-has_blocks (Some kept) first last begins same = sym (same ∙ begins.blocks)
 
 -- All that is said of a log whose disk went back.
 pub record LogsBay (tells : Bool) (name : List ℕ) (answer result : Result Ending LogRunRefusal) (old new : BayState) (before after : Streams) : Type 0 where

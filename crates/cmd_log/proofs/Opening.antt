@@ -6,7 +6,7 @@ use Rattle.std.proofs.lemmas.List.{take-append-le}
 use Rattle.base_types.specs.Seal.{Blocks}
 use Rattle.disk_contract.specs.declared.bay.Mark.{Mark}
 use Rattle.disk_contract.specs.declared.event.Event.{Event}
-use Rattle.disk_contract.specs.Crash.{IsHonest, Window}
+use Rattle.disk_contract.specs.Crash.{IsHonest}
 use Rattle.disk_contract.specs.Disk as disk
 use Rattle.layout_geometry.specs.Geometry.{Geometry}
 use Rattle.crash_argument.specs.Ledger.{HoldsUnder}
@@ -14,36 +14,30 @@ use Rattle.crash_stands.specs.Stands.{IsTreeOf, StandsFor}
 use Rattle.lang_tree.specs.Points.{Point, points_of}
 use Rattle.lang_tree.specs.Step.{session_on}
 use Rattle.lang_tree.specs.Tree.{Tree}
+use Rattle.lang_log.specs.History.{History, opened_with}
 use Rattle.lang_log.specs.Log.{Log, IsLogOf}
 use Rattle.engine_blocks.specs.Crashes.{Advances, IsBegun}
 use Rattle.engine_blocks.specs.State.{Bookkeeping, State, Ticking}
 use Rattle.fs_files.specs.Effects.{LooksOnly}
+use Rattle.fs_session.specs.Memory.{room_of}
 use Rattle.fs_session.specs.Points.{KnowsPoints, LeavesTree}
+use Rattle.fs_log.specs.Keeping.{Keeps}
 use Rattle.fs_log.specs.Opening.{MakesNoPoint, StandsIn}
 use Rattle.cmd_session.specs.Crashes.{StandsForOne}
-use Rattle.cmd_session.specs.Serving.{HasServed, IsDrawn, IsMountedWith}
+use Rattle.cmd_session.specs.Serving.{HasServed, IsDrawn}
 use Rattle.cmd_image.specs.Steps.{IsJustMounted, mark_in}
+use Rattle.cmd_image.specs.Runs.{IsRoomAtMount}
 use Rattle.cmd_log.specs.Serving.{HasLogged}
 use Rattle.cmd_log.specs.Steps.{KnownOpened, KnownSoFar}
+use Rattle.cmd_log.proofs.Causes.{LeadsOpen}
 
 -- The file system.
 
 module _ (tells : Bool) (told : IsTrue tells) (first : disk.State) (s : State) (h : IsJustMounted tells first s) where
-  -- the store has the map of its image, and so has each image so far
-  pub mounted_with : IsMountedWith s.books.geom s.map s
-  mounted_with =
-      let held = h.on.held told in
-      record {
-        geom = refl;
-        map = refl;
-        only = (h.begins told).only;
-        images = subst (λ (n : ℕ). Window n s.crash.base s.crash.log 0 (λ img. HoldsUnder n s.books.geom img s.map)) (sym h.on.blocks)
-            (subst (λ (x : Blocks). Window first.blocks x s.crash.log 0 (λ img. HoldsUnder first.blocks s.books.geom img s.map)) (sym (h.on.base told)) held.images);
-      }
-
   -- what is said of the blocks once the file system was opened
-  pub known_opened : (u : State) (t : Tree) → IsBegun s → LooksOnly tells false s u → IsTreeOf s.books.geom s.map t → HasServed s.books.geom t (length s.crash.log) [] [] [] u → KnownOpened first u
-  known_opened u t begun looks tree served =
+  pub known_opened : (u : State) (t : Tree) → IsBegun s → LooksOnly tells false s u → IsTreeOf s.books.geom s.map t → HasServed s.books.geom t (length s.crash.log) [] [] [] u
+      → IsRoomAtMount s.books.geom s.map (session_on s.books.geom.i t) (room_of u) → KnownOpened first u
+  known_opened u t begun looks tree served room =
       let held = h.on.held told in
       let geom = ap (λ (k : Bookkeeping). k.geom) looks.books in
       record {
@@ -55,6 +49,14 @@ module _ (tells : Bool) (told : IsTrue tells) (first : disk.State) (s : State) (
         manner = ap (λ (k : Ticking). k.manner) looks.counts.ticks ∙ h.on.manner;
         weight = ap (λ (k : Bookkeeping). k.running.weight) looks.books ∙ begun.weight;
         going = ap (λ (k : Bookkeeping). k.stopped) looks.books ∙ h.on.going;
+        mounted = record { session = session_on s.books.geom.i t; room = room_of u; numbers = s.books.turns };
+        at_mount = record {
+          session = ap (λ (k : Geometry). session_on k.i t) (sym geom);
+          room = subst (λ (k : Geometry). IsRoomAtMount k s.map (session_on k.i t) (room_of u)) (sym geom) room;
+          numbers = record { found = (h.numbers told).found; is_found = (h.numbers told).is_found; most = (h.numbers told).most };
+        };
+        at = record { session = served.goes_on.session; room = refl; numbers = omega (arith, ap (λ (k : Bookkeeping). k.turns) looks.books) };
+        over = λ stopped. absurd (true≢false (sym stopped ∙ ap (λ (k : Bookkeeping). k.stopped) looks.books ∙ h.on.going));
         served = subst (λ (g : Geometry). HasServed g t (length u.crash.log) [] [] [] u) (sym geom)
             (subst (λ (es : List Event). HasServed s.books.geom t (length es) [] [] [] u) (sym (looks.crash told).log) served);
       }
@@ -66,24 +68,38 @@ module _ (first : disk.State) (s : State) (h : KnownOpened first s) where
   pub stands_in : StandsIn s h.tree
   stands_in = h.served.goes_on.session.tree
 
-  pub known_first : (u : State) (l : Log) (mark : Mark) → IsLogOf h.tree l → MakesNoPoint s u → HasLogged s.books.geom (length u.crash.log) l [] [] [] u → mark ≡ mark_in u → KnownSoFar first [] [] (mark ∷ []) u
-  known_first u l mark is time logged is_mark = record {
-    geom = s.books.geom;
-    tree = h.tree;
-    image = h.image;
-    shape = h.shape;
-    blocks = h.blocks;
-    base = time.advances.base ∙ h.base;
-    opened = l;
-    is_log = is;
-    begun = length u.crash.log;
-    moments = [];
-    logged = logged;
-    marked = record { first = mark; later = []; moment = ap (λ (m : Mark). m.moment) is_mark; is = refl; go = sym is_mark };
-    manner = time.manner ∙ h.manner;
-    among = tt;
-    reasons = tt;
-  }
+  pub known_first : (u : State) (l : Log) (mark : Mark) → IsLogOf h.tree l → MakesNoPoint s u → HasLogged s.books.geom (length u.crash.log) l [] [] [] u → mark ≡ mark_in u → LeadsOpen h.mounted s u → KnownSoFar first [] [] (mark ∷ []) u
+  known_first u l mark is time logged is_mark led =
+      let opened_now : Keeps (opened_with l) u = subst (λ (k : History). Keeps k u) logged.serves.0 logged.keeps in record {
+        geom = s.books.geom;
+        tree = h.tree;
+        image = h.image;
+        shape = h.shape;
+        blocks = h.blocks;
+        base = time.advances.base ∙ h.base;
+        opened = l;
+        is_log = is;
+        begun = length u.crash.log;
+        moments = [];
+        logged = logged;
+        marked = record { first = mark; later = []; moment = ap (λ (m : Mark). m.moment) is_mark; is = refl; go = sym is_mark };
+        manner = time.manner ∙ h.manner;
+        among = tt;
+        reasons = tt;
+        causes = record {
+          mounted = h.mounted;
+          at_mount = h.at_mount;
+          begun = led.next;
+          opening = led.ran;
+          is_log = opened_now.now led.next.session.tree led.is.session.tree;
+          end = led.next;
+          last = opened_with l;
+          goes = (refl, refl);
+        };
+        at = led.is;
+        keeps = opened_now;
+        over = led.over;
+      }
 
 -- No log.
 

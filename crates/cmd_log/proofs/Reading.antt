@@ -1,12 +1,11 @@
 -- How far a log is in its input, from one call to the next, and how it ends.
-use Rattle.std.proofs.Common.{◌≡◌, ◌⊎◌, inl, inr, ℕ, ◌+◌, ◌-◌, ◌^◌, ◌<◌, ◌≤◌, Bool, true, false, true≢false, List, [], ◌∷◌, ◌++◌, length, length-append, take, take_all, Option, Some, None, Result, Ok, Err, refl, sym, ap, ◌∙◌, subst, arith, append_assoc, append-nil}
+use Rattle.std.proofs.Common.{◌≡◌, ◌⊎◌, inl, inr, ℕ, ◌+◌, ◌-◌, ◌^◌, ◌<◌, ◌≤◌, Bool, true, false, true≢false, List, [], ◌∷◌, ◌++◌, length, length-append, take, Option, Some, None, Result, Ok, Err, refl, sym, ap, ◌∙◌, subst, arith, append_assoc, append-nil}
 use Rattle.std.proofs.lemmas.Bool.{cases_Bool}
 use Rattle.std.proofs.lemmas.Result.{err_from_is_err_and}
 use Rattle.std.specs.Result.{IsErrAnd}
 use Rattle.std.proofs.KnownBytes.{Appends-nil, Appends-trans, Consumes-nil, Consumes-trans}
 use Rattle.std.specs.Io.KnownBytes.{Appends, Consumes}
 use Rattle.base_types.specs.Counts.{after_call}
-use Rattle.base_io.specs.Prefix.{TakesPrefix}
 use Rattle.disk_contract.specs.declared.bay.Mark.{Mark}
 use Rattle.disk_contract.specs.Disk as disk
 use Rattle.lang_log.specs.declared.call.LogCall.{LogCall}
@@ -23,6 +22,7 @@ use Rattle.cmd_image.specs.declared.running.Stop.{Stop}
 use Rattle.cmd_image.specs.declared.running.Stop.TheVariants as stop
 use Rattle.cmd_image.specs.Runs.{Streams}
 use Rattle.cmd_image.specs.Staying.{rose_before}
+use Rattle.cmd_image.specs.Shared.{all_taken}
 use Rattle.cmd_image.specs.Steps.{stops_pushing}
 use Rattle.cmd_log.specs.declared.refusal.LogRunRefusal.{LogRunRefusal}
 use Rattle.cmd_log.specs.Logs.{AreFirstCalls, CountsLogFaults, log_fails_pushing, log_reply_line, log_reply_lines}
@@ -62,9 +62,6 @@ first_less left seen calls call (inr front) = inr (λ rest. let some = front res
 lines_more : (replies : List LogReply) (reply : LogReply) → log_reply_lines (replies ++ reply ∷ []) ≡ log_reply_lines replies ++ log_reply_line reply
 lines_more [] reply = append-nil (log_reply_line reply)
 lines_more (r ∷ replies) reply = ap (λ (xs : List ℕ). log_reply_line r ++ xs) (lines_more replies reply) ∙ sym (append_assoc (log_reply_line r) (log_reply_lines replies) (log_reply_line reply))
-
-all_taken : (before after : Option (List ℕ)) (bytes : List ℕ) → Appends before after bytes → TakesPrefix before after bytes
-all_taken before after bytes took = (length bytes, subst (λ (xs : List ℕ). Appends before after xs) (sym (take_all (length bytes) bytes (omega arith))) took)
 
 -- From one call to the next.
 

@@ -14,7 +14,7 @@ use Rattle.engine_blocks.specs.State.{State}
 use Rattle.fs_commands.specs.Opened.{blocks_in}
 use Rattle.fs_log.specs.declared.refusal.LogRefusal.{LogRefusal}
 use Rattle.fs_log.specs.declared.refusal.LogRefusal.TheVariants.{BadLog, Fs as FsRefused, LogEnd, NoRecord, TooLong}
-use Rattle.fs_log.specs.Causes.{AsksToAppend, AsksToGet, AsksToOrder, AsksToSync, AsksToTrim, HasCallCause, HasLogCause}
+use Rattle.fs_log.specs.Causes.{AsksToAppend, AsksToGet, AsksToOrder, AsksToSync, AsksToTrim, HasAsked, HasCallCause, HasLogCause}
 use Rattle.fs_log.specs.Keeping.{Goes, Keeps}
 use Rattle.fs_log.specs.Open.{Open, low_in, state_in}
 use Rattle.fs_log.specs.Refusals.{is_of_none}
@@ -32,6 +32,11 @@ reply_for (FsRefused why) = reply.Refused why
 abbrev pub IfRefused : LogReply → (Refusal → Type 0) → Type 0
 IfRefused (reply.Refused why) P = P why
 IfRefused _ P = ⊤
+
+-- what must hold where the file system didn't refuse a call
+abbrev pub IfDone : LogReply → Type 0 → Type 0
+IfDone (reply.Refused why) P = ⊤
+IfDone _ P = P
 
 -- the commands that a call of the log asks
 abbrev pub Asks : {S : Type 0} → Open S → LogCall → Cmd → Type 0
@@ -95,8 +100,10 @@ pub record TakesCall (h : History) (call : LogCall) (answer : LogReply) (old new
 abbrev pub HasAnswerCause : {S : Type 0} → Bool → (S → State) → (Cmd → Type 0) → Refusal → S → S → Type 0
 HasAnswerCause tells state asks why old new = HasLogCause tells state asks why old new ⊎ ((why ≡ ReadFault) × HasCallCause tells state is_of_none asks BadLog old new)
 
--- A call of a log was answered so: with the numbers in memory; over blocks that are known, whatever its history was, as it goes on by the answer; and where the file system refused it, with the reason of that.
+-- A call of a log was answered so: with the numbers in memory; over blocks that are known, whatever its history was, as it goes on by the answer; and where the file system refused it, with the reason of that, and else all that was asked is known.
 pub record IsAnswered {S : Type 0} (tells : Bool) (state : S → State) (call : LogCall) (answer : LogReply) (old new : Open S) : Type 0 where
   pub shows : Shows call answer old new
   pub takes : IsTrue tells → (h : History) → Keeps h (state_in state old) → TakesCall h call answer (state_in state old) (state_in state new)
+  pub most : new.most ≡ old.most
+  pub asked : IfDone answer (HasAsked tells state (Asks old call) (blocks_in old.fs) (blocks_in new.fs))
   pub cause : IfRefused answer (λ why. HasAnswerCause tells state (Asks old call) why (blocks_in old.fs) (blocks_in new.fs))

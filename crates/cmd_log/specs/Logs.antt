@@ -36,6 +36,7 @@ use Rattle.cmd_image.specs.declared.ending.RunRefusal.TheVariants as run
 use Rattle.cmd_image.specs.Refusals.{opens_nothing, run_fails_pushing, run_refusal_of_bay}
 use Rattle.cmd_image.specs.Runs.{IsUnlent, IsUnopened, Streams, mark_on}
 use Rattle.cmd_image.specs.Shows.{CountsFault, FailedByManner, MayFailToOpen}
+use Rattle.cmd_log.specs.Causes.{HasCauses, HasRoomCause}
 use Rattle.cmd_log.specs.Serving.{LeavesAt, ServesAll}
 use Rattle.cmd_log.specs.declared.refusal.LogRunRefusal.{LogRunRefusal}
 use Rattle.cmd_log.specs.declared.refusal.LogRunRefusal.TheVariants.{BadLog, NoRoom, Run}
@@ -107,11 +108,12 @@ pub record CountsLogFaults (result : Result Ending LogRunRefusal) (old new : Str
 
 -- The marks.
 
--- The mark of a reply that was given at this moment: where the reply is ReadFault a failed read is counted by then, and where it is DiskFault another call that failed.
+-- The mark of a reply that was given at this moment: where the reply is ReadFault a failed read is counted by then, and where it is DiskFault or Stopped another call that failed.
 pub record MarksReply (reply : LogReply) (at : ℕ) (mark : Mark) : Type 0 where
   pub moment : mark.moment ≡ at
   pub read_faults : reply ≡ Refused because.ReadFault → 0 < mark.read_faults
   pub faults : reply ≡ Refused because.DiskFault → 0 < mark.faults
+  pub stopped : reply ≡ Refused because.Stopped → 0 < mark.faults
 
 -- each reply has its mark, in order, from one mark to another
 abbrev pub LogMarksGo : Mark → List LogReply → List ℕ → List Mark → Mark → Type 0
@@ -142,7 +144,7 @@ HaveLogReasons m log _ _ = ⊥
 
 -- The disk.
 
--- A log was kept over a disk that can be mounted and stands for a tree: it was opened with the log of that tree, which each crash leaves until then (`opening`); each call was answered as the log answers it, or refused for a reason of the file system, and each crash leaves the log as it is at that moment or as it was since the last sync that was answered by then (`serves`); each reply has its mark; and a refusal for a call of the disk that failed has its reason in the disk's manner.
+-- A log was kept over a disk that can be mounted and stands for a tree: it was opened with the log of that tree, which each crash leaves until then (`opening`); each call was answered as the log answers it, or refused for a reason of the file system, and each crash leaves the log as it is at that moment or as it was since the last sync that was answered by then (`serves`); each reply has its mark; a refusal for a call of the disk that failed has its reason in the disk's manner; and each refusal of the file system is that of a command which the call asks, in a room that goes on from the mount's (`causes`).
 pub record LogsDisk (first last : State) (marks : List Mark) (calls : List LogCall) (replies : List LogReply) : Type 0 where
   pub geom : Geometry
   pub tree : Tree
@@ -162,6 +164,7 @@ pub record LogsDisk (first last : State) (marks : List Mark) (calls : List LogCa
   pub marked : AreLogMarks begun replies moments marks (mark_on last)
   pub manner : last.manner ≡ first.manner
   pub reasons : HaveLogReasons first.manner last.log replies moments
+  pub causes : HasCauses first geom image.stands.map tree opened calls replies
 
 -- A log was opened on the disk and asked the calls of the input, as far as it was read, and the output took the lines of its replies.
 pub record IsLogRun (tells : Bool) (first last : State) (marks : List Mark) (answer : Result Ending LogRunRefusal) (before after : Streams) : Type 0 where
@@ -187,7 +190,7 @@ RefusesLog (Run run.Spent) t last = ⊤
 RefusesLog (Run run.SinkFault) t last = ⊤
 RefusesLog (Run run.NoMemory) t last = ⊤
 
--- The image of the disk can be mounted and stands for a tree, and each honest image of each moment stands for that tree still.
+-- The image of the disk can be mounted and stands for a tree, and each honest image of each moment stands for that tree still. Where there was no room for a log, the file system refused its directory so (`room`).
 pub record StandsUnlogged (first last : State) (why : LogRunRefusal) : Type 0 where
   pub tree : Tree
   pub image : StandsMounted first.blocks first.base tree
@@ -196,6 +199,7 @@ pub record StandsUnlogged (first last : State) (why : LogRunRefusal) : Type 0 wh
   pub manner : last.manner ≡ first.manner
   pub crash : (k : ℕ) (img : Blocks) → k ≤ length last.log → IsHonest last.blocks last.base (take k last.log) img → ∥ StandsFor last.blocks img tree ∥₁
   pub says : RefusesLog why tree last
+  pub room : HasRoomCause first image.stands.held.header.geom image.stands.map tree why
 
 -- A file system was opened on the disk, and no log in it: nothing was read of the input, the output took no more than the line of a refusal for the room, no mark goes along, and the image stands for its tree still.
 pub record IsUnlogged (tells : Bool) (first last : State) (marks : List Mark) (why : LogRunRefusal) (before after : Streams) : Type 0 where

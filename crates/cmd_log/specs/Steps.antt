@@ -1,5 +1,5 @@
 -- How far a log has come over a mounted store, and what one call adds. Only private contracts speak of it.
-use Rattle.std.specs.Prelude.{◌≡◌, ◌⊎◌, ℕ, ◌<◌, Bool, true, false, if◌then◌else◌, IsTrue, List, [], ◌∷◌, ◌++◌, length, Option, Some, None, ⊤, Result, Ok, Err}
+use Rattle.std.specs.Prelude.{◌≡◌, ◌⊎◌, ℕ, ◌<◌, ◌≤◌, Bool, true, false, if◌then◌else◌, IsTrue, List, [], ◌∷◌, ◌++◌, length, Option, Some, None, ⊤, Result, Ok, Err}
 use Rattle.std.specs.Io.KnownBytes.{Appends, Consumes}
 use Rattle.base_io.specs.Prefix.{TakesPrefix}
 use Rattle.disk_contract.specs.declared.bay.Mark.{Mark}
@@ -16,6 +16,9 @@ use Rattle.lang_log_lines.specs.Reading.{HasGivenCalls}
 use Rattle.lang_lines.specs.Reading.{KnowsEnd, ReaderState}
 use Rattle.layout_geometry.specs.Geometry.{Geometry}
 use Rattle.engine_blocks.specs.State.{State}
+use Rattle.fs_session.specs.Memory.{room_of}
+use Rattle.fs_session.specs.Sessions.{IsSession}
+use Rattle.fs_log.specs.Keeping.{Keeps}
 use Rattle.fs_log.specs.declared.refusal.OpenRefusal.{OpenRefusal}
 use Rattle.fs_log.specs.declared.refusal.OpenRefusal.TheVariants as open_by
 use Rattle.cmd_session.specs.Images.{StandsMounted}
@@ -27,6 +30,7 @@ use Rattle.cmd_image.specs.declared.running.Stop.{Stop}
 use Rattle.cmd_image.specs.declared.running.Stop.TheVariants as stop
 use Rattle.cmd_image.specs.Runs.{Streams}
 use Rattle.cmd_image.specs.Steps.{AreWithin, mark_in}
+use Rattle.cmd_log.specs.Causes.{HasCauses, IsAtMount, Situation}
 use Rattle.cmd_log.specs.Logs.{AreLogMarks, HaveLogReasons, ReadsCalls, SaysNoRoom, WritesReplies, log_reply_line, log_reply_lines}
 use Rattle.cmd_log.specs.Serving.{HasLogged}
 use Rattle.cmd_log.specs.declared.refusal.LogRunRefusal.{LogRunRefusal}
@@ -71,6 +75,12 @@ Said why result before after =
 
 -- The store.
 
+-- The file system over these blocks has come to this.
+pub record IsAt (s : State) (at : Situation) : Type 0 where
+  pub session : IsSession s at.session
+  pub room : at.room ≡ room_of s
+  pub numbers : s.books.turns ≤ at.numbers
+
 -- The disk under the blocks keeps to its manner: a read has failed only where reads may, and where the blocks have stopped, another call failed last, for a reason that the manner has.
 pub record KeepsToManner (s : State) : Type 0 where
   pub reads : 0 < s.counts.read_faults → s.counts.ticks.manner.reads_fail ≡ true
@@ -87,6 +97,10 @@ pub record KnownOpened (first : disk.State) (s : State) : Type 0 where
   pub weight : s.books.running.weight ≡ 0
   pub going : s.books.stopped ≡ false
   pub served : HasServed s.books.geom tree (length s.crash.log) [] [] [] s
+  pub mounted : Situation
+  pub at_mount : IsAtMount first s.books.geom image.stands.map tree mounted
+  pub at : IsAt s mounted
+  pub over : s.books.stopped ≡ true → 0 < s.counts.faults
 
 -- the same where the disk tells
 abbrev pub IsJustOpened : Bool → disk.State → State → Type 0
@@ -109,6 +123,10 @@ pub record KnownSoFar (first : disk.State) (calls : List LogCall) (replies : Lis
   pub manner : s.counts.ticks.manner ≡ first.manner
   pub among : AreWithin (length s.crash.log) moments
   pub reasons : HaveLogReasons first.manner s.crash.log replies moments
+  pub causes : HasCauses first geom image.stands.map tree opened calls replies
+  pub at : IsAt s causes.end
+  pub keeps : Keeps causes.last s
+  pub over : s.books.stopped ≡ true → 0 < s.counts.faults
 
 -- the same where the disk tells
 abbrev pub SoFar : Bool → disk.State → List LogCall → List LogReply → List Mark → State → Type 0

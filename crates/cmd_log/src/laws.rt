@@ -4,17 +4,22 @@ ghost use Rattle.std.specs.Prelude.{◌≡◌, ◌≤◌, ◌<◌, ◌-◌, ℕ,
 ghost use Rattle.base_types.specs.Seal.{Blocks as BlockMap};
 ghost use Rattle.disk_contract.specs.declared.event.Event.{Event};
 ghost use Rattle.disk_contract.specs.Crash.{IsHonest};
+ghost use Rattle.layout_geometry.specs.Geometry.{Geometry};
+ghost use Rattle.lang_tree.specs.declared.command.Refusal.TheVariants.{Full};
 ghost use Rattle.lang_log.specs.declared.call.LogCall.{LogCall};
 ghost use Rattle.lang_log.specs.declared.call.LogReply.{LogReply};
+ghost use Rattle.lang_log.specs.declared.call.LogReply.TheVariants.{Refused};
 ghost use Rattle.lang_log.specs.Answers.{LogRun};
 ghost use Rattle.lang_log.specs.History.{History, opened_with};
 ghost use Rattle.lang_log.specs.Log.{Log};
 ghost use Rattle.lang_log.specs.Runs.{Appends, IsRunOf};
 ghost use Rattle.cmd_trace.specs.Trace.{Ascend};
+ghost use Rattle.cmd_log.specs.Causes.{AnswersBy, LacksBlocks, MayAsk, Situation};
 ghost use Rattle.cmd_log.specs.Moments.{StandsForRun, answered_by, appends_by};
 ghost use Rattle.cmd_log.specs.Serving.{LeavesAt, ServesAll};
 
 use lang_log::{a_run_of_calls_leaves_runs, calls_of_a_log_go_on, what_might_be_left_still_may};
+use lang_tree::a_tree_in_memory_refuses_for_no_disk;
 
 /// Calls that were answered one after the other on a disk are a run of the log.
 pub fn calls_on_a_disk_are_a_run()
@@ -45,3 +50,11 @@ pub fn a_kept_append_is_in_each_run()
     ensures { (a : Appends) (l : Log) (number : ℕ) → IsRunOf a l → a.low ≤ number → number < a.kept
         → slice_get l.appends (number - l.low) ≡ slice_get a.appends (number - a.first) }
 {}
+
+/// A call is refused as `full` only where one of its commands needed more blocks than were left.
+pub fn a_call_is_full_only_for_want_of_blocks()
+    ensures { (g : Geometry) (most : ℕ) (call : LogCall) (old new : Situation) (need left : ℕ) → AnswersBy g most call (Refused (Full need left)) old new
+        → LacksBlocks g (MayAsk most old.session.tree call) need left }
+{
+    a_tree_in_memory_refuses_for_no_disk();
+}

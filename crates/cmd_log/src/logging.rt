@@ -28,9 +28,9 @@ use crate::serving::Logged;
 use crate::store_laws::{has_faults, the_disk_keeps_to_its_manner};
 use base_io::{Sink, Source};
 use cmd_image::{
-    Ending, LentDisk, RunRefusal, Stop, a_reply_tells_which_call_failed, close_lent, disk_back,
-    mark_of, mount_lent, of_show, open_lent, room_for_a_mark, run_refusal_of_bay, unopened,
-    what_is_read_stays_mounted,
+    Ending, LentDisk, RunRefusal, Stop, a_reply_tells_which_call_failed,
+    a_session_begins_in_the_room_of_its_tree, close_lent, disk_back, mark_of, mount_lent, of_show,
+    open_lent, room_for_a_mark, run_refusal_of_bay, unopened, what_is_read_stays_mounted,
 };
 use cmd_session::Served;
 use disk_contract::{Bay, Disk, Mark};
@@ -38,6 +38,7 @@ use engine_blocks::Blocks;
 use engine_store::Store;
 use fs_commands::Fs;
 use fs_session::{
+    a_command_is_answered_in_a_room_that_came_back, a_command_raises_the_numbers_little,
     a_crash_leaves_the_tree_of_a_point, a_refusal_for_the_disk_has_its_cause,
     a_reply_tells_the_points, points_stay_known,
 };
@@ -155,6 +156,7 @@ fn log_store<D: Disk + Drop, S: Source, K: Sink>(
     ensures unread { log_opens_nothing result.answer ≡ true → input.new ≡ input.old }
     ensures silent { log_says_nothing result.answer ≡ true → out.new ≡ out.old }
 {
+    a_session_begins_in_the_room_of_its_tree::<Store<D>>();
     what_is_read_stays_mounted::<Store<D>>();
     match Served::open(alloc, store) {
         Ok(served) => log_files(alloc, served.into_files(), marks, input, out),
@@ -190,6 +192,8 @@ fn log_files<D: Disk + Drop, S: Source, K: Sink>(
     ensures unread { log_opens_nothing result.answer ≡ true → input.new ≡ input.old }
     ensures silent { log_says_nothing result.answer ≡ true → out.new ≡ out.old }
 {
+    a_command_is_answered_in_a_room_that_came_back::<Store<D>>();
+    a_command_raises_the_numbers_little::<Store<D>>();
     a_crash_leaves_the_tree_of_a_point::<Store<D>>();
     a_reply_tells_the_points::<Store<D>>();
     a_reply_tells_which_call_failed::<Store<D>>();
@@ -250,6 +254,7 @@ fn log_opened<D: Disk + Drop, S: Source, K: Sink>(
     input: &mut S,
     out: &mut K,
 ) -> Left<D>
+    requires most { running.logged.most ≡ 1048576 }
     ensures comes { (first : State) → SoFar D.tells first [] [] running.marks.items (state_of D.state (blocks_in running.logged.fs))
         → ComesOfLogDisk D.tells first (D.state result.disk) result.marks.items result.answer
         (record { left = S.remaining input.old; source_faults = S.faults input.old; taken = K.taken out.old; sink_faults = K.faults out.old })
@@ -291,6 +296,8 @@ fn serve_all<D: Disk + Drop, S: Source, K: Sink>(
     input: &mut S,
     out: &mut K,
 ) -> Result<Ending, Stop>
+    requires most { running.old.logged.most ≡ 1048576 }
+    ensures most { running.new.logged.most ≡ 1048576 }
     ensures runs { (first : State) → SoFar D.tells first [] [] running.old.marks.items (state_of D.state (blocks_in running.old.logged.fs))
         → RunsTo D.tells first running.new.marks.items (state_of D.state (blocks_in running.new.logged.fs)) (answer_for result)
         (record { left = S.remaining input.old; source_faults = S.faults input.old; taken = K.taken out.old; sink_faults = K.faults out.old })
@@ -319,6 +326,8 @@ fn serve_next<D: Disk + Drop, S: Source, K: Sink>(
     input: &mut S,
     out: &mut K,
 ) -> Result<Option<Ending>, Stop>
+    requires most { running.old.logged.most ≡ 1048576 }
+    ensures most { running.new.logged.most ≡ 1048576 }
     ensures turns { (first : State) (before : Streams) → before.source_faults ≤ S.faults input.old
         → AtCall D.tells first running.old.marks.items (state_of D.state (blocks_in running.old.logged.fs)) reader.old before
         (record { left = S.remaining input.old; source_faults = S.faults input.old; taken = K.taken out.old; sink_faults = K.faults out.old })

@@ -19,7 +19,10 @@ use base_io::{Sink, push_all};
 use cmd_image::{Stop, a_reply_tells_which_call_failed, mark_of};
 use disk_contract::{Disk, Mark};
 use engine_store::Store;
-use fs_session::{a_refusal_for_the_disk_has_its_cause, a_reply_tells_the_points};
+use fs_session::{
+    a_command_is_answered_in_a_room_that_came_back, a_command_raises_the_numbers_little,
+    a_refusal_for_the_disk_has_its_cause, a_reply_tells_the_points,
+};
 use lang_log::{LogCall, LogReply};
 use lang_log_lines::log_reply_text;
 use std::alloc::Global;
@@ -53,6 +56,8 @@ impl<D: Disk + Drop> Running<D> {
         out: &mut K,
         call: &LogCall,
     ) -> Result<(), Stop>
+        requires most { self.old.logged.most ≡ 1048576 }
+        ensures most { self.new.logged.most ≡ 1048576 }
         ensures ok { OnOk result (ServesNext D.tells call.now self.old.marks.items (state_of D.state (blocks_in self.old.logged.fs)) self.new.marks.items
             (state_of D.state (blocks_in self.new.logged.fs)) (K.taken out.old) (K.taken out.new)) }
         ensures err { OnErr result (RestsNow D.tells self.old.marks.items (state_of D.state (blocks_in self.old.logged.fs)) self.new.marks.items
@@ -72,6 +77,8 @@ impl<D: Disk + Drop> Running<D> {
     /// Answers one call, and marks the disk.
     fn answer(&mut self, alloc: Global, call: &LogCall) -> LogReply
         requires room { vec_len self.old.marks < vec_capacity self.old.marks }
+        requires most { self.old.logged.most ≡ 1048576 }
+        ensures most { self.new.logged.most ≡ 1048576 }
         ensures answers { AnswersNext D.tells call.now result self.old.marks.items (state_of D.state (blocks_in self.old.logged.fs)) self.new.marks.items
             (state_of D.state (blocks_in self.new.logged.fs)) }
         ensures marks { length self.new.marks.items ≡ length self.old.marks.items + 1 }
@@ -79,6 +86,8 @@ impl<D: Disk + Drop> Running<D> {
         a_reply_tells_the_points::<Store<D>>();
         a_reply_tells_which_call_failed::<Store<D>>();
         a_refusal_for_the_disk_has_its_cause::<Store<D>>();
+        a_command_is_answered_in_a_room_that_came_back::<Store<D>>();
+        a_command_raises_the_numbers_little::<Store<D>>();
         let reply = self.logged.answer(alloc, call);
         the_disk_keeps_to_its_manner(self.logged.blocks());
         let mark = mark_of(self.logged.blocks().disk());

@@ -39,8 +39,9 @@ impl<S: Blocks + Drop> Logged<S> {
     ghost use Rattle.lang_tree.specs.Tree.{Tree};
     ghost use Rattle.fs_commands.specs.Opened.{MayFollow, blocks_in};
     ghost use Rattle.fs_log.specs.declared.refusal.OpenRefusal.TheVariants.{BadLog};
-    ghost use Rattle.fs_log.specs.Open.{low_in, state_in};
-    ghost use Rattle.fs_log.specs.Opening.{HasRange, IsNotOpened, KeepsTree, MakesNoPoint, StandsIn};
+    ghost use Rattle.fs_log.specs.Open.{Mirrors, low_in, state_in};
+    ghost use Rattle.fs_log.specs.Opening.{AsksToOpen, HasRange, IsNotOpened, KeepsTree, MakesNoPoint, StandsIn};
+    ghost use Rattle.fs_log.specs.Ways.{Way};
     ghost use Rattle.cmd_session.specs.Serving.{HasServed, IsDrawn};
     ghost use Rattle.cmd_log.specs.Answering.{IsAnswered};
     ghost use Rattle.cmd_log.specs.Serving.{HasLogged};
@@ -61,6 +62,7 @@ impl<S: Blocks + Drop> Logged<S> {
         ensures range { IsTrue S.tells → IfOk result (λ logged. (t : Tree) → StandsIn (S.state (blocks_in fs)) t → HasRange t (low_in logged) logged.next) }
         ensures most { IfOk result (λ logged. logged.most ≡ most) }
         ensures time { IsTrue S.tells → IfOk result (λ logged. MakesNoPoint (S.state (blocks_in fs)) (state_in S.state logged)) }
+        ensures asked { IsTrue S.tells → IfOk result (λ logged. Way S.tells S.state AsksToOpen (blocks_in fs) (blocks_in logged.fs)) }
         ensures bad { IsTrue S.tells → IfErr result (λ e. e.1 ≡ BadLog → (t : Tree) → StandsIn (S.state (blocks_in fs)) t → HasNoLog t) }
         ensures back { IfErr result (λ e. MayFollow S.tells S.state e.0) }
         ensures same { IsTrue S.tells → IfErr result (λ e. KeepsTree (S.state (blocks_in fs)) (S.state (blocks_in e.0))) }
@@ -84,9 +86,12 @@ impl<S: Blocks + Drop> Logged<S> {
             → HasLogged g begun opened (calls ++ call.now ∷ []) (replies ++ result ∷ []) (marks ++ length (state_in S.state self.new).crash.log ∷ [])
             (state_in S.state self.new) }
         ensures answered { IsAnswered S.tells S.state call.now result self.old self.new }
+        ensures mirrors { IsTrue S.tells → Mirrors (state_in S.state self.old) self.old.firsts self.old.size self.old.next }
     {
         a_resting_log_is_as_it_was::<S>();
         each_crash_leaves_a_former_log::<S>();
+        // a call for its clause alone: the numbers in memory are those of the log
+        let _ = self.log.range();
         let reply = self.reply(alloc, call);
         reply
     }

@@ -1,6 +1,6 @@
 -- What a stretch makes of a copying: of the log of the disk that is written, and of its blocks; and how stretches join.
 use Rattle.std.proofs.Common.{◌≡◌, ◌≢◌, inl, inr, ⊎_elim, ℕ, ◌+◌, ◌-◌, ◌<◌, ◌≤◌, Bool, true, false, ◌==◌, if◌then◌else◌, IsTrue, List, [], ◌∷◌, ◌++◌, length, slice_index_or, slice_set, OnOk, Some, Result, Ok, Err, refl, sym, ◌∙◌, ap, subst, arith, append-nil, append_assoc}
-use Rattle.std.proofs.lemmas.Bool.{cases_eq, cases_lt, eq-eqb, eqb-true, eqb-false, or_cases, or_left, or_right, false≢true}
+use Rattle.std.proofs.lemmas.Bool.{cases_eq, cases_lt, eqb-true, eqb-false, or_cases, or_left, or_right, false≢true}
 use Rattle.std.proofs.lemmas.List.{get_or-set_other, get_or-set_same}
 use Rattle.base_types.specs.Counts.{after_call}
 use Rattle.base_types.specs.Seal.{Blocks}
@@ -8,6 +8,7 @@ use Rattle.disk_contract.specs.declared.event.Event.{Event}
 use Rattle.disk_contract.specs.declared.event.Event.TheVariants.{Wrote, Lost, Noticed}
 use Rattle.disk_contract.specs.Cell.{Cell, Write, accepted, cell_of, from_ticket, is_lost, IsAccepted, IsNoticed, notices, settle, with_write}
 use Rattle.disk_contract.specs.Disk.{AddsNotices, AddsWrite, HasFailed, OnlyReads, OnlyWaits, OnlyWrites, Reads, Spends, State}
+use Rattle.disk_contract.specs.Logs.{IsAccepted-last as accepted_last, IsAccepted-more as accepted_still}
 use Rattle.cmd_mirror.proofs.Readings.{untouched}
 use Rattle.cmd_mirror.specs.declared.copying.CopyFault.{CopyFault}
 use Rattle.cmd_mirror.specs.declared.copying.CopyFault.TheVariants.{Write as Written}
@@ -35,20 +36,6 @@ copies_wrote at b x (Err e) old new is adds before =
 -- and what a wait brings
 copies_noticed : (at : Blocks) (old new : List Event) → AddsNotices old new → AreCopiesOf at old → AreCopiesOf at new
 copies_noticed at old new adds before = subst (AreCopiesOf at) (sym adds.log) (copies_then at old (notices adds.tickets) before (notices_copy at adds.tickets))
-
--- a write that was accepted last
-accepted_last : (t b : ℕ) (x : List ℕ) (log : List Event) → IsAccepted t (log ++ Wrote t b x ∷ [])
-accepted_last t b x [] = or_left _ _ (eq-eqb t t refl)
-accepted_last t b x (Wrote u c y ∷ es) = or_right _ _ (accepted_last t b x es)
-accepted_last t b x (Lost c y ∷ es) = accepted_last t b x es
-accepted_last t b x (Noticed u ∷ es) = accepted_last t b x es
-
--- and what was accepted stays so
-accepted_still : (t : ℕ) (xs ys : List Event) → IsAccepted t xs → IsAccepted t (xs ++ ys)
-accepted_still t [] ys is = absurd (false≢true is)
-accepted_still t (Wrote u b x ∷ xs) ys is = ⊎_elim (λ here. or_left _ _ here) (λ later. or_right _ _ (accepted_still t xs ys later)) (or_cases _ _ is)
-accepted_still t (Lost b x ∷ xs) ys is = accepted_still t xs ys is
-accepted_still t (Noticed u ∷ xs) ys is = accepted_still t xs ys is
 
 -- a read of a disk with no event gives what was there when it began
 read_is : (s : State) (b : ℕ) (x : List ℕ) → s.log ≡ [] → Reads s b x → x ≡ s.base b

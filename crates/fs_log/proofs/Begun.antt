@@ -60,9 +60,9 @@ made_there f next path is = by (refusal f.limit f.tree (Mkdir path)) refl
     by : (o : Option Refusal) → refusal f.limit f.tree (Mkdir path) ≡ o → (n : ℕ) × (get next.tree.names path ≡ Some n)
     by (Some why) e = absurd (refused_not why (sym (ap (λ o. (answered f (Mkdir path) o).1) e) ∙ ap (λ x. x.1) is))
     by None e =
-        let u = some_unused (parent_refusal f.tree path) (when (is_there f.tree path) Exists) (least_unused f.limit f.tree.nodes) e in
-        let tree : next.tree ≡ with_node f.tree path Dir (least_unused f.limit f.tree.nodes) = sym (ap (λ x. x.0.tree) is) ∙ ap (λ o. (answered f (Mkdir path) o).0.tree) e in
-        (u.0, ap (λ (t : Tree). get t.names path) tree ∙ with_path f.tree path (least_unused f.limit f.tree.nodes) u.0 u.1)
+        let u = some_unused (parent_refusal f.tree path) (when (is_there f.tree path) Exists) (least_unused f.limit f.tree) e in
+        let tree : next.tree ≡ with_node f.tree path Dir (least_unused f.limit f.tree) = sym (ap (λ x. x.0.tree) is) ∙ ap (λ o. (answered f (Mkdir path) o).0.tree) e in
+        (u.0, ap (λ (t : Tree). get t.names path) tree ∙ with_path f.tree path (least_unused f.limit f.tree) u.0 u.1)
 
 -- where it isn't, all is as it was
 not_done_same : (f next : Session) (path : List (List ℕ)) (reply : Reply) → step f (Mkdir path) ≡ (next, reply) → reply ≢ Done → next ≡ f

@@ -12,8 +12,9 @@ use Rattle.engine_blocks.specs.State.{State}
 use Rattle.fs_log.specs.declared.refusal.LogRefusal.{LogRefusal}
 use Rattle.fs_log.specs.declared.refusal.LogRefusal.TheVariants.{BadLog, TooLong, LogEnd, NoRecord, Fs as FsRefused}
 use Rattle.fs_log.specs.Asked.{Changed, IsAnswered, IsLate, TriedFirst}
-use Rattle.fs_log.specs.Causes.{HasCallCause, WasAnswered}
+use Rattle.fs_log.specs.Causes.{HasAsked, HasCallCause, WasAnswered}
 use Rattle.fs_log.specs.Refusals.{is_of_none, refusal_for}
+use Rattle.fs_log.proofs.Ways.{asks_later, asks_one, asks_so, ends_later, ends_so, ends_with}
 
 -- a reason of a failed call gives another one
 pub if_err_not : {T E : Type 0} (r : Result T E) (P Q : E → Type 0) (N : Type 0) → IfErr r P → OnErr r N → ((why : E) → P why → N → Q why) → IfErr r Q
@@ -31,18 +32,22 @@ no_own more why own = absurd (false≢true own)
 
 -- one of these commands is one of those
 pub was_so : {S : Type 0} (tells : Bool) (state : S → State) (cmds others : Cmd → Type 0) (reply : Reply) (old new : S) → ((c : Cmd) → cmds c → others c) → WasAnswered tells state cmds reply old new → WasAnswered tells state others reply old new
-was_so tells state cmds others reply old new widens w = record { cmd = w.cmd; is = widens w.cmd w.is; before = w.before; answered = w.answered; begins = w.begins; session = w.session }
+was_so tells state cmds others reply old new widens w = record { cmd = w.cmd; is = widens w.cmd w.is; before = w.before; answered = w.answered; begins = w.begins; session = w.session; way = λ told. ends_so tells state cmds others reply old new widens (w.way told) }
+
+-- all that was asked, with the last command
+pub asked_with : {S : Type 0} (tells : Bool) (state : S → State) (cmds : Cmd → Type 0) (reply : Reply) (old new : S) → WasAnswered tells state cmds reply old new → HasAsked tells state cmds old new
+asked_with tells state cmds reply old new w told = (w.way told).way
 
 module _ {S : Type 0} (tells : Bool) (state : S → State)
     (both : (old mid new : S) → Advances (state old) (state mid) → Advances (state mid) (state new) → Advances (state old) (state new))
     (now : IsTrue tells → (s : S) → Advances (state s) (state s)) where
   -- the one command that was asked
   pub was_asked : (cmds : Cmd → Type 0) (cmd : Cmd) (reply : Reply) (old new : S) → cmds cmd → IsAnswered tells state cmd reply old new → WasAnswered tells state cmds reply old new
-  was_asked cmds cmd reply old new is x = record { cmd = cmd; is = is; before = old; answered = x.applies; begins = λ told. now told old; session = x.session }
+  was_asked cmds cmd reply old new is x = record { cmd = cmd; is = is; before = old; answered = x.applies; begins = λ told. now told old; session = x.session; way = λ told. ends_with tells state cmds cmd reply old new is x.applies }
 
   -- the last one, where time went on before
-  pub was_later : (cmds : Cmd → Type 0) (reply : Reply) (old mid new : S) → (IsTrue tells → Advances (state old) (state mid)) → WasAnswered tells state cmds reply mid new → WasAnswered tells state cmds reply old new
-  was_later cmds reply old mid new time w = record { cmd = w.cmd; is = w.is; before = w.before; answered = w.answered; begins = λ told. both old mid w.before (time told) (w.begins told); session = w.session }
+  pub was_later : (cmds : Cmd → Type 0) (reply : Reply) (old mid new : S) → (IsTrue tells → Advances (state old) (state mid)) → HasAsked tells state cmds old mid → WasAnswered tells state cmds reply mid new → WasAnswered tells state cmds reply old new
+  was_later cmds reply old mid new time asked w = record { cmd = w.cmd; is = w.is; before = w.before; answered = w.answered; begins = λ told. both old mid w.before (time told) (w.begins told); session = w.session; way = λ told. ends_later tells state cmds reply old mid new (asked told) (w.way told) }
 
   -- time goes on over a command
   pub time_of : (cmd : Cmd) (reply : Reply) (old new : S) → IsAnswered tells state cmd reply old new → IsTrue tells → Advances (state old) (state new)
@@ -51,12 +56,19 @@ module _ {S : Type 0} (tells : Bool) (state : S → State)
   tried_time : (cmd : Cmd) (other : Reply) (old end : S) → TriedFirst tells state cmd other old end → IsTrue tells → Advances (state old) (state end)
   tried_time cmd other old end t told = both old t.mid end (time_of cmd t.first old t.mid t.tried told) (time_of Osync other t.mid end t.ordered told)
 
+  -- what was tried first
+  abbrev Tries : Cmd → Cmd → Type 0
+  Tries cmd c = (c ≡ cmd) ⊎ (c ≡ Osync)
+
+  tried_asked : (cmd : Cmd) (other : Reply) (old end : S) → TriedFirst tells state cmd other old end → HasAsked tells state (Tries cmd) old end
+  tried_asked cmd other old end t told = asks_later tells state (Tries cmd) old t.mid end (asks_one tells state (Tries cmd) cmd t.first old t.mid (inl (inl refl)) t.tried.applies) (asks_one tells state (Tries cmd) Osync other t.mid end (inl (inr refl)) t.ordered.applies)
+
   pub changed_was : (cmd : Cmd) (reply : Reply) (old new : S) → Changed tells state cmd reply old new → WasAnswered tells state (λ c. (c ≡ cmd) ⊎ (c ≡ Osync)) reply old new
-  changed_was cmd reply old new (inl (fit, x)) = was_asked (λ c. (c ≡ cmd) ⊎ (c ≡ Osync)) cmd reply old new (inl refl) x
+  changed_was cmd reply old new (inl (fit, x)) = was_asked (Tries cmd) cmd reply old new (inl refl) x
   changed_was cmd reply old new (inr (inl (other, end, made, t, x))) =
-      was_later (λ c. (c ≡ cmd) ⊎ (c ≡ Osync)) reply old end new (tried_time cmd other old end t) (was_asked (λ c. (c ≡ cmd) ⊎ (c ≡ Osync)) cmd reply end new (inl refl) x)
+      was_later (Tries cmd) reply old end new (tried_time cmd other old end t) (tried_asked cmd other old end t) (was_asked (Tries cmd) cmd reply end new (inl refl) x)
   changed_was cmd reply old new (inr (inr (none, t))) =
-      was_later (λ c. (c ≡ cmd) ⊎ (c ≡ Osync)) reply old t.mid new (time_of cmd t.first old t.mid t.tried) (was_asked (λ c. (c ≡ cmd) ⊎ (c ≡ Osync)) Osync reply t.mid new (inr refl) t.ordered)
+      was_later (Tries cmd) reply old t.mid new (time_of cmd t.first old t.mid t.tried) (λ told. asks_one tells state (Tries cmd) cmd t.first old t.mid (inl (inl refl)) t.tried.applies) (was_asked (Tries cmd) Osync reply t.mid new (inr refl) t.ordered)
 
   pub changed_time : (cmd : Cmd) (reply : Reply) (old new : S) → Changed tells state cmd reply old new → IsTrue tells → Advances (state old) (state new)
   changed_time cmd reply old new (inl (fit, x)) told = time_of cmd reply old new x told
@@ -65,18 +77,21 @@ module _ {S : Type 0} (tells : Bool) (state : S → State)
 
   -- a cause over a part of the call is one of the whole
   pub cause_later : (own more : LogRefusal → Bool) (cmds others : Cmd → Type 0) (why : LogRefusal) (old mid new : S) → ((w : LogRefusal) → IsTrue (own w) → IsTrue (more w)) → ((c : Cmd) → cmds c → others c)
-      → (IsTrue tells → Advances (state old) (state mid)) → HasCallCause tells state own cmds why mid new → HasCallCause tells state more others why old new
-  cause_later own more cmds others why old mid new wider widens time cause = by why cause
+      → (IsTrue tells → Advances (state old) (state mid)) → HasAsked tells state others old mid → HasCallCause tells state own cmds why mid new → HasCallCause tells state more others why old new
+  cause_later own more cmds others why old mid new wider widens time asked cause = by why cause
     where
       was : (reply : Reply) → WasAnswered tells state cmds reply mid new → WasAnswered tells state others reply old new
-      was reply w = was_so tells state cmds others reply old new widens (was_later cmds reply old mid new time w)
+      was reply w = was_later others reply old mid new time asked (was_so tells state cmds others reply mid new widens w)
+
+      all : HasAsked tells state cmds mid new → HasAsked tells state others old new
+      all later told = asks_later tells state others old mid new (asked told) (asks_so tells state cmds others mid new widens (later told))
 
       by : (why : LogRefusal) → HasCallCause tells state own cmds why mid new → HasCallCause tells state more others why old new
-      by (FsRefused r) c = record { cause = ⊎_elim (λ none. inl none) (λ w. inr (was (Refused r) w)) c.cause; late = c.late; fits = c.fits }
+      by (FsRefused r) c = record { cause = ⊎_elim (λ none. inl (none.0, all none.1)) (λ w. inr (was (Refused r) w)) c.cause; late = c.late; fits = c.fits }
       by BadLog c = (c.0, (c.1.0, c.1.1, was c.1.0 c.1.2))
-      by TooLong c = wider TooLong c
-      by LogEnd c = wider LogEnd c
-      by (NoRecord low next) c = wider (NoRecord low next) c
+      by TooLong c = (wider TooLong c.0, all c.1)
+      by LogEnd c = (wider LogEnd c.0, all c.1)
+      by (NoRecord low next) c = (wider (NoRecord low next) c.0, all c.1)
 
 module _ {S : Type 0} (tells : Bool) (state : S → State) (own : LogRefusal → Bool) (cmds : Cmd → Type 0) (old new : S) where
   -- of a command that wasn't answered as it was asked for
@@ -92,5 +107,5 @@ module _ {S : Type 0} (tells : Bool) (state : S → State) (own : LogRefusal →
   caused Bad was late = (late, (Bad, refl, was))
 
   -- of the log's own want of memory
-  pub lacking : HasCallCause tells state own cmds (FsRefused NoMemory) old new
-  lacking = record { cause = inl refl; late = λ told. omega arith; fits = λ told. refl }
+  pub lacking : HasAsked tells state cmds old new → HasCallCause tells state own cmds (FsRefused NoMemory) old new
+  lacking asked = record { cause = inl (refl, asked); late = λ told. (omega arith, omega arith); fits = λ told. refl }

@@ -1,3 +1,4 @@
+pub mod Ways
 pub mod Going
 pub mod Holding
 pub mod Syncing

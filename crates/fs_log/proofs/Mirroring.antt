@@ -1,6 +1,6 @@
 -- What is kept in memory of a log, as its blocks change.
 use Rattle.std.proofs.Common.{◌≡◌, ℕ, List, [], ◌∷◌, length, map, Result, Ok, Err, sym, ap, ap₂, ◌∙◌, arith}
-use Rattle.std.specs.Prelude.{OnErr}
+use Rattle.std.specs.Prelude.{OnErr, OnOk}
 use Rattle.lang_tree.specs.Tree.{Tree}
 use Rattle.lang_log.specs.Segments.{Segment}
 use Rattle.lang_log.specs.Log.{Log, IsLogOf, IsMadeOf, next_of}
@@ -21,7 +21,12 @@ mirrors_over old new firsts size next over m = record {
   next_is = m.next_is;
 }
 
--- what is so holds where a call failed
+-- what is so holds where a call was done
+pub on_ok : {T E : Type 0} (r : Result T E) (P : Type 0) → P → OnOk r P
+on_ok (Ok x) P p = p
+on_ok (Err why) P p = tt
+
+-- and where it failed
 pub on_err : {T E : Type 0} (r : Result T E) (P : Type 0) → P → OnErr r P
 on_err (Ok x) P p = tt
 on_err (Err why) P p = p

@@ -1,7 +1,7 @@
 -- Why opening a log is refused: a question needs no room; and the making of `/log` fits what is weighed where that is nothing.
 use Rattle.std.proofs.Common.{◌≡◌, ◌≢◌, ◌⊎◌, inl, inr, ⊎_elim, ℕ, ◌+◌, ◌≤◌, nat_lt, Bool, true, false, IsTrue, List, [], Option, None, Some, Ok, refl, sym, ◌∙◌, ap, subst, arith}
 use Rattle.std.specs.FinMap.{get}
-use Rattle.std.proofs.lemmas.Bool.{false≢true, leb-true, true≢false}
+use Rattle.std.proofs.lemmas.Bool.{false≢true, true≢false}
 use Rattle.layout_geometry.specs.Geometry.{Geometry, IsGeometry, bitmap_blocks}
 use Rattle.lang_tree.specs.declared.command.Cmd.{Cmd}
 use Rattle.lang_tree.specs.declared.command.Cmd.TheVariants.{List as ListNames, Mkdir, Read, Stat}
@@ -11,7 +11,6 @@ use Rattle.lang_tree.specs.declared.command.Reply.{Reply}
 use Rattle.lang_tree.specs.declared.command.Reply.TheVariants as replies
 use Rattle.lang_tree.specs.Conditions.{refusal}
 use Rattle.lang_tree.specs.Figures.{accepted_figures, figures_by}
-use Rattle.lang_tree.specs.Refusals.{refusal_number}
 use Rattle.lang_tree.specs.Run.{Answers, is_of_disk, is_of_memory}
 use Rattle.lang_tree.specs.Step.{Session, step}
 use Rattle.lang_tree.specs.Tree.{IsSound, Tree}
@@ -30,12 +29,14 @@ use Rattle.fs_session.specs.Space.{FailsToFit}
 use Rattle.fs_log.specs.declared.refusal.OpenRefusal.{OpenRefusal}
 use Rattle.fs_log.specs.declared.refusal.OpenRefusal.TheVariants.{BadLog, Fs as FsRefused}
 use Rattle.fs_log.specs.Asked.{is_past_room}
-use Rattle.fs_log.specs.Causes.{WasAnswered, is_too_big}
-use Rattle.fs_log.specs.Finding.{IsQuestion, refusal_by, wants_blocks}
-use Rattle.fs_log.specs.Opening.{AsksToOpen, IsNotOpened, KeepsTree, StandsIn, is_of_room}
+use Rattle.fs_log.specs.Causes.{HasAsked, IsOfLog, WasAnswered, is_too_big}
+use Rattle.fs_log.specs.Finding.{AsksOnly, refusal_by, wants_blocks}
+use Rattle.fs_log.specs.Opening.{AsksToOpen, IsNotOpened, StandsIn, is_of_room}
+use Rattle.fs_log.specs.Ways.{IsQuestion}
 use Rattle.fs_log.proofs.Causes.{was_later, was_so}
-use Rattle.fs_log.proofs.Rooms.{AnswersTree, RoomLaw, fits_by_itself, fits_now, mkdir_answers, mkdir_is_cheap, list_answers, list_is_free, read_answers, read_is_free, stat_answers, stat_is_free}
+use Rattle.fs_log.proofs.Rooms.{AnswersTree, RoomLaw, fits_by_itself, fits_now, from_ten, mkdir_answers, mkdir_is_cheap, list_answers, list_is_free, read_answers, read_is_free, stat_answers, stat_is_free, to_seventeen}
 use Rattle.fs_log.proofs.Telling.{IsOfDisk}
+use Rattle.fs_log.proofs.Ways.{asks_later, asks_only}
 
 -- What is known of refusals of a tree in memory.
 abbrev AloneLaw : Type 0
@@ -165,7 +166,7 @@ module _ {S : Type 0} (tells : Bool) (state : S → State) where
       record {
         cause = record {
           cause = inr (was_so tells state (λ c. c ≡ cmd) AsksToOpen (replies.Refused why) old new (λ c is. subst AsksToOpen (sym is) asks) was);
-          late = λ told. omega (arith, leb-true 10 (refusal_number why) (outside told));
+          late = λ told. (omega (arith, from_ten why (outside told)), to_seventeen why (outside told));
           fits = λ told. fits_by why (calm told).1;
         };
         room = λ told wants. absurd (no_room why (outside told) (calm told).1 wants);
@@ -180,37 +181,44 @@ module _ {S : Type 0} (tells : Bool) (state : S → State) where
   question_cause cmd replies.Bad old new was asks calm = tt
 
   -- of want of memory
-  pub open_lacking : (old new : S) → IsNotOpened tells state (FsRefused because.NoMemory) old new
-  open_lacking old new = record {
-    cause = record { cause = inl refl; late = λ told. omega arith; fits = λ told. refl };
+  pub open_lacking : (old new : S) → HasAsked tells state (λ c. ⊥) old new → IsNotOpened tells state (FsRefused because.NoMemory) old new
+  open_lacking old new asked = record {
+    cause = record { cause = inl (refl, λ told. asks_only tells state AsksToOpen old new (asked told)); late = λ told. (omega arith, omega arith); fits = λ told. refl };
     room = λ told wants. absurd (true≢false (sym wants));
   }
 
   module _ (both : (old mid new : S) → Advances (state old) (state mid) → Advances (state mid) (state new) → Advances (state old) (state new))
       (now : IsTrue tells → (s : S) → Advances (state s) (state s)) where
     -- behind questions
-    pub open_later : (why : OpenRefusal) (old mid new : S) → (IsTrue tells → KeepsTree (state old) (state mid)) → IsNotOpened tells state why mid new → IsNotOpened tells state why old new
-    open_later BadLog old mid new keeps cause = tt
-    open_later (FsRefused why) old mid new keeps c = record {
+    pub open_later : (why : OpenRefusal) (old mid new : S) → (IsTrue tells → AsksOnly tells state old mid) → IsNotOpened tells state why mid new → IsNotOpened tells state why old new
+    open_later BadLog old mid new asks cause = tt
+    open_later (FsRefused why) old mid new asks c = record {
       cause = record {
-        cause = ⊎_elim (λ none. inl none) (λ w. inr (was_later tells state both now AsksToOpen (replies.Refused why) old mid new (λ told. (keeps told).time.advances) w)) c.cause.cause;
+        cause = ⊎_elim (λ none. inl (none.0, λ told. asks_later tells state AsksToOpen old mid new (before AsksToOpen told) (none.1 told)))
+            (λ w. inr (was_later tells state both now AsksToOpen (replies.Refused why) old mid new time (before AsksToOpen) w)) c.cause.cause;
         late = c.cause.late;
         fits = c.cause.fits;
       };
       room = λ told wants.
           let m = c.room told wants in record {
-            asked = was_later tells state both now (λ cmd. cmd ≡ Mkdir log_path) (replies.Refused why) old mid new (λ told. (keeps told).time.advances) m.asked;
+            asked = was_later tells state both now (λ cmd. cmd ≡ Mkdir log_path) (replies.Refused why) old mid new time (before (λ cmd. cmd ≡ Mkdir log_path)) m.asked;
             free = λ t stands.
                 let s = session_for (state old) t stands in
-                m.free t (subst (StandsIn (state mid)) s.1 ((keeps told).session s.0 s.2).tree);
+                m.free t (subst (StandsIn (state mid)) s.1 ((asks told).keeps.session s.0 s.2).tree);
           };
     }
+      where
+        time : IsTrue tells → Advances (state old) (state mid)
+        time told = (asks told).keeps.time.advances
+
+        before : (cmds : Cmd → Type 0) → HasAsked tells state cmds old mid
+        before cmds told = asks_only tells state cmds old mid (asks told).way
 
 -- The making of `/log`.
 module _ {S : Type 0} (tells : Bool) (state : S → State) (path : List (List ℕ)) (reply : Reply) (old new : S) (is_log : path ≡ log_path) (was : WasAnswered tells state (λ c. c ≡ Mkdir path) reply old new) where
   -- the tree refuses it so, or the disk, and it fits
   abbrev IsMkdirRefusal : Refusal → Type 0
-  IsMkdirRefusal why = (9 ≤ refusal_number why) × (is_too_big why ≡ false)
+  IsMkdirRefusal why = IsOfLog why × (is_too_big why ≡ false)
 
   pub mkdir_cause : (why : Refusal) → reply ≡ replies.Refused why → (IsTrue tells → IsMkdirRefusal why) → (IsTrue tells → (t : Tree) → StandsIn (state old) t → get t.names log_path ≡ None)
       → IsNotOpened tells state (FsRefused why) old new
@@ -253,15 +261,15 @@ done_not_refused why e = cc
 pub mkdir_refusal : ((limit : ℕ) (t : Tree) → IsSound limit t → get t.names log_path ≡ None → HasSegments t [])
     → ((old new : Session) (reply : Reply) → get old.tree.names log_path ≡ None → IsAsked [] old (Mkdir log_path) new reply → LacksNode old new reply ⊎ Leaves [] new reply)
     → (f next : Session) (path : List (List ℕ)) (reply : Reply) → path ≡ log_path → IsSound f.limit f.tree → get f.tree.names log_path ≡ None → Answers is_of_disk f (Mkdir path) reply next → is_past_room reply ≡ false
-    → (why : Refusal) → reply ≡ replies.Refused why → (9 ≤ refusal_number why) × (is_too_big why ≡ false)
+    → (why : Refusal) → reply ≡ replies.Refused why → IsOfLog why × (is_too_big why ≡ false)
 mkdir_refusal before makes f next path reply is_log sound free answers fits why is = (late answers, sym (ap is_past_room is) ∙ fits)
   where
-    late : Answers is_of_disk f (Mkdir path) reply next → 9 ≤ refusal_number why
+    late : Answers is_of_disk f (Mkdir path) reply next → IsOfLog why
     late (inl steps) = ⊎_elim
-        (λ lacks. subst (λ (w : Refusal). 9 ≤ refusal_number w) (same_refusal because.NoNode why (sym lacks.refused ∙ is)) (omega arith))
+        (λ lacks. subst IsOfLog (same_refusal because.NoNode why (sym lacks.refused ∙ is)) (omega arith, omega arith))
         (λ leaves. absurd (done_not_refused why (sym leaves.done ∙ is)))
         (makes f next reply free (record { sound = sound; had = before f.limit f.tree sound free; answered = subst (λ (p : List (List ℕ)). step f (Mkdir p) ≡ (next, reply)) is_log steps }))
-    late (inr (inl refused)) = subst (λ (w : Refusal). 9 ≤ refusal_number w) (same_refusal refused.0 why (sym refused.2 ∙ is)) (omega (arith, leb-true 10 (refusal_number refused.0) refused.1))
+    late (inr (inl refused)) = subst IsOfLog (same_refusal refused.0 why (sym refused.2 ∙ is)) (omega (arith, from_ten refused.0 refused.1), to_seventeen refused.0 refused.1)
     late (inr (inr known)) = absurd (known_not_refused known.1.point why (sym known.1.is ∙ is))
 
 -- Where nothing is weighed, it fits.

@@ -20,9 +20,11 @@ use Rattle.fs_session.specs.Applying.{Applies, PassesTime, is_spent}
 use Rattle.fs_session.specs.Points.{KnowsPoints, LeavesTree}
 use Rattle.fs_session.specs.Sessions.{IsSession, Stands}
 use Rattle.fs_log.specs.Asked.{AskedOf}
-use Rattle.fs_log.specs.Finding.{AnswersQuestion, AsksOnly, IsQuestion}
+use Rattle.fs_log.specs.Finding.{AnswersQuestion, AsksOnly}
 use Rattle.fs_log.specs.Opening.{KeepsTree, MakesNoPoint}
+use Rattle.fs_log.specs.Ways.{IsQuestion}
 use Rattle.fs_log.proofs.Holding.{session_of}
+use Rattle.fs_log.proofs.Ways.{asks_later, asks_nothing, asks_one}
 use Rattle.fs_log.proofs.Windows.{reads_only}
 use Rattle.fs_log.proofs.Writing.{looked, resting, rests_twice}
 
@@ -111,7 +113,7 @@ module _ {S : Type 0} (tells : Bool) (state : S → State) (cmd : Cmd) (reply : 
 
     pub question_asks : Applies tells state cmd reply old new → PassesTime (state old) (state new)
         → (cmd ≢ Bad → (state old).books.stopped ≡ false → is_spent (state old).books ≡ false → Ticked tells (state old) (state new))
-        → (state new).books.running.weight ≡ (state old).books.running.weight → AsksOnly (state old) (state new)
+        → (state new).books.running.weight ≡ (state old).books.running.weight → AsksOnly tells state old new
     question_asks applies time ticked weighs = record {
       rests = looked tells state cmd reply old new stands asked (question_leaves cmd question);
       keeps = record {
@@ -119,6 +121,7 @@ module _ {S : Type 0} (tells : Bool) (state : S → State) (cmd : Cmd) (reply : 
         time = keeps_tree (not_bad cmd question) (no_sync cmd question) stands applies time ticked asked;
       };
       weight = weighs;
+      way = asks_one tells state (λ c. ⊥) cmd reply old new (inr question) applies;
     }
 
 -- In a row.
@@ -138,18 +141,19 @@ module _ {S : Type 0} (state : S → State) where
       time = no_point_twice old mid new a.time b.time;
     }
 
-    pub asks_twice : (old mid new : S) → AsksOnly (state old) (state mid) → AsksOnly (state mid) (state new) → AsksOnly (state old) (state new)
-    asks_twice old mid new a b = record {
+    pub asks_twice : (tells : Bool) (old mid new : S) → AsksOnly tells state old mid → AsksOnly tells state mid new → AsksOnly tells state old new
+    asks_twice tells old mid new a b = record {
       rests = rests_twice state both old mid new a.rests b.rests;
       keeps = keeps_twice old mid new a.keeps b.keeps;
       weight = b.weight ∙ a.weight;
+      way = asks_later tells state (λ c. ⊥) old mid new a.way b.way;
     }
 
   -- where nothing is asked
-  pub asks_none : (s : S)
+  pub asks_none : (tells : Bool) (s : S)
       → ((old new : S) → (state new).books.point ≡ (state old).books.point → (state new).books.floor ≡ (state old).books.floor → IssuesNothing (state old) (state new) → Advances (state old) (state new))
       → ((s : S) (trees : ℕ → Tree) (img : Blocks) → KnowsPoints (state s) trees → (state s).crash.left_since (length (state s).crash.log) img → ∥ LeavesTree (state s) trees (state s).books.floor (state s).books.point img ∥₁)
-      → AsksOnly (state s) (state s)
-  asks_none s rests now =
+      → AsksOnly tells state s s
+  asks_none tells s rests now =
       let still = resting state s rests now in
-      record { rests = still; keeps = record { session = λ f session. session; time = record { advances = still.time; geom = refl; manner = refl; point = refl } }; weight = refl }
+      record { rests = still; keeps = record { session = λ f session. session; time = record { advances = still.time; geom = refl; manner = refl; point = refl } }; weight = refl; way = asks_nothing tells state (λ c. ⊥) s }

@@ -1,6 +1,6 @@
 -- What fits one record of the journal: each command that changes a log, behind a sync point.
-use Rattle.std.proofs.Common.{◌≡◌, ◌⊎◌, inl, inr, ⊎_elim, ℕ, ◌+◌, ◌-◌, ◌*◌, ◌/◌, ◌≤◌, min, ◌==◌, Bool, true, false, if◌then◌else◌, List, length, Option, None, Some, refl, sym, ◌∙◌, ap, subst, arith}
-use Rattle.std.proofs.lemmas.Bool.{cases_Bool, false≢true, leb-true, true≢false}
+use Rattle.std.proofs.Common.{◌≡◌, ◌⊎◌, inl, inr, ⊎_elim, ℕ, ◌+◌, ◌-◌, ◌*◌, ◌/◌, ◌≤◌, nat_le, min, ◌==◌, Bool, true, false, if◌then◌else◌, List, length, Option, None, Some, refl, sym, ◌∙◌, ap, subst, arith}
+use Rattle.std.proofs.lemmas.Bool.{and_parts, cases_Bool, false≢true, leb-true, true≢false}
 use Rattle.layout_geometry.specs.Geometry.{Geometry, IsGeometry, bitmap_blocks}
 use Rattle.lang_tree.specs.declared.command.Cmd.{Cmd}
 use Rattle.lang_tree.specs.declared.command.Cmd.TheVariants.{Create, Dsync, List as ListPath, Mkdir, Osync, Read, Stat as StatPath, Unlink, Write}
@@ -31,9 +31,17 @@ abbrev pub RoomLaw : {S : Type 0} → Bool → (S → State) → Type 0
 RoomLaw {S} tells state = (old new : S) (f : Session) (cmd : Cmd) (reply : Reply) → IsSession (state old) f → Applies tells state cmd reply old new
     → (next : Session) × IsSession (state new) next × ((state new).books.geom ≡ (state old).books.geom) × AnswersOn (state old).books.geom f (room_of (state old)) cmd reply next (room_of (state new))
 
+-- a refusal of the disk has a number from 10 on
+pub from_ten : (why : Refusal) → is_of_disk why ≡ true → 10 ≤ refusal_number why
+from_ten why outside = leb-true 10 (refusal_number why) (and_parts (nat_le 10 (refusal_number why)) (nat_le (refusal_number why) 17) outside).0
+
+-- and one up to 17
+pub to_seventeen : (why : Refusal) → is_of_disk why ≡ true → refusal_number why ≤ 17
+to_seventeen why outside = leb-true (refusal_number why) 17 (and_parts (nat_le 10 (refusal_number why)) (nat_le (refusal_number why) 17) outside).1
+
 -- a refusal from outside the tree, of a command that fits
 pub outside_late : (why : Refusal) → is_of_disk why ≡ true → is_too_big why ≡ false → IsLate (Refused why)
-outside_late why outside fits = (omega (arith, leb-true 10 (refusal_number why) outside), fits)
+outside_late why outside fits = ((omega (arith, from_ten why outside), to_seventeen why outside), fits)
 
 -- Syncs.
 
@@ -54,16 +62,16 @@ module _ (g : Geometry) (f next : Session) (r room : Room) (reply : Reply) where
 
   -- one that isn't answered is refused
   ended_late : (why : Refusal) → (why ≡ Stopped) ⊎ (why ≡ Spent) → IsLate (Refused why)
-  ended_late why (inl is) = subst (λ (w : Refusal). IsLate (Refused w)) (sym is) (omega arith, refl)
-  ended_late why (inr is) = subst (λ (w : Refusal). IsLate (Refused w)) (sym is) (omega arith, refl)
+  ended_late why (inl is) = subst (λ (w : Refusal). IsLate (Refused w)) (sym is) ((omega arith, omega arith), refl)
+  ended_late why (inr is) = subst (λ (w : Refusal). IsLate (Refused w)) (sym is) ((omega arith, omega arith), refl)
 
   lacking_late : (why : Refusal) → why ≡ NoMemory → IsLate (Refused why)
-  lacking_late why is = subst (λ (w : Refusal). IsLate (Refused w)) (sym is) (omega arith, refl)
+  lacking_late why is = subst (λ (w : Refusal). IsLate (Refused w)) (sym is) ((omega arith, omega arith), refl)
 
   late : (cmd : Cmd) (back : Room) → (step f cmd ≡ (next, reply) → ⊥) → SyncsOver f back cmd reply next room → IsLate reply
   late cmd back not (inl done) = absurd (not done.0)
   late cmd back not (inr (inl refused)) = subst IsLate (sym refused.2) (lacking_late refused.0 refused.1.0)
-  late cmd back not (inr (inr fault)) = subst IsLate (sym fault.0) (omega arith, refl)
+  late cmd back not (inr (inr fault)) = subst IsLate (sym fault.0) ((omega arith, omega arith), refl)
 
   pub order_late : AnswersOn g f r Osync reply next room → is_synced reply ≡ false → IsLate reply
   order_late (inl refused) none = subst IsLate (sym refused.2) (ended_late refused.0 refused.1)

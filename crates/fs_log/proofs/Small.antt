@@ -1,9 +1,9 @@
 -- A file of a tree that stands in blocks has at most 2^30 bytes, and so has a segment.
-use Rattle.std.proofs.Common.{◌≡◌, ℕ, ◌≤◌, nat_le, nat_lt, ◌&&◌, ◌==◌, ◌+◌, ◌/◌, Bool, true, false, List, [], ◌∷◌, ◌++◌, length, slice_index, Option, None, Some, option_map, refl, sym, ◌∙◌, ap, subst, arith}
+use Rattle.std.proofs.Common.{◌≡◌, ℕ, ◌≤◌, nat_le, nat_lt, ◌&&◌, ◌==◌, ◌+◌, ◌/◌, Bool, true, false, List, [], ◌∷◌, ◌++◌, length, Option, None, Some, option_map, refl, sym, ◌∙◌, ap, subst, arith}
 use Rattle.std.specs.FinMap.{get}
 use Rattle.std.proofs.lemmas.Bool.{and_parts, leb-true}
 use Rattle.std.proofs.lemmas.List.{length-take}
-use Rattle.std.proofs.lemmas.Option.{none-some, same_Some}
+use Rattle.std.proofs.lemmas.Option.{none-some}
 use Rattle.base_types.specs.Runs.{run_places}
 use Rattle.base_types.specs.Seal.{Blocks}
 use Rattle.layout_geometry.specs.Geometry.{Geometry}
@@ -12,7 +12,7 @@ use Rattle.layout_bytes.specs.declared.node.NodeKind.{NodeKind}
 use Rattle.layout_bytes.specs.declared.node.NodeKind.TheVariants.{Free, Dir, File}
 use Rattle.layout_bytes.specs.declared.slot.Slot.{Slot}
 use Rattle.layout_bytes.specs.Bytes.{when}
-use Rattle.layout_bytes.specs.Node.{kind_fits, node_at, node_bytes, node_fields, node_fits, node_of, node_with, run_blocks, runs_fit, spare_zeros, used_kind}
+use Rattle.layout_bytes.specs.Node.{kind_fits, node_at, node_bytes, node_fits, run_blocks, runs_fit}
 use Rattle.layout_bytes.specs.Slot.{slot_size, slots_in}
 use Rattle.lang_tree.specs.Tree.{Tree, File as FileThing}
 use Rattle.lang_log.specs.Segments.{LiesIn, Segment}
@@ -22,24 +22,10 @@ use Rattle.crash_stands.specs.Inodes.{Inode, ADir, AFile, IsInodeOf, inode_by, t
 use Rattle.crash_stands.specs.Stands.{IsTreeOf}
 use Rattle.engine_blocks.specs.State.{State}
 use Rattle.fs_log.specs.Reading.{HoldsSegment}
+use Rattle.fs_files.specs.Places.{read_fits, when_some}
 use Rattle.fs_log.proofs.Windows.{one_of_all}
 
 -- A node in use is as its kind must be.
-
-when_some : {A : Type 0} (t : Bool) (x : Option A) (y : A) → when t x ≡ Some y → (t ≡ true) × (x ≡ Some y)
-when_some true x y e = (refl, e)
-when_some false x y e = absurd (none-some y e)
-
-fits_with : (g : Geometry) (b : List ℕ) (o : Option NodeKind) (node : Node) → node_with g b o ≡ Some node → node_fits g node ≡ true
-fits_with g b None node e = absurd (none-some node e)
-fits_with g b (Some kind) node e =
-    let spare = when_some (spare_zeros b) (when (node_fits g (node_fields kind b)) (Some (node_fields kind b))) node e in
-    let fits = when_some (node_fits g (node_fields kind b)) (Some (node_fields kind b)) node spare.1 in
-    subst (λ (m : Node). node_fits g m ≡ true) (same_Some (node_fields kind b) node fits.1) fits.0
-
-read_fits : (g : Geometry) (b : List ℕ) (node : Node) → node_of g b ≡ Some node → node_fits g node ≡ true
-unfolding node_of
-read_fits g b node e = fits_with g b (used_kind (slice_index b 0)) node e
 
 kind_of_fit : (g : Geometry) (node : Node) → node_fits g node ≡ true → kind_fits node node.kind ≡ true
 kind_of_fit g node fits =

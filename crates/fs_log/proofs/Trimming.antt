@@ -101,7 +101,7 @@ pub removes_so : {S : Type 0} (number : ℕ) (old mid : Open S) (at : ℕ) → m
 removes_so number old mid at left may cmd (inr is) = inr is
 removes_so number old mid at left may cmd (inl (first, there, is)) = inl (by mid.firsts left may there)
   where
-    by : (firsts : List ℕ) → firsts ≡ drop at old.firsts → may_go number firsts ≡ true → slice_get firsts 0 ≡ Some first → RemovesBelow old number cmd
+    by : (firsts : List ℕ) → firsts ≡ drop at old.firsts → may_go number firsts ≡ true → slice_get firsts 0 ≡ Some first → RemovesBelow old.firsts number cmd
     by [] left may there = absurd (false≢true may)
     by (a ∷ []) left may there = absurd (false≢true may)
     by (a ∷ b ∷ firsts) left may there = record {

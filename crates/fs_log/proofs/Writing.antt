@@ -119,7 +119,7 @@ module _ {S : Type 0} (tells : Bool) (state : S → State) (cmd : Cmd) (reply : 
         by (inl is) =
             let at = before.there f.tree session.tree in
             let sound : IsSound f.limit f.tree = subst (λ (limit : ℕ). IsSound limit f.tree) (sym session.limit) (laws.sound (state old).books.geom (state old).map f.tree session.tree) in
-            ⊎_elim (λ r. inl (r.same, λ done. refused_not NoNode (sym r.refused ∙ done), λ fits. subst IsLate (sym r.refused) (omega arith, refl))) (λ r. inr r)
+            ⊎_elim (λ r. inl (r.same, λ done. refused_not NoNode (sym r.refused ∙ done), λ fits. subst IsLate (sym r.refused) ((omega arith, omega arith), refl))) (λ r. inr r)
             (makes a.next at.0 at.1 (record { sound = sound; had = before.has f.tree session.tree; answered = is }))
         by (inr (inl refused)) = inl (
           refused.3,

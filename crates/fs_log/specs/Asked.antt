@@ -5,7 +5,6 @@ use Rattle.lang_tree.specs.declared.command.Cmd.TheVariants.{Create, Osync, Writ
 use Rattle.lang_tree.specs.declared.command.Reply.{Reply}
 use Rattle.lang_tree.specs.declared.command.Reply.TheVariants.{Bytes, DurableAt, Ok as Done, Refused, Synced}
 use Rattle.lang_tree.specs.Points.{made_by}
-use Rattle.lang_tree.specs.Refusals.{refusal_number}
 use Rattle.lang_tree.specs.Run.{Answers, is_of_disk}
 use Rattle.lang_tree.specs.Step.{Session}
 use Rattle.lang_tree.specs.Tree.{Tree, IsSound}
@@ -20,7 +19,7 @@ use Rattle.engine_blocks.specs.State.{State}
 use Rattle.fs_session.specs.Applying.{Applies}
 use Rattle.fs_session.specs.Points.{TellsPoints}
 use Rattle.fs_session.specs.Sessions.{IsSession}
-use Rattle.fs_log.specs.Causes.{is_too_big}
+use Rattle.fs_log.specs.Causes.{IsOfLog, is_too_big}
 use Rattle.fs_log.specs.Keeping.{Goes, HoldsLog, Keeps, Rests, TakesLog}
 
 -- whether a command was refused since it doesn't fit one record of the journal with what changed before
@@ -44,7 +43,7 @@ is_bytes _ = false
 
 -- The reply refuses a command for a reason that may come of a log: of the tree it is one alone, and the command fits.
 abbrev pub IsLate : Reply → Type 0
-IsLate (Refused why) = (9 ≤ refusal_number why) × (is_too_big why ≡ false)
+IsLate (Refused why) = IsOfLog why × (is_too_big why ≡ false)
 IsLate _ = ⊥
 
 -- One history may become the other while no more is promised: what may be left of the one may be left of the other.

@@ -3,7 +3,6 @@ use Rattle.std.specs.Prelude.{◌≡◌, ◌≢◌, ◌⊎◌, ℕ, ◌+◌, Boo
 use Rattle.std.specs.List.{AllByRecursion}
 use Rattle.std.specs.FinMap.{get}
 use Rattle.lang_tree.specs.declared.command.Cmd.{Cmd}
-use Rattle.lang_tree.specs.declared.command.Cmd.TheVariants.{List as ListNames, Read, Stat as StatCmd}
 use Rattle.lang_tree.specs.declared.command.Kind.{Kind}
 use Rattle.lang_tree.specs.declared.command.Kind.TheVariants.{Dir as DirKind, File as FileKind}
 use Rattle.lang_tree.specs.declared.command.Refusal.{Refusal}
@@ -24,19 +23,14 @@ use Rattle.fs_log.specs.declared.refusal.OpenRefusal.TheVariants.{BadLog, Fs as 
 use Rattle.fs_log.specs.Keeping.{Rests}
 use Rattle.fs_log.specs.Open.{size_of}
 use Rattle.fs_log.specs.Opening.{KeepsTree}
-
--- The command asks what is at a path, which names a directory holds, or for bytes of a file.
-abbrev pub IsQuestion : Cmd → Type 0
-IsQuestion cmd =
-    ((path : List (List ℕ)) × (cmd ≡ StatCmd path))
-    ⊎ (((path : List (List ℕ)) × (cmd ≡ ListNames path))
-    ⊎ ((path : List (List ℕ)) × (offset : ℕ) × (count : ℕ) × (cmd ≡ Read path offset count)))
+use Rattle.fs_log.specs.Ways.{Way}
 
 -- Questions alone were asked: a log is as it was, and so is the tree; and what changed since the last sync point weighs as much.
-pub record AsksOnly (old new : State) : Type 0 where
-  pub rests : Rests old new
-  pub keeps : KeepsTree old new
-  pub weight : new.books.running.weight ≡ old.books.running.weight
+pub record AsksOnly {S : Type 0} (tells : Bool) (state : S → State) (old new : S) : Type 0 where
+  pub rests : Rests (state old) (state new)
+  pub keeps : KeepsTree (state old) (state new)
+  pub weight : (state new).books.running.weight ≡ (state old).books.running.weight
+  pub way : Way tells state (λ cmd. ⊥) old new
 
 -- The question was answered as the tree of the session answers it; or it was refused for a reason of the disk.
 abbrev pub AnswersQuestion : Session → Cmd → Reply → Type 0

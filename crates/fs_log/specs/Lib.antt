@@ -4,6 +4,7 @@ pub mod Open
 pub mod Refusals
 pub mod Trimming
 pub mod Reading
+pub mod Ways
 pub mod Causes
 pub mod Opening
 pub mod Finding

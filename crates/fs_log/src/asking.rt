@@ -125,20 +125,6 @@ pub(crate) fn ask<S: Blocks>(alloc: Global, fs: &mut Fs<S>, cmd: &Cmd) -> Reply
     reply
 }
 
-/// Answers a question, which changes nothing.
-pub(crate) fn look<S: Blocks>(alloc: Global, fs: &mut Fs<S>, cmd: &Cmd) -> Reply
-    requires follows { MayFollow S.tells S.state fs.old }
-    ensures follows { MayFollow S.tells S.state fs.new }
-    ensures asked { IsTrue S.tells → AskedOf S.tells S.state cmd.now result (blocks_in fs.old) (blocks_in fs.new) }
-    ensures rests { IsTrue S.tells → ((f : Session) → (step f cmd.now).0 ≡ f) → Rests (S.state (blocks_in fs.old)) (S.state (blocks_in fs.new)) }
-    ensures applies { Applies S.tells S.state cmd.now result (blocks_in fs.old) (blocks_in fs.new) }
-    ensures was { WasAnswered S.tells S.state (λ c. c ≡ cmd.now) result (blocks_in fs.old) (blocks_in fs.new) }
-{
-    calls_compose::<S>();
-    let reply = ask(alloc, fs, cmd);
-    reply
-}
-
 /// Whether a command was refused since it doesn't fit one record of the journal with what changed before.
 fn is_too_big(reply: &Reply) -> bool
     ensures { result ≡ is_past_room reply.now }
@@ -210,6 +196,7 @@ pub(crate) fn order<S: Blocks>(alloc: Global, fs: &mut Fs<S>) -> Reply
     requires follows { MayFollow S.tells S.state fs.old }
     ensures follows { MayFollow S.tells S.state fs.new }
     ensures rests { IsTrue S.tells → Rests (S.state (blocks_in fs.old)) (S.state (blocks_in fs.new)) }
+    ensures was { WasAnswered S.tells S.state AsksToOrder result (blocks_in fs.old) (blocks_in fs.new) }
     ensures cause { is_synced result ≡ false
         → HasCallCause S.tells S.state is_of_none AsksToOrder (refusal_for result) (blocks_in fs.old) (blocks_in fs.new) }
 {
@@ -226,6 +213,7 @@ pub(crate) fn sync<S: Blocks>(alloc: Global, fs: &mut Fs<S>) -> Reply
     ensures rests { IsTrue S.tells → Rests (S.state (blocks_in fs.old)) (S.state (blocks_in fs.new)) }
     ensures promised { IsTrue S.tells → (point : ℕ) → result ≡ DurableAt point
         → TakesLog synced (S.state (blocks_in fs.old)) (S.state (blocks_in fs.new)) }
+    ensures was { WasAnswered S.tells S.state AsksToSync result (blocks_in fs.old) (blocks_in fs.new) }
     ensures cause { is_durable result ≡ false
         → HasCallCause S.tells S.state is_of_none AsksToSync (refusal_for result) (blocks_in fs.old) (blocks_in fs.new) }
 {

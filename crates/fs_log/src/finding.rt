@@ -7,14 +7,16 @@ ghost use Rattle.lang_tree.specs.declared.command.Reply.TheVariants.{Bytes as By
 ghost use Rattle.lang_tree.specs.Step.{Session};
 ghost use Rattle.lang_log.specs.Log.{HasNoLog};
 ghost use Rattle.lang_log.specs.Spelling.{HasPassed};
+ghost use Rattle.fs_session.specs.Applying.{Applies};
 ghost use Rattle.fs_session.specs.Sessions.{IsSession};
 ghost use Rattle.fs_commands.specs.Opened.{MayFollow, blocks_in};
 ghost use Rattle.fs_log.specs.declared.refusal.OpenRefusal.TheVariants.{BadLog};
-ghost use Rattle.fs_log.specs.Asked.{is_bytes};
+ghost use Rattle.fs_log.specs.Asked.{AskedOf, is_bytes};
 ghost use Rattle.fs_log.specs.Causes.{WasAnswered};
-ghost use Rattle.fs_log.specs.Finding.{AnswersQuestion, AsksOnly, HasFile, HasSegment, HasWhole, IsQuestion, LeadsSomewhere};
+ghost use Rattle.fs_log.specs.Finding.{AnswersQuestion, AsksOnly, HasFile, HasSegment, HasWhole, LeadsSomewhere};
 ghost use Rattle.fs_log.specs.Finding.{is_stat, refusal_by, stat_reply, wants_blocks};
 ghost use Rattle.fs_log.specs.Opening.{IsNotOpened};
+ghost use Rattle.fs_log.specs.Ways.{IsQuestion};
 
 use crate::asking::{ask, segment_path};
 use crate::refusal::OpenRefusal;
@@ -65,7 +67,7 @@ pub(crate) fn find_segment<S: Blocks>(
 ) -> Result<FoundSegment, OpenRefusal>
     requires follows { MayFollow S.tells S.state fs.old }
     ensures follows { MayFollow S.tells S.state fs.new }
-    ensures asks { IsTrue S.tells → AsksOnly (S.state (blocks_in fs.old)) (S.state (blocks_in fs.new)) }
+    ensures asks { IsTrue S.tells → AsksOnly S.tells S.state (blocks_in fs.old) (blocks_in fs.new) }
     ensures segment { IsTrue S.tells → IfOk result (λ segment. (f : Session) → IsSession (S.state (blocks_in fs.old)) f → LeadsSomewhere f.tree first
         → HasSegment f.tree first segment.node segment.size segment.next) }
     ensures bad { IsTrue S.tells → IfErr result (λ why. why ≡ BadLog → (f : Session) → IsSession (S.state (blocks_in fs.old)) f → LeadsSomewhere f.tree first
@@ -99,7 +101,7 @@ fn find_file<S: Blocks>(
 ) -> Result<SegmentFile, OpenRefusal>
     requires follows { MayFollow S.tells S.state fs.old }
     ensures follows { MayFollow S.tells S.state fs.new }
-    ensures asks { IsTrue S.tells → AsksOnly (S.state (blocks_in fs.old)) (S.state (blocks_in fs.new)) }
+    ensures asks { IsTrue S.tells → AsksOnly S.tells S.state (blocks_in fs.old) (blocks_in fs.new) }
     ensures file { IsTrue S.tells → IfOk result (λ file. (f : Session) → IsSession (S.state (blocks_in fs.old)) f → LeadsSomewhere f.tree first
         → (bytes : List ℕ) × HasFile f.tree first file.node bytes × (file.size ≡ length bytes)) }
     ensures bad { IsTrue S.tells → IfErr result (λ why. why ≡ BadLog → (f : Session) → IsSession (S.state (blocks_in fs.old)) f → LeadsSomewhere f.tree first
@@ -158,7 +160,7 @@ fn count_appends<S: Blocks>(
 ) -> Result<u32, OpenRefusal>
     requires follows { MayFollow S.tells S.state fs.old }
     ensures follows { MayFollow S.tells S.state fs.new }
-    ensures asks { IsTrue S.tells → AsksOnly (S.state (blocks_in fs.old)) (S.state (blocks_in fs.new)) }
+    ensures asks { IsTrue S.tells → AsksOnly S.tells S.state (blocks_in fs.old) (blocks_in fs.new) }
     ensures count { IsTrue S.tells → IfOk result (λ count. (f : Session) (node : ℕ) (bytes : List ℕ) → IsSession (S.state (blocks_in fs.old)) f
         → HasFile f.tree first node bytes
         → size ≡ length bytes → HasWhole bytes count) }
@@ -206,7 +208,7 @@ fn pass_window<S: Blocks>(
 ) -> Result<Passed, OpenRefusal>
     requires follows { MayFollow S.tells S.state fs.old }
     ensures follows { MayFollow S.tells S.state fs.new }
-    ensures asks { IsTrue S.tells → AsksOnly (S.state (blocks_in fs.old)) (S.state (blocks_in fs.new)) }
+    ensures asks { IsTrue S.tells → AsksOnly S.tells S.state (blocks_in fs.old) (blocks_in fs.new) }
     ensures some { IfOk result (λ passed. (0 < passed.appends) × (4 * passed.appends ≤ passed.bytes)) }
     ensures passes { IsTrue S.tells → IfOk result (λ passed. (f : Session) (node : ℕ) (bytes : List ℕ) (count : ℕ) → IsSession (S.state (blocks_in fs.old)) f
         → HasFile f.tree first node bytes → HasPassed bytes count offset
@@ -240,7 +242,7 @@ fn read_window<S: Blocks>(
 ) -> Result<Bytes, OpenRefusal>
     requires follows { MayFollow S.tells S.state fs.old }
     ensures follows { MayFollow S.tells S.state fs.new }
-    ensures asks { IsTrue S.tells → AsksOnly (S.state (blocks_in fs.old)) (S.state (blocks_in fs.new)) }
+    ensures asks { IsTrue S.tells → AsksOnly S.tells S.state (blocks_in fs.old) (blocks_in fs.new) }
     ensures bytes { IsTrue S.tells → IfOk result (λ window. (f : Session) (node : ℕ) (bytes : List ℕ) → IsSession (S.state (blocks_in fs.old)) f
         → HasFile f.tree first node bytes
         → window ≡ take 65540 (drop offset bytes)) }
@@ -267,7 +269,9 @@ pub(crate) fn question<S: Blocks>(alloc: Global, fs: &mut Fs<S>, cmd: &Cmd) -> R
     requires follows { MayFollow S.tells S.state fs.old }
     requires question { IsQuestion cmd.now }
     ensures follows { MayFollow S.tells S.state fs.new }
-    ensures asks { IsTrue S.tells → AsksOnly (S.state (blocks_in fs.old)) (S.state (blocks_in fs.new)) }
+    ensures asks { IsTrue S.tells → AsksOnly S.tells S.state (blocks_in fs.old) (blocks_in fs.new) }
+    ensures asked { IsTrue S.tells → AskedOf S.tells S.state cmd.now result (blocks_in fs.old) (blocks_in fs.new) }
+    ensures applies { Applies S.tells S.state cmd.now result (blocks_in fs.old) (blocks_in fs.new) }
     ensures answers { IsTrue S.tells → (f : Session) → IsSession (S.state (blocks_in fs.old)) f → AnswersQuestion f cmd.now result }
     ensures was { WasAnswered S.tells S.state (λ c. c ≡ cmd.now) result (blocks_in fs.old) (blocks_in fs.new) }
     ensures calm { IsTrue S.tells → wants_blocks result ≡ false }

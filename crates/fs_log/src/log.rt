@@ -65,13 +65,14 @@ impl<S: Blocks + Drop> AppLog<S> {
     ghost use Rattle.engine_blocks.specs.Crashes.{Advances};
     ghost use Rattle.fs_commands.specs.Opened.{MayFollow, blocks_in};
     ghost use Rattle.fs_log.specs.Causes.{AsksToAppend, AsksToGet, AsksToOrder, AsksToSync, AsksToTrim, HasCallCause};
-    ghost use Rattle.fs_log.specs.Causes.{AsksToMake, AsksToRemove, AsksToWrite, MakesRoom, has_room};
+    ghost use Rattle.fs_log.specs.Causes.{AsksForRoom, AsksToMake, AsksToRemove, AsksToWrite, MakesRoom, has_room};
     ghost use Rattle.fs_log.specs.Keeping.{Keeps, TakesLog, as_before};
-    ghost use Rattle.fs_log.specs.Open.{low_in, second_of, state_in};
+    ghost use Rattle.fs_log.specs.Open.{Mirrors, low_in, second_of, state_in};
     ghost use Rattle.fs_log.specs.declared.refusal.OpenRefusal.TheVariants.{BadLog};
-    ghost use Rattle.fs_log.specs.Opening.{HasRange, IsNotOpened, KeepsTree, MakesNoPoint, StandsAsMounted, StandsIn, kept_by};
+    ghost use Rattle.fs_log.specs.Opening.{AsksToOpen, HasRange, IsNotOpened, KeepsTree, MakesNoPoint, StandsAsMounted, StandsIn, kept_by};
     ghost use Rattle.fs_log.specs.Refusals.{IsOfRange, is_log_end, is_no_record, is_of_append, is_of_look, is_of_none, is_own, is_too_long};
     ghost use Rattle.fs_log.specs.Trimming.{IsTrimmed, TrimsTo};
+    ghost use Rattle.fs_log.specs.Ways.{Way};
 
     /// Opens the log in the directory `/log`, which is made where nothing is there. A segment comes to have so many bytes
     /// at most. Each segment is read once, a window at a time, and nothing is changed but that directory.
@@ -89,6 +90,7 @@ impl<S: Blocks + Drop> AppLog<S> {
         ensures most { IfOk result (λ log. log.most ≡ most) }
         ensures kept { IfOk result (λ log. log.kept ≡ kept_by (S.state (blocks_in fs)).books log.next) }
         ensures time { IsTrue S.tells → IfOk result (λ log. MakesNoPoint (S.state (blocks_in fs)) (state_in S.state log)) }
+        ensures asked { IsTrue S.tells → IfOk result (λ log. Way S.tells S.state AsksToOpen (blocks_in fs) (blocks_in log.fs)) }
         ensures bad { IsTrue S.tells → IfErr result (λ e. e.1 ≡ BadLog → (t : Tree) → StandsIn (S.state (blocks_in fs)) t → HasNoLog t) }
         ensures back { IfErr result (λ e. MayFollow S.tells S.state e.0) }
         ensures same { IsTrue S.tells → IfErr result (λ e. KeepsTree (S.state (blocks_in fs)) (S.state (blocks_in e.0))) }
@@ -126,6 +128,8 @@ impl<S: Blocks + Drop> AppLog<S> {
         ensures kept { self.new.kept ≡ self.old.kept }
         ensures long { is_too_long result ≡ nat_lt 65536 (length bytes.now) }
         ensures end { is_log_end result ≡ (nat_le (length bytes.now) 65536 && (self.old.next == 4294967295)) }
+        ensures most { self.new.most ≡ self.old.most }
+        ensures asked { IsTrue S.tells → OnOk result (Way S.tells S.state (AsksToAppend self.old bytes.now) (blocks_in self.old.fs) (blocks_in self.new.fs)) }
         ensures cause { IfErr result (λ why.
             HasCallCause S.tells S.state is_of_append (AsksToAppend self.old bytes.now) why (blocks_in self.old.fs) (blocks_in self.new.fs)) }
     {
@@ -155,6 +159,8 @@ impl<S: Blocks + Drop> AppLog<S> {
         ensures same { OnErr result (self.new.next ≡ self.old.next) }
         ensures kept { self.new.kept ≡ self.old.kept }
         ensures why { IfErr result (λ why. is_own why ≡ false) }
+        ensures most { self.new.most ≡ self.old.most }
+        ensures asked { IsTrue S.tells → OnOk result (Way S.tells S.state (AsksToAppend self.old bytes.now) (blocks_in self.old.fs) (blocks_in self.new.fs)) }
         ensures cause { IfErr result (λ why.
             HasCallCause S.tells S.state is_of_none (AsksToAppend self.old bytes.now) why (blocks_in self.old.fs) (blocks_in self.new.fs)) }
     {
@@ -178,6 +184,8 @@ impl<S: Blocks + Drop> AppLog<S> {
         ensures same { (self.new.next ≡ self.old.next) × (self.new.kept ≡ self.old.kept) }
         ensures why { IfErr result (λ why. is_own why ≡ false) }
         ensures none { OnErr result (has_room self.old count ≡ false) }
+        ensures most { self.new.most ≡ self.old.most }
+        ensures asked { IsTrue S.tells → OnOk result (Way S.tells S.state (AsksForRoom self.old count) (blocks_in self.old.fs) (blocks_in self.new.fs)) }
         ensures cause { IfErr result (λ why.
             HasCallCause S.tells S.state is_of_none (AsksToMake self.old) why (blocks_in self.old.fs) (blocks_in self.new.fs)) }
     {
@@ -214,6 +222,7 @@ impl<S: Blocks + Drop> AppLog<S> {
         ensures made { OnOk result ((self.new.firsts ≡ self.old.firsts ++ self.old.next ∷ []) × (self.new.size ≡ 0)) }
         ensures same { (self.new.next ≡ self.old.next) × (self.new.kept ≡ self.old.kept) × (self.new.most ≡ self.old.most) }
         ensures why { IfErr result (λ why. is_own why ≡ false) }
+        ensures asked { IsTrue S.tells → OnOk result (Way S.tells S.state (AsksToMake self.old) (blocks_in self.old.fs) (blocks_in self.new.fs)) }
         ensures cause { IfErr result (λ why.
             HasCallCause S.tells S.state is_of_none (AsksToMake self.old) why (blocks_in self.old.fs) (blocks_in self.new.fs)) }
     {
@@ -244,6 +253,8 @@ impl<S: Blocks + Drop> AppLog<S> {
         ensures same { OnErr result (self.new.next ≡ self.old.next) }
         ensures kept { self.new.kept ≡ self.old.kept }
         ensures why { IfErr result (λ why. is_own why ≡ false) }
+        ensures most { self.new.most ≡ self.old.most }
+        ensures asked { IsTrue S.tells → OnOk result (Way S.tells S.state (AsksToWrite self.old bytes.now) (blocks_in self.old.fs) (blocks_in self.new.fs)) }
         ensures cause { IfErr result (λ why.
             HasCallCause S.tells S.state is_of_none (AsksToWrite self.old bytes.now) why (blocks_in self.old.fs) (blocks_in self.new.fs)) }
     {
@@ -268,6 +279,8 @@ impl<S: Blocks + Drop> AppLog<S> {
             → slice_get h.now.appends (number - h.now.low) ≡ Some bytes) }
         ensures none { is_no_record result ≡ (nat_lt number (low_in self.old) || nat_le self.old.next number) }
         ensures range { IfErr result (IsOfRange (low_in self.old) self.old.next) }
+        ensures most { self.new.most ≡ self.old.most }
+        ensures asked { IsTrue S.tells → OnOk result (Way S.tells S.state (AsksToGet self.old number) (blocks_in self.old.fs) (blocks_in self.new.fs)) }
         ensures cause { IfErr result (λ why.
             HasCallCause S.tells S.state is_of_look (AsksToGet self.old number) why (blocks_in self.old.fs) (blocks_in self.new.fs)) }
         ensures same { (self.new.firsts ≡ self.old.firsts) × (self.new.next ≡ self.old.next) × (self.new.kept ≡ self.old.kept) }
@@ -300,6 +313,8 @@ impl<S: Blocks + Drop> AppLog<S> {
         ensures low { IfOk result (λ low. low ≡ low_in self.new) }
         ensures same { (self.new.next ≡ self.old.next) × (self.new.kept ≡ self.old.kept) }
         ensures why { IfErr result (λ why. is_own why ≡ false) }
+        ensures most { self.new.most ≡ self.old.most }
+        ensures asked { IsTrue S.tells → OnOk result (Way S.tells S.state (AsksToTrim self.old number) (blocks_in self.old.fs) (blocks_in self.new.fs)) }
         ensures cause { IfErr result (λ why.
             HasCallCause S.tells S.state is_of_none (AsksToTrim self.old number) why (blocks_in self.old.fs) (blocks_in self.new.fs)) }
     {
@@ -337,6 +352,8 @@ impl<S: Blocks + Drop> AppLog<S> {
         ensures still { OnErr result (self.new.firsts ≡ self.old.firsts) }
         ensures same { (self.new.next ≡ self.old.next) × (self.new.kept ≡ self.old.kept) }
         ensures why { IfErr result (λ why. is_own why ≡ false) }
+        ensures most { self.new.most ≡ self.old.most }
+        ensures asked { IsTrue S.tells → OnOk result (Way S.tells S.state (AsksToRemove self.old) (blocks_in self.old.fs) (blocks_in self.new.fs)) }
         ensures cause { IfErr result (λ why.
             HasCallCause S.tells S.state is_of_none (AsksToRemove self.old) why (blocks_in self.old.fs) (blocks_in self.new.fs)) }
     {
@@ -356,6 +373,8 @@ impl<S: Blocks + Drop> AppLog<S> {
     pub fn order(&mut self, alloc: Global) -> Result<u64, LogRefusal>
         ensures goes { IsTrue S.tells → TakesLog as_before (state_in S.state self.old) (state_in S.state self.new) }
         ensures same { (self.new.firsts ≡ self.old.firsts) × (self.new.next ≡ self.old.next) × (self.new.kept ≡ self.old.kept) }
+        ensures most { self.new.most ≡ self.old.most }
+        ensures asked { IsTrue S.tells → OnOk result (Way S.tells S.state AsksToOrder (blocks_in self.old.fs) (blocks_in self.new.fs)) }
         ensures cause { IfErr result (λ why.
             HasCallCause S.tells S.state is_of_none AsksToOrder why (blocks_in self.old.fs) (blocks_in self.new.fs)) }
     {
@@ -372,6 +391,8 @@ impl<S: Blocks + Drop> AppLog<S> {
         ensures refused { IsTrue S.tells → OnErr result (TakesLog as_before (state_in S.state self.old) (state_in S.state self.new)) }
         ensures same { (self.new.firsts ≡ self.old.firsts) × (self.new.next ≡ self.old.next) }
         ensures kept { OnOk result (self.new.kept ≡ self.old.next) }
+        ensures most { self.new.most ≡ self.old.most }
+        ensures asked { IsTrue S.tells → OnOk result (Way S.tells S.state AsksToSync (blocks_in self.old.fs) (blocks_in self.new.fs)) }
         ensures cause { IfErr result (λ why.
             HasCallCause S.tells S.state is_of_none AsksToSync why (blocks_in self.old.fs) (blocks_in self.new.fs)) }
     {
@@ -386,6 +407,7 @@ impl<S: Blocks + Drop> AppLog<S> {
         ensures shown { (result.0 ≡ low_in self.now) × (result.1 ≡ self.now.next) }
         ensures told { IsTrue S.tells → (h : History) → Keeps h (state_in S.state self.now)
             → (low_in self.now ≡ h.now.low) × (self.now.next ≡ next_of h.now) }
+        ensures mirrors { IsTrue S.tells → Mirrors (state_in S.state self.now) self.now.firsts self.now.size self.now.next }
     {
         a_tree_has_one_log();
         let low = first_or(self.firsts.as_slice(), self.next);

@@ -16,7 +16,8 @@ ghost use Rattle.fs_log.specs.declared.refusal.OpenRefusal.TheVariants.{BadLog};
 ghost use Rattle.fs_log.specs.Finding.{AsksOnly, HasAtLog, HasDirectory, HasFound, HasFoundSome, LeadsIn, is_names, refusal_by};
 ghost use Rattle.fs_log.specs.Keeping.{HoldsLog, TakesLog, as_before};
 ghost use Rattle.fs_log.specs.Open.{Mirrors, first_or};
-ghost use Rattle.fs_log.specs.Opening.{HasRange, IsNotOpened, KeepsTree, MakesNoPoint};
+ghost use Rattle.fs_log.specs.Opening.{AsksToOpen, HasRange, IsNotOpened, KeepsTree, MakesNoPoint};
+ghost use Rattle.fs_log.specs.Ways.{Way};
 
 use crate::asking::{ask, log_path};
 use crate::finding::{find_segment, question, refused, stat_in};
@@ -63,6 +64,7 @@ pub(crate) fn find_log<S: Blocks>(alloc: Global, fs: &mut Fs<S>) -> Result<Found
         → HasRange f.tree (first_or found.firsts.items found.next) found.next) }
     ensures bad { IsTrue S.tells → IfErr result (λ why. why ≡ BadLog → (f : Session) → IsSession (S.state (blocks_in fs.old)) f → HasNoLog f.tree) }
     ensures same { IsTrue S.tells → OnErr result (KeepsTree (S.state (blocks_in fs.old)) (S.state (blocks_in fs.new))) }
+    ensures asked { IsTrue S.tells → OnOk result (Way S.tells S.state AsksToOpen (blocks_in fs.old) (blocks_in fs.new)) }
     ensures cause { (S.state (blocks_in fs.old)).books.running.weight ≡ 0
         → IfErr result (λ why. IsNotOpened S.tells S.state why (blocks_in fs.old) (blocks_in fs.new)) }
 {
@@ -91,7 +93,7 @@ pub(crate) fn find_log<S: Blocks>(alloc: Global, fs: &mut Fs<S>) -> Result<Found
 fn find_there<S: Blocks>(alloc: Global, fs: &mut Fs<S>, kind: Kind) -> Result<Found, OpenRefusal>
     requires follows { MayFollow S.tells S.state fs.old }
     ensures follows { MayFollow S.tells S.state fs.new }
-    ensures asks { IsTrue S.tells → AsksOnly (S.state (blocks_in fs.old)) (S.state (blocks_in fs.new)) }
+    ensures asks { IsTrue S.tells → AsksOnly S.tells S.state (blocks_in fs.old) (blocks_in fs.new) }
     ensures found { IsTrue S.tells → IfOk result (λ found. (f : Session) → IsSession (S.state (blocks_in fs.old)) f → HasAtLog f.tree (Some kind)
         → HasDirectory f.tree × HasFound f.tree found.firsts.items found.size found.next) }
     ensures bad { IsTrue S.tells → IfErr result (λ why. why ≡ BadLog → (f : Session) → IsSession (S.state (blocks_in fs.old)) f → HasAtLog f.tree (Some kind)
@@ -118,7 +120,7 @@ fn find_there<S: Blocks>(alloc: Global, fs: &mut Fs<S>, kind: Kind) -> Result<Fo
 fn find_at_log<S: Blocks>(alloc: Global, fs: &mut Fs<S>) -> Result<Option<Kind>, OpenRefusal>
     requires follows { MayFollow S.tells S.state fs.old }
     ensures follows { MayFollow S.tells S.state fs.new }
-    ensures asks { IsTrue S.tells → AsksOnly (S.state (blocks_in fs.old)) (S.state (blocks_in fs.new)) }
+    ensures asks { IsTrue S.tells → AsksOnly S.tells S.state (blocks_in fs.old) (blocks_in fs.new) }
     ensures there { IsTrue S.tells → IfOk result (λ kind. (f : Session) → IsSession (S.state (blocks_in fs.old)) f → HasAtLog f.tree kind) }
     ensures bad { IsTrue S.tells → IfErr result (λ why. why ≢ BadLog) }
     ensures cause { IfErr result (λ why. IsNotOpened S.tells S.state why (blocks_in fs.old) (blocks_in fs.new)) }
@@ -152,6 +154,7 @@ fn begin_log<S: Blocks>(alloc: Global, fs: &mut Fs<S>) -> Result<Found, OpenRefu
     ensures time { IsTrue S.tells → MakesNoPoint (S.state (blocks_in fs.old)) (S.state (blocks_in fs.new)) }
     ensures same { IsTrue S.tells → OnErr result (KeepsTree (S.state (blocks_in fs.old)) (S.state (blocks_in fs.new))) }
     ensures bad { IsTrue S.tells → IfErr result (λ why. why ≢ BadLog) }
+    ensures asked { IsTrue S.tells → OnOk result (Way S.tells S.state AsksToOpen (blocks_in fs.old) (blocks_in fs.new)) }
     ensures cause { (IsTrue S.tells → (f : Session) × ((S.state (blocks_in fs.old)).books.running.weight ≡ 0)
         × IsSession (S.state (blocks_in fs.old)) f × (get f.tree.names log_path ≡ None))
         → IfErr result (λ why. IsNotOpened S.tells S.state why (blocks_in fs.old) (blocks_in fs.new)) }
@@ -200,7 +203,7 @@ fn made(reply: &Reply) -> Result<(), OpenRefusal>
 fn find_segments<S: Blocks>(alloc: Global, fs: &mut Fs<S>) -> Result<Found, OpenRefusal>
     requires follows { MayFollow S.tells S.state fs.old }
     ensures follows { MayFollow S.tells S.state fs.new }
-    ensures asks { IsTrue S.tells → AsksOnly (S.state (blocks_in fs.old)) (S.state (blocks_in fs.new)) }
+    ensures asks { IsTrue S.tells → AsksOnly S.tells S.state (blocks_in fs.old) (blocks_in fs.new) }
     ensures found { IsTrue S.tells → IfOk result (λ found. (f : Session) → IsSession (S.state (blocks_in fs.old)) f → HasDirectory f.tree
         → HasFound f.tree found.firsts.items found.size found.next) }
     ensures bad { IsTrue S.tells → IfErr result (λ why. why ≡ BadLog → (f : Session) → IsSession (S.state (blocks_in fs.old)) f → HasDirectory f.tree
@@ -233,7 +236,7 @@ fn find_segments<S: Blocks>(alloc: Global, fs: &mut Fs<S>) -> Result<Found, Open
 fn find_names<S: Blocks>(alloc: Global, fs: &mut Fs<S>) -> Result<NameList, OpenRefusal>
     requires follows { MayFollow S.tells S.state fs.old }
     ensures follows { MayFollow S.tells S.state fs.new }
-    ensures asks { IsTrue S.tells → AsksOnly (S.state (blocks_in fs.old)) (S.state (blocks_in fs.new)) }
+    ensures asks { IsTrue S.tells → AsksOnly S.tells S.state (blocks_in fs.old) (blocks_in fs.new) }
     ensures names { IsTrue S.tells → IfOk result (λ names. (f : Session) → IsSession (S.state (blocks_in fs.old)) f → HasDirectory f.tree
         → names ≡ names_in f.tree.names log_path) }
     ensures bad { IsTrue S.tells → IfErr result (λ why. why ≡ BadLog → (f : Session) → IsSession (S.state (blocks_in fs.old)) f → HasDirectory f.tree
@@ -279,7 +282,7 @@ fn add_segment<S: Blocks>(
 ) -> Result<(), OpenRefusal>
     requires follows { MayFollow S.tells S.state fs.old }
     ensures follows { MayFollow S.tells S.state fs.new }
-    ensures asks { IsTrue S.tells → AsksOnly (S.state (blocks_in fs.old)) (S.state (blocks_in fs.new)) }
+    ensures asks { IsTrue S.tells → AsksOnly S.tells S.state (blocks_in fs.old) (blocks_in fs.new) }
     ensures more { IsTrue S.tells → OnOk result ((f : Session) (seen behind : List (List ℕ)) → IsSession (S.state (blocks_in fs.old)) f
         → names_in f.tree.names log_path ≡ seen ++ name.now ∷ behind
         → HasFoundSome f.tree seen found.old.firsts.items found.old.size found.old.next (contains nat_cmp nodes.old)

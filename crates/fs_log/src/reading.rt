@@ -10,11 +10,12 @@ ghost use Rattle.fs_commands.specs.Opened.{MayFollow, blocks_in};
 ghost use Rattle.fs_log.specs.declared.refusal.LogRefusal.TheVariants.{BadLog};
 ghost use Rattle.fs_log.specs.Asked.{is_bytes};
 ghost use Rattle.fs_log.specs.Causes.{HasCallCause, ReadsSegment, WasNotRefused};
-ghost use Rattle.fs_log.specs.Keeping.{Rests};
+ghost use Rattle.fs_log.specs.Finding.{AsksOnly};
 ghost use Rattle.fs_log.specs.Reading.{BeginsAt, HasAppend, HoldsSegment, IsAt};
 ghost use Rattle.fs_log.specs.Refusals.{is_of_none, is_own, refusal_for};
 
-use crate::asking::{look, segment_path};
+use crate::asking::segment_path;
+use crate::finding::question;
 use crate::refusal::{LogRefusal, refused};
 use base_types::{Bytes, NoMemory};
 use crash_stands::a_tree_that_stands_is_sound;
@@ -71,7 +72,7 @@ fn read<S: Blocks>(
 ) -> Result<Bytes, LogRefusal>
     requires follows { MayFollow S.tells S.state fs.old }
     ensures follows { MayFollow S.tells S.state fs.new }
-    ensures rests { IsTrue S.tells → Rests (S.state (blocks_in fs.old)) (S.state (blocks_in fs.new)) }
+    ensures asks { IsTrue S.tells → AsksOnly S.tells S.state (blocks_in fs.old) (blocks_in fs.new) }
     ensures bytes { IsTrue S.tells → IfOk result (λ bytes. (s : Segment) → HoldsSegment s (S.state (blocks_in fs.old)) → first ≡ s.first
         → bytes ≡ take 65540 (drop offset (spellings s.appends))) }
     ensures why { IfErr result (λ why. is_own why ≡ false) }
@@ -86,7 +87,7 @@ fn read<S: Blocks>(
     a_tree_that_stands_is_sound();
     a_segment_is_read();
     let cmd = read_window(alloc, first, offset)?;
-    let reply = look(alloc, fs, &cmd);
+    let reply = question(alloc, fs, &cmd);
     let bytes = bytes_of(reply)?;
     Ok(bytes)
 }
@@ -104,7 +105,7 @@ fn pass_some<S: Blocks>(
 ) -> Result<Passed, LogRefusal>
     requires follows { MayFollow S.tells S.state fs.old }
     ensures follows { MayFollow S.tells S.state fs.new }
-    ensures rests { IsTrue S.tells → Rests (S.state (blocks_in fs.old)) (S.state (blocks_in fs.new)) }
+    ensures asks { IsTrue S.tells → AsksOnly S.tells S.state (blocks_in fs.old) (blocks_in fs.new) }
     ensures some { IfOk result (λ passed. (0 < passed.appends) × (passed.appends ≤ most)) }
     ensures at { IsTrue S.tells → IfOk result (λ passed. (s : Segment) (others : ℕ) → HoldsSegment s (S.state (blocks_in fs.old)) → first ≡ s.first
         → IsAt s offset others → IsAt s (offset + passed.bytes) (others + passed.appends)) }
@@ -134,7 +135,7 @@ pub(crate) fn seek<S: Blocks>(
 ) -> Result<u32, LogRefusal>
     requires follows { MayFollow S.tells S.state fs.old }
     ensures follows { MayFollow S.tells S.state fs.new }
-    ensures rests { IsTrue S.tells → Rests (S.state (blocks_in fs.old)) (S.state (blocks_in fs.new)) }
+    ensures asks { IsTrue S.tells → AsksOnly S.tells S.state (blocks_in fs.old) (blocks_in fs.new) }
     ensures at { IsTrue S.tells → IfOk result (λ offset. (s : Segment) → HoldsSegment s (S.state (blocks_in fs.old)) → first ≡ s.first
         → IsAt s offset others) }
     ensures why { IfErr result (λ why. is_own why ≡ false) }
@@ -183,7 +184,7 @@ pub(crate) fn append_at<S: Blocks>(
 ) -> Result<Bytes, LogRefusal>
     requires follows { MayFollow S.tells S.state fs.old }
     ensures follows { MayFollow S.tells S.state fs.new }
-    ensures rests { IsTrue S.tells → Rests (S.state (blocks_in fs.old)) (S.state (blocks_in fs.new)) }
+    ensures asks { IsTrue S.tells → AsksOnly S.tells S.state (blocks_in fs.old) (blocks_in fs.new) }
     ensures bytes { IsTrue S.tells → IfOk result (λ bytes. (s : Segment) (others : ℕ) → HoldsSegment s (S.state (blocks_in fs.old)) → first ≡ s.first
         → IsAt s offset others → slice_get s.appends others ≡ Some bytes) }
     ensures why { IfErr result (λ why. is_own why ≡ false) }

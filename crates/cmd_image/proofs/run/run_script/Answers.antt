@@ -5,7 +5,7 @@ use Rattle.cmd_image.specs.declared.ending.Ending.{Ending}
 use Rattle.cmd_image.specs.declared.ending.RunRefusal.{RunRefusal}
 use Rattle.cmd_image.specs.Runs.{Streams}
 use Rattle.cmd_image.proofs.RunBays.{RunsBay, runs_bay, unasked_by, unlent_by}
-use Rattle.cmd_image.proofs.ShowBays.{fresh}
+use Rattle.cmd_image.specs.Shared.{fresh}
 use Rattle.cmd_image.proofs.run.run_script.Given.{Over}
 use Rattle.cmd_image.proofs.run.run_script.Goals as goal
 use Rattle.cmd_image.proofs.run.run_script.Goals.{After-close_run}

@@ -10,9 +10,9 @@ use Rattle.lang_tree.specs.Step.{session_on}
 use Rattle.cmd_session.specs.Shared.{drawn}
 use Rattle.cmd_image.specs.Staying.{damage_stays, none_stays}
 use Rattle.cmd_image.specs.Steps.{SoFar}
-use Rattle.cmd_image.proofs.Beginning.{first_so_far, known_first, mounted_with}
+use Rattle.cmd_image.specs.Shared.{is_mark_in, mounted_with}
+use Rattle.cmd_image.proofs.Beginning.{first_so_far, known_first}
 use Rattle.cmd_image.proofs.Finishing.{unopened_counts, unopened_run_back}
-use Rattle.cmd_image.proofs.Going.{is_mark_in}
 use Rattle.cmd_image.proofs.run.run_store.Goals as goal
 
 pub returns-in-Ok-clause-comes : goal.returns-in-Ok-clause-comes

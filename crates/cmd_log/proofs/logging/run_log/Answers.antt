@@ -4,7 +4,8 @@ use Rattle.cmd_image.specs.Lent.{disk_of}
 use Rattle.cmd_image.specs.declared.ending.Ending.{Ending}
 use Rattle.cmd_image.specs.Runs.{Streams}
 use Rattle.cmd_log.specs.declared.refusal.LogRunRefusal.{LogRunRefusal}
-use Rattle.cmd_log.proofs.LogBays.{LogsBay, fresh, logs_bay, unasked_by, unlent_by}
+use Rattle.cmd_image.specs.Shared.{fresh}
+use Rattle.cmd_log.proofs.LogBays.{LogsBay, logs_bay, unasked_by, unlent_by}
 use Rattle.cmd_log.proofs.logging.run_log.Given.{Over}
 use Rattle.cmd_log.proofs.logging.run_log.Goals as goal
 use Rattle.cmd_log.proofs.logging.run_log.Goals.{After-close_log}

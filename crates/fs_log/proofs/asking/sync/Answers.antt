@@ -19,17 +19,23 @@ pub returns-clause-promised : goal.returns-clause-promised
 returns-clause-promised g c = λ told point done.
     promised g.S.Blocks.tells g.S.Blocks.state (blocks_in c.args.fs.now) (blocks_in c.ask-reply.new.fs) c.ask-reply.result (c.requires.follows.stands told) (c.ask-reply.ensures.asked told) point done
 
+pub returns-clause-was : goal.returns-clause-was
+returns-clause-was g c =
+    let old = blocks_in c.args.fs.now in
+    let new = blocks_in c.ask-reply.new.fs in
+    was_asked g.S.Blocks.tells g.S.Blocks.state c.calls_compose.ensures.advances (λ told s. no_time g.S.Blocks.state (c.calls_compose.ensures.rests told) s) AsksToSync Dsync c.ask-reply.result old new refl
+    (record {
+      applies = c.ask-reply.ensures.applies;
+      asked = c.ask-reply.ensures.asked;
+      session = λ told. session_of (g.S.Blocks.state old) (c.requires.follows.stands told);
+    })
+
 pub returns-clause-cause : goal.returns-clause-cause
 returns-clause-cause g c = λ none.
     let old = blocks_in c.args.fs.now in
     let new = blocks_in c.ask-reply.new.fs in
     caused g.S.Blocks.tells g.S.Blocks.state is_of_none AsksToSync old new c.ask-reply.result
-    (was_asked g.S.Blocks.tells g.S.Blocks.state c.calls_compose.ensures.advances (λ told s. no_time g.S.Blocks.state (c.calls_compose.ensures.rests told) s) AsksToSync Dsync c.ask-reply.result old new refl
-    (record {
-      applies = c.ask-reply.ensures.applies;
-      asked = c.ask-reply.ensures.asked;
-      session = λ told. session_of (g.S.Blocks.state old) (c.requires.follows.stands told);
-    }))
+    (returns-clause-was g c)
     (λ told.
     let f = session_of (g.S.Blocks.state old) (c.requires.follows.stands told) in
     let x = c.a_command_is_answered_in_a_room_that_came_back.ensures.answers told old new f.0 Dsync c.ask-reply.result f.1 c.ask-reply.ensures.applies in

@@ -9,7 +9,7 @@ use Rattle.fs_log.proofs.finding.count_appends.Given as goal
 abbrev pub invariant-loop-offset : goal.invariant-loop-offset
 invariant-loop-offset g l =
     MayFollow g.S.Blocks.tells g.S.Blocks.state l.fs
-    × (IsTrue g.S.Blocks.tells → AsksOnly (g.S.Blocks.state (blocks_in l.fn.fs)) (g.S.Blocks.state (blocks_in l.fs)))
+    × (IsTrue g.S.Blocks.tells → AsksOnly g.S.Blocks.tells g.S.Blocks.state (blocks_in l.fn.fs) (blocks_in l.fs))
     × (4 * l.appends ≤ l.offset)
     × (IsTrue g.S.Blocks.tells → (f : Session) (node : ℕ) (bytes : List ℕ) → IsSession (g.S.Blocks.state (blocks_in l.fn.fs)) f → HasFile f.tree l.first node bytes → HasPassed bytes l.appends l.offset)
 

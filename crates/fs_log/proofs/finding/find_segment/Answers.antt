@@ -12,7 +12,7 @@ returns-in_err-file-clause-bad g c = λ told. passed_on c.from_residual.result c
 
 pub returns-in_err-count-clause-asks : goal.returns-in_err-count-clause-asks
 returns-in_err-count-clause-asks g c = λ told.
-    asks_twice g.S.Blocks.state c.calls_compose.ensures.advances (blocks_in c.args.fs.now) (blocks_in c.find_file.new.fs) (blocks_in c.count_appends.new.fs) (c.find_file.ensures.asks told) (c.count_appends.ensures.asks told)
+    asks_twice g.S.Blocks.state c.calls_compose.ensures.advances g.S.Blocks.tells (blocks_in c.args.fs.now) (blocks_in c.find_file.new.fs) (blocks_in c.count_appends.new.fs) (c.find_file.ensures.asks told) (c.count_appends.ensures.asks told)
 
 pub returns-in_err-count-clause-bad : goal.returns-in_err-count-clause-bad
 returns-in_err-count-clause-bad g c = λ told.
@@ -23,7 +23,7 @@ returns-in_err-count-clause-bad g c = λ told.
 
 pub returns-in-None-clause-asks : goal.returns-in-None-clause-asks
 returns-in-None-clause-asks g c = λ told.
-    asks_twice g.S.Blocks.state c.calls_compose.ensures.advances (blocks_in c.args.fs.now) (blocks_in c.find_file.new.fs) (blocks_in c.count_appends.new.fs) (c.find_file.ensures.asks told) (c.count_appends.ensures.asks told)
+    asks_twice g.S.Blocks.state c.calls_compose.ensures.advances g.S.Blocks.tells (blocks_in c.args.fs.now) (blocks_in c.find_file.new.fs) (blocks_in c.count_appends.new.fs) (c.find_file.ensures.asks told) (c.count_appends.ensures.asks told)
 
 pub returns-in-None-clause-bad : goal.returns-in-None-clause-bad
 returns-in-None-clause-bad g c = λ told bad f session leads.
@@ -33,7 +33,7 @@ returns-in-None-clause-bad g c = λ told bad f session leads.
 
 pub returns-clause-asks : goal.returns-clause-asks
 returns-clause-asks g c = λ told.
-    asks_twice g.S.Blocks.state c.calls_compose.ensures.advances (blocks_in c.args.fs.now) (blocks_in c.find_file.new.fs) (blocks_in c.count_appends.new.fs) (c.find_file.ensures.asks told) (c.count_appends.ensures.asks told)
+    asks_twice g.S.Blocks.state c.calls_compose.ensures.advances g.S.Blocks.tells (blocks_in c.args.fs.now) (blocks_in c.find_file.new.fs) (blocks_in c.count_appends.new.fs) (c.find_file.ensures.asks told) (c.count_appends.ensures.asks told)
 
 pub returns-clause-segment : goal.returns-clause-segment
 returns-clause-segment g c = λ told f session leads.
@@ -47,7 +47,7 @@ returns-in_err-file-clause-cause g c = λ has. passed_on c.from_residual.result 
 pub returns-in_err-count-clause-cause : goal.returns-in_err-count-clause-cause
 returns-in_err-count-clause-cause g c = λ has.
     passed_on c.from_residual-in_err-count.result c.in_err-count.field-0.0 _ c.from_residual-in_err-count.ensures.1
-    (open_later g.S.Blocks.tells g.S.Blocks.state c.calls_compose.ensures.advances (λ told s. no_time g.S.Blocks.state (c.calls_compose.ensures.rests told) s) c.in_err-count.field-0.0 (blocks_in c.args.fs.now) (blocks_in c.find_file.new.fs) (blocks_in c.count_appends.new.fs) (λ told. (c.find_file.ensures.asks told).keeps)
+    (open_later g.S.Blocks.tells g.S.Blocks.state c.calls_compose.ensures.advances (λ told s. no_time g.S.Blocks.state (c.calls_compose.ensures.rests told) s) c.in_err-count.field-0.0 (blocks_in c.args.fs.now) (blocks_in c.find_file.new.fs) (blocks_in c.count_appends.new.fs) c.find_file.ensures.asks
     (c.in_err-count.ensures.cause (λ told.
     let h = has told in
     let file = c.in_ok-file.ensures.file told h.0 h.1 h.2 in

@@ -16,7 +16,7 @@ use Rattle.fs_log.proofs.opening.add_segment.Goals as goal
 
 pub returns-in-None-clause-asks : goal.returns-in-None-clause-asks
 returns-in-None-clause-asks g c = λ told.
-    asks_none g.S.Blocks.state (blocks_in c.args.fs.now) (c.calls_compose.ensures.rests told) (λ s trees img known left. c.a_crash_leaves_the_tree_of_a_point.ensures.now s trees img told known left)
+    asks_none g.S.Blocks.state g.S.Blocks.tells (blocks_in c.args.fs.now) (c.calls_compose.ensures.rests told) (λ s trees img known left. c.a_crash_leaves_the_tree_of_a_point.ensures.now s trees img told known left)
 
 pub returns-in-None-clause-bad : goal.returns-in-None-clause-bad
 returns-in-None-clause-bad g c = λ told bad f seen behind session names so_far.
@@ -25,7 +25,7 @@ returns-in-None-clause-bad g c = λ told bad f seen behind session names so_far.
 
 pub returns-then-not-may_begin-clause-asks : goal.returns-then-not-may_begin-clause-asks
 returns-then-not-may_begin-clause-asks g c = λ told.
-    asks_none g.S.Blocks.state (blocks_in c.args.fs.now) (c.calls_compose.ensures.rests told) (λ s trees img known left. c.a_crash_leaves_the_tree_of_a_point.ensures.now s trees img told known left)
+    asks_none g.S.Blocks.state g.S.Blocks.tells (blocks_in c.args.fs.now) (c.calls_compose.ensures.rests told) (λ s trees img known left. c.a_crash_leaves_the_tree_of_a_point.ensures.now s trees img told known left)
 
 pub returns-then-not-may_begin-clause-bad : goal.returns-then-not-may_begin-clause-bad
 returns-then-not-may_begin-clause-bad g c = λ told bad f seen behind session names so_far.
@@ -70,7 +70,7 @@ returns-in_err-segment-clause-cause g c = λ has.
     (c.in_err-segment.ensures.cause (λ told. let h = has told in (h.0, h.1, subst (λ q. (n : ℕ) × (get h.0.tree.names (path_in_log q) ≡ Some n)) c.in-Some.ensures.found h.2)))
 
 pub returns-in_err-insert-clause-cause : goal.returns-in_err-insert-clause-cause
-returns-in_err-insert-clause-cause g c = λ has. passed_on c.from_residual-in_err-insert.result (FsRefused NoMemory) _ c.from_residual-in_err-insert.ensures.1 (open_lacking g.S.Blocks.tells g.S.Blocks.state (blocks_in c.args.fs.now) (blocks_in c.find_segment.new.fs))
+returns-in_err-insert-clause-cause g c = λ has. passed_on c.from_residual-in_err-insert.result (FsRefused NoMemory) _ c.from_residual-in_err-insert.ensures.1 (open_lacking g.S.Blocks.tells g.S.Blocks.state (blocks_in c.args.fs.now) (blocks_in c.find_segment.new.fs) (λ told. (c.find_segment.ensures.asks told).way))
 
 pub returns-in_err-push-clause-cause : goal.returns-in_err-push-clause-cause
-returns-in_err-push-clause-cause g c = λ has. passed_on c.from_residual-in_err-push.result (FsRefused NoMemory) _ c.from_residual-in_err-push.ensures.1 (open_lacking g.S.Blocks.tells g.S.Blocks.state (blocks_in c.args.fs.now) (blocks_in c.find_segment.new.fs))
+returns-in_err-push-clause-cause g c = λ has. passed_on c.from_residual-in_err-push.result (FsRefused NoMemory) _ c.from_residual-in_err-push.ensures.1 (open_lacking g.S.Blocks.tells g.S.Blocks.state (blocks_in c.args.fs.now) (blocks_in c.find_segment.new.fs) (λ told. (c.find_segment.ensures.asks told).way))

@@ -1,4 +1,4 @@
-use Rattle.std.proofs.Common.{◌≡◌, ◌∙◌, None, refl, subst, sym}
+use Rattle.std.proofs.Common.{◌≡◌, ap, inl, inr, ◌∙◌, None, refl, subst, sym}
 use Rattle.std.specs.FinMap.{get}
 use Rattle.layout_geometry.specs.Geometry.{IsGeometry}
 use Rattle.lang_tree.specs.declared.command.Refusal.TheVariants.{NoMemory}
@@ -6,7 +6,7 @@ use Rattle.lang_tree.specs.declared.command.Cmd.TheVariants.{Mkdir}
 use Rattle.lang_log.specs.Names.{log_path}
 use Rattle.fs_commands.specs.Opened.{blocks_in}
 use Rattle.fs_log.specs.declared.refusal.OpenRefusal.TheVariants.{Fs as FsRefused}
-use Rattle.fs_log.specs.Opening.{IsNotOpened}
+use Rattle.fs_log.specs.Opening.{AsksToOpen, IsNotOpened}
 use Rattle.fs_log.proofs.Begun.{answered_refused, holds_nothing, keeps_if_refused, mkdir_not_bad, takes_nothing}
 use Rattle.fs_log.proofs.Causes.{passed_on, was_asked}
 use Rattle.fs_log.proofs.Holding.{session_of}
@@ -15,15 +15,16 @@ use Rattle.fs_log.proofs.OpenCauses.{mkdir_fits, mkdir_not_opened, mkdir_refusal
 use Rattle.fs_log.proofs.Questioning.{asks_none, keeps_tree, session_sound}
 use Rattle.fs_log.proofs.Telling.{refused_not_bad}
 use Rattle.fs_log.proofs.Writing.{no_time}
+use Rattle.fs_log.proofs.Ways.{asks_nothing, asks_one}
 use Rattle.fs_log.proofs.opening.begin_log.Goals as goal
 
 pub returns-in_err-path-clause-time : goal.returns-in_err-path-clause-time
 returns-in_err-path-clause-time g c = λ told.
-    (asks_none g.S.Blocks.state (blocks_in c.args.fs.now) (c.calls_compose.ensures.rests told) (λ s trees img known left. c.a_crash_leaves_the_tree_of_a_point.ensures.now s trees img told known left)).keeps.time
+    (asks_none g.S.Blocks.state g.S.Blocks.tells (blocks_in c.args.fs.now) (c.calls_compose.ensures.rests told) (λ s trees img known left. c.a_crash_leaves_the_tree_of_a_point.ensures.now s trees img told known left)).keeps.time
 
 pub returns-in_err-path-clause-same : goal.returns-in_err-path-clause-same
 returns-in_err-path-clause-same g c = λ told.
-    on_err c.from_residual.result _ (asks_none g.S.Blocks.state (blocks_in c.args.fs.now) (c.calls_compose.ensures.rests told) (λ s trees img known left. c.a_crash_leaves_the_tree_of_a_point.ensures.now s trees img told known left)).keeps
+    on_err c.from_residual.result _ (asks_none g.S.Blocks.state g.S.Blocks.tells (blocks_in c.args.fs.now) (c.calls_compose.ensures.rests told) (λ s trees img known left. c.a_crash_leaves_the_tree_of_a_point.ensures.now s trees img told known left)).keeps
 
 pub returns-in_err-made-clause-time : goal.returns-in_err-made-clause-time
 returns-in_err-made-clause-time g c = λ told.
@@ -64,7 +65,7 @@ returns-clause-time g c = λ told.
     (λ some going left. c.a_command_begins_with_a_tick.ensures (Mkdir c.in_ok-path.path) c.ask-reply.result (blocks_in c.args.fs.now) (blocks_in c.ask-reply.new.fs) some going left c.ask-reply.ensures.applies) (c.ask-reply.ensures.asked told)
 
 pub returns-in_err-path-clause-cause : goal.returns-in_err-path-clause-cause
-returns-in_err-path-clause-cause g c = λ has. passed_on c.from_residual.result (FsRefused NoMemory) _ c.from_residual.ensures.1 (open_lacking g.S.Blocks.tells g.S.Blocks.state (blocks_in c.args.fs.now) (blocks_in c.args.fs.now))
+returns-in_err-path-clause-cause g c = λ has. passed_on c.from_residual.result (FsRefused NoMemory) _ c.from_residual.ensures.1 (open_lacking g.S.Blocks.tells g.S.Blocks.state (blocks_in c.args.fs.now) (blocks_in c.args.fs.now) (λ told. asks_nothing g.S.Blocks.tells g.S.Blocks.state (λ cmd. ⊥) (blocks_in c.args.fs.now)))
 
 pub returns-in_err-made-clause-cause : goal.returns-in_err-made-clause-cause
 returns-in_err-made-clause-cause g c = λ has.
@@ -91,3 +92,7 @@ returns-in_err-made-clause-cause g c = λ has.
     let h = has told in
     let s = g.S.Blocks.state old in
     subst (λ u. get u.names log_path ≡ None) (c.an_image_stands_for_one_tree.ensures.blocks s.books.geom s.map h.0.tree t h.2.tree stands) h.3)))
+
+pub returns-clause-asked : goal.returns-clause-asked
+returns-clause-asked g c = λ told.
+    asks_one g.S.Blocks.tells g.S.Blocks.state AsksToOpen (Mkdir c.in_ok-path.path) c.ask-reply.result (blocks_in c.args.fs.now) (blocks_in c.ask-reply.new.fs) (inl (inr (inl (ap Mkdir c.in_ok-path.ensures)))) c.ask-reply.ensures.applies

@@ -10,11 +10,12 @@ use Rattle.lang_tree.specs.declared.command.Refusal.TheVariants.{NoMemory}
 use Rattle.fs_log.specs.declared.refusal.OpenRefusal.TheVariants.{Fs as FsRefused}
 use Rattle.fs_log.specs.Opening.{IsNotOpened}
 use Rattle.fs_log.proofs.OpenCauses.{open_lacking, question_cause}
+use Rattle.fs_log.proofs.Ways.{asks_nothing}
 use Rattle.fs_log.proofs.opening.find_at_log.Goals as goal
 
 pub returns-in_err-path-clause-asks : goal.returns-in_err-path-clause-asks
 returns-in_err-path-clause-asks g c = λ told.
-    asks_none g.S.Blocks.state (blocks_in c.args.fs.now) (c.calls_compose.ensures.rests told) (λ s trees img known left. c.a_crash_leaves_the_tree_of_a_point.ensures.now s trees img told known left)
+    asks_none g.S.Blocks.state g.S.Blocks.tells (blocks_in c.args.fs.now) (c.calls_compose.ensures.rests told) (λ s trees img known left. c.a_crash_leaves_the_tree_of_a_point.ensures.now s trees img told known left)
 
 pub returns-in_err-found-clause-bad : goal.returns-in_err-found-clause-bad
 returns-in_err-found-clause-bad g c = λ told.
@@ -39,7 +40,7 @@ returns-clause-there g c = λ told f session.
     (c.in_ok-found.ensures.told ∙ ap stat_reply c.in-None.is)
 
 pub returns-in_err-path-clause-cause : goal.returns-in_err-path-clause-cause
-returns-in_err-path-clause-cause g c = passed_on c.from_residual.result (FsRefused NoMemory) _ c.from_residual.ensures.1 (open_lacking g.S.Blocks.tells g.S.Blocks.state (blocks_in c.args.fs.now) (blocks_in c.args.fs.now))
+returns-in_err-path-clause-cause g c = passed_on c.from_residual.result (FsRefused NoMemory) _ c.from_residual.ensures.1 (open_lacking g.S.Blocks.tells g.S.Blocks.state (blocks_in c.args.fs.now) (blocks_in c.args.fs.now) (λ told. asks_nothing g.S.Blocks.tells g.S.Blocks.state (λ cmd. ⊥) (blocks_in c.args.fs.now)))
 
 pub returns-in_err-found-clause-cause : goal.returns-in_err-found-clause-cause
 returns-in_err-found-clause-cause g c =

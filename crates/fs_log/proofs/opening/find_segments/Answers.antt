@@ -37,7 +37,7 @@ loop-name-preserved g c =
     let within : i < length names = omega (arith, c.loop-name-test.true) in (
       c.add_segment.ensures.follows,
       omega (arith, within),
-      λ told. asks_twice g.S.Blocks.state c.calls_compose.ensures.advances (blocks_in c.args.fs.now) (blocks_in c.loop-name.fs) (blocks_in c.add_segment.new.fs) (before.2 told) (c.add_segment.ensures.asks told),
+      λ told. asks_twice g.S.Blocks.state c.calls_compose.ensures.advances g.S.Blocks.tells (blocks_in c.args.fs.now) (blocks_in c.loop-name.fs) (blocks_in c.add_segment.new.fs) (before.2 told) (c.add_segment.ensures.asks told),
       λ told f session there.
           let b = before.3 told f session there in (
             b.0,
@@ -48,7 +48,7 @@ loop-name-preserved g c =
 
 pub returns-in_err-add_segment-clause-asks : goal.returns-in_err-add_segment-clause-asks
 returns-in_err-add_segment-clause-asks g c = λ told.
-    asks_twice g.S.Blocks.state c.calls_compose.ensures.advances (blocks_in c.args.fs.now) (blocks_in c.loop-name.fs) (blocks_in c.add_segment.new.fs) (c.loop-name.invariant.2 told) (c.add_segment.ensures.asks told)
+    asks_twice g.S.Blocks.state c.calls_compose.ensures.advances g.S.Blocks.tells (blocks_in c.args.fs.now) (blocks_in c.loop-name.fs) (blocks_in c.add_segment.new.fs) (c.loop-name.invariant.2 told) (c.add_segment.ensures.asks told)
 
 pub returns-in_err-add_segment-clause-bad : goal.returns-in_err-add_segment-clause-bad
 returns-in_err-add_segment-clause-bad g c = λ told.
@@ -72,7 +72,7 @@ pub returns-in_err-list-clause-cause : goal.returns-in_err-list-clause-cause
 returns-in_err-list-clause-cause g c = λ has. passed_on c.from_residual.result c.in_err-list.field-0.0 _ c.from_residual.ensures.1 (c.in_err-list.ensures.cause has)
 
 pub returns-in_err-with_capacity-clause-cause : goal.returns-in_err-with_capacity-clause-cause
-returns-in_err-with_capacity-clause-cause g c = λ has. passed_on c.from_residual-in_err-with_capacity.result (FsRefused NoMemory) _ c.from_residual-in_err-with_capacity.ensures.1 (open_lacking g.S.Blocks.tells g.S.Blocks.state (blocks_in c.args.fs.now) (blocks_in c.find_names.new.fs))
+returns-in_err-with_capacity-clause-cause g c = λ has. passed_on c.from_residual-in_err-with_capacity.result (FsRefused NoMemory) _ c.from_residual-in_err-with_capacity.ensures.1 (open_lacking g.S.Blocks.tells g.S.Blocks.state (blocks_in c.args.fs.now) (blocks_in c.find_names.new.fs) (λ told. (c.find_names.ensures.asks told).way))
 
 pub returns-in_err-add_segment-clause-cause : goal.returns-in_err-add_segment-clause-cause
 returns-in_err-add_segment-clause-cause g c = λ has.
@@ -81,7 +81,7 @@ returns-in_err-add_segment-clause-cause g c = λ has.
     let i = c.loop-name.name-index in
     let within : i < length names = omega (arith, c.loop-name-test.true) in
     passed_on c.from_residual-in_err-add_segment.result c.in_err-add_segment.field-0.0 _ c.from_residual-in_err-add_segment.ensures.1
-    (open_later g.S.Blocks.tells g.S.Blocks.state c.calls_compose.ensures.advances (λ told s. no_time g.S.Blocks.state (c.calls_compose.ensures.rests told) s) c.in_err-add_segment.field-0.0 (blocks_in c.args.fs.now) (blocks_in c.loop-name.fs) (blocks_in c.add_segment.new.fs) (λ told. (before.2 told).keeps)
+    (open_later g.S.Blocks.tells g.S.Blocks.state c.calls_compose.ensures.advances (λ told s. no_time g.S.Blocks.state (c.calls_compose.ensures.rests told) s) c.in_err-add_segment.field-0.0 (blocks_in c.args.fs.now) (blocks_in c.loop-name.fs) (blocks_in c.add_segment.new.fs) before.2
     (c.in_err-add_segment.ensures.cause (λ told.
     let h = has told in
     let b = before.3 told h.0 h.1 h.2 in (

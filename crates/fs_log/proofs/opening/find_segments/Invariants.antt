@@ -13,6 +13,6 @@ abbrev pub invariant-loop-name : goal.invariant-loop-name
 invariant-loop-name g l =
     MayFollow g.S.Blocks.tells g.S.Blocks.state l.fs
     × (l.name-index ≤ length l.names)
-    × (IsTrue g.S.Blocks.tells → AsksOnly (g.S.Blocks.state (blocks_in l.fn.fs)) (g.S.Blocks.state (blocks_in l.fs)))
+    × (IsTrue g.S.Blocks.tells → AsksOnly g.S.Blocks.tells g.S.Blocks.state (blocks_in l.fn.fs) (blocks_in l.fs))
     × (IsTrue g.S.Blocks.tells → (f : Session) → IsSession (g.S.Blocks.state (blocks_in l.fn.fs)) f → HasDirectory f.tree
     → (l.names ≡ names_in f.tree.names log_path) × HasFoundSome f.tree (take l.name-index l.names) l.found.firsts.items l.found.size l.found.next (contains nat_cmp l.nodes))

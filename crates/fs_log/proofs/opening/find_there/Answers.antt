@@ -7,7 +7,7 @@ use Rattle.fs_log.proofs.opening.find_there.Goals as goal
 
 pub returns-in-File-clause-asks : goal.returns-in-File-clause-asks
 returns-in-File-clause-asks g c = λ told.
-    asks_none g.S.Blocks.state (blocks_in c.args.fs.now) (c.calls_compose.ensures.rests told) (λ s trees img known left. c.a_crash_leaves_the_tree_of_a_point.ensures.now s trees img told known left)
+    asks_none g.S.Blocks.state g.S.Blocks.tells (blocks_in c.args.fs.now) (c.calls_compose.ensures.rests told) (λ s trees img known left. c.a_crash_leaves_the_tree_of_a_point.ensures.now s trees img told known left)
 
 pub returns-in-File-clause-bad : goal.returns-in-File-clause-bad
 returns-in-File-clause-bad g c = λ told bad f session there.

@@ -6,6 +6,7 @@ use Rattle.fs_log.specs.declared.refusal.LogRefusal.TheVariants.{Fs as FsRefused
 use Rattle.fs_log.specs.Causes.{ReadsSegment}
 use Rattle.fs_log.specs.Refusals.{is_of_none}
 use Rattle.fs_log.proofs.Causes.{lacking, passed_on}
+use Rattle.fs_log.proofs.Ways.{asks_only}
 use Rattle.fs_log.proofs.Windows.{append_is, are_short, begins_with_next}
 use Rattle.fs_log.proofs.reading.append_at.Goals as goal
 
@@ -31,4 +32,5 @@ returns-in_default-clause-cause g c = λ has. (
 pub returns-in_err-copy-clause-cause : goal.returns-in_err-copy-clause-cause
 returns-in_err-copy-clause-cause g c = λ has.
     passed_on c.from_residual-in_err-copy.result (FsRefused NoMemory) _ c.from_residual-in_err-copy.ensures.1
-    (lacking g.S.Blocks.tells g.S.Blocks.state is_of_none (ReadsSegment c.args.first) (blocks_in c.args.fs.now) (blocks_in c.read.new.fs))
+    (lacking g.S.Blocks.tells g.S.Blocks.state is_of_none (ReadsSegment c.args.first) (blocks_in c.args.fs.now) (blocks_in c.read.new.fs)
+    (λ told. asks_only g.S.Blocks.tells g.S.Blocks.state (ReadsSegment c.args.first) (blocks_in c.args.fs.now) (blocks_in c.read.new.fs) (c.read.ensures.asks told).way))

@@ -6,7 +6,8 @@ use Rattle.engine_store.specs.StoreOf.{disk_in, state_of}
 use Rattle.cmd_session.specs.Shared.{drawn}
 use Rattle.cmd_image.specs.Steps.{SoFar}
 use Rattle.cmd_image.proofs.Counting.{counts_by_reply, moved}
-use Rattle.cmd_image.proofs.Going.{is_mark_in, more_so_far}
+use Rattle.cmd_image.specs.Shared.{is_mark_in}
+use Rattle.cmd_image.proofs.Going.{more_so_far}
 use Rattle.cmd_image.proofs.running.Running.answer.Goals as goal
 
 pub returns-clause-answers : goal.returns-clause-answers

@@ -9,9 +9,9 @@ pub returns-in-Err : goal.returns-in-Err
 returns-in-Err g c =
     subst (λ answer. IsAnswered g.S.Blocks.tells g.S.Blocks.state Sync answer c.args.self.now c.sync.new.self) (sym c.reply_for.ensures)
     (subst (λ q. IsAnswered g.S.Blocks.tells g.S.Blocks.state Sync (reply_for c.in-Err.why) q c.sync.new.self) c.self.view_is
-    (sync_refused g.S.Blocks.tells g.S.Blocks.state c.self.inside.log c.sync.new.self c.in-Err.why c.in-Err.ensures.refused c.in-Err.ensures.cause))
+    (sync_refused g.S.Blocks.tells g.S.Blocks.state c.self.inside.log c.sync.new.self c.sync.ensures.most c.in-Err.why c.in-Err.ensures.refused c.in-Err.ensures.cause))
 
 pub returns : goal.returns
 returns g c =
     subst (λ q. IsAnswered g.S.Blocks.tells g.S.Blocks.state Sync (reply.Durable c.in-Ok.point) q c.sync.new.self) c.self.view_is
-    (sync_done g.S.Blocks.tells g.S.Blocks.state c.self.inside.log c.sync.new.self c.in-Ok.point c.in-Ok.ensures.done c.in-Ok.ensures.kept)
+    (sync_done g.S.Blocks.tells g.S.Blocks.state c.self.inside.log c.sync.new.self c.sync.ensures.most c.in-Ok.point c.in-Ok.ensures.done c.in-Ok.ensures.kept c.in-Ok.ensures.asked)

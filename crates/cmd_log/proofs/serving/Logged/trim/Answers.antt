@@ -9,9 +9,9 @@ pub returns-in-Err : goal.returns-in-Err
 returns-in-Err g c =
     subst (λ answer. IsAnswered g.S.Blocks.tells g.S.Blocks.state (Trim c.args.number) answer c.args.self.now c.trim-trimmed.new.self) (sym c.reply_for.ensures)
     (subst (λ q. IsAnswered g.S.Blocks.tells g.S.Blocks.state (Trim c.args.number) (reply_for c.in-Err.why) q c.trim-trimmed.new.self) c.self.view_is
-    (trim_refused g.S.Blocks.tells g.S.Blocks.state c.self.inside.log c.trim-trimmed.new.self c.args.number c.in-Err.why c.in-Err.ensures.goes c.in-Err.ensures.cause))
+    (trim_refused g.S.Blocks.tells g.S.Blocks.state c.self.inside.log c.trim-trimmed.new.self c.trim-trimmed.ensures.most c.args.number c.in-Err.why c.in-Err.ensures.goes c.in-Err.ensures.cause))
 
 pub returns : goal.returns
 returns g c =
     subst (λ q. IsAnswered g.S.Blocks.tells g.S.Blocks.state (Trim c.args.number) (reply.Low c.in-Ok.low) q c.trim-trimmed.new.self) c.self.view_is
-    (trim_done g.S.Blocks.tells g.S.Blocks.state c.self.inside.log c.trim-trimmed.new.self c.args.number c.in-Ok.low c.range.ensures.told c.in-Ok.ensures.goes c.in-Ok.ensures.end c.in-Ok.ensures.low)
+    (trim_done g.S.Blocks.tells g.S.Blocks.state c.self.inside.log c.trim-trimmed.new.self c.trim-trimmed.ensures.most c.args.number c.in-Ok.low c.range.ensures.told c.in-Ok.ensures.goes c.in-Ok.ensures.end c.in-Ok.ensures.low c.in-Ok.ensures.asked)

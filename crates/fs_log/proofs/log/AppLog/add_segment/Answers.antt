@@ -8,10 +8,12 @@ use Rattle.fs_log.specs.Causes.{AsksToMake, HasCallCause}
 use Rattle.fs_log.specs.Keeping.{TakesLog, as_before}
 use Rattle.fs_log.specs.Open.{Mirrors, Open, state_in}
 use Rattle.fs_log.specs.Refusals.{is_of_none}
+use Rattle.fs_log.specs.Ways.{Way}
 use Rattle.fs_log.proofs.Appending.{began}
-use Rattle.fs_log.proofs.Causes.{caused, lacking, passed_on, was_so}
+use Rattle.fs_log.proofs.Causes.{asked_with, caused, lacking, passed_on, was_so}
 use Rattle.fs_log.proofs.Mirroring.{same_firsts, same_size}
 use Rattle.fs_log.proofs.Writing.{no_time, resting}
+use Rattle.fs_log.proofs.Ways.{asks_nothing}
 use Rattle.fs_log.proofs.log.AppLog.add_segment.Goals as goal
 
 pub returns-in_err-reserve-clause-rests : goal.returns-in_err-reserve-clause-rests
@@ -88,12 +90,14 @@ returns-clause-time g c = λ told.
 pub returns-in_err-reserve-clause-cause : goal.returns-in_err-reserve-clause-cause
 returns-in_err-reserve-clause-cause g c =
     passed_on c.from_residual.result (FsRefused NoMemory) _ c.from_residual.ensures.1
-    (lacking g.S.Blocks.tells g.S.Blocks.state is_of_none (AsksToMake c.args.self.now) (blocks_in c.args.self.now.fs) (blocks_in c.self.inside.fs))
+    (lacking g.S.Blocks.tells g.S.Blocks.state is_of_none (AsksToMake c.args.self.now) (blocks_in c.args.self.now.fs) (blocks_in c.self.inside.fs)
+    (λ told. subst (λ q. Way g.S.Blocks.tells g.S.Blocks.state (AsksToMake c.args.self.now) (blocks_in q.fs) (blocks_in c.self.inside.fs)) c.self.view_is (asks_nothing g.S.Blocks.tells g.S.Blocks.state (AsksToMake c.args.self.now) (blocks_in c.self.inside.fs))))
 
 pub returns-in_err-cmd-clause-cause : goal.returns-in_err-cmd-clause-cause
 returns-in_err-cmd-clause-cause g c =
     passed_on c.from_residual-in_err-cmd.result (FsRefused NoMemory) _ c.from_residual-in_err-cmd.ensures.1
-    (lacking g.S.Blocks.tells g.S.Blocks.state is_of_none (AsksToMake c.args.self.now) (blocks_in c.args.self.now.fs) (blocks_in c.self.inside.fs))
+    (lacking g.S.Blocks.tells g.S.Blocks.state is_of_none (AsksToMake c.args.self.now) (blocks_in c.args.self.now.fs) (blocks_in c.self.inside.fs)
+    (λ told. subst (λ q. Way g.S.Blocks.tells g.S.Blocks.state (AsksToMake c.args.self.now) (blocks_in q.fs) (blocks_in c.self.inside.fs)) c.self.view_is (asks_nothing g.S.Blocks.tells g.S.Blocks.state (AsksToMake c.args.self.now) (blocks_in c.self.inside.fs))))
 
 pub returns-in_err-done-clause-cause : goal.returns-in_err-done-clause-cause
 returns-in_err-done-clause-cause g c =
@@ -109,3 +113,13 @@ returns-in_err-done-clause-cause g c =
     (λ told. (began g.S.Blocks.state l.firsts.items l.size l.next (blocks_in l.fs) new c.change_log-reply.result (c.self.invariant.mirrors told)
     c.in_ok-cmd.cmd (⊎_elim (λ none. inl (same_firsts c.self.view_is ∙ none)) (λ some. inr (subst (λ n. 0 < n) (sym (same_size c.self.view_is)) some)) c.requires.used) c.in_ok-cmd.ensures
     c.names_tell_numbers_apart.ensures (c.change_log-reply.ensures.made told)).late c.in_err-done.ensures.not))))
+
+pub returns-clause-asked : goal.returns-clause-asked
+returns-clause-asked g c = λ told.
+    let l = c.self.inside in
+    let open_now : Open g.row.S.Denot = record { fs = l.fs; most = l.most; firsts = l.firsts.items; size = l.size; next = l.next; kept = l.kept } in
+    let new = blocks_in c.change_log-reply.new.fs in
+    subst (λ q. Way g.S.Blocks.tells g.S.Blocks.state (AsksToMake q) (blocks_in q.fs) new) c.self.view_is
+    (asked_with g.S.Blocks.tells g.S.Blocks.state (AsksToMake open_now) c.change_log-reply.result (blocks_in l.fs) new
+    (was_so g.S.Blocks.tells g.S.Blocks.state (λ cmd. (cmd ≡ c.in_ok-cmd.cmd) ⊎ (cmd ≡ Osync)) (AsksToMake open_now) c.change_log-reply.result (blocks_in l.fs) new
+    (λ cmd asked. ⊎_elim (λ is. inl (is ∙ c.in_ok-cmd.ensures)) (λ is. inr is) asked) c.change_log-reply.ensures.was) told)

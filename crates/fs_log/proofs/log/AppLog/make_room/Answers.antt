@@ -1,9 +1,11 @@
 use Rattle.std.proofs.Common.{refl, ◌∙◌, inl, inr, ⊎_elim, ◌<◌, ◌∷◌, [], length, subst, sym, arith}
 use Rattle.std.proofs.lemmas.List.{length-append}
 use Rattle.fs_commands.specs.Opened.{blocks_in}
+use Rattle.fs_log.specs.Causes.{AsksForRoom, AsksToMake}
 use Rattle.fs_log.proofs.Causes.{passed_on}
 use Rattle.fs_log.proofs.Mirroring.{on_err}
 use Rattle.fs_log.proofs.Writing.{no_time, resting}
+use Rattle.fs_log.proofs.Ways.{asks_nothing, asks_so}
 use Rattle.fs_log.proofs.log.AppLog.make_room.Goals as goal
 
 pub returns-then-has_room-clause-rests : goal.returns-then-has_room-clause-rests
@@ -34,3 +36,12 @@ returns-in_err-add_segment-clause-cause g c = passed_on c.from_residual.result c
 
 pub returns-clause-made : goal.returns-clause-made
 returns-clause-made g c = let made = c.in_ok-add_segment.ensures.made in inr (sym c.has_room.ensures.is ∙ c.if-has_room.false, made.0, made.1)
+
+pub returns-then-has_room-clause-asked : goal.returns-then-has_room-clause-asked
+returns-then-has_room-clause-asked g c = λ told. asks_nothing g.S.Blocks.tells g.S.Blocks.state (AsksForRoom c.args.self.now c.args.count) (blocks_in c.args.self.now.fs)
+
+pub returns-clause-asked : goal.returns-clause-asked
+returns-clause-asked g c = λ told.
+    let old = c.args.self.now in
+    asks_so g.S.Blocks.tells g.S.Blocks.state (AsksToMake old) (AsksForRoom old c.args.count) (blocks_in old.fs) (blocks_in c.add_segment.new.self.fs)
+    (λ cmd asked. (sym c.has_room.ensures.is ∙ c.if-has_room.false, asked)) (c.in_ok-add_segment.ensures.asked told)

@@ -9,10 +9,12 @@ use Rattle.fs_log.specs.Causes.{AsksToRemove, HasCallCause}
 use Rattle.fs_log.specs.Keeping.{TakesLog, as_before}
 use Rattle.fs_log.specs.Open.{Mirrors, Open, second_of, state_in}
 use Rattle.fs_log.specs.Refusals.{is_of_none}
+use Rattle.fs_log.specs.Ways.{Way}
 use Rattle.fs_log.proofs.Appending.{first_of_all, one_less, went}
-use Rattle.fs_log.proofs.Causes.{caused, lacking, passed_on, was_so}
+use Rattle.fs_log.proofs.Causes.{asked_with, caused, lacking, passed_on, was_so}
 use Rattle.fs_log.proofs.Mirroring.{on_err, same_firsts}
 use Rattle.fs_log.proofs.Writing.{no_time, resting}
+use Rattle.fs_log.proofs.Ways.{asks_nothing}
 use Rattle.fs_log.proofs.log.AppLog.remove_first.Goals as goal
 
 pub invariant_of-self : goal.invariant_of-self
@@ -76,7 +78,8 @@ returns-clause-time g c = λ told.
 pub returns-in_err-cmd-clause-cause : goal.returns-in_err-cmd-clause-cause
 returns-in_err-cmd-clause-cause g c =
     passed_on c.from_residual.result (FsRefused NoMemory) _ c.from_residual.ensures.1
-    (lacking g.S.Blocks.tells g.S.Blocks.state is_of_none (AsksToRemove c.args.self.now) (blocks_in c.args.self.now.fs) (blocks_in c.args.self.now.fs))
+    (lacking g.S.Blocks.tells g.S.Blocks.state is_of_none (AsksToRemove c.args.self.now) (blocks_in c.args.self.now.fs) (blocks_in c.args.self.now.fs)
+    (λ told. asks_nothing g.S.Blocks.tells g.S.Blocks.state (AsksToRemove c.args.self.now) (blocks_in c.args.self.now.fs)))
 
 pub returns-in_err-done-clause-cause : goal.returns-in_err-done-clause-cause
 returns-in_err-done-clause-cause g c =
@@ -93,3 +96,15 @@ returns-in_err-done-clause-cause g c =
     (λ cmd asked. ⊎_elim (λ is. inl (c.index.result.now, first_is, is ∙ c.in_ok-cmd.ensures)) (λ is. inr is) asked) c.change_log-reply.ensures.was)
     (λ told. (went g.S.Blocks.state l.firsts.items l.size l.next (blocks_in l.fs) new c.change_log-reply.result (c.self.invariant.mirrors told)
     c.index.result.now c.in_ok-cmd.cmd (subst (λ q. 2 ≤ length q) (sym (same_firsts c.self.view_is)) c.requires.two) first_is c.in_ok-cmd.ensures (c.change_log-reply.ensures.gone told)).late c.in_err-done.ensures.not))))
+
+pub returns-clause-asked : goal.returns-clause-asked
+returns-clause-asked g c = λ told.
+    let l = c.self.inside in
+    let two : 2 ≤ length l.firsts.items = subst (λ q. 2 ≤ length q) (sym (same_firsts c.self.view_is)) c.requires.two in
+    let first_is : slice_get l.firsts.items 0 ≡ Some c.index.result.now = first_of_all l.firsts.items c.index.result.now two c.index.ensures in
+    let open_now : Open g.row.S.Denot = record { fs = l.fs; most = l.most; firsts = l.firsts.items; size = l.size; next = l.next; kept = l.kept } in
+    let new = blocks_in c.change_log-reply.new.fs in
+    subst (λ q. Way g.S.Blocks.tells g.S.Blocks.state (AsksToRemove q) (blocks_in q.fs) new) c.self.view_is
+    (asked_with g.S.Blocks.tells g.S.Blocks.state (AsksToRemove open_now) c.change_log-reply.result (blocks_in l.fs) new
+    (was_so g.S.Blocks.tells g.S.Blocks.state (λ cmd. (cmd ≡ c.in_ok-cmd.cmd) ⊎ (cmd ≡ Osync)) (AsksToRemove open_now) c.change_log-reply.result (blocks_in l.fs) new
+    (λ cmd asked. ⊎_elim (λ is. inl (c.index.result.now, first_is, is ∙ c.in_ok-cmd.ensures)) (λ is. inr is) asked) c.change_log-reply.ensures.was) told)

@@ -5,7 +5,8 @@ use Rattle.fs_log.specs.Causes.{AsksToSync, HasCallCause}
 use Rattle.fs_log.specs.Keeping.{TakesLog, as_before}
 use Rattle.fs_log.specs.Open.{state_in}
 use Rattle.fs_log.specs.Refusals.{is_of_none}
-use Rattle.fs_log.proofs.Causes.{passed_on}
+use Rattle.fs_log.specs.Ways.{Way}
+use Rattle.fs_log.proofs.Causes.{asked_with, passed_on}
 use Rattle.fs_log.proofs.Mirroring.{mirrors_over, on_err}
 use Rattle.fs_log.proofs.log.AppLog.sync.Goals as goal
 
@@ -44,3 +45,8 @@ returns-in_err-point-clause-cause g c =
     (subst (λ l. HasCallCause g.S.Blocks.tells g.S.Blocks.state is_of_none AsksToSync c.in_err-point.field-0.0 (blocks_in l.fs) (blocks_in c.sync-reply.new.fs)) c.self.view_is
     (subst (λ w. HasCallCause g.S.Blocks.tells g.S.Blocks.state is_of_none AsksToSync w (blocks_in c.self.inside.fs) (blocks_in c.sync-reply.new.fs)) (sym c.in_err-point.ensures.why)
     (c.sync-reply.ensures.cause c.in_err-point.ensures.not)))
+
+pub returns-clause-asked : goal.returns-clause-asked
+returns-clause-asked g c = λ told.
+    subst (λ l. Way g.S.Blocks.tells g.S.Blocks.state AsksToSync (blocks_in l.fs) (blocks_in c.sync-reply.new.fs)) c.self.view_is
+    (asked_with g.S.Blocks.tells g.S.Blocks.state AsksToSync c.sync-reply.result (blocks_in c.self.inside.fs) (blocks_in c.sync-reply.new.fs) c.sync-reply.ensures.was told)

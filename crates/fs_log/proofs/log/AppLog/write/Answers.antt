@@ -8,10 +8,12 @@ use Rattle.fs_log.specs.Causes.{AsksToWrite, HasCallCause}
 use Rattle.fs_log.specs.Keeping.{TakesLog, as_before}
 use Rattle.fs_log.specs.Open.{Open, state_in}
 use Rattle.fs_log.specs.Refusals.{is_of_none}
+use Rattle.fs_log.specs.Ways.{Way}
 use Rattle.fs_log.proofs.Appending.{wrote}
-use Rattle.fs_log.proofs.Causes.{caused, lacking, passed_on, was_so}
+use Rattle.fs_log.proofs.Causes.{asked_with, caused, lacking, passed_on, was_so}
 use Rattle.fs_log.proofs.Mirroring.{on_err, same_firsts, same_most, same_next, same_size}
 use Rattle.fs_log.proofs.Writing.{resting}
+use Rattle.fs_log.proofs.Ways.{asks_nothing}
 use Rattle.fs_log.proofs.log.AppLog.write.Goals as goal
 
 pub invariant_of-self : goal.invariant_of-self
@@ -71,7 +73,8 @@ returns-clause-done g c = λ told.
 pub returns-in_err-cmd-clause-cause : goal.returns-in_err-cmd-clause-cause
 returns-in_err-cmd-clause-cause g c =
     passed_on c.from_residual.result (FsRefused NoMemory) _ c.from_residual.ensures.1
-    (lacking g.S.Blocks.tells g.S.Blocks.state is_of_none (AsksToWrite c.args.self.now c.args.bytes.now) (blocks_in c.args.self.now.fs) (blocks_in c.args.self.now.fs))
+    (lacking g.S.Blocks.tells g.S.Blocks.state is_of_none (AsksToWrite c.args.self.now c.args.bytes.now) (blocks_in c.args.self.now.fs) (blocks_in c.args.self.now.fs)
+    (λ told. asks_nothing g.S.Blocks.tells g.S.Blocks.state (AsksToWrite c.args.self.now c.args.bytes.now) (blocks_in c.args.self.now.fs)))
 
 pub returns-in_err-done-clause-cause : goal.returns-in_err-done-clause-cause
 returns-in_err-done-clause-cause g c =
@@ -93,3 +96,17 @@ returns-in_err-done-clause-cause g c =
     (subst (λ q. slice_get q (length q - 1) ≡ Some c.last_of-first.result) c.as_slice.ensures.value c.last_of-first.ensures) c.in_ok-cmd.ensures c.requires.short
     (omega (arith, c.requires.room, same_size c.self.view_is, same_most c.self.view_is, c.self.invariant.most)) (omega (arith, c.requires.left, same_next c.self.view_is))
     (c.change_log-reply.ensures.written told)).late c.in_err-done.ensures.not))))
+
+pub returns-clause-asked : goal.returns-clause-asked
+returns-clause-asked g c = λ told.
+    let l = c.self.inside in
+    let open_now : Open g.row.S.Denot = record { fs = l.fs; most = l.most; firsts = l.firsts.items; size = l.size; next = l.next; kept = l.kept } in
+    let new = blocks_in c.change_log-reply.new.fs in
+    subst (λ q. Way g.S.Blocks.tells g.S.Blocks.state (AsksToWrite q c.args.bytes.now) (blocks_in q.fs) new) c.self.view_is
+    (asked_with g.S.Blocks.tells g.S.Blocks.state (AsksToWrite open_now c.args.bytes.now) c.change_log-reply.result (blocks_in l.fs) new
+    (was_so g.S.Blocks.tells g.S.Blocks.state (λ cmd. (cmd ≡ c.in_ok-cmd.cmd) ⊎ (cmd ≡ Osync)) (AsksToWrite open_now c.args.bytes.now) c.change_log-reply.result (blocks_in l.fs) new
+    (λ cmd asked. ⊎_elim (λ is. inl (record {
+      first = c.last_of-first.result;
+      last = subst (λ q. slice_get q (length q - 1) ≡ Some c.last_of-first.result) c.as_slice.ensures.value c.last_of-first.ensures;
+      is = is ∙ c.in_ok-cmd.ensures;
+    })) (λ is. inr is) asked) c.change_log-reply.ensures.was) told)
