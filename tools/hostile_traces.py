@@ -15,6 +15,7 @@ REPLIES = """ok|bad|hex|hex 6869|known 0|known 1|known 2|synced 0|synced 1|synce
 full 4294967295 1|full 4294967296 1|full 01 0|full 1|toobig 1 2 3|toobig 1 2|scattered 29|scattered 29 0|stat dir 1 0 1|stat file 2 0 1
 refused 1 NotFound|refused 2 Exists|refused 9 NoNode|refused 10 Full|refused 13 ReadFault|refused 14 DiskFault|refused 15 Stopped
 refused 16 Spent|refused 17 NoMemory|refused 17 Stopped|refused 18 Other|refused 013 ReadFault|known 18446744073709551616|""".replace("\n", "|").split("|")
+REPLIES += ["refused 19 NoPoint", "nopoint", "nopoint 0", "nopoint 1", "nopoint 2", "nopoint 01"]
 ODD_LINES = [b"", b"#", b" ", b"end", b"end ", b"END", b"g 64 16 16", b"w", b"d", b"f", b"c", b"r", b"c ?", b"c  ?", b"r 0 ok", b"\r", b"\0", b"\xff"]
 GEOMETRY_LINES = [b"g 64 16 20", b"g 65 16 16", b"g 64 17 16", b"g 300 40 64", b"g 64 16 18", b"g 63 16 16", b"g 1048577 16 16", b"g 064 16 16", b"g 8300 24 16"]
 
@@ -243,7 +244,7 @@ def add_entries(random, text):
     tree = plain_tree.Tree(16)
     names = random.sample(["a", "b", "n0", "n1", "n2"], 2)
     words = [f"create /{names[0]}", f"read /{names[1]} 0 5", f"stat /{names[0]}", f"unlink /{names[1]}"]
-    words += ["durable", "poll", "osync", "?", "list /"]
+    words += ["durable", "dwait 0", "dwait 1", "poll", "osync", "?", "list /"]
     added = []
     for line in random.sample(words, random.randrange(1, 4)):
         command = plain_tree.BAD if line == "?" else plain_tree.parse(line.encode())

@@ -41,6 +41,7 @@ ARGUMENTS = {
     "osync": (),
     "dsync": (),
     "durable": (),
+    "dwait": ("number",),
     "poll": (),
 }
 NAME = re.compile("[!-.0-~]{1,59}")
@@ -68,13 +69,14 @@ WEIGHTS = {
     "link": 3,
     "rmdir": 3,
     "durable": 5,
+    "dwait": 4,
     "poll": 3,
     "read": 2,
     "stat": 2,
     "list": 1,
     "bad": 1,
 }
-BAD_LINES = [b"sync", b"create /a/", b" osync", b"read /a 0 01", b"write /a 0 f", b"fill /a 0 1 256"]
+BAD_LINES = [b"sync", b"create /a/", b" osync", b"read /a 0 01", b"write /a 0 f", b"fill /a 0 1 256", b"dwait", b"dwait 01"]
 
 
 class Command(NamedTuple):
@@ -148,7 +150,7 @@ def text_of(path):
 
 
 class Tree:
-    """A session: the tree, the greatest number of a node, the last sync point, and the last that a dsync answered."""
+    """A session: the tree, the greatest number of a node, the last sync point, and the greatest that a dsync or a dwait answered."""
 
     def __init__(self, limit):
         self.limit = limit
@@ -190,7 +192,7 @@ class Tree:
             return None
         expected, known = self.answer(command), KNOWN.fullmatch(reply)
         if command.word == "durable" and known:
-            # more may be known than what a dsync waited for
+            # more may be known than what was waited for
             return None if self.durable <= int(known[1]) <= self.point else expected
         return None if reply == expected else expected
 
@@ -343,6 +345,12 @@ class Tree:
     def do_durable(self):
         return f"known {self.durable}"
 
+    def do_dwait(self, number):
+        if number > self.point:
+            return f"nopoint {self.point}"
+        self.durable = max(self.durable, number)
+        return f"durable {number}"
+
     def do_poll(self):
         pass
 
@@ -401,6 +409,9 @@ class Draws:
         word = self.random.choices(list(WEIGHTS), list(WEIGHTS.values()))[0] if files else "create"
         if word == "bad":
             return self.random.choice(BAD_LINES)
+        if word == "dwait":
+            near = self.random.randrange(-1, 4)
+            return b"dwait %d" % max(0, tree.point - near)
         if "number" in ARGUMENTS[word]:
             parts = self.piece(tree, word, self.random.choice(files))
         else:
