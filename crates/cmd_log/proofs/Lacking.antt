@@ -16,16 +16,19 @@ use Rattle.lang_log.specs.declared.call.LogCall.{LogCall}
 use Rattle.lang_log.specs.declared.call.LogCall.TheVariants.{Append, Bad, Count, Get, Order, Sync, Trim}
 use Rattle.lang_log.specs.declared.call.LogReply.TheVariants as answered
 use Rattle.fs_session.specs.Commands.{is_on_tree}
-use Rattle.fs_session.specs.DiskRoom.{AnswersOn, RunsOn, SyncsOver}
+use Rattle.fs_session.specs.DiskRoom.{AnswersOn, ComesBack, RunsOn, SyncsOver}
 use Rattle.fs_session.specs.Room.{IsDoneIn, IsRefusedIn, RefusesIn, Room, figures_in, left_in, most_weight}
 use Rattle.fs_session.specs.Space.{FailsToFit}
 use Rattle.fs_log.specs.Ways.{IsQuestion}
-use Rattle.cmd_log.specs.Causes.{AnswersBy, LacksBlocks, MayAsk, Situation}
+use Rattle.cmd_log.specs.Causes.{AnswersBy, LacksBlocks, LacksIn, MayAsk, Situation}
 
--- The last of some commands was answered so, in some room of some session.
-pub record LastOf (g : Geometry) (may : Cmd → Type 0) (reply : Reply) : Type 0 where
+-- The last of some commands from a session and its room on was answered so, in the room that it had come to.
+pub record LastOf (g : Geometry) (may : Cmd → Type 0) (reply : Reply) (f : Session) (r : Room) : Type 0 where
+  pub asked : List Cmd
+  pub replies : List Reply
   pub session : Session
   pub room : Room
+  pub runs : RunsOn g f r asked replies session room
   pub cmd : Cmd
   pub is : may cmd
   pub next : Session
@@ -43,13 +46,16 @@ some_reply [] reply is = cc
 some_reply (r ∷ before) reply is = cc
 
 last_of : (g : Geometry) (may : Cmd → Type 0) (reply : Reply) (before : List Reply) (f end : Session) (r room : Room) (asked : List Cmd) (replies : List Reply)
-    → replies ≡ before ++ reply ∷ [] → AllByRecursion may asked → RunsOn g f r asked replies end room → LastOf g may reply
+    → replies ≡ before ++ reply ∷ [] → AllByRecursion may asked → RunsOn g f r asked replies end room → LastOf g may reply f r
 last_of g may reply before f end r room [] [] is are runs = absurd (some_reply before reply is)
 last_of g may reply before f end r room [] (x ∷ replies) is are runs = absurd runs
 last_of g may reply before f end r room (cmd ∷ asked) [] is are runs = absurd runs
 last_of g may reply [] f end r room (cmd ∷ asked) (x ∷ replies) is are runs = record {
+  asked = [];
+  replies = [];
   session = f;
   room = r;
+  runs = (refl, refl);
   cmd = cmd;
   is = are.0;
   next = runs.0;
@@ -57,7 +63,19 @@ last_of g may reply [] f end r room (cmd ∷ asked) (x ∷ replies) is are runs 
   answers = subst (λ (y : Reply). AnswersOn g f r cmd y runs.0 runs.1) (same_first x reply replies [] is) runs.2;
 }
 last_of g may reply (y ∷ before) f end r room (cmd ∷ asked) (x ∷ replies) is are runs =
-    last_of g may reply before runs.0 end runs.1 room asked replies (same_rest x y replies (before ++ reply ∷ []) is) are.1 runs.3
+    let l = last_of g may reply before runs.0 end runs.1 room asked replies (same_rest x y replies (before ++ reply ∷ []) is) are.1 runs.3 in
+    record {
+      asked = cmd ∷ l.asked;
+      replies = x ∷ l.replies;
+      session = l.session;
+      room = l.room;
+      runs = (runs.0, runs.1, runs.2, l.runs);
+      cmd = l.cmd;
+      is = l.is;
+      next = l.next;
+      after = l.after;
+      answers = l.answers;
+    }
 
 -- What is known of refusals of a tree in memory.
 abbrev AloneLaw : Type 0
@@ -84,7 +102,7 @@ why_of _ = NoMemory
 abbrev TreeStep : Geometry → Session → Room → Cmd → Reply → Session → Room → Type 0
 TreeStep g f r cmd reply next room =
     RefusesIn (λ why. (why ≡ Stopped) ⊎ (why ≡ Spent)) f r reply next room
-    ⊎ ((back : Room)
+    ⊎ ((back : Room) × ComesBack g f r back
     × ((IsDoneIn g f back cmd reply next room ⊎ RefusesIn (IsRefusedIn g f back cmd) f back reply next room)
     ⊎ RefusesIn (λ why. (why ≡ DiskFault) ⊎ ((is_on_tree cmd ≡ true) × (why ≡ ReadFault))) f back reply next room))
 
@@ -107,25 +125,25 @@ module _ (g : Geometry) (alone : AloneLaw) (need left : ℕ) (f next : Session) 
   ended why (inr is) reply = other why (ap is_full is) reply
 
   module _ (may : Cmd → Type 0) (cmd : Cmd) (is : may cmd ⊎ IsQuestion cmd) where
-    lacks : (back : Room) (why : Refusal) → IsRefusedIn g f back cmd why → FullReply ≡ Refused why → LacksBlocks g may need left
-    lacks back why (inr (inl scatters)) reply = other why (ap is_full scatters.2.is) reply
-    lacks back why (inr (inr memory)) reply = other why (ap is_full memory) reply
-    lacks back why (inl (accepts, fails)) reply = by fails
+    lacks : (back : Room) → ComesBack g f r back → (why : Refusal) → IsRefusedIn g f back cmd why → FullReply ≡ Refused why → LacksIn g may need left f r
+    lacks back comes why (inr (inl scatters)) reply = other why (ap is_full scatters.2.is) reply
+    lacks back comes why (inr (inr memory)) reply = other why (ap is_full memory) reply
+    lacks back comes why (inl (accepts, fails)) reply = by fails
       where
-        by : FailsToFit (left_in g f back) back.weight (most_weight g) (figures_in g f cmd) why → LacksBlocks g may need left
+        by : FailsToFit (left_in g f back) back.weight (most_weight g) (figures_in g f cmd) why → LacksIn g may need left f r
         by (inr big) = other why (ap is_full big.is) reply
         by (inl full) =
             let needs : need ≡ (figures_in g f cmd).need = ap (λ (x : Reply). need_of (why_of x)) reply ∙ ap need_of full.is in
             let has : left ≡ left_in g f back = ap (λ (x : Reply). left_of (why_of x)) reply ∙ ap left_of full.is in
-            record { session = f; room = back; cmd = cmd; is = is; needs = needs; has = has; few = omega (arith, needs, has, full.blocks) }
+            record { room = back; back = comes; cmd = cmd; is = is; needs = needs; has = has; few = omega (arith, needs, has, full.blocks) }
 
-    by_tree : TreeStep g f r cmd FullReply next room → LacksBlocks g may need left
+    by_tree : TreeStep g f r cmd FullReply next room → LacksIn g may need left f r
     by_tree (inl refused) = ended refused.0 refused.1 refused.2
-    by_tree (inr (back, inl (inl done))) = not_by_tree cmd done.answer
-    by_tree (inr (back, inl (inr refused))) = lacks back refused.0 refused.1 refused.2
-    by_tree (inr (back, inr refused)) = fault refused.0 refused.1 refused.2
+    by_tree (inr (back, comes, inl (inl done))) = not_by_tree cmd done.answer
+    by_tree (inr (back, comes, inl (inr refused))) = lacks back comes refused.0 refused.1 refused.2
+    by_tree (inr (back, comes, inr refused)) = fault refused.0 refused.1 refused.2
       where
-        fault : (why : Refusal) → (why ≡ DiskFault) ⊎ ((is_on_tree cmd ≡ true) × (why ≡ ReadFault)) → FullReply ≡ Refused why → LacksBlocks g may need left
+        fault : (why : Refusal) → (why ≡ DiskFault) ⊎ ((is_on_tree cmd ≡ true) × (why ≡ ReadFault)) → FullReply ≡ Refused why → LacksIn g may need left f r
         fault why (inl is) reply = other why (ap is_full is) reply
         fault why (inr is) reply = other why (ap is_full is.1) reply
 
@@ -137,31 +155,31 @@ module _ (g : Geometry) (alone : AloneLaw) (need left : ℕ) (f next : Session) 
 
   module _ (may : Cmd → Type 0) where
     abbrev Lacks : Cmd → Type 0
-    Lacks cmd = may cmd ⊎ IsQuestion cmd → AnswersOn g f r cmd FullReply next room → LacksBlocks g may need left
+    Lacks cmd = may cmd ⊎ IsQuestion cmd → AnswersOn g f r cmd FullReply next room → LacksIn g may need left f r
 
     by_write : (path : List (List ℕ)) (offset : ℕ) (bytes : List ℕ) → Lacks (Write path offset bytes)
     by_write path offset bytes is (inl refused) = by_tree may (Write path offset bytes) is (inl refused)
-    by_write path offset bytes is (inr begun) = by_tree may (Write path offset bytes) is (inr (begun.back, begun.answers))
+    by_write path offset bytes is (inr begun) = by_tree may (Write path offset bytes) is (inr (begun.back, begun.comes_back, begun.answers))
 
     by_create : (path : List (List ℕ)) → Lacks (Create path)
     by_create path is (inl refused) = by_tree may (Create path) is (inl refused)
-    by_create path is (inr begun) = by_tree may (Create path) is (inr (begun.back, begun.answers))
+    by_create path is (inr begun) = by_tree may (Create path) is (inr (begun.back, begun.comes_back, begun.answers))
 
     by_unlink : (path : List (List ℕ)) → Lacks (Unlink path)
     by_unlink path is (inl refused) = by_tree may (Unlink path) is (inl refused)
-    by_unlink path is (inr begun) = by_tree may (Unlink path) is (inr (begun.back, begun.answers))
+    by_unlink path is (inr begun) = by_tree may (Unlink path) is (inr (begun.back, begun.comes_back, begun.answers))
 
     by_stat : (path : List (List ℕ)) → Lacks (Stat path)
     by_stat path is (inl refused) = by_tree may (Stat path) is (inl refused)
-    by_stat path is (inr begun) = by_tree may (Stat path) is (inr (begun.back, begun.answers))
+    by_stat path is (inr begun) = by_tree may (Stat path) is (inr (begun.back, begun.comes_back, begun.answers))
 
     by_list : (path : List (List ℕ)) → Lacks (ListNames path)
     by_list path is (inl refused) = by_tree may (ListNames path) is (inl refused)
-    by_list path is (inr begun) = by_tree may (ListNames path) is (inr (begun.back, begun.answers))
+    by_list path is (inr begun) = by_tree may (ListNames path) is (inr (begun.back, begun.comes_back, begun.answers))
 
     by_read : (path : List (List ℕ)) (offset count : ℕ) → Lacks (Read path offset count)
     by_read path offset count is (inl refused) = by_tree may (Read path offset count) is (inl refused)
-    by_read path offset count is (inr begun) = by_tree may (Read path offset count) is (inr (begun.back, begun.answers))
+    by_read path offset count is (inr begun) = by_tree may (Read path offset count) is (inr (begun.back, begun.comes_back, begun.answers))
 
     by_osync : Lacks Osync
     by_osync is (inl refused) = ended refused.0 refused.1 refused.2
@@ -191,16 +209,16 @@ module _ (g : Geometry) (alone : AloneLaw) (need left : ℕ) (f next : Session) 
   by_call Sync cmd is = subst (Lacks g alone need left f next r room (MayAsk most t Sync)) (sym is) (by_dsync g alone need left f next r room (MayAsk most t Sync))
   by_call Bad cmd none = absurd none
 
-pub lacks_blocks : AloneLaw → (g : Geometry) (most : ℕ) (call : LogCall) (old new : Situation) (need left : ℕ) → AnswersBy g most call (answered.Refused (Full need left)) old new → LacksBlocks g (MayAsk most old.session.tree call) need left
+pub lacks_blocks : AloneLaw → (g : Geometry) (most : ℕ) (call : LogCall) (old new : Situation) (need left : ℕ) → AnswersBy g most call (answered.Refused (Full need left)) old new → LacksBlocks g (MayAsk most old.session.tree call) old need left
 lacks_blocks alone g most call old new need left by = from by.cause
   where
-    here : LastOf g (λ cmd. MayAsk most old.session.tree call cmd ⊎ IsQuestion cmd) (Refused (Full need left)) → LacksBlocks g (MayAsk most old.session.tree call) need left
-    here l = asked l.is
+    here : LastOf g (λ cmd. MayAsk most old.session.tree call cmd ⊎ IsQuestion cmd) (Refused (Full need left)) old.session old.room → LacksBlocks g (MayAsk most old.session.tree call) old need left
+    here l = record { asked = l.asked; replies = l.replies; session = l.session; before = l.room; runs = l.runs; lacks = asked l.is }
       where
-        asked : MayAsk most old.session.tree call l.cmd ⊎ IsQuestion l.cmd → LacksBlocks g (MayAsk most old.session.tree call) need left
+        asked : MayAsk most old.session.tree call l.cmd ⊎ IsQuestion l.cmd → LacksIn g (MayAsk most old.session.tree call) need left l.session l.room
         asked (inl may) = by_call g alone need left l.session l.next l.room l.after most old.session.tree call l.cmd may (inl may) l.answers
         asked (inr question) = by_question g alone need left l.session l.next l.room l.after (MayAsk most old.session.tree call) l.cmd question (inr question) l.answers
 
-    from : (Full need left ≡ NoMemory) ⊎ ((before : List Reply) × (by.ran.replies ≡ before ++ Refused (Full need left) ∷ [])) → LacksBlocks g (MayAsk most old.session.tree call) need left
+    from : (Full need left ≡ NoMemory) ⊎ ((before : List Reply) × (by.ran.replies ≡ before ++ Refused (Full need left) ∷ [])) → LacksBlocks g (MayAsk most old.session.tree call) old need left
     from (inl memory) = absurd (true≢false (ap is_full memory))
     from (inr (before, is)) = here (last_of g (λ cmd. MayAsk most old.session.tree call cmd ⊎ IsQuestion cmd) (Refused (Full need left)) before old.session new.session old.room new.room by.ran.asked by.ran.replies is by.ran.are by.ran.rooms)

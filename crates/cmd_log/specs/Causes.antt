@@ -19,7 +19,7 @@ use Rattle.lang_log.specs.Answers.{AnswersLog}
 use Rattle.lang_log.specs.History.{History, opened_with}
 use Rattle.lang_log.specs.Log.{IsLogOf, Log, next_of}
 use Rattle.lang_log.specs.Segments.{Segment}
-use Rattle.fs_session.specs.DiskRoom.{RunsOn}
+use Rattle.fs_session.specs.DiskRoom.{ComesBack, RunsOn}
 use Rattle.fs_session.specs.Room.{Room, figures_in, left_in}
 use Rattle.fs_log.specs.Causes.{IsOfLog, RemovesSegments, WritesAppend, is_too_big}
 use Rattle.fs_log.specs.Open.{size_of}
@@ -76,15 +76,24 @@ CallsGo g most at h (call ∷ calls) (reply ∷ replies) end k =
     (next : Situation) × (mid : History) × AnswersBy g most call reply at next × AnswersLog h call reply mid × IsLogOf next.session.tree mid.now × CallsGo g most next mid calls replies end k
 CallsGo g most at h _ _ end k = ⊥
 
--- In some room of some session such a command, or a question, needs more blocks than are left: so many of so many.
-pub record LacksBlocks (g : Geometry) (cmds : Cmd → Type 0) (need left : ℕ) : Type 0 where
-  pub session : Session
+-- In the room that came back to a session that had come to this room, such a command, or a question, needs more blocks than are left: so many of so many.
+pub record LacksIn (g : Geometry) (cmds : Cmd → Type 0) (need left : ℕ) (f : Session) (r : Room) : Type 0 where
   pub room : Room
+  pub back : ComesBack g f r room
   pub cmd : Cmd
   pub is : cmds cmd ⊎ IsQuestion cmd
-  pub needs : need ≡ (figures_in g session cmd).need
-  pub has : left ≡ left_in g session room
+  pub needs : need ≡ (figures_in g f cmd).need
+  pub has : left ≡ left_in g f room
   pub few : left < need
+
+-- From a situation on commands were answered in turn, and then such a command lacked blocks so.
+pub record LacksBlocks (g : Geometry) (cmds : Cmd → Type 0) (old : Situation) (need left : ℕ) : Type 0 where
+  pub asked : List Cmd
+  pub replies : List Reply
+  pub session : Session
+  pub before : Room
+  pub runs : RunsOn g old.session old.room asked replies session before
+  pub lacks : LacksIn g cmds need left session before
 
 -- The run.
 

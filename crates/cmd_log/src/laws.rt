@@ -51,10 +51,11 @@ pub fn a_kept_append_is_in_each_run()
         → slice_get l.appends (number - l.low) ≡ slice_get a.appends (number - a.first) }
 {}
 
-/// A call is refused as `full` only where one of its commands needed more blocks than were left.
+/// A call is refused as `full` only where, behind those of its commands that were answered before, one needed more
+/// blocks than were left in the room that came back to it.
 pub fn a_call_is_full_only_for_want_of_blocks()
     ensures { (g : Geometry) (most : ℕ) (call : LogCall) (old new : Situation) (need left : ℕ) → AnswersBy g most call (Refused (Full need left)) old new
-        → LacksBlocks g (MayAsk most old.session.tree call) need left }
+        → LacksBlocks g (MayAsk most old.session.tree call) old need left }
 {
     a_tree_in_memory_refuses_for_no_disk();
 }
