@@ -18,7 +18,6 @@ use Rattle.lang_log.specs.declared.call.LogCall.{LogCall}
 use Rattle.lang_log.specs.declared.call.LogReply.{LogReply}
 use Rattle.lang_log.specs.Log.{HasNoLog}
 use Rattle.crash_stands.specs.Stands.{StandsFor}
-use Rattle.engine_blocks.specs.State.{State}
 use Rattle.engine_store.specs.StoreOf.{disk_in, state_of}
 use Rattle.engine_store.specs.declared.store.Store.{Store}
 use Rattle.fs_log.specs.declared.refusal.OpenRefusal.{OpenRefusal}
@@ -38,7 +37,7 @@ use Rattle.cmd_image.specs.Refusals.{of_show}
 use Rattle.cmd_image.specs.Runs.{Streams}
 use Rattle.cmd_image.specs.Shows.{FailedByManner, fails_pushing as shows_pushing}
 use Rattle.cmd_log.specs.declared.refusal.LogRunRefusal.{LogRunRefusal}
-use Rattle.cmd_log.specs.declared.refusal.LogRunRefusal.TheVariants.{BadLog, NoRoom, Run}
+use Rattle.cmd_log.specs.declared.refusal.LogRunRefusal.TheVariants.{NoRoom, Run}
 use Rattle.cmd_log.specs.Causes.{HasRoomCause, RefusesRoom}
 use Rattle.cmd_log.specs.Logs.{ComesOfLogDisk, CountsLogFaults, IsLogRun, IsUnlogged, LogsDisk, RefusesLog, StandsUnlogged, log_fails_pushing, log_opens_nothing, log_says_nothing}
 use Rattle.cmd_log.specs.Steps.{KeepsToManner, KnownOpened, KnownSoFar, RunsTo, Said, answer_for, if_counted, log_refusal_of, log_refusal_of_fs}
