@@ -10,7 +10,8 @@ use Rattle.layout_bytes.specs.Node.{node_bytes}
 use Rattle.crash_stands.specs.Files.{used_node}
 use Rattle.crash_snapshots.specs.Places.{table_blocks, kept_table, dir_part, all_dirs}
 use Rattle.crash_snapshots.specs.Kept.{AreCopies, kept_bytes, HasSnapshot}
-use Rattle.crash_snapshots.specs.Making.{AreOnce, IsAmong, with_blocks, blocks_at, kept_piece, kept_block, kept_blocks, snapshot_of, CanHold}
+use Rattle.layout_extent.specs.Renew.{AreOnce, IsAmong}
+use Rattle.crash_snapshots.specs.Making.{with_blocks, blocks_at, kept_piece, kept_block, kept_blocks, snapshot_of, CanHold}
 
 -- Blocks written.
 

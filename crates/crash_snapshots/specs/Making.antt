@@ -4,18 +4,11 @@ use Rattle.base_types.specs.Seal.{Blocks}
 use Rattle.base_types.specs.Runs.{run_places}
 use Rattle.layout_geometry.specs.Geometry.{Geometry, table_start, data_start, nodes_in_block}
 use Rattle.layout_bytes.specs.declared.node.Node.{Node}
+use Rattle.layout_extent.specs.Renew.{AreOnce, IsAmong}
 use Rattle.layout_bytes.specs.Node.{node_bytes}
 use Rattle.crash_stands.specs.Files.{used_node}
 use Rattle.crash_snapshots.specs.Places.{is_copied, table_blocks, all_dirs}
 use Rattle.crash_snapshots.specs.Kept.{kept_bytes}
-
--- the number is one of these
-abbrev pub IsAmong : List ℕ → ℕ → Type 0
-IsAmong xs b = (i : ℕ) × (slice_get xs i ≡ Some b)
-
--- no number is there twice
-abbrev pub AreOnce : List ℕ → Type 0
-AreOnce xs = (i j b : ℕ) → slice_get xs i ≡ Some b → slice_get xs j ≡ Some b → i ≡ j
 
 -- the blocks, with these bytes in those at these places
 abbrev pub with_blocks : Blocks → List ℕ → List (List ℕ) → Blocks

@@ -5,3 +5,4 @@ pub mod moves
 pub mod soundness
 pub mod blocks
 pub mod runs
+pub mod Sharing

@@ -10,3 +10,4 @@ pub mod Figures
 pub mod Values
 pub mod Listing
 pub mod Refusals
+pub mod Sharing

@@ -11,6 +11,7 @@ mod laws;
 mod name_list;
 mod path;
 mod path_laws;
+mod sharing_laws;
 mod sizes;
 mod snapshot_laws;
 
@@ -30,5 +31,6 @@ pub use path_laws::{
     new_paths_keep_a_tree_sound, paths_are_counted, what_goes_holds_nothing,
     what_is_held_has_a_name,
 };
+pub use sharing_laws::{nothing_shared_costs_nothing, small_snapshots_cost_so};
 pub use sizes::{blocks_for, growth, release, touched_blocks_are_counted_by_division};
 pub use snapshot_laws::{commands_keep_snapshots, without_snapshots_there_are_paths_and_nodes};

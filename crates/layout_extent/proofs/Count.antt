@@ -2,6 +2,7 @@
 use Rattle.std.proofs.Common.{◌≡◌, ℕ, zero, suc, ◌+◌, ◌-◌, ◌<◌, ◌≤◌, Bool, true, false, not, cond, ◌==◌, if◌then◌else◌, List, [], ◌∷◌, ◌++◌, length, get_or, take, drop, slice_get, Option, Some, None, refl, sym, ap, ◌∙◌, arith, append_assoc}
 use Rattle.std.specs.List.{zip, count_by}
 use Rattle.std.specs.Option.{option_map}
+use Rattle.std.proofs.lemmas.Bool.{eq-eqb}
 use Rattle.std.proofs.lemmas.List.{take_more, take-append-drop}
 use Rattle.std.proofs.lemmas.List.Sums.{sum_by-cons}
 use Rattle.base_types.specs.declared.places.Run.{Run}
@@ -112,9 +113,28 @@ pub next_of_runs : (rs : List Run) → AreTidy rs → next_number (run_places rs
 next_of_runs [] t = refl
 next_of_runs (r ∷ rs) t = next_of_tidy None r rs t ∙ ap (λ n. end_of (slice_get (r ∷ rs) n)) {x = length rs} {y = suc (length rs) - 1} (omega arith)
 
+-- neighbouring numbers behind a list
+
+none_starts : (x c : ℕ) → starts (Some x) (blocks_from x c) ≡ 0
+none_starts x zero = refl
+none_starts x (suc c) =
+    let one : ◌≡◌ {A = ℕ} (cond (x == x) 0 1) 0 = ap (λ t. cond t 0 1) (eq-eqb x x refl) in
+    let rest : starts (Some (x + 1)) (blocks_from (x + 1) c) ≡ 0 = none_starts (x + 1) c in
+    omega (arith, one, rest)
+
+starts_run : (next : Option ℕ) (x c : ℕ) → 0 < c → starts next (blocks_from x c) ≡ cond (goes_on next x) 0 1
+starts_run next x zero p = absurd (omega (arith, p))
+starts_run next x (suc c) p = let rest : starts (Some (x + 1)) (blocks_from (x + 1) c) ≡ 0 = none_starts (x + 1) c in omega (arith, rest)
+
+pub stretches_run : (xs : List ℕ) (x c : ℕ) → 0 < c → stretches (xs ++ blocks_from x c) ≡ stretches xs + cond (goes_on (next_number xs) x) 0 1
+stretches_run xs x c p = stretches_append xs (blocks_from x c) ∙ ap (λ n. stretches xs + n) (starts_run (next_number xs) x c p)
+
+pub next_run : (xs : List ℕ) (x c : ℕ) → 0 < c → next_number (xs ++ blocks_from x c) ≡ Some (x + c)
+next_run xs x c p = next_append None xs (blocks_from x c) ∙ next_of_run (next_number xs) x c p
+
 -- one number more of a list that is joined
 
-push_more : (old list : List ℕ) (i : ℕ) → i < length list → old ++ take (i + 1) list ≡ (old ++ take i list) ++ get_or list i 0 ∷ []
+pub push_more : (old list : List ℕ) (i : ℕ) → i < length list → old ++ take (i + 1) list ≡ (old ++ take i list) ++ get_or list i 0 ∷ []
 push_more old list i h = ap (λ xs. old ++ xs) (take_more list i 0 h) ∙ sym (append_assoc old (take i list) (get_or list i 0 ∷ []))
 
 pub runs_more : (old list : List ℕ) (i runs : ℕ) (next : Option ℕ) (t : Bool) → i < length list

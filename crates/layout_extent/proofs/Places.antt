@@ -9,11 +9,6 @@ places_append [] ss = refl
 places_append (r ∷ rs) ss =
     ap (λ xs. blocks_from r.first r.count ++ xs) (places_append rs ss) ∙ sym (append_assoc (blocks_from r.first r.count) (run_places rs) (run_places ss))
 
-pub blocks_more : (x c : ℕ) → blocks_from x (suc c) ≡ blocks_from x c ++ (x + c) ∷ []
-blocks_more x zero = ap (λ n. n ∷ []) {x = x} {y = x + zero} (omega arith)
-blocks_more x (suc c) =
-    ap (λ ys. x ∷ ys) (blocks_more (x + 1) c) ∙ ap (λ n. blocks_from x (suc c) ++ n ∷ []) {x = x + 1 + c} {y = x + suc c} (omega arith)
-
 length_blocks : (x c : ℕ) → length (blocks_from x c) ≡ c
 length_blocks x zero = refl
 length_blocks x (suc c) = ap suc (length_blocks (x + 1) c)

@@ -1,3 +1,4 @@
 pub mod Runs
 pub mod Next
 pub mod TidyLaws
+pub mod Renew

@@ -4,9 +4,12 @@
 #![tactic(auto)]
 
 mod laws;
+mod renew;
 mod runs;
 
 pub use laws::{
-    a_list_has_its_runs, four_stretches_and_their_runs, tidy_runs_are_those_of_their_numbers,
+    a_list_has_its_runs, four_stretches_and_their_runs, places_are_renewed_so,
+    renewed_places_are_new, tidy_runs_are_those_of_their_numbers,
 };
+pub use renew::BlockSet;
 pub use runs::{Runs, Scattered};

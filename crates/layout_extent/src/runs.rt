@@ -1,9 +1,9 @@
 //! The type `Runs`. Its runs are always tidy, and their numbers are those of blocks of a disk. Which
 //! blocks a list may have is described by the crates that keep one.
 
-ghost use Rattle.std.specs.Prelude.{◌≡◌, ◌↔◌, ◌<◌, ◌≤◌, ◌++◌, ◌∷◌, [], length, take, slice_get, Some, IfSome, IsOk, OnOk, OnErr, IfErr};
+ghost use Rattle.std.specs.Prelude.{◌≡◌, ◌↔◌, ◌<◌, ◌≤◌, ◌+◌, ◌++◌, [], length, take, slice_get, Some, IfSome, IsOk, OnOk, OnErr, IfErr};
 ghost use Rattle.std.specs.List.{All};
-ghost use Rattle.base_types.specs.Runs.{run_places};
+ghost use Rattle.base_types.specs.Runs.{blocks_from, run_places};
 ghost use Rattle.layout_extent.specs.Runs.{AreTidy, LieBelow, most_blocks, runs_of, stretches};
 ghost use Rattle.layout_extent.specs.Next.{next_number, goes_on};
 
@@ -14,7 +14,7 @@ use std::fmt;
 use std::marker::Model;
 
 /// The most stretches that a list may have.
-const MOST_STRETCHES: u64 = MOST_RUNS as u64;
+pub(crate) const MOST_STRETCHES: u64 = MOST_RUNS as u64;
 
 /// A list would have more stretches of neighbours than the 28 that there is room for.
 #[derive(Clone, Copy, Debug)]
@@ -126,7 +126,10 @@ impl Runs {
             return Err(Scattered { runs });
         }
         for number in list {
-            self.add(*number);
+            self.add(Run {
+                first: *number,
+                count: 1,
+            });
         }
         Ok(())
     }
@@ -134,6 +137,13 @@ impl Runs {
     /// Keeps the first `count` numbers, or all where there are fewer.
     pub fn cut(&mut self, count: u32)
         ensures { self.new ≡ take count self.old }
+    {
+        *self = self.front(count);
+    }
+
+    /// The first `count` numbers, or all where there are fewer.
+    pub(crate) fn front(&self, count: u32) -> Runs
+        ensures { result ≡ take count self.now }
     {
         let mut kept = RunList::new();
         let mut left = count;
@@ -146,7 +156,7 @@ impl Runs {
             }
             left = left.saturating_sub(run.count);
         }
-        self.list = kept;
+        Runs { list: kept }
     }
 
     /// How many stretches the list would have with these numbers at its end.
@@ -166,43 +176,40 @@ impl Runs {
     }
 
     /// The number that would go on with the last run, where there is one.
-    fn next(&self) -> Option<u32>
+    pub(crate) fn next(&self) -> Option<u32>
         ensures { result ≡ next_number self.now }
     {
         let last = self.list.as_slice().last()?;
         Some(last.first + last.count)
     }
 
-    /// Adds a number at the end, for which there must be room.
-    fn add(&mut self, number: u32)
-        requires below { number < most_blocks }
-        requires room { stretches (self.old ++ number ∷ []) ≤ 28 }
-        ensures { self.new ≡ self.old ++ number ∷ [] }
+    /// Adds the numbers of a run at the end, for which there must be room.
+    pub(crate) fn add(&mut self, run: Run)
+        requires some { 0 < run.count }
+        requires below { run.first + run.count ≤ most_blocks }
+        requires room { stretches (self.old ++ blocks_from run.first run.count) ≤ 28 }
+        ensures { self.new ≡ self.old ++ blocks_from run.first run.count }
     {
-        let alone = Run {
-            first: number,
-            count: 1,
-        };
         match self.list.pop() {
             Some(last) => {
                 let next = last.first + last.count;
-                if number == next {
+                if run.first == next {
                     self.list.push(Run {
                         first: last.first,
-                        count: last.count + 1,
+                        count: last.count + run.count,
                     });
                 } else {
                     self.list.push(last);
-                    self.list.push(alone);
+                    self.list.push(run);
                 }
             }
-            None => self.list.push(alone),
+            None => self.list.push(run),
         }
     }
 }
 
 /// Whether this number is the one that goes on with the last run.
-fn goes_on(next: Option<u32>, number: u32) -> bool
+pub(crate) fn goes_on(next: Option<u32>, number: u32) -> bool
     ensures { result ≡ goes_on next number }
 {
     match next {

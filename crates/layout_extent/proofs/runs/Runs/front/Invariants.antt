@@ -1,6 +1,6 @@
 use Rattle.std.proofs.Common.{◌≡◌, ◌≤◌, ◌++◌, length, drop}
 use Rattle.layout_extent.proofs.Cut.{cut_runs}
-use Rattle.layout_extent.proofs.runs.Runs.cut.Given as goal
+use Rattle.layout_extent.proofs.runs.Runs.front.Given as goal
 
 -- what is kept, and what the rest gives, make the whole
 abbrev pub invariant-loop-run : goal.invariant-loop-run

@@ -2,10 +2,10 @@ use Rattle.std.proofs.Common.{◌≡◌, ◌≤◌, length, take, sym, ap, subst
 use Rattle.base_types.specs.Runs.{run_places}
 use Rattle.layout_extent.specs.Runs.{AreTidy, LieBelow, most_blocks}
 use Rattle.layout_extent.proofs.Cut.{cut_runs, cut_places, cut_tidy, cut_below, kept_all}
-use Rattle.layout_extent.proofs.runs.Runs.cut.Goals as goal
+use Rattle.layout_extent.proofs.runs.Runs.front.Goals as goal
 
-pub invariant_of-self : goal.invariant_of-self
-invariant_of-self c =
+pub invariant_of-result : goal.invariant_of-result
+invariant_of-result c =
     let rs = c.as_slice-run-items.result.now in
     let end : length rs ≤ c.loop-run.run-index = omega (arith, c.loop-run-test.false) in
     let is : c.loop-run.kept ≡ cut_runs c.args.count c.self.inside.list =
