@@ -4,3 +4,4 @@ pub mod frames
 pub mod effects
 pub mod calling
 pub mod finishing
+pub mod growing

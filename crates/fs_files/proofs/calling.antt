@@ -14,6 +14,5 @@ pub mod Stores
 pub mod Among
 pub mod Loaded
 pub mod WriteAt
-pub mod Extends
 pub mod Resized
 pub mod Within

@@ -3,3 +3,4 @@ pub mod Listed
 pub mod Opened
 pub mod Opening
 pub mod Refused
+pub mod Alone

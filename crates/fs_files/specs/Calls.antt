@@ -1,5 +1,5 @@
 -- What the calls on files make of the files and of the draft. It is described in docs/FILES.md.
-use Rattle.std.specs.Prelude.{◌≡◌, ◌≢◌, ℕ, ◌+◌, ◌-◌, ◌*◌, ◌/◌, ◌<◌, ◌≤◌, nat_le, ⊤, Bool, true, false, ◌||◌, if◌then◌else◌, List, [], ◌∷◌, ◌++◌, length, take, drop, Option, None, Some, is_some}
+use Rattle.std.specs.Prelude.{◌≡◌, ◌≢◌, ℕ, ◌+◌, ◌-◌, ◌*◌, ◌/◌, ◌<◌, ◌≤◌, ◌==◌, nat_le, ⊤, Bool, true, false, ◌&&◌, ◌||◌, if◌then◌else◌, List, [], ◌∷◌, ◌++◌, length, take, drop, Option, None, Some, is_some}
 use Rattle.base_types.specs.Seal.{Blocks}
 use Rattle.base_types.specs.Runs.{run_places}
 use Rattle.layout_geometry.specs.Geometry.{Geometry}
@@ -15,7 +15,9 @@ use Rattle.fs_files.specs.declared.refusal.FileRefusal.{FileRefusal}
 use Rattle.fs_files.specs.declared.refusal.FileRefusal.TheVariants as refusal
 use Rattle.fs_files.specs.Bytes.{blocks_for, met}
 use Rattle.fs_files.specs.Drafts.{DraftState, ChangesSome, change_of, drafted}
+use Rattle.fs_files.specs.Growing.{alone, places_after, taken_by}
 use Rattle.fs_files.specs.Nodes.{node_block}
+use Rattle.fs_files.specs.Shared.{is_kept}
 
 -- what is looked up of a file: all but its bytes
 abbrev pub facts_of : FileNode → FileFacts
@@ -74,19 +76,20 @@ ChangesAmong bs d e = (b : ℕ) → is_some (change_of e.changed b) ≡ true →
 abbrev pub growth : ℕ → ℕ → ℕ
 growth old new = blocks_for new - blocks_for old
 
--- The node got bytes up to `size`: it takes the least blocks that may be taken, they come behind its own, and some block changes.
-pub record Grows (k : Bookkeeping) (x : FileNode) (places new_places : List ℕ) (size : ℕ) (d e : DraftState) : Type 0 where
-  pub enough : growth (length x.bytes) size ≤ length (reusable_blocks k)
-  pub taken : e.taken ≡ d.taken ++ take (growth (length x.bytes) size) (reusable_blocks k)
-  pub behind : new_places ≡ places ++ take (growth (length x.bytes) size) (reusable_blocks k)
+-- The node got bytes `lo` to `hi`: it takes the least blocks that may be taken, as many as it needs, they stand where its places say, and some block changes.
+pub record Grows (k : Bookkeeping) (x : FileNode) (places new_places : List ℕ) (lo hi : ℕ) (d e : DraftState) : Type 0 where
+  pub enough : taken_by (is_kept d.kept) lo hi places ≤ length (reusable_blocks k)
+  pub taken : e.taken ≡ d.taken ++ take (taken_by (is_kept d.kept) lo hi places) (reusable_blocks k)
+  pub placed : new_places ≡ places_after (is_kept d.kept) lo hi places (reusable_blocks k)
   pub runs : stretches new_places ≤ 28
   pub freed : e.freed ≡ d.freed
-  pub fresh : length e.fresh ≤ length d.fresh + (if is_dir x.kind then 0 else growth (length x.bytes) size)
+  pub fresh : length e.fresh ≤ length d.fresh + (if is_dir x.kind then 0 else taken_by (is_kept d.kept) lo hi places)
   pub changes : ChangesSome e
 
--- the blocks that a write of bytes `lo` to `hi` changes, new content aside: those that it meets, a directory's new ones, and the node's where it grows
-abbrev pub written_blocks : Geometry → ℕ → FileNode → List ℕ → List ℕ → ℕ → ℕ → List ℕ
-written_blocks g number x places more lo hi = met lo hi places ++ ((if is_dir x.kind then more else []) ++ (if nat_le hi (length x.bytes) then [] else node_block g number ∷ []))
+-- the blocks that a write of bytes `lo` to `hi` changes, new content aside: those that it meets and that aren't kept, a directory's new ones, and the node's where it grows or gets another block
+abbrev pub written_blocks : Geometry → (ℕ → Bool) → ℕ → FileNode → List ℕ → List ℕ → ℕ → ℕ → List ℕ
+written_blocks g kept number x places more lo hi =
+    alone kept (met lo hi places) ++ ((if is_dir x.kind then more else []) ++ (if nat_le hi (length x.bytes) && (taken_by kept lo hi places == 0) then [] else node_block g number ∷ []))
 
 -- Node `number` changed in its block of the node table, and these blocks of its are to be freed.
 pub record SetsNode (g : Geometry) (number : ℕ) (gone : List ℕ) (d e : DraftState) : Type 0 where
@@ -95,11 +98,11 @@ pub record SetsNode (g : Geometry) (number : ℕ) (gone : List ℕ) (d e : Draft
   pub freed : e.freed ≡ d.freed ++ gone
   pub fresh : length e.fresh ≤ length d.fresh
 
--- The node kept its first bytes: its blocks past them are to be freed, and some block changes.
+-- The node kept its first bytes: its blocks past them are to be freed but for those that are kept, and some block changes.
 pub record Shrinks (x : FileNode) (places new_places : List ℕ) (size : ℕ) (d e : DraftState) : Type 0 where
-  pub kept : new_places ≡ take (blocks_for size) places
+  pub first : new_places ≡ take (blocks_for size) places
   pub taken : e.taken ≡ d.taken
-  pub freed : e.freed ≡ d.freed ++ drop (blocks_for size) places
+  pub freed : e.freed ≡ d.freed ++ alone (is_kept d.kept) (drop (blocks_for size) places)
   pub fresh : length e.fresh ≤ length d.fresh
   pub changes : ChangesSome e
 
@@ -111,18 +114,18 @@ cut_blocks g number x places size = (if is_dir x.kind then drop (size / 1024) (t
 pub record Resizes (k : Bookkeeping) (number : ℕ) (x : FileNode) (places new_places : List ℕ) (size : ℕ) (d e : DraftState) : Type 0 where
   pub same : size ≡ length x.bytes → e ≡ d
   pub changes : size ≢ length x.bytes → ChangesSome e
-  pub grows : length x.bytes < size → Grows k x places new_places size d e
-  pub grows_among : length x.bytes < size → ChangesAmong (written_blocks k.geom number x places (drop (length places) new_places) (length x.bytes) size) d e
+  pub grows : length x.bytes < size → Grows k x places new_places (length x.bytes) size d e
+  pub grows_among : length x.bytes < size → ChangesAmong (written_blocks k.geom (is_kept d.kept) number x places (drop (length places) new_places) (length x.bytes) size) d e
   pub shrinks : size < length x.bytes → Shrinks x places new_places size d e
   pub shrinks_among : size < length x.bytes → ChangesAmong (cut_blocks k.geom number x places size) d e
 
--- Why a node didn't grow by so many blocks: after settling fewer may be taken; or they and its own would lie in more than 28 runs; or the disk failed as it settled, since there were fewer before. The others have their counts, or are free.
-abbrev pub GrowthRefused : ℕ → List ℕ → Bookkeeping → Bookkeeping → FileRefusal → Type 0
-GrowthRefused n places old new (refusal.Short need reusable) = (need ≡ n) × (reusable ≡ length (reusable_blocks new)) × (reusable < n) × (new.waiting ≡ 0)
-GrowthRefused n places old new (refusal.Scattered runs) = (runs ≡ stretches (places ++ take n (reusable_blocks new))) × (28 < runs) × (n ≤ length (reusable_blocks new))
-GrowthRefused n places old new refusal.DiskFault = length (reusable_blocks old) < n
-GrowthRefused n places old new refusal.ReadFault = ⊤
-GrowthRefused n places old new refusal.NoMemory = ⊤
+-- Why a node didn't get so many blocks, which stand with its own as said: after settling fewer may be taken; or all would lie in more than 28 runs; or the disk failed as it settled, since there were fewer before. The others have their counts, or are free.
+abbrev pub GrowthRefused : ℕ → (List ℕ → List ℕ) → Bookkeeping → Bookkeeping → FileRefusal → Type 0
+GrowthRefused n with_more old new (refusal.Short need reusable) = (need ≡ n) × (reusable ≡ length (reusable_blocks new)) × (reusable < n) × (new.waiting ≡ 0)
+GrowthRefused n with_more old new (refusal.Scattered runs) = (runs ≡ stretches (with_more (take n (reusable_blocks new)))) × (28 < runs) × (n ≤ length (reusable_blocks new))
+GrowthRefused n with_more old new refusal.DiskFault = length (reusable_blocks old) < n
+GrowthRefused n with_more old new refusal.ReadFault = ⊤
+GrowthRefused n with_more old new refusal.NoMemory = ⊤
 
 -- a call that doesn't grow is refused by a read or out of memory alone
 abbrev pub LookRefused : FileRefusal → Type 0

@@ -39,6 +39,7 @@ HasNewBytes d = (b : ℕ) × ((is_some (change_of d.changed b) || is_some (chang
 
 -- These blocks got new bytes of this class, and nothing else of the draft changed.
 pub record WritesContent (class : Class) (bs : List ℕ) (d e : DraftState) : Type 0 where
+  pub kept : e.kept ≡ d.kept
   pub others : (b : ℕ) → has bs b ≡ false → change_of e.changed b ≡ change_of d.changed b
   pub other_fresh : (b : ℕ) → has bs b ≡ false → change_of e.fresh b ≡ change_of d.fresh b
   pub keys : (b : ℕ) → is_some (change_of e.changed b) ≡ true → (has bs b || is_some (change_of d.changed b)) ≡ true

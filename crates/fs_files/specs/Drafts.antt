@@ -13,16 +13,21 @@ use Rattle.fs_files.specs.declared.changes.Changed.{Changed}
 abbrev pub change_of : List (ℕ × Changed) → ℕ → Option Changed
 change_of changes b = lookup (is_at (nat_cmp b)) changes
 
--- what a draft has: the new bytes of blocks, the new content of files in blocks that it takes, and the numbers to take and to free
+-- what a draft has: how many snapshots keep each block, the new bytes of blocks, the new content of files in blocks that it takes, and the numbers to take and to free
 pub record DraftState : Type 0 where
+  pub kept : List ℕ
   pub changed : List (ℕ × Changed)
   pub fresh : List (ℕ × Changed)
   pub taken : List ℕ
   pub freed : List ℕ
 
--- a draft in which nothing was done
+-- a draft in which nothing was done, where no block is kept
 abbrev pub nothing_drafted : DraftState
-nothing_drafted = record { changed = []; fresh = []; taken = []; freed = [] }
+nothing_drafted = record { kept = []; changed = []; fresh = []; taken = []; freed = [] }
+
+-- a draft in which nothing was done, where so many snapshots keep each block
+abbrev pub begun_beside : List ℕ → DraftState
+begun_beside kept = record nothing_drafted { kept = kept }
 
 -- some block has new bytes that aren't new content
 abbrev pub ChangesSome : DraftState → Type 0
@@ -52,6 +57,7 @@ zeros_of class = record { class = class; bytes = replicate 1024 0 }
 
 -- Block b has these bytes now: among the new content, if it had some there, and else among the changes. Nothing else is new.
 pub record PutsBlock (b : ℕ) (c : Changed) (d e : DraftState) : Type 0 where
+  pub kept : e.kept ≡ d.kept
   pub changed : (q : ℕ) → change_of e.changed q ≡ (if is_some (change_of d.fresh b) then change_of d.changed q else if b == q then Some c else change_of d.changed q)
   pub fresh : (q : ℕ) → change_of e.fresh q ≡ (if is_some (change_of d.fresh b) && (b == q) then Some c else change_of d.fresh q)
   pub fresh_len : length e.fresh ≡ length d.fresh
@@ -60,6 +66,7 @@ pub record PutsBlock (b : ℕ) (c : Changed) (d e : DraftState) : Type 0 where
 
 -- These blocks are taken too, and have zeros: as new content of a file, or as changes.
 pub record TakesBlocks (class : Class) (bs : List ℕ) (d e : DraftState) : Type 0 where
+  pub kept : e.kept ≡ d.kept
   pub changed : (q : ℕ) → change_of e.changed q ≡ (if is_meta class && has bs q then Some (zeros_of class) else change_of d.changed q)
   pub fresh : (q : ℕ) → change_of e.fresh q ≡ (if not (is_meta class) && has bs q then Some (zeros_of class) else change_of d.fresh q)
   pub fresh_len : length e.fresh ≤ length d.fresh + (if is_meta class then 0 else length bs)
@@ -68,6 +75,7 @@ pub record TakesBlocks (class : Class) (bs : List ℕ) (d e : DraftState) : Type
 
 -- These blocks are to be freed too, and have no new bytes.
 pub record FreesBlocks (bs : List ℕ) (d e : DraftState) : Type 0 where
+  pub kept : e.kept ≡ d.kept
   pub changed : (q : ℕ) → change_of e.changed q ≡ (if has bs q then None else change_of d.changed q)
   pub fresh : (q : ℕ) → change_of e.fresh q ≡ (if has bs q then None else change_of d.fresh q)
   pub fresh_len : length e.fresh ≤ length d.fresh

@@ -2,12 +2,13 @@
 use Rattle.std.specs.Prelude.{◌≡◌, ℕ, ◌+◌, ◌*◌, ◌<◌, ◌≤◌, min, true, not, ◌&&◌, List, length, is_some}
 use Rattle.layout_geometry.specs.Geometry.{Geometry, table_start, bitmap_blocks}
 use Rattle.crash_stands.specs.Files.{files_of}
-use Rattle.crash_stands.specs.Stands.{AreSound}
 use Rattle.engine_blocks.specs.declared.role.Role.TheVariants.{Changed}
 use Rattle.engine_blocks.specs.Running.{has, HasNoBare}
 use Rattle.engine_blocks.specs.State.{Bookkeeping, State, live_blocks, after_weigh}
 use Rattle.engine_blocks.specs.Calls.{MaySync}
 use Rattle.fs_files.specs.Calls.{places_of}
+use Rattle.fs_files.specs.Shared.{is_kept}
+use Rattle.fs_files.specs.Sound.{AreSoundBeside}
 use Rattle.fs_files.specs.Drafts.{DraftState, ChangesSome, change_of, drafted, marks_of}
 
 -- each block that has new bytes, those of new content aside, is one of these
@@ -35,11 +36,11 @@ pub record BooksFinished (d : DraftState) (old new : Bookkeeping) : Type 0 where
   pub sync : MayGoOn old → (bs : List ℕ) (cost : ℕ) → ChangesOnly bs d → price old.geom bs d ≤ cost
       → (0 < cost → ChangesSome d) → MayGoOn (after_weigh new cost)
 
--- The same of the blocks, where they are known: they are those of the draft, with its files and the blocks of each node, and sound if they were.
+-- The same of the blocks, where they are known: they are those of the draft, with its files and the blocks of each node, and sound beside what is kept if they were.
 pub record MapFinished (d : DraftState) (old new : State) : Type 0 where
   pub blocks : (b : ℕ) → table_start old.books.geom ≤ b → b < old.books.geom.n → new.map b ≡ drafted d old.map b
   pub files : (k : ℕ) → files_of old.books.geom new.map k ≡ files_of old.books.geom (drafted d old.map) k
   pub places : (k : ℕ) → places_of old.books.geom new.map k ≡ places_of old.books.geom (drafted d old.map) k
-  pub sound : AreSound old.books.geom old.map → AreSound old.books.geom new.map
+  pub sound : AreSoundBeside old.books.geom (is_kept d.kept) old.map → AreSoundBeside old.books.geom (is_kept d.kept) new.map
   pub live : length (live_blocks new.books) + length d.freed ≡ length (live_blocks old.books) + length d.taken
   pub held : new.books.running.held ≡ old.books.running.held + length d.freed

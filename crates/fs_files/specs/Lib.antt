@@ -17,3 +17,4 @@ pub mod Asks
 pub mod Changing
 pub mod NodeMaps
 pub mod Places
+pub mod Shared

@@ -6,9 +6,11 @@ ghost use Rattle.std.specs.Prelude.{Some, IfOk, IfErr, OnOk};
 ghost use Rattle.layout_bytes.specs.declared.node.NodeKind.TheVariants.{Free};
 ghost use Rattle.crash_stands.specs.Files.{FileNode, joined};
 ghost use Rattle.layout_bytes.specs.Node.{free_node};
-ghost use Rattle.fs_files.specs.Bytes.{met, overwrite};
+ghost use Rattle.std.specs.List.{All};
+ghost use Rattle.engine_blocks.specs.Puts.{IsData};
+ghost use Rattle.fs_files.specs.Bytes.{blocks_for, met, overwrite};
 ghost use Rattle.fs_files.specs.Drafts.{drafted};
-ghost use Rattle.fs_files.specs.Nodes.{class_of, IsOpen};
+ghost use Rattle.fs_files.specs.Nodes.{class_of};
 ghost use Rattle.fs_files.specs.Sound.{IsDraftOf};
 ghost use Rattle.fs_files.specs.Changing.{DropsNode, MakesNode, SetsLinks};
 ghost use Rattle.fs_files.specs.Content.{HasContent, WritesContent, fails_reading};
@@ -29,7 +31,7 @@ use layout_extent::a_list_has_its_runs;
 use layout_node::{Node, NodeKind};
 use std::alloc::Global;
 
-impl Draft {
+impl<'a> Draft<'a> {
     /// The bytes of node `number` from `offset` on, at most `len`, and fewer where it ends before.
     ///
     /// # Errors
@@ -168,29 +170,33 @@ fn free_node() -> Node
     }
 }
 
-/// Zeros from the node's end to byte `end`, or to the end of its last block where that comes before.
+/// Zeros from the node's end to byte `end`, or to the end of the `held` blocks that its bytes need where that comes
+/// before.
 pub(crate) fn fill_gap<S: Blocks>(
     draft: &mut Draft,
     alloc: Global,
     blocks: &mut S,
     node: &OpenNode,
+    held: u32,
     end: u64,
 ) -> Result<(), FileRefusal>
     requires going { (S.state blocks.old).books.stopped ≡ false }
-    requires fits { IsOpen (S.state blocks.old).books.geom node.now }
+    requires data { All (IsData (S.state blocks.old).books.geom) node.now.places }
+    requires held { held ≡ blocks_for node.now.size }
+    requires within { held ≤ length node.now.places }
     requires more { node.now.size ≤ end }
-    ensures writes { OnOk result (WritesContent (class_of node.now.kind) (met node.now.size (min end (1024 * length node.now.places)) node.now.places)
+    ensures writes { OnOk result (WritesContent (class_of node.now.kind) (met node.now.size (min end (1024 * held)) node.now.places)
         draft.old draft.new) }
     ensures content { IsTrue S.tells → HasContent (S.state blocks.old).map draft.old node.now.places
         → OnOk result (HasContent (S.state blocks.old).map draft.new node.now.places) }
     ensures bytes { IsTrue S.tells → HasContent (S.state blocks.old).map draft.old node.now.places
         → OnOk result (joined (drafted draft.new (S.state blocks.old).map) node.now.places ≡ overwrite node.now.size
-        (replicate (min end (1024 * length node.now.places) - node.now.size) 0)
+        (replicate (min end (1024 * held) - node.now.size) 0)
         (joined (drafted draft.old (S.state blocks.old).map) node.now.places)) }
     ensures refused { IfErr result LookRefused }
     ensures looks { LooksOnly S.tells (fails_reading result) (S.state blocks.old) (S.state blocks.new) }
 {
-    let room = u64::from(node.places.count()) * BLOCK_LENGTH as u64;
+    let room = u64::from(held) * BLOCK_LENGTH as u64;
     let stop = end.min(room);
     let gap = &ZEROS[..(stop - node.size) as usize];
     write_content(

@@ -1,24 +1,28 @@
 //! The draft of a command: which blocks it changes, takes and frees, and reading a block with its
-//! changes. It knows no nodes; and of the map of blocks it only reads.
+//! changes. It knows no nodes; and of the map of blocks it only reads. Which blocks snapshots keep it is told.
 
-ghost use Rattle.std.specs.Prelude.{◌≡◌, ◌≢◌, ◌↔◌, ℕ, ◌≤◌, ◌<◌, ◌==◌, ◌∷◌, [], false, IsTrue, length, is_err, OnOk, OnErr};
+ghost use Rattle.std.specs.Prelude.{◌≡◌, ◌≢◌, ◌↔◌, ℕ, ◌≤◌, ◌<◌, ◌==◌, ◌∷◌, [], true, false, IsTrue, length, is_err, OnOk, OnErr};
 ghost use Rattle.std.specs.List.{AllPairs};
 ghost use Rattle.layout_geometry.specs.Geometry.{table_start};
 ghost use Rattle.fs_files.specs.declared.changes.Changed.{Changed};
-ghost use Rattle.fs_files.specs.Drafts.{drafted, nothing_drafted, ChangesSome, PutsBlock, TakesBlocks, FreesBlocks};
+ghost use Rattle.fs_files.specs.Drafts.{begun_beside, drafted, nothing_drafted, ChangesSome, PutsBlock, TakesBlocks, FreesBlocks};
+ghost use Rattle.fs_files.specs.Shared.{is_kept};
 ghost use Rattle.fs_files.specs.Zeros.{HaveZeros};
 ghost use Rattle.fs_files.specs.Effects.{LooksOnly};
 
 use crate::changes::Changes;
+use crate::shared::{KeptBlocks, Shared};
 use base_types::{Block, Class, NoMemory, Places, ReadFault};
 use engine_blocks::Blocks;
+use layout_extent::BlockSet;
 use std::alloc::Global;
 use std::marker::Model;
 
 /// What a command is to change of a map of blocks: new bytes of blocks, and numbers to take and to free.
 /// The map stays as it is until the draft is finished.
 #[derive(Drop)]
-pub struct Draft {
+pub struct Draft<'a> {
+    kept: KeptBlocks<'a>,
     changed: Changes,
     /// The content of files in blocks that are to be taken.
     fresh: Changes,
@@ -26,20 +30,35 @@ pub struct Draft {
     freed: Places,
 }
 
-impl Model for Draft {
+impl<'a> Model for Draft<'a> {
     ghost use Rattle.fs_files.specs.Drafts.{DraftState};
 
     ghost Value = { DraftState };
 
-    ghost view = { λ d. record { changed = d.changed; fresh = d.fresh; taken = d.taken; freed = d.freed } };
+    ghost view = { λ d. record { kept = d.kept; changed = d.changed; fresh = d.fresh; taken = d.taken; freed = d.freed } };
 }
 
-impl Draft {
-    /// A draft in which nothing was done. This takes no memory.
-    pub fn new(alloc: Global) -> Draft
+impl<'a> Draft<'a> {
+    /// A draft in which nothing was done, where no block is kept. This takes no memory.
+    pub fn new(alloc: Global) -> Draft<'a>
         ensures { result ≡ nothing_drafted }
     {
+        Draft::over(alloc, KeptBlocks::none())
+    }
+
+    /// A draft in which nothing was done, beside the blocks that snapshots keep. This takes no memory.
+    pub fn beside(alloc: Global, shared: &'a Shared) -> Draft<'a>
+        ensures { result ≡ begun_beside shared.now }
+    {
+        Draft::over(alloc, shared.kept())
+    }
+
+    // A draft in which nothing was done, where these blocks are kept.
+    fn over(alloc: Global, kept: KeptBlocks<'a>) -> Draft<'a>
+        ensures { result ≡ begun_beside kept.entry }
+    {
         Draft {
+            kept,
             changed: Changes::new(alloc),
             fresh: Changes::new(alloc),
             taken: Places::new(alloc),
@@ -124,6 +143,27 @@ impl Draft {
         self.freed.push(b)
     }
 
+    /// Whether a snapshot keeps this block.
+    pub(crate) fn keeps(&self, b: u32) -> bool
+        ensures { result ≡ is_kept self.now.kept b }
+    {
+        self.kept.has(b)
+    }
+
+    /// Whether it is plain that no block is kept.
+    pub(crate) fn keeps_none(&self) -> bool
+        ensures { result ≡ true → (b : ℕ) → is_kept self.now.kept b ≡ false }
+    {
+        self.kept.is_empty()
+    }
+
+    /// The blocks that snapshots keep.
+    pub(crate) fn kept(&self) -> &KeptBlocks<'a>
+        ensures { result.now ≡ self.now.kept }
+    {
+        &self.kept
+    }
+
     /// Whether it takes no block so far.
     pub(crate) fn takes_none(&self) -> bool
         ensures { result ≡ (length self.now.taken == 0) }
@@ -163,12 +203,13 @@ impl Draft {
     /// What the draft has: the new bytes of blocks, those of new content, the numbers to take, and those
     /// to free.
     pub(crate) fn into_parts(self) -> (Changes, Changes, Places, Places)
-        ensures changed { result.0 ≡ self.changed }
-        ensures fresh { result.1 ≡ self.fresh }
-        ensures taken { result.2 ≡ self.taken }
-        ensures freed { result.3 ≡ self.freed }
+        ensures changed { result.0 ≡ self.entry.changed }
+        ensures fresh { result.1 ≡ self.entry.fresh }
+        ensures taken { result.2 ≡ self.entry.taken }
+        ensures freed { result.3 ≡ self.entry.freed }
     {
         let Draft {
+            kept: _,
             changed,
             fresh,
             taken,

@@ -1,7 +1,7 @@
 //! Finishing a draft: what it changed, takes and frees goes to the map of blocks, in calls that can't
 //! fail once memory was found for all of them.
 
-ghost use Rattle.std.specs.Prelude.{◌≡◌, ◌≢◌, ◌+◌, ◌≤◌, ℕ, length, true, IsTrue, All, AllPairs, IfOk, OnOk, OnErr};
+ghost use Rattle.std.specs.Prelude.{◌≡◌, ◌≢◌, ◌+◌, ◌≤◌, ℕ, List, length, true, IsTrue, All, AllPairs, IfOk, OnOk, OnErr};
 ghost use Rattle.layout_geometry.specs.Geometry.{data_start};
 ghost use Rattle.layout_bytes.specs.Bitmap.{is_set};
 ghost use Rattle.engine_blocks.specs.Running.{payloads, fresh_blocks, HasNoBare};
@@ -20,15 +20,15 @@ use base_types::{Class, NoMemory, Places};
 use engine_blocks::{Blocks, a_commit_grows_by_each_call};
 use std::alloc::Global;
 
-impl Draft {
+impl<'a> Draft<'a> {
     /// Makes the changes of the draft: takes its numbers, puts the new bytes, and frees what it frees.
     ///
     /// # Errors
     /// Out of memory; then nothing of it is done.
     pub fn finish<S: Blocks>(self, alloc: Global, blocks: &mut S) -> Result<(), NoMemory>
         requires draft { IsDraftOf S.tells (S.state blocks.old) self }
-        ensures books { OnOk result (BooksFinished self (S.state blocks.old).books (S.state blocks.new).books) }
-        ensures map { IsTrue S.tells → OnOk result (MapFinished self (S.state blocks.old) (S.state blocks.new)) }
+        ensures books { OnOk result (BooksFinished self.entry (S.state blocks.old).books (S.state blocks.new).books) }
+        ensures map { IsTrue S.tells → OnOk result (MapFinished self.entry (S.state blocks.old) (S.state blocks.new)) }
         ensures failed { OnErr result ((S.state blocks.new).books ≡ record (S.state blocks.old).books { spare = (S.state blocks.new).books.spare }) }
         ensures failed_map { IsTrue S.tells → OnErr result ((S.state blocks.new).map ≡ (S.state blocks.old).map) }
         ensures disk { LeavesDisk S.tells (S.state blocks.old) (S.state blocks.new) }
@@ -65,7 +65,7 @@ fn count(n: usize) -> Result<u32, NoMemory>
     }
 }
 
-/// Makes the changes of a draft, with what was made ready for them.
+/// Makes the changes of a draft, with what was made ready for them. What is kept beside it doesn't matter.
 fn make_changes<S: Blocks>(
     blocks: &mut S,
     changed: Changes,
@@ -74,9 +74,10 @@ fn make_changes<S: Blocks>(
     freed: &Places,
 )
     requires ready { IsReady (S.state blocks.old).books.spare (length changed + length fresh) (length taken.now) (length freed.now) }
-    requires draft { IsDraftOf S.tells (S.state blocks.old) (record { changed = changed; fresh = fresh; taken = taken.now; freed = freed.now }) }
-    ensures made { HasMade S.tells (record { changed = changed; fresh = fresh; taken = taken.now; freed = freed.now }) (S.state blocks.old)
-        (S.state blocks.new) }
+    requires draft { (kept : List ℕ) × IsDraftOf S.tells (S.state blocks.old)
+        (record { kept = kept; changed = changed; fresh = fresh; taken = taken.now; freed = freed.now }) }
+    ensures made { (kept : List ℕ) → HasMade S.tells (record { kept = kept; changed = changed; fresh = fresh; taken = taken.now; freed = freed.now })
+        (S.state blocks.old) (S.state blocks.new) }
 {
     blocks.take(taken);
     put_all(blocks, fresh, true);

@@ -1,13 +1,19 @@
 //! Laws of drafts and of the files in them, each a function that changes nothing: what a draft is before
 //! anything was done, how many blocks a file has, and how many bytes a directory.
 
-ghost use Rattle.std.specs.Prelude.{◌≡◌, ◌≤◌, ◌+◌, ◌-◌, ◌*◌, ◌/◌, ◌%◌, ◌^◌, ℕ, Bool, false, IsTrue, List, length, Some};
+ghost use Rattle.std.specs.Prelude.{◌≡◌, ◌≤◌, ◌+◌, ◌-◌, ◌*◌, ◌/◌, ◌%◌, ◌^◌, ◌++◌, ℕ, Bool, [], false, IsTrue, List, length, Some};
 ghost use Rattle.engine_blocks.specs.Running.{HasNoBare};
 ghost use Rattle.fs_files.specs.Bytes.{blocks_for, met};
 ghost use Rattle.fs_files.specs.Calls.{files_in, places_in, places_of};
-ghost use Rattle.fs_files.specs.Drafts.{DraftState, nothing_drafted};
+ghost use Rattle.fs_files.specs.Drafts.{DraftState, begun_beside, nothing_drafted};
 ghost use Rattle.fs_files.specs.Effects.{LooksOnly, LooksAndSettles};
-ghost use Rattle.fs_files.specs.Sound.{IsDraftOf};
+ghost use Rattle.fs_files.specs.Sound.{AreSoundBeside, IsDraftOf};
+ghost use Rattle.fs_files.specs.Growing.{alone, placed, taken_by};
+ghost use Rattle.fs_files.specs.Shared.{is_kept};
+ghost use Rattle.std.specs.List.{All};
+ghost use Rattle.layout_extent.specs.Renew.{makes_way, renewals};
+ghost use Rattle.layout_geometry.specs.Geometry.{Geometry};
+ghost use Rattle.base_types.specs.Seal.{Blocks as Seal};
 ghost use Rattle.layout_bytes.specs.declared.node.NodeKind.TheVariants.{Dir};
 ghost use Rattle.crash_stands.specs.Files.{FileNode, files_of};
 ghost use Rattle.crash_stands.specs.Stands.{AreSound};
@@ -15,13 +21,21 @@ ghost use Rattle.crash_stands.specs.Stands.{AreSound};
 use engine_blocks::{Blocks, calls_compose};
 
 /// An empty draft is one of each map of blocks that are sound where they are known, while each block that
-/// was taken is filled or freed. Its files are those of the map, and so are the blocks of each node.
+/// was taken is filled or freed; so is an empty draft beside kept blocks, of blocks that are sound beside these. Its
+/// files are those of the map, and so are the blocks of each node.
 pub fn a_draft_begins<S: Blocks>(blocks: &S)
     ensures draft { HasNoBare (S.state blocks.now).books.running
         → (IsTrue S.tells → AreSound (S.state blocks.now).books.geom (S.state blocks.now).map)
         → IsDraftOf S.tells (S.state blocks.now) nothing_drafted }
+    ensures beside { (kept : List ℕ) → HasNoBare (S.state blocks.now).books.running
+        → (IsTrue S.tells → AreSoundBeside (S.state blocks.now).books.geom (is_kept kept) (S.state blocks.now).map)
+        → IsDraftOf S.tells (S.state blocks.now) (begun_beside kept) }
     ensures files { (k : ℕ) → files_in (S.state blocks.now) nothing_drafted k ≡ files_of (S.state blocks.now).books.geom (S.state blocks.now).map k }
     ensures places { (k : ℕ) → places_in (S.state blocks.now) nothing_drafted k ≡ places_of (S.state blocks.now).books.geom (S.state blocks.now).map k }
+    ensures beside_files { (kept : List ℕ) (k : ℕ) → files_in (S.state blocks.now) (begun_beside kept)
+        k ≡ files_of (S.state blocks.now).books.geom (S.state blocks.now).map k }
+    ensures beside_places { (kept : List ℕ) (k : ℕ) → places_in (S.state blocks.now) (begun_beside kept)
+        k ≡ places_of (S.state blocks.now).books.geom (S.state blocks.now).map k }
 {
     blocks.geom().lawful();
 }
@@ -47,10 +61,35 @@ pub fn a_directory_has_whole_slots<S: Blocks>()
         → length x.bytes % 64 ≡ 0 }
 {}
 
-/// In how many blocks of a list bytes lie: those from the block of the first one to that of the last one.
+/// No block of a directory is kept.
+pub fn a_directory_shares_no_block<S: Blocks>()
+    ensures { (s : S) (d : DraftState) (k : ℕ) (x : FileNode) → IsTrue S.tells → IsDraftOf S.tells (S.state s) d → files_in (S.state s) d k ≡ Some x
+        → x.kind ≡ Dir → All (λ b. is_kept d.kept b ≡ false) (places_in (S.state s) d k) }
+{}
+
+/// Where none of a node's blocks is kept, it takes those alone that it has too few, they stand behind its own, and
+/// all that it gives up are freed. Where no block is kept at all none of a list is.
+pub fn where_nothing_is_kept()
+    ensures takes { (kept : ℕ → Bool) (lo hi : ℕ) (places : List ℕ) → All (λ b. kept b ≡ false) places
+        → taken_by kept lo hi places ≡ blocks_for hi - length places }
+    ensures behind { (kept : ℕ → Bool) (lo hi : ℕ) (places more : List ℕ) → All (λ b. kept b ≡ false) places → placed kept lo hi places more ≡ places ++ more }
+    ensures all { (kept : ℕ → Bool) (places : List ℕ) → All (λ b. kept b ≡ false) places → alone kept places ≡ places }
+    ensures none { (places : List ℕ) → All (λ b. is_kept [] b ≡ false) places }
+{}
+
+/// Blocks are sound where nothing is kept as they are beside no kept block.
+pub fn sound_beside_nothing()
+    ensures to { (g : Geometry) (m : Seal) → AreSound g m → AreSoundBeside g (is_kept []) m }
+    ensures from { (g : Geometry) (m : Seal) → AreSoundBeside g (is_kept []) m → AreSound g m }
+{}
+
+/// In how many blocks of a list bytes lie: those from the block of the first one to that of the last one. Each of
+/// them isn't kept, or makes way for a new one.
 pub fn bytes_lie_in_blocks()
     ensures count { (lo hi : ℕ) (places : List ℕ) → hi ≤ 1024 * length places → length (met lo hi places) ≡ blocks_for hi - lo / 1024 }
     ensures most { (lo hi : ℕ) (places : List ℕ) → length (met lo hi places) ≤ blocks_for hi - lo / 1024 }
+    ensures kept_too { (kept : ℕ → Bool) (lo hi : ℕ) (places : List ℕ) → length (alone kept (met lo hi places))
+        + renewals (makes_way (lo / 1024) (blocks_for hi) kept places) 0 places ≡ length (met lo hi places) }
 {}
 
 /// Calls that look, and calls that may settle, one after the other: a look is one that may have settled, and so is a

@@ -17,6 +17,7 @@ mod price;
 mod reading;
 mod refusal;
 mod resize;
+mod shared;
 mod unused;
 mod within;
 mod write;
@@ -25,10 +26,12 @@ pub use changes::Changed;
 pub use draft::Draft;
 pub use finish::a_sync_may_follow;
 pub use laws::{
-    a_directory_has_whole_slots, a_draft_begins, a_file_fits_the_disk, a_file_has_its_blocks,
-    bytes_lie_in_blocks, settlings_add_up,
+    a_directory_has_whole_slots, a_directory_shares_no_block, a_draft_begins, a_file_fits_the_disk,
+    a_file_has_its_blocks, bytes_lie_in_blocks, settlings_add_up, sound_beside_nothing,
+    where_nothing_is_kept,
 };
 pub use look::FileFacts;
 pub use node_blocks::{NodeBlocks, OpenFile};
 pub use reading::Nodes;
 pub use refusal::FileRefusal;
+pub use shared::Shared;

@@ -21,7 +21,7 @@ pub struct FileFacts {
     pub size: u64,
 }
 
-impl Draft {
+impl<'a> Draft<'a> {
     /// What node `number` is as the draft has it. `None` where it isn't in use.
     ///
     /// # Errors

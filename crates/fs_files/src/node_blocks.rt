@@ -42,7 +42,7 @@ pub struct OpenFile {
     pub blocks: NodeBlocks,
 }
 
-impl Draft {
+impl<'a> Draft<'a> {
     /// What node `number` is, and its blocks, read at once. `None` where it isn't in use.
     ///
     /// # Errors

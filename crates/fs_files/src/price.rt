@@ -7,7 +7,7 @@ ghost use Rattle.fs_files.specs.Finish.{price, ChangesOnly};
 use crate::draft::Draft;
 use layout_geometry::Geom;
 
-impl Draft {
+impl<'a> Draft<'a> {
     /// What finishing the draft adds at most to 25 times the payloads and the fresh blocks of a commit: 25
     /// for each changed block, one for each block of new content, and 25 for each block of the bitmap
     /// that may have bits to change. It stops at 2^64 - 1.

@@ -110,7 +110,7 @@ pub trait Nodes {
         ensures none { (k : ℕ) → (S.state blocks.now).books.geom.i < k → (nodes (S.state blocks.now) self.now).files k ≡ None };
 }
 
-impl Nodes for Draft {
+impl<'a> Nodes for Draft<'a> {
     ghost use Rattle.fs_files.specs.NodeMaps.{nodes_in};
     ghost use Rattle.fs_files.specs.Sound.{IsDraftOf};
 

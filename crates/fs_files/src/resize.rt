@@ -1,36 +1,28 @@
 //! Resizing a file of a draft: it is cut to fewer bytes, or grows to more with zeros. Its node and its
 //! blocks are changed by other modules.
 
-ghost use Rattle.std.specs.Prelude.{◌≡◌, ◌≢◌, ◌≤◌, ◌<◌, ◌*◌, ◌-◌, ◌/◌, ◌%◌, ◌^◌, IsTrue, false, [], ◌++◌, length, take, drop, replicate, Some, IfErr, OnOk};
+ghost use Rattle.std.specs.Prelude.{◌≡◌, ◌≤◌, ◌<◌, ◌*◌, ◌-◌, ◌/◌, ◌%◌, ◌^◌, IsTrue, false, length, drop, replicate, Some, IfErr, OnOk};
 ghost use Rattle.std.specs.List.{All};
 ghost use Rattle.base_types.specs.declared.words.Class.TheVariants.{Meta};
 ghost use Rattle.layout_extent.specs.Runs.{stretches};
 ghost use Rattle.layout_bytes.specs.declared.node.NodeKind.TheVariants.{Dir};
-ghost use Rattle.lang_tree.specs.Step.{resized};
 ghost use Rattle.crash_stands.specs.Files.{FileNode, joined};
-ghost use Rattle.engine_blocks.specs.Calls.{HasTurns};
 ghost use Rattle.engine_blocks.specs.Puts.{IsData};
-ghost use Rattle.engine_blocks.specs.State.{reusable_blocks};
 ghost use Rattle.fs_files.specs.Bytes.{blocks_for, overwrite};
 ghost use Rattle.fs_files.specs.Asks.{MayGrow, MayLook};
-ghost use Rattle.fs_files.specs.Calls.{files_in, places_in, IsUsed, IsWithFile, IsWithPlaces, with_bytes, ChangesAmong, Grows};
-ghost use Rattle.fs_files.specs.Calls.{growth, written_blocks, GrowthRefused, LookRefused};
+ghost use Rattle.fs_files.specs.Calls.{files_in, IsUsed, LookRefused};
 ghost use Rattle.fs_files.specs.Changing.{CutsFile, ResizesFile};
-ghost use Rattle.fs_files.specs.Content.{HasContent, WritesContent, fails_reading, fails_settling};
+ghost use Rattle.fs_files.specs.Content.{HasContent, WritesContent, fails_reading};
 ghost use Rattle.fs_files.specs.Drafts.{drafted};
-ghost use Rattle.fs_files.specs.Effects.{LooksOnly, LooksAndSettles};
-ghost use Rattle.fs_files.specs.Growing.{more_blocks};
-ghost use Rattle.fs_files.specs.Nodes.{largest_node};
+ghost use Rattle.fs_files.specs.Effects.{LooksOnly};
 ghost use Rattle.fs_files.specs.Resizing.{IsLoaded, ClearsRest, IsCleared};
-ghost use Rattle.fs_files.specs.Sound.{IsDraftOf};
 
 use crate::FileRefusal;
-use crate::calls::fill_gap;
 use crate::content::write_content;
 use crate::draft::{Draft, ZEROS};
 use crate::grow::{blocks_for, shrink};
 use crate::nodes::{OpenNode, load, store};
-use crate::write::make_room;
+use crate::write::write_loaded;
 use base_types::limits::BLOCK_LENGTH;
 use base_types::{Block, Class};
 use engine_blocks::{Blocks, calls_compose};
@@ -38,7 +30,7 @@ use layout_extent::{Runs, a_list_has_its_runs};
 use layout_node::NodeKind;
 use std::alloc::Global;
 
-impl Draft {
+impl<'a> Draft<'a> {
     /// Node `number` has so many bytes: its first ones, and zeros where it grows.
     ///
     /// # Errors
@@ -52,7 +44,7 @@ impl Draft {
     ) -> Result<(), FileRefusal>
         requires look { MayLook S.tells (S.state blocks.old) self.old number }
         requires used { IsTrue S.tells → IsUsed (files_in (S.state blocks.old) self.old) number }
-        requires grows { MayGrow S.tells (S.state blocks.old) self.old number size }
+        requires grows { MayGrow S.tells (S.state blocks.old) self.old number size size }
         requires slots { IsTrue S.tells → (x : FileNode) → files_in (S.state blocks.old) self.old number ≡ Some x → x.kind ≡ Dir → size % 64 ≡ 0 }
         ensures { ResizesFile S.tells number size result (S.state blocks.old) (S.state blocks.new) self.old self.new }
     {
@@ -69,20 +61,17 @@ impl Draft {
         if size < node.size {
             return cut(self, alloc, blocks, number, &mut node, size, &mut table);
         }
-        if !may_grow(self, &node, size) {
-            return Ok(());
-        }
-        extend(self, alloc, blocks, number, &mut node, size, &mut table)
+        write_loaded(
+            self,
+            alloc,
+            blocks,
+            number,
+            &mut node,
+            &mut table,
+            size,
+            &[],
+        )
     }
-}
-
-/// Whether the node needs no blocks for so many bytes, or the draft takes none so far.
-fn may_grow(draft: &Draft, node: &OpenNode, size: u64) -> bool
-    requires { size ≤ largest_node }
-    ensures yes { IsTrue result → 0 < more_blocks size node.now → draft.now.taken ≡ [] }
-    ensures no { result ≡ false → (0 < more_blocks size node.now) × (draft.now.taken ≢ []) }
-{
-    blocks_for(size) <= node.places.count() || draft.takes_none()
 }
 
 /// The node keeps its bytes before `size`, which is below its size, and is stored; what it needs no more is
@@ -113,58 +102,6 @@ pub(crate) fn cut<S: Blocks>(
     shrink(draft, node, blocks_for(size))?;
     few_runs(&node.places);
     clear_rest(draft, alloc, blocks, node.kind, &node.places, size)?;
-    node.size = size;
-    store(draft, alloc, &geom, number, &node.to_node(), table)?;
-    Ok(())
-}
-
-/// The node gets bytes up to `size`, which is past its end, and is stored: its new bytes are zeros.
-///
-/// # Errors
-/// As `Draft::resize`. The draft isn't to be used any more then.
-fn extend<S: Blocks>(
-    draft: &mut Draft,
-    alloc: Global,
-    blocks: &mut S,
-    number: u32,
-    node: &mut OpenNode,
-    size: u64,
-    table: &mut Block,
-) -> Result<(), FileRefusal>
-    requires going { (S.state blocks.old).books.stopped ≡ false }
-    requires turns { HasTurns (S.state blocks.old).books }
-    requires loaded { IsLoaded S.tells (S.state blocks.old) draft.old number node.old table.old }
-    requires size { size ≤ 2 ^ 30 }
-    requires more { node.old.size < size }
-    requires slots { IsTrue S.tells → node.old.kind ≡ Dir → size % 64 ≡ 0 }
-    requires once { 0 < more_blocks size node.old → draft.old.taken ≡ [] }
-    ensures file { IsTrue S.tells → OnOk result ((x : FileNode) → files_in (S.state blocks.old) draft.old number ≡ Some x
-        → IsWithFile (files_in (S.state blocks.old) draft.old) (files_in (S.state blocks.new) draft.new) number (Some (with_bytes x (resized size x.bytes)))) }
-    ensures places { IsTrue S.tells → OnOk result ((x : FileNode) → files_in (S.state blocks.old) draft.old number ≡ Some x
-        → IsWithPlaces (places_in (S.state blocks.old) draft.old) (places_in (S.state blocks.new) draft.new) number
-        (take (blocks_for size) (places_in (S.state blocks.old) draft.old number) ++ take (growth (length x.bytes) size)
-        (reusable_blocks (S.state blocks.new).books))) }
-    ensures draft { OnOk result (IsDraftOf S.tells (S.state blocks.new) draft.new) }
-    ensures grows { IsTrue S.tells → OnOk result ((x : FileNode) → files_in (S.state blocks.old) draft.old number ≡ Some x
-        → Grows (S.state blocks.new).books x (places_in (S.state blocks.old) draft.old number) (places_in (S.state blocks.new) draft.new number) size
-        draft.old draft.new) }
-    ensures among { IsTrue S.tells → OnOk result ((x : FileNode) → files_in (S.state blocks.old) draft.old number ≡ Some x
-        → ChangesAmong (written_blocks (S.state blocks.new).books.geom number x (places_in (S.state blocks.old) draft.old number)
-        (drop (length (places_in (S.state blocks.old) draft.old number)) (places_in (S.state blocks.new) draft.new number)) (length x.bytes) size)
-        draft.old draft.new) }
-    ensures refused { IfErr result (λ why. GrowthRefused (more_blocks size node.old) node.old.places (S.state blocks.old).books
-        (S.state blocks.new).books why) }
-    ensures settles { LooksAndSettles S.tells (fails_reading result) (fails_settling result) (S.state blocks.old) (S.state blocks.new) }
-    ensures looks { more_blocks size node.old ≤ length (reusable_blocks (S.state blocks.old).books)
-        → LooksOnly S.tells (fails_reading result) (S.state blocks.old) (S.state blocks.new) }
-{
-    calls_compose::<S>();
-    a_list_has_its_runs();
-    let geom = blocks.geom();
-    geom.lawful();
-    fill_gap(draft, alloc, blocks, node, size)?;
-    make_room(draft, alloc, blocks, node, size)?;
-    few_runs(&node.places);
     node.size = size;
     store(draft, alloc, &geom, number, &node.to_node(), table)?;
     Ok(())

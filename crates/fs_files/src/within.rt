@@ -1,11 +1,13 @@
 //! Changes of a file of a draft that never grow it: bytes written over those that it has, and a cut to its
 //! first bytes. They only look at the map of blocks, also where it isn't observed.
 
-ghost use Rattle.std.specs.Prelude.{◌≡◌, ◌≤◌, ◌<◌, ◌+◌, ◌^◌, IsTrue, length, Some};
+ghost use Rattle.std.specs.Prelude.{◌≡◌, ◌≤◌, ◌<◌, ◌+◌, ◌^◌, false, IsTrue, length, Some};
+ghost use Rattle.std.specs.List.{All};
 ghost use Rattle.crash_stands.specs.Files.{FileNode};
 ghost use Rattle.fs_files.specs.Asks.{MayCut, MayLook};
-ghost use Rattle.fs_files.specs.Calls.{files_in, IsUsed};
+ghost use Rattle.fs_files.specs.Calls.{files_in, places_in, IsUsed};
 ghost use Rattle.fs_files.specs.Changing.{CutsFile, OverwritesFile};
+ghost use Rattle.fs_files.specs.Shared.{is_kept};
 
 use crate::FileRefusal;
 use crate::content::write_content;
@@ -17,9 +19,9 @@ use engine_blocks::Blocks;
 use layout_extent::a_list_has_its_runs;
 use std::alloc::Global;
 
-impl Draft {
+impl<'a> Draft<'a> {
     /// Writes these bytes over those of node `number` from `offset` on, all within its size. No bytes
-    /// change nothing.
+    /// change nothing. Where it has bytes to write, no snapshot keeps a block of the node.
     ///
     /// # Errors
     /// A read of the disk failed, which the disk has counted; or out of memory. The draft isn't to be used
@@ -37,6 +39,7 @@ impl Draft {
         requires size { offset + length bytes.now ≤ 2 ^ 30 }
         requires within { IsTrue S.tells → (x : FileNode) → files_in (S.state blocks.old) self.old number ≡ Some x
             → offset + length bytes.now ≤ length x.bytes }
+        requires apart { IsTrue S.tells → All (λ b. is_kept self.old.kept b ≡ false) (places_in (S.state blocks.old) self.old number) }
         ensures { OverwritesFile S.tells number offset bytes.now result (S.state blocks.old) (S.state blocks.new) self.old self.new }
     {
         a_list_has_its_runs();

@@ -1,28 +1,32 @@
 //! Writing bytes into a file of a draft: the gap before them, the blocks that they need, and the bytes
 //! themselves. What a draft is then is described by the clauses of `write_at`.
 
-ghost use Rattle.std.specs.Prelude.{◌≡◌, ◌≤◌, ◌<◌, ◌+◌, ◌%◌, ◌^◌, IsTrue, false, max, [], length, Some, IfErr, OnOk};
+ghost use Rattle.std.specs.Prelude.{◌≡◌, ◌⊎◌, ◌≤◌, ◌<◌, ◌+◌, ◌*◌, ◌%◌, ◌^◌, IsTrue, false, min, max, [], length, Some, IfErr, OnOk};
+ghost use Rattle.std.specs.List.{All};
 ghost use Rattle.layout_bytes.specs.declared.node.NodeKind.TheVariants.{Dir};
 ghost use Rattle.engine_blocks.specs.Calls.{HasTurns};
 ghost use Rattle.engine_blocks.specs.State.{reusable_blocks};
+ghost use Rattle.engine_blocks.specs.Puts.{IsData};
 ghost use Rattle.fs_files.specs.Asks.{MayGrow, MayLook};
+ghost use Rattle.fs_files.specs.Bytes.{blocks_for};
 ghost use Rattle.fs_files.specs.Calls.{files_in, IsUsed};
 ghost use Rattle.fs_files.specs.Calls.{GrowthRefused, LookRefused};
 ghost use Rattle.fs_files.specs.Changing.{WritesAt};
 ghost use Rattle.fs_files.specs.Content.{fails_reading, fails_settling};
 ghost use Rattle.fs_files.specs.Effects.{LooksOnly, LooksAndSettles};
 ghost use Rattle.fs_files.specs.Drafts.{drafted};
-ghost use Rattle.fs_files.specs.Growing.{more_blocks};
+ghost use Rattle.fs_files.specs.Growing.{placed, taken_by};
 ghost use Rattle.fs_files.specs.Nodes.{largest_node, node_block, node_of_open, IsOpen};
+ghost use Rattle.fs_files.specs.Shared.{is_kept};
 ghost use Rattle.fs_files.specs.Sound.{IsDraftOf};
-ghost use Rattle.fs_files.specs.Writing.{FillsGap, HasRoom, WritesOpen, KeepsSize, WritesFile};
+ghost use Rattle.fs_files.specs.Writing.{FillsBytes, FillsGap, HasRoom, WritesOpen, KeepsSize, WritesFile};
 ghost use Rattle.crash_stands.specs.Files.{FileNode, used_node};
 
 use crate::FileRefusal;
 use crate::calls::fill_gap;
 use crate::content::write_content;
 use crate::draft::{Draft, ZEROS};
-use crate::grow::{blocks_for, class_of, grow};
+use crate::grow::{class_of, copy_edges, edge, grow, taken_by};
 use crate::nodes::{OpenNode, load, store};
 use base_types::{Block, NoMemory};
 use engine_blocks::{Blocks, calls_compose};
@@ -30,12 +34,12 @@ use layout_extent::a_list_has_its_runs;
 use layout_geometry::Geom;
 use std::alloc::Global;
 
-impl Draft {
+impl<'a> Draft<'a> {
     /// Writes these bytes into node `number` from `offset` on. A gap past its end is zeros. No bytes
-    /// change nothing.
+    /// change nothing. A block that a snapshot keeps isn't written: a new one stands in its stead.
     ///
     /// # Errors
-    /// Where it grows: fewer blocks may be taken; they and its own would lie in more than 28 runs; or the
+    /// Where it takes blocks: fewer may be taken; the node's would lie in more than 28 runs; or the
     /// disk failed as it settled. Else a read of the disk failed; or out of memory. The draft isn't to be
     /// used any more then.
     pub fn write_at<S: Blocks>(
@@ -48,7 +52,7 @@ impl Draft {
     ) -> Result<(), FileRefusal>
         requires look { MayLook S.tells (S.state blocks.old) self.old number }
         requires used { IsTrue S.tells → IsUsed (files_in (S.state blocks.old) self.old) number }
-        requires grows { MayGrow S.tells (S.state blocks.old) self.old number (offset + length bytes.now) }
+        requires grows { MayGrow S.tells (S.state blocks.old) self.old number offset (offset + length bytes.now) }
         requires slots { IsTrue S.tells → (x : FileNode) → files_in (S.state blocks.old) self.old number ≡ Some x → x.kind ≡ Dir
             → (max (length x.bytes) (offset + length bytes.now)) % 64 ≡ 0 }
         ensures { WritesAt S.tells number offset bytes.now result (S.state blocks.old) (S.state blocks.new) self.old self.new }
@@ -70,96 +74,138 @@ impl Draft {
     }
 }
 
-/// Writes bytes into an open node from `offset` on: first zeros into the gap before them, and then blocks
-/// for them. Its size stays.
+/// Writes bytes into an open node from `offset` on: first it gets the `need` blocks for them, then the gap
+/// before them gets zeros. Its size stays.
 ///
 /// # Errors
 /// As `Draft::write_at`. The draft isn't to be used any more then.
-pub(crate) fn write_open<S: Blocks>(
+fn write_open<S: Blocks>(
     draft: &mut Draft,
     alloc: Global,
     blocks: &mut S,
     node: &mut OpenNode,
     offset: u64,
     bytes: &[u8],
+    need: u32,
 ) -> Result<(), FileRefusal>
     requires going { (S.state blocks.old).books.stopped ≡ false }
     requires turns { HasTurns (S.state blocks.old).books }
     requires open { IsOpen (S.state blocks.old).books.geom node.old }
     requires size { offset + length bytes.now ≤ 2 ^ 30 }
-    requires once { 0 < more_blocks (max node.old.size (offset + length bytes.now)) node.old → draft.old.taken ≡ [] }
+    requires need { need ≡ taken_by (is_kept draft.old.kept) (min offset node.old.size) (offset + length bytes.now) node.old.places }
+    requires once { 0 < need → draft.old.taken ≡ [] }
     ensures writes { OnOk result (WritesOpen S.tells (S.state blocks.new).books (S.state blocks.old).map offset bytes.now node.old node.new draft.old
         draft.new) }
-    ensures refused { IfErr result (λ why. GrowthRefused (more_blocks (max node.old.size (offset + length bytes.now)) node.old) node.old.places
-        (S.state blocks.old).books (S.state blocks.new).books why) }
+    ensures refused { IfErr result (λ why. GrowthRefused need (placed (is_kept draft.old.kept) (min offset node.old.size) (offset + length bytes.now)
+        node.old.places) (S.state blocks.old).books (S.state blocks.new).books why) }
     ensures settles { LooksAndSettles S.tells (fails_reading result) (fails_settling result) (S.state blocks.old) (S.state blocks.new) }
-    ensures looks { more_blocks (max node.old.size (offset + length bytes.now)) node.old ≤ length (reusable_blocks (S.state blocks.old).books)
+    ensures looks { need ≤ length (reusable_blocks (S.state blocks.old).books)
         → LooksOnly S.tells (fails_reading result) (S.state blocks.old) (S.state blocks.new) }
 {
     calls_compose::<S>();
-    let size = node.size.max(offset + bytes.len() as u64);
-    close_gap(draft, alloc, blocks, node, offset)?;
-    make_room(draft, alloc, blocks, node, size)?;
+    let held = node.places.count();
+    let lo = offset.min(node.size);
+    let hi = offset + bytes.len() as u64;
+    make_room(draft, alloc, blocks, node, lo, hi, need)?;
+    write_behind(draft, alloc, blocks, node, held, offset, bytes)
+}
+
+/// Writes bytes into an open node from `offset` on, within its blocks, of which it had so many before. First the
+/// gap before them gets zeros, as far as it had blocks.
+///
+/// # Errors
+/// A read of the disk failed, which the disk has counted; or out of memory. The draft isn't to be used any
+/// more then.
+fn write_behind<S: Blocks>(
+    draft: &mut Draft,
+    alloc: Global,
+    blocks: &mut S,
+    node: &OpenNode,
+    held: u32,
+    offset: u64,
+    bytes: &[u8],
+) -> Result<(), FileRefusal>
+    requires going { (S.state blocks.old).books.stopped ≡ false }
+    requires data { All (IsData (S.state blocks.old).books.geom) node.now.places }
+    requires held { held ≡ blocks_for node.now.size }
+    requires within { max (1024 * held) (offset + length bytes.now) ≤ 1024 * length node.now.places }
+    ensures fills { OnOk result (FillsBytes S.tells (S.state blocks.old).map offset held bytes.now node.now draft.old draft.new) }
+    ensures refused { IfErr result LookRefused }
+    ensures looks { LooksOnly S.tells (fails_reading result) (S.state blocks.old) (S.state blocks.new) }
+{
+    close_gap(draft, alloc, blocks, node, held, offset)?;
     let class = class_of(node.kind);
     write_content(draft, alloc, blocks, &node.places, class, offset, bytes)?;
     Ok(())
 }
 
-/// Zeros from the node's end to byte `offset`, where that is past it, within the blocks that it has.
+/// Zeros from the node's end to byte `offset`, where that is past it, within its first `held` blocks.
 ///
 /// # Errors
-/// A read of the disk failed, which the disk has counted; or out of memory. The draft isn't to be used
-/// any more then.
+/// A read of the disk failed, which the disk has counted; or out of memory. The draft isn't to be used any
+/// more then.
 fn close_gap<S: Blocks>(
     draft: &mut Draft,
     alloc: Global,
     blocks: &mut S,
     node: &OpenNode,
+    held: u32,
     offset: u64,
 ) -> Result<(), FileRefusal>
     requires going { (S.state blocks.old).books.stopped ≡ false }
-    requires open { IsOpen (S.state blocks.old).books.geom node.now }
-    ensures gap { OnOk result (FillsGap S.tells (S.state blocks.old).map offset node.now draft.old draft.new) }
+    requires data { All (IsData (S.state blocks.old).books.geom) node.now.places }
+    requires held { held ≡ blocks_for node.now.size }
+    requires within { held ≤ length node.now.places }
+    ensures gap { OnOk result (FillsGap S.tells (S.state blocks.old).map offset held node.now draft.old draft.new) }
     ensures refused { IfErr result LookRefused }
     ensures looks { LooksOnly S.tells (fails_reading result) (S.state blocks.old) (S.state blocks.new) }
 {
     if offset <= node.size {
         return Ok(());
     }
-    fill_gap(draft, alloc, blocks, node, offset)
+    fill_gap(draft, alloc, blocks, node, held, offset)
 }
 
-/// The node gets blocks for so many bytes, where it has too few.
+/// The node gets the `need` blocks that bytes `lo` to `hi` take, where they take some: new ones in the stead of the
+/// kept ones that they touch, and behind its own. What the bytes don't fill of a kept block is copied.
 ///
 /// # Errors
-/// As `grow`. The draft isn't to be used any more then.
-pub(crate) fn make_room<S: Blocks>(
+/// As `Draft::write_at`. The draft isn't to be used any more then.
+fn make_room<S: Blocks>(
     draft: &mut Draft,
     alloc: Global,
     blocks: &mut S,
     node: &mut OpenNode,
-    size: u64,
+    lo: u64,
+    hi: u64,
+    need: u32,
 ) -> Result<(), FileRefusal>
     requires going { (S.state blocks.old).books.stopped ≡ false }
     requires turns { HasTurns (S.state blocks.old).books }
-    requires size { size ≤ largest_node }
-    requires once { 0 < more_blocks size node.old → draft.old.taken ≡ [] }
-    ensures room { OnOk result (HasRoom (S.state blocks.new).books size node.old node.new draft.old draft.new) }
-    ensures refused { IfErr result (λ why. GrowthRefused (more_blocks size node.old) node.old.places (S.state blocks.old).books
+    requires data { All (IsData (S.state blocks.old).books.geom) node.old.places }
+    requires ordered { lo ≤ hi }
+    requires size { hi ≤ largest_node }
+    requires need { need ≡ taken_by (is_kept draft.old.kept) lo hi node.old.places }
+    requires once { 0 < need → draft.old.taken ≡ [] }
+    ensures room { OnOk result (HasRoom S.tells (S.state blocks.new).books (S.state blocks.old).map lo hi node.old node.new draft.old draft.new) }
+    ensures refused { IfErr result (λ why. GrowthRefused need (placed (is_kept draft.old.kept) lo hi node.old.places) (S.state blocks.old).books
         (S.state blocks.new).books why) }
-    ensures unread { fails_reading result ≡ false }
-    ensures settles { LooksAndSettles S.tells false (fails_settling result) (S.state blocks.old) (S.state blocks.new) }
-    ensures looks { more_blocks size node.old ≤ length (reusable_blocks (S.state blocks.old).books)
-        → LooksOnly S.tells false (S.state blocks.old) (S.state blocks.new) }
+    ensures settles { LooksAndSettles S.tells (fails_reading result) (fails_settling result) (S.state blocks.old) (S.state blocks.new) }
+    ensures looks { need ≤ length (reusable_blocks (S.state blocks.old).books)
+        → LooksOnly S.tells (fails_reading result) (S.state blocks.old) (S.state blocks.new) }
 {
     calls_compose::<S>();
-    if blocks_for(size) <= node.places.count() {
+    if need == 0 {
         return Ok(());
     }
-    grow(draft, alloc, blocks, node, size)
+    let first = edge(draft, node, lo);
+    let last = edge(draft, node, hi);
+    grow(draft, alloc, blocks, node, lo, hi, need)?;
+    copy_edges(draft, alloc, blocks, node, lo, hi, first, last)
 }
 
-/// The node has at least so many bytes, in its block of the node table too, of which `table` has the bytes.
+/// The node has at least so many bytes, and is stored where its size grew or it got blocks. `table` has the bytes
+/// of its block of the node table.
 ///
 /// # Errors
 /// Out of memory. The draft isn't to be used any more then.
@@ -170,25 +216,26 @@ fn keep_size(
     number: u32,
     node: &mut OpenNode,
     size: u64,
+    need: u32,
     table: &mut Block,
 ) -> Result<(), NoMemory>
     requires above_zero { 1 ≤ number }
     requires in_table { number ≤ geom.now.i }
-    ensures { OnOk result (KeepsSize geom.now number size node.old table.old draft.old draft.new) }
+    ensures { OnOk result (KeepsSize geom.now number size need node.old table.old draft.old draft.new) }
 {
-    if size <= node.size {
+    if size <= node.size && need == 0 {
         return Ok(());
     }
-    node.size = size;
+    node.size = node.size.max(size);
     store(draft, alloc, geom, number, &node.to_node(), table)
 }
 
 /// Writes bytes into node `number`, which is `node`, from `offset` on. `table` has the bytes of its block
-/// of the node table. Bytes are given.
+/// of the node table. Bytes are given, or `offset` is past its end.
 ///
 /// # Errors
 /// As `Draft::write_at`. The draft isn't to be used any more then.
-fn write_loaded<S: Blocks>(
+pub(crate) fn write_loaded<S: Blocks>(
     draft: &mut Draft,
     alloc: Global,
     blocks: &mut S,
@@ -203,31 +250,36 @@ fn write_loaded<S: Blocks>(
     requires above_zero { 1 ≤ number }
     requires in_table { number ≤ (S.state blocks.old).books.geom.i }
     requires size { offset + length bytes.now ≤ 2 ^ 30 }
-    requires some { 0 < length bytes.now }
+    requires some { (0 < length bytes.now) ⊎ (node.old.size < offset) }
     requires open { IsOpen (S.state blocks.old).books.geom node.old }
     requires draft { IsDraftOf S.tells (S.state blocks.old) draft.old }
     requires used { IsTrue S.tells → used_node (S.state blocks.old).books.geom (drafted draft.old (S.state blocks.old).map) number ≡ Some
         (node_of_open node.old) }
     requires table { IsTrue S.tells → table.old ≡ drafted draft.old (S.state blocks.old).map (node_block (S.state blocks.old).books.geom number) }
-    requires once { IsTrue S.tells → 0 < more_blocks (max node.old.size (offset + length bytes.now)) node.old → draft.old.taken ≡ [] }
+    requires once { IsTrue S.tells → 0 < taken_by (is_kept draft.old.kept) (min offset node.old.size) (offset + length bytes.now) node.old.places
+        → draft.old.taken ≡ [] }
     requires slots { IsTrue S.tells → node.old.kind ≡ Dir → (max node.old.size (offset + length bytes.now)) % 64 ≡ 0 }
     ensures draft { OnOk result (IsDraftOf S.tells (S.state blocks.new) draft.new) }
+    ensures kept { OnOk result (draft.new.kept ≡ draft.old.kept) }
     ensures file { IsTrue S.tells → OnOk result (WritesFile (S.state blocks.new).books (S.state blocks.old).map number offset bytes.now draft.old draft.new) }
-    ensures refused { IfErr result (λ why. GrowthRefused (more_blocks (max node.old.size (offset + length bytes.now)) node.old) node.old.places
+    ensures refused { IfErr result (λ why. GrowthRefused (taken_by (is_kept draft.old.kept) (min offset node.old.size) (offset + length bytes.now)
+        node.old.places) (placed (is_kept draft.old.kept) (min offset node.old.size) (offset + length bytes.now) node.old.places)
         (S.state blocks.old).books (S.state blocks.new).books why) }
     ensures settles { LooksAndSettles S.tells (fails_reading result) (fails_settling result) (S.state blocks.old) (S.state blocks.new) }
-    ensures looks { more_blocks (max node.old.size (offset + length bytes.now)) node.old ≤ length (reusable_blocks (S.state blocks.old).books)
-        → LooksOnly S.tells (fails_reading result) (S.state blocks.old) (S.state blocks.new) }
+    ensures looks { taken_by (is_kept draft.old.kept) (min offset node.old.size) (offset + length bytes.now) node.old.places
+        ≤ length (reusable_blocks (S.state blocks.old).books) → LooksOnly S.tells (fails_reading result) (S.state blocks.old) (S.state blocks.new) }
 {
     calls_compose::<S>();
     a_list_has_its_runs();
     let geom = blocks.geom();
     geom.lawful();
-    let size = node.size.max(offset + bytes.len() as u64);
-    if blocks_for(size) > node.places.count() && !draft.takes_none() {
+    let lo = offset.min(node.size);
+    let hi = offset + bytes.len() as u64;
+    let need = taken_by(draft, node, lo, hi);
+    if need > 0 && !draft.takes_none() {
         return Ok(());
     }
-    write_open(draft, alloc, blocks, node, offset, bytes)?;
-    keep_size(draft, alloc, &geom, number, node, size, table)?;
+    write_open(draft, alloc, blocks, node, offset, bytes, need)?;
+    keep_size(draft, alloc, &geom, number, node, hi, need, table)?;
     Ok(())
 }

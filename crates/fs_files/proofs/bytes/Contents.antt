@@ -1,5 +1,5 @@
 -- What the calls on a file make of its bytes. The file's content is the first `size` bytes of xs, the bytes of its blocks, and `room` is how many these are; n is how many bytes its new blocks have.
-use Rattle.std.proofs.Common.{◌≡◌, ℕ, ◌+◌, ◌-◌, ◌≤◌, ◌<◌, List, ◌++◌, length, take, drop, replicate, min, max, ap, ◌∙◌, arith, rules}
+use Rattle.std.proofs.Common.{◌≡◌, ℕ, ◌+◌, ◌-◌, ◌≤◌, ◌<◌, List, ◌++◌, length, take, drop, replicate, min, max, ◌∙◌, arith, rules}
 use Rattle.std.proofs.lemmas.Bool.Decides.{nat_tests}
 use Rattle.std.proofs.lemmas.List.{places, same_lists}
 use Rattle.lang_tree.specs.Step.{written, resized}
@@ -19,11 +19,6 @@ pub written_within : (size off n : ℕ) (ys xs : List ℕ) → size ≤ length x
     → take (max size (off + length ys)) (overwrite off ys (xs ++ replicate n 0)) ≡ written off ys (take size xs)
 written_within size off n ys xs fits within ends = same_lists _ _ (search (rules, places)) (λ k d h. grind (arith, places))
 
--- past its end, once the gap within its blocks was filled with zeros
-pub written_past : (size off room n : ℕ) (ys xs : List ℕ) → length xs ≡ room → size ≤ room → size ≤ off → off + length ys ≤ room + n
-    → take (max size (off + length ys)) (overwrite off ys (overwrite size (replicate (min off room - size) 0) xs ++ replicate n 0)) ≡ written off ys (take size xs)
-written_past size off room n ys xs is fits past ends = same_lists _ _ (search (rules, places)) (λ k d h. grind (arith, places))
-
 -- Another size.
 
 -- a cut, which keeps the first `room` bytes of the blocks
@@ -39,7 +34,3 @@ cut_over size less room ys xs cuts fits keeps ends = same_lists _ _ (search (rul
 -- No bytes change nothing; others are written.
 pub overwritten_some : (off : ℕ) (ys xs : List ℕ) → 0 < length ys → overwritten off ys xs ≡ written off ys xs
 overwritten_some off ys xs some = grind (arith, nat_tests)
-
--- how many bytes a file has then
-pub overwritten_length : (off : ℕ) (ys xs : List ℕ) → 0 < length ys → length (overwritten off ys xs) ≡ max (length xs) (off + length ys)
-overwritten_length off ys xs some = ap length (overwritten_some off ys xs some) ∙ grind (arith, places)

@@ -1,7 +1,7 @@
 -- Blocks of 1,024 bytes one behind the other.
-use Rattle.std.proofs.Common.{◌≡◌, ◌≢◌, ℕ, zero, suc, ◌+◌, ◌*◌, ◌≤◌, List, [], ◌∷◌, ◌++◌, Some, length, take, drop, replicate, get_or, refl, sym, ap, ap₂, subst, ◌∙◌, arith, rules}
+use Rattle.std.proofs.Common.{◌≡◌, ◌≢◌, ℕ, zero, suc, ◌+◌, ◌*◌, ◌≤◌, List, [], ◌∷◌, ◌++◌, Some, length, take, drop, get_or, refl, sym, ap, ap₂, subst, ◌∙◌, arith, rules}
 use Rattle.std.specs.List.{All, AllPairs, slice_get}
-use Rattle.std.proofs.lemmas.List.{places, same_lists, length-append, append_assoc, drop_at, drop-drop, replicate-append-replicate, take_all}
+use Rattle.std.proofs.lemmas.List.{places, same_lists, length-append, drop_at, drop-drop, take_all}
 use Rattle.std.proofs.lemmas.Option.{slice_get_within, get_or_from_slice_get}
 use Rattle.base_types.specs.Seal.{Blocks}
 use Rattle.crash_stands.specs.Files.{joined}
@@ -24,20 +24,10 @@ pub joined_length : (m : Blocks) (ps : List ℕ) → All (λ b. length (m b) ≡
 joined_length m [] whole = refl
 joined_length m (b ∷ bs) whole = omega (arith, length-append (m b) (joined m bs), joined_length m bs (of_rest (λ b. length (m b) ≡ 1024) b bs whole), of_first (λ b. length (m b) ≡ 1024) b bs whole)
 
--- the blocks of two lists
-pub joined_append : (m : Blocks) (ps qs : List ℕ) → joined m (ps ++ qs) ≡ joined m ps ++ joined m qs
-joined_append m [] qs = refl
-joined_append m (b ∷ bs) qs = ap (λ xs. m b ++ xs) (joined_append m bs qs) ∙ sym (append_assoc (m b) (joined m bs) (joined m qs))
-
 -- blocks that are the same
 pub joined_same : (m m' : Blocks) (ps : List ℕ) → All (λ b. m' b ≡ m b) ps → joined m' ps ≡ joined m ps
 joined_same m m' [] same = refl
 joined_same m m' (b ∷ bs) same = ap₂ (λ (x y : List ℕ). x ++ y) (of_first (λ b. m' b ≡ m b) b bs same) (joined_same m m' bs (of_rest (λ b. m' b ≡ m b) b bs same))
-
--- blocks of n zeros
-pub joined_zeros : (n : ℕ) (m : Blocks) (ps : List ℕ) → All (λ b. m b ≡ replicate n 0) ps → joined m ps ≡ replicate (n * length ps) 0
-joined_zeros n m [] zeros = ap (λ k. replicate k 0) {x = 0} {y = n * 0} (omega arith)
-joined_zeros n m (b ∷ bs) zeros = ap₂ (λ (x y : List ℕ). x ++ y) (of_first (λ b. m b ≡ replicate n 0) b bs zeros) (joined_zeros n m bs (of_rest (λ b. m b ≡ replicate n 0) b bs zeros)) ∙ replicate-append-replicate n (n * length bs) 0 ∙ ap (λ k. replicate k 0) {x = n + n * length bs} {y = n * suc (length bs)} (grind arith)
 
 -- bytes within one of the blocks
 pub joined_part : (m : Blocks) (ps : List ℕ) (i b start count : ℕ) → All (λ b. length (m b) ≡ 1024) ps → slice_get ps i ≡ Some b → start + count ≤ 1024
@@ -84,7 +74,3 @@ joined_take m (b ∷ bs) (suc i) whole =
   where
     more : (x y : List ℕ) (k n : ℕ) → n ≡ length x + k → x ++ take k y ≡ take n (x ++ y)
     more x y k n is = same_lists _ _ (search (rules, places)) (λ j d h. grind (arith, places))
-
--- old places with the bytes that they had, and new ones of n zeros behind
-pub joined_grown : (n : ℕ) (m m' : Blocks) (ps qs : List ℕ) → All (λ b. m' b ≡ m b) ps → All (λ b. m' b ≡ replicate n 0) qs → joined m' (ps ++ qs) ≡ joined m ps ++ replicate (n * length qs) 0
-joined_grown n m m' ps qs same zeros = joined_append m' ps qs ∙ ap₂ (λ (x y : List ℕ). x ++ y) (joined_same m m' ps same) (joined_zeros n m' qs zeros)

@@ -45,6 +45,7 @@ writes_none class bs d = search (rules, arith)
 -- one more of these blocks was written
 pub writes_more : (class : Class) (bs : List ℕ) (b : ℕ) (d e f : DraftState) → WritesContent class bs d e → WritesContent class (b ∷ []) e f → has bs b ≡ true → WritesContent class bs d f
 writes_more class bs b d e f first second in_it = record {
+  kept = second.kept ∙ first.kept;
   others = λ q out. second.others q (not_one bs b q in_it out) ∙ first.others q out;
   other_fresh = λ q out. second.other_fresh q (not_one bs b q in_it out) ∙ first.other_fresh q out;
   keys = λ q some. key q (or_cases (has (b ∷ []) q) (is_some (change_of e.changed q)) (second.keys q some));

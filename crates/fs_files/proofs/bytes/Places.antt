@@ -1,9 +1,9 @@
 -- Content of lists of places that are joined or cut, and which places some bytes meet.
 use Rattle.std.proofs.Common.{◌≡◌, ◌≢◌, ℕ, zero, suc, ◌*◌, ◌/◌, Bool, true, false, ◌==◌, ◌||◌, List, [], ◌∷◌, ◌++◌, None, is_some, length, take, drop, replicate, get_or, refl, sym, ap, subst, ◌∙◌, arith}
 use Rattle.std.specs.List.{AllPairs}
-use Rattle.std.proofs.lemmas.List.{length-take, length-replicate, get_or-take}
-use Rattle.std.proofs.lemmas.Bool.{eqb-true, false_from_ne_true}
-use Rattle.std.proofs.lemmas.List.Elements.{All-append, All-take}
+use Rattle.std.proofs.lemmas.List.{length-take, get_or-take}
+use Rattle.std.proofs.lemmas.Bool.{eqb-true}
+use Rattle.std.proofs.lemmas.List.Elements.{All-take}
 use Rattle.std.proofs.lemmas.Bool.Decides.{nat_tests}
 use Rattle.base_types.specs.Seal.{Blocks}
 use Rattle.base_types.specs.declared.words.Class.{Class}
@@ -11,21 +11,17 @@ use Rattle.engine_blocks.specs.Running.{has}
 use Rattle.crash_stands.specs.Files.{joined}
 use Rattle.fs_files.specs.Bytes.{met, blocks_for}
 use Rattle.fs_files.specs.Content.{HasContent}
+use Rattle.fs_files.specs.Growing.{alone}
 use Rattle.fs_files.specs.Drafts.{DraftState, change_of, drafted, TakesBlocks, FreesBlocks}
-use Rattle.fs_files.proofs.drafts.Lists.{has_append, each_of, in_front, in_rest}
-use Rattle.fs_files.proofs.bytes.Joins.{joined_grown, joined_same, joined_take}
+use Rattle.fs_files.proofs.drafts.Lists.{has_alone, has_append, each_of, in_front, in_rest}
+use Rattle.fs_files.proofs.bytes.Joins.{joined_same, joined_take}
 use Rattle.fs_files.proofs.frames.Places.{all_of}
-use Rattle.fs_files.proofs.frames.Steps.{once_append}
 
 -- Which places bytes meet.
 
 -- they are places
 pub met_in : (lo hi : ℕ) (ps : List ℕ) (q : ℕ) → has (met lo hi ps) q ≡ true → has ps q ≡ true
 met_in lo hi ps q e = in_front (blocks_for hi) ps q (in_rest (lo / 1024) (take (blocks_for hi) ps) q e)
-
--- what isn't a place isn't met
-pub met_out : (lo hi : ℕ) (ps : List ℕ) (q : ℕ) → has ps q ≡ false → has (met lo hi ps) q ≡ false
-met_out lo hi ps q out = false_from_ne_true (has (met lo hi ps) q) (λ e. let clash : has ps q ≡ true = met_in lo hi ps q e in cc)
 
 -- Lists of places.
 
@@ -40,14 +36,6 @@ content_take m d n ps content = record {
   whole = All-take (λ b. length (drafted d m b) ≡ 1024) n ps content.whole;
   once = pairs_take n ps content.once;
   apart = All-take (λ b. is_some (change_of d.fresh b) ≡ true → change_of d.changed b ≡ None) n ps content.apart;
-}
-
--- places of which two lists share none
-pub content_append : (m : Blocks) (d : DraftState) (ps qs : List ℕ) → HasContent m d ps → HasContent m d qs → ((q : ℕ) → has ps q ≡ true → has qs q ≡ true → ⊥) → HasContent m d (ps ++ qs)
-content_append m d ps qs left right apart = record {
-  whole = All-append (λ b. length (drafted d m b) ≡ 1024) ps qs left.whole right.whole;
-  once = once_append ps qs left.once right.once apart;
-  apart = All-append (λ b. is_some (change_of d.fresh b) ≡ true → change_of d.changed b ≡ None) ps qs left.apart right.apart;
 }
 
 -- a draft that has the same of these places
@@ -80,26 +68,6 @@ pub record AreNew (qs : List ℕ) (d : DraftState) : Type 0 where
 pub taken_zeros : (m : Blocks) (class : Class) (qs : List ℕ) (d e : DraftState) (q : ℕ) → TakesBlocks class qs d e → AreNew qs d → has qs q ≡ true → drafted e m q ≡ replicate 1024 0
 taken_zeros m class qs d e q takes new in_it = grind (arith, nat_tests)
 
-taken_apart : (class : Class) (qs : List ℕ) (d e : DraftState) (q : ℕ) → TakesBlocks class qs d e → AreNew qs d → has qs q ≡ true → is_some (change_of e.fresh q) ≡ true → change_of e.changed q ≡ None
-taken_apart class qs d e q h p w z = grind (arith, nat_tests)
-
-taken_same : (class : Class) (ps qs : List ℕ) (d e : DraftState) → TakesBlocks class qs d e → ((q : ℕ) → has ps q ≡ true → has qs q ≡ false) → IsSameAt ps d e
-taken_same class ps qs d e takes apart = grind (arith, nat_tests)
-
--- places behind which others were taken: all have content, and the new bytes are zeros
-pub content_grown : (m : Blocks) (class : Class) (ps qs : List ℕ) (d e : DraftState) → HasContent m d ps → TakesBlocks class qs d e → AreNew qs d → ((q : ℕ) → has ps q ≡ true → has qs q ≡ false) → HasContent m e (ps ++ qs)
-content_grown m class ps qs d e content takes new apart = content_append m e ps qs (content_still m ps d e (taken_same class ps qs d e takes apart) content) (record {
-  whole = all_of (λ b. length (drafted e m b) ≡ 1024) qs (λ q in_it. ap length (taken_zeros m class qs d e q takes new in_it) ∙ length-replicate {A = ℕ} 1024 0);
-  once = new.once;
-  apart = all_of (λ b. is_some (change_of e.fresh b) ≡ true → change_of e.changed b ≡ None) qs (λ q in_it some. taken_apart class qs d e q takes new in_it some);
-}) (λ q one two. let out : has qs q ≡ false = apart q one in absurd cc)
-
-pub bytes_grown : (m : Blocks) (class : Class) (ps qs : List ℕ) (d e : DraftState) → TakesBlocks class qs d e → AreNew qs d → ((q : ℕ) → has ps q ≡ true → has qs q ≡ false)
-    → joined (drafted e m) (ps ++ qs) ≡ joined (drafted d m) ps ++ replicate (1024 * length qs) 0
-bytes_grown m class ps qs d e takes new apart = joined_grown 1024 (drafted d m) (drafted e m) ps qs
-    (all_of (λ b. drafted e m b ≡ drafted d m b) ps (λ q in_it. drafted_same m ps d e q (taken_same class ps qs d e takes apart) in_it))
-    (all_of (λ b. drafted e m b ≡ replicate 1024 0) qs (λ q in_it. taken_zeros m class qs d e q takes new in_it))
-
 -- Cuts.
 
 pub rest_apart : (n : ℕ) (ps : List ℕ) (q : ℕ) → AllPairs (λ a b. a ≢ b) ps → has (take n ps) q ≡ true → has (drop n ps) q ≡ false
@@ -115,15 +83,15 @@ rest_apart (suc n) (x ∷ xs) q once in_it = by (q == x) refl (rest_apart n xs q
     by true is go e = gone (eqb-true q x is) (has (drop n xs) q) refl
     by false is go e = go e
 
--- the first places are as before where the ones behind them are freed
-pub freed_same : (n : ℕ) (ps : List ℕ) (d e : DraftState) → AllPairs (λ a b. a ≢ b) ps → FreesBlocks (drop n ps) d e → IsSameAt (take n ps) d e
-freed_same n ps d e once frees = grind (arith, nat_tests, rest_apart, has_append)
+-- the first places are as before where the ones behind them are freed but for those that are kept
+pub freed_same : (kept : ℕ → Bool) (n : ℕ) (ps : List ℕ) (d e : DraftState) → AllPairs (λ a b. a ≢ b) ps → FreesBlocks (alone kept (drop n ps)) d e → IsSameAt (take n ps) d e
+freed_same kept n ps d e once frees = grind (arith, nat_tests, rest_apart, has_append, has_alone)
 
 -- they have content, and their bytes are the first ones
-pub content_cut : (m : Blocks) (n : ℕ) (ps : List ℕ) (d e : DraftState) → HasContent m d ps → FreesBlocks (drop n ps) d e → HasContent m e (take n ps)
-content_cut m n ps d e content frees = content_still m (take n ps) d e (freed_same n ps d e content.once frees) (content_take m d n ps content)
+pub content_cut : (m : Blocks) (kept : ℕ → Bool) (n : ℕ) (ps : List ℕ) (d e : DraftState) → HasContent m d ps → FreesBlocks (alone kept (drop n ps)) d e → HasContent m e (take n ps)
+content_cut m kept n ps d e content frees = content_still m (take n ps) d e (freed_same kept n ps d e content.once frees) (content_take m d n ps content)
 
-pub bytes_cut : (m : Blocks) (n : ℕ) (ps : List ℕ) (d e : DraftState) → HasContent m d ps → FreesBlocks (drop n ps) d e → joined (drafted e m) (take n ps) ≡ take (1024 * n) (joined (drafted d m) ps)
-bytes_cut m n ps d e content frees =
-    joined_same (drafted d m) (drafted e m) (take n ps) (all_of (λ b. drafted e m b ≡ drafted d m b) (take n ps) (λ q in_it. drafted_same m (take n ps) d e q (freed_same n ps d e content.once frees) in_it))
+pub bytes_cut : (m : Blocks) (kept : ℕ → Bool) (n : ℕ) (ps : List ℕ) (d e : DraftState) → HasContent m d ps → FreesBlocks (alone kept (drop n ps)) d e → joined (drafted e m) (take n ps) ≡ take (1024 * n) (joined (drafted d m) ps)
+bytes_cut m kept n ps d e content frees =
+    joined_same (drafted d m) (drafted e m) (take n ps) (all_of (λ b. drafted e m b ≡ drafted d m b) (take n ps) (λ q in_it. drafted_same m (take n ps) d e q (freed_same kept n ps d e content.once frees) in_it))
     ∙ joined_take (drafted d m) ps n content.whole

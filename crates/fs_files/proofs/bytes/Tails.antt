@@ -1,5 +1,5 @@
 -- The bytes of a directory's blocks past its end: they are zeros, and each call keeps them so. Sizes are named as in the file of contents.
-use Rattle.std.proofs.Common.{◌≡◌, ◌⊎◌, inl, inr, ℕ, zero, suc, ◌+◌, ◌-◌, ◌≤◌, ◌<◌, Bool, true, false, IsTrue, ◌==◌, ◌&&◌, List, [], ◌∷◌, ◌++◌, length, drop, replicate, get_or, min, max, refl, sym, ap, ◌∙◌, arith}
+use Rattle.std.proofs.Common.{◌≡◌, ◌⊎◌, inl, inr, ℕ, zero, suc, ◌+◌, ◌-◌, ◌≤◌, ◌<◌, Bool, true, false, IsTrue, ◌==◌, ◌&&◌, List, [], ◌∷◌, ◌++◌, length, drop, replicate, get_or, max, refl, sym, ap, ◌∙◌, arith}
 use Rattle.std.proofs.lemmas.List.{places, length-drop, get_or-drop, get_or_past}
 use Rattle.std.proofs.lemmas.Bool.Decides.{nat_tests}
 use Rattle.std.proofs.lemmas.Bool.{and_parts}
@@ -44,16 +44,6 @@ past_written size off n ys xs zeros fits ends = zeros_from (drop (max size (off 
   where
     each : (k : ℕ) → get_or xs (max size (off + length ys) + k) 0 ≡ 0 → k < length (drop (max size (off + length ys)) (overwrite off ys (xs ++ replicate n 0))) → get_or (drop (max size (off + length ys)) (overwrite off ys (xs ++ replicate n 0))) k 0 ≡ 0
     each k past l = grind (arith, places, past)
-
--- a write past the end, once the gap within its blocks was filled with zeros
-pub past_gap : (size off room n : ℕ) (ys xs : List ℕ) → IsTrue (are_zeros (drop size xs)) → length xs ≡ room → size ≤ room → size ≤ off → off + length ys ≤ room + n
-    → IsTrue (are_zeros (drop (max size (off + length ys)) (overwrite off ys (overwrite size (replicate (min off room - size) 0) xs ++ replicate n 0))))
-past_gap size off room n ys xs zeros is fits past ends =
-    zeros_from (drop (max size (off + length ys)) (overwrite off ys (overwrite size (replicate (min off room - size) 0) xs ++ replicate n 0))) (λ k l. each k (zero_past size xs zeros (max size (off + length ys) + k) (omega arith)) l)
-  where
-    each : (k : ℕ) → get_or xs (max size (off + length ys) + k) 0 ≡ 0 → k < length (drop (max size (off + length ys)) (overwrite off ys (overwrite size (replicate (min off room - size) 0) xs ++ replicate n 0)))
-        → get_or (drop (max size (off + length ys)) (overwrite off ys (overwrite size (replicate (min off room - size) 0) xs ++ replicate n 0))) k 0 ≡ 0
-    each k here l = grind (arith, places, here)
 
 -- a cut, once all past the new end was filled with zeros
 pub past_cut : (less room : ℕ) (xs : List ℕ) → length xs ≡ room → less ≤ room → IsTrue (are_zeros (drop less (overwrite less (replicate (room - less) 0) xs)))

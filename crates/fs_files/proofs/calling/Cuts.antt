@@ -25,27 +25,28 @@ use Rattle.fs_files.specs.declared.nodes.OpenNode.{OpenNode}
 use Rattle.fs_files.specs.Bytes.{overwrite, blocks_for}
 use Rattle.fs_files.specs.Calls.{IsWithFile, IsWithPlaces, Shrinks, ChangesAmong, files_in, places_in, places_or_none, with_bytes, is_dir, cut_blocks}
 use Rattle.fs_files.specs.Content.{HasContent}
-use Rattle.fs_files.specs.Drafts.{DraftState, ChangesSome, change_of, drafted, marks_of, PutsBlock, FreesBlocks}
+use Rattle.fs_files.specs.Drafts.{DraftState, ChangesSome, change_of, drafted, PutsBlock, FreesBlocks}
 use Rattle.fs_files.specs.Effects.{LooksOnly}
-use Rattle.fs_files.specs.Growing.{ShrinksPlaces}
+use Rattle.fs_files.specs.Growing.{ShrinksPlaces, alone}
 use Rattle.fs_files.specs.Frames.{used_of, ReadsBack}
 use Rattle.fs_files.specs.Nodes.{node_block, node_byte, node_of_open}
 use Rattle.fs_files.specs.Resizing.{IsLoaded, ClearsRest, IsCleared}
+use Rattle.fs_files.specs.Shared.{is_kept}
 use Rattle.fs_files.specs.Sound.{FitsBooks, IsSoundDraft, IsDraftOf}
 use Rattle.fs_files.proofs.bytes.Calls.{cut_bytes, cut_filled}
 use Rattle.fs_files.proofs.bytes.Places.{content_cut, rest_apart}
 use Rattle.fs_files.proofs.bytes.Sizes.{blocks_hold, blocks_rise}
 use Rattle.fs_files.proofs.calling.Nodes.{its_file}
 use Rattle.fs_files.proofs.calling.Resizes.{in_cleared, pairs_drop}
-use Rattle.fs_files.proofs.drafts.Lists.{in_rest, in_front, none_of_table, has_append, each_of}
+use Rattle.fs_files.proofs.drafts.Lists.{in_alone, in_rest, in_front, none_of_table, has_append, each_of}
 use Rattle.fs_files.proofs.frames.After.{IsStored, stored_after, stored_content, stored_cut}
 use Rattle.fs_files.proofs.frames.Carry.{draft_looks, files_look, places_look}
 use Rattle.fs_files.proofs.frames.Cells.{block_from, block_below}
 use Rattle.fs_files.proofs.frames.Fits.{fits_with}
 use Rattle.fs_files.proofs.frames.Frames.{node_places}
-use Rattle.fs_files.proofs.frames.Places.{used_marked, used_whole, all_of, parts_fit}
+use Rattle.fs_files.proofs.frames.Places.{has_block, used_marked, used_whole, all_of, parts_fit}
 use Rattle.fs_files.proofs.frames.Puts.{put_fits, put_changed, put_changes}
-use Rattle.fs_files.proofs.frames.Rules.{HasRules, rules_of, frees_others, frees_marks, frees_fits, frees_rules, writes_others, writes_marks, writes_fits, writes_rules}
+use Rattle.fs_files.proofs.frames.Rules.{HasRules, rules_of, frees_others, frees_fits, frees_rules, writes_others, writes_fits, writes_rules}
 use Rattle.fs_files.proofs.frames.Spelled.{used_some, fits_as}
 use Rattle.fs_files.proofs.frames.Steps.{used_once}
 
@@ -70,7 +71,7 @@ pub record CutsNode (tells : Bool) (s : State) (number size : ℕ) (o : OpenNode
   pub slots : IsTrue tells → o.kind ≡ Dir → size % 64 ≡ 0
   pub few : stretches (kept_of size o) ≤ 28
   pub is : node ≡ record { kind = o.kind; links = o.links; size = size; runs = runs_of (kept_of size o) }
-  pub frees : FreesBlocks (drop (blocks_for size) o.places) d f
+  pub frees : FreesBlocks (alone (is_kept d.kept) (drop (blocks_for size) o.places)) d f
   pub clears : ClearsRest o.kind size (kept_of size o) f g
   pub cleared : IsTrue tells → HasContent s.map f (kept_of size o) → IsCleared s.map o.kind size (kept_of size o) f g
   pub puts : PutsBlock (node_block s.books.geom number) (record { class = Meta; bytes = overwrite (node_byte number) (node_spelling node) table }) g e
@@ -88,6 +89,10 @@ module _ (tells : Bool) (s : State) (number size : ℕ) (o : OpenNode) (node : N
 
   abbrev gone : List ℕ
   gone = drop (blocks_for size) o.places
+
+  -- of these the freed ones
+  abbrev freed : List ℕ
+  freed = alone (is_kept d.kept) gone
 
   abbrev rest : List ℕ
   rest = if is_dir o.kind then drop (size / 1024) kept else []
@@ -113,6 +118,9 @@ module _ (tells : Bool) (s : State) (number size : ℕ) (o : OpenNode) (node : N
   gone_data : All (IsData k.geom) gone
   gone_data = all_of (IsData k.geom) gone (λ b mine. each_of (IsData k.geom) o.places is.loaded.fits.«data» b (in_rest (blocks_for size) o.places b mine))
 
+  freed_data : All (IsData k.geom) freed
+  freed_data = all_of (IsData k.geom) freed (λ b mine. each_of (IsData k.geom) gone gone_data b (in_alone (is_kept d.kept) gone b mine))
+
   low : table_start k.geom ≤ node_block k.geom number
   low = block_from k.geom number
 
@@ -120,7 +128,7 @@ module _ (tells : Bool) (s : State) (number size : ℕ) (o : OpenNode) (node : N
   high = block_below k.geom number is.geom.whole_blocks is.loaded.from is.loaded.upto
 
   f_fits : FitsBooks k f
-  f_fits = frees_fits k gone d f is.frees gone_data is.loaded.draft.fits
+  f_fits = frees_fits k freed d f is.frees freed_data is.loaded.draft.fits
 
   g_fits : FitsBooks k g
   g_fits = writes_fits k Meta rest f g is.clears.writes is.geom rest_data f_fits
@@ -139,13 +147,13 @@ module _ (tells : Bool) (s : State) (number size : ℕ) (o : OpenNode) (node : N
       was : is_some (change_of g.changed b) ≡ true → (has (rest ++ node_block k.geom number ∷ []) b || is_some (change_of d.changed b)) ≡ true
       was old = step (or_cases (has rest b) (is_some (change_of f.changed b)) (is.clears.writes.keys b old))
         where
-          freed : (t : Bool) → is_some (if t then None else change_of d.changed b) ≡ true → is_some (change_of d.changed b) ≡ true
-          freed true e = absurd (false≢true e)
-          freed false e = e
+          was_some : (t : Bool) → is_some (if t then None else change_of d.changed b) ≡ true → is_some (change_of d.changed b) ≡ true
+          was_some true e = absurd (false≢true e)
+          was_some false e = e
 
           step : (has rest b ≡ true) ⊎ (is_some (change_of f.changed b) ≡ true) → (has (rest ++ node_block k.geom number ∷ []) b || is_some (change_of d.changed b)) ≡ true
           step (inl mine) = or_left (has (rest ++ node_block k.geom number ∷ []) b) (is_some (change_of d.changed b)) (has_append rest (node_block k.geom number ∷ []) b ∙ or_left (has rest b) (has (node_block k.geom number ∷ []) b) mine)
-          step (inr old) = or_right (has (rest ++ node_block k.geom number ∷ []) b) (is_some (change_of d.changed b)) (freed (has gone b) (ap is_some (sym (is.frees.changed b)) ∙ old))
+          step (inr old) = or_right (has (rest ++ node_block k.geom number ∷ []) b) (is_some (change_of d.changed b)) (was_some (has freed b) (ap is_some (sym (is.frees.changed b)) ∙ old))
 
       by : ((node_block k.geom number == b) ≡ true) ⊎ ((node_block k.geom number == b) ≡ false) → (has (rest ++ node_block k.geom number ∷ []) b || is_some (change_of d.changed b)) ≡ true
       by (inl here) = or_left (has (rest ++ node_block k.geom number ∷ []) b) (is_some (change_of d.changed b))
@@ -155,8 +163,11 @@ module _ (tells : Bool) (s : State) (number size : ℕ) (o : OpenNode) (node : N
   pub cut_taken : e.taken ≡ d.taken
   cut_taken = is.puts.taken ∙ is.clears.writes.taken ∙ is.frees.taken
 
-  pub cut_freed : e.freed ≡ d.freed ++ gone
+  pub cut_freed : e.freed ≡ d.freed ++ freed
   cut_freed = is.puts.freed ∙ is.clears.writes.freed ∙ is.frees.freed
+
+  pub cut_kept : e.kept ≡ d.kept
+  cut_kept = is.puts.kept ∙ is.clears.writes.kept ∙ is.frees.kept
 
   pub cut_fresh : length e.fresh ≤ length d.fresh
   cut_fresh = omega (arith, is.puts.fresh_len, is.clears.writes.fresh_len, is.frees.fresh_len)
@@ -175,39 +186,53 @@ module _ (tells : Bool) (s : State) (number size : ℕ) (o : OpenNode) (node : N
     ps : run_places (runs_of o.places) ≡ o.places
     ps = is.places o.places
 
-    marked_of : (b : ℕ) → has o.places b ≡ true → marks_of d k.marked b ≡ true
-    marked_of b mine = used_marked k.geom (marks_of d k.marked) (drafted d m) number (node_of_open o) sound.blocks used b (ap (λ xs. has xs b) ps ∙ mine)
+    live_of : (b : ℕ) → has o.places b ≡ true → sound.live b ≡ true
+    live_of b mine = used_marked k.geom sound.live (drafted d m) number (node_of_open o) sound.blocks used b (ap (λ xs. has xs b) ps ∙ mine)
+
+    -- these blocks are live then
+    abbrev now : ℕ → Bool
+    now b = sound.live b && not (has gone b)
 
     d_content : HasContent m d o.places
     d_content = record {
-      whole = all_of (λ b. length (drafted d m b) ≡ 1024) o.places (λ b mine. used_whole k.geom (marks_of d k.marked) (drafted d m) number (node_of_open o) sound.blocks used b (ap (λ xs. has xs b) ps ∙ mine));
-      once = subst (AllPairs (λ a b. a ≢ b)) ps (used_once k.geom (marks_of d k.marked) (drafted d m) number (node_of_open o) sound.blocks used);
+      whole = all_of (λ b. length (drafted d m b) ≡ 1024) o.places (λ b mine. used_whole k.geom sound.live (drafted d m) number (node_of_open o) sound.blocks used b (ap (λ xs. has xs b) ps ∙ mine));
+      once = subst (AllPairs (λ a b. a ≢ b)) ps (used_once k.geom sound.live (drafted d m) number (node_of_open o) sound.blocks used);
       apart = all_of (λ b. is_some (change_of d.fresh b) ≡ true → change_of d.changed b ≡ None) o.places (λ b mine. sound.apart b);
     }
 
     f_content : HasContent m f kept
-    f_content = content_cut m (blocks_for size) o.places d f d_content is.frees
+    f_content = content_cut m (is_kept d.kept) (blocks_for size) o.places d f d_content is.frees
 
     done : IsCleared m o.kind size kept f g
     done = is.cleared known f_content
 
-    f_rules : HasRules k f
-    f_rules = frees_rules k gone d f is.frees
-        (all_of (λ b. marks_of d k.marked b ≡ true) gone (λ b mine. marked_of b (in_rest (blocks_for size) o.places b mine)))
+    f_rules : HasRules k now f
+    f_rules = frees_rules k freed d f is.frees sound.live gone refl gone_data
+        (all_of (λ b. sound.live b ≡ true) gone (λ b mine. live_of b (in_rest (blocks_for size) o.places b mine)))
         (pairs_drop (blocks_for size) o.places d_content.once) (rules_of k m d sound)
 
-    kept_marked : (b : ℕ) → has kept b ≡ true → marks_of f k.marked b ≡ true
-    kept_marked b mine = frees_marks k gone d f is.frees k.marked b
-        ∙ (λ i. marked_of b (in_places b mine) i && not (rest_apart (blocks_for size) o.places b d_content.once mine i))
+    kept_live : (b : ℕ) → has kept b ≡ true → now b ≡ true
+    kept_live b mine = λ i. live_of b (in_places b mine) i && not (rest_apart (blocks_for size) o.places b d_content.once mine i)
 
-    g_rules : HasRules k g
-    g_rules = writes_rules k Meta rest f g is.clears.writes (all_of (λ b. marks_of f k.marked b ≡ true) rest (λ b mine. kept_marked b (in_kept b mine))) f_rules
+    -- a directory's blocks aren't kept by a snapshot
+    rest_alone : (b : ℕ) → has rest b ≡ true → is_kept f.kept b ≡ false
+    rest_alone b mine = ap (λ ks. is_kept ks b) is.frees.kept ∙ false_from_ne_true (is_kept d.kept b) (λ held.
+        let at = has_block k.geom (drafted d m) number (node_of_open o) used b (ap (λ xs. has xs b) ps ∙ in_places b (in_kept b mine)) in
+        not_a_dir (is_dir o.kind) mine (ap is_dir (sound.shared b number at.0 (node_of_open o) held at.1 used)))
+      where
+        not_a_dir : (t : Bool) → has (if t then drop (size / 1024) kept else []) b ≡ true → t ≡ false → ⊥
+        not_a_dir true mine e = false≢true (sym e)
+        not_a_dir false mine e = false≢true mine
+
+    g_rules : HasRules k now g
+    g_rules = writes_rules k Meta rest f g is.clears.writes now (all_of (λ b. now b ≡ true) rest (λ b mine. kept_live b (in_kept b mine)))
+        (all_of (λ b. is_kept f.kept b ≡ false) rest rest_alone) f_rules
 
     -- a block that isn't the node's is as before
     others : (b : ℕ) → has o.places b ≡ false → drafted g m b ≡ drafted d m b
     others b out =
         writes_others k Meta rest f g is.clears.writes m b (not_in rest b (λ mine. false≢true (sym out ∙ in_places b (in_kept b mine))))
-        ∙ frees_others k gone d f is.frees m b (not_in gone b (λ mine. false≢true (sym out ∙ in_rest (blocks_for size) o.places b mine)))
+        ∙ frees_others k freed d f is.frees m b (not_in freed b (λ mine. false≢true (sym out ∙ in_rest (blocks_for size) o.places b (in_alone (is_kept d.kept) gone b mine))))
 
     fits_new : node_fits k.geom new ≡ true
     fits_new = fits_with k.geom o.kind o.links size kept (is.places kept) (is.count kept) (is.tidy kept) (parts_fit k.geom (node_of_open o) is.loaded.fits.fits).links is.few kept_data
@@ -217,8 +242,8 @@ module _ (tells : Bool) (s : State) (number size : ℕ) (o : OpenNode) (node : N
     back : ReadsBack k.geom new
     back = subst (ReadsBack k.geom) is.is (is.back (subst (λ n. FitsAs k.geom n n.kind) (sym is.is) (fits_as k.geom new is.loaded.fits.used fits_new)))
 
-    stored : IsStored k m number new d g e
-    stored = stored_after k m (marks_of d k.marked) number new c d g e is.geom is.loaded.from is.loaded.upto sound.blocks g_fits g_rules
+    stored : IsStored k now m number new d g e
+    stored = stored_after k sound.live now m number new c d g e is.geom is.loaded.from is.loaded.upto sound.blocks g_fits g_rules (is.clears.writes.kept ∙ is.frees.kept)
         (λ b from below. others b (none_of_table k.geom o.places b is.loaded.fits.«data» below))
         (ap (λ n. overwrite (node_byte number) (node_spelling n) table) is.is ∙ ap (overwrite (node_byte number) (node_spelling new)) (is.loaded.block known))
         is.puts back
@@ -239,7 +264,7 @@ module _ (tells : Bool) (s : State) (number size : ℕ) (o : OpenNode) (node : N
 
     tail : o.kind ≡ Dir → IsTrue (are_zeros (past_content (drafted g m) new))
     tail dir = ap (λ xs. are_zeros (drop size (joined (drafted g m) xs))) (is.places kept)
-        ∙ (cut_filled m o.places o.size size d f g d_content size_fits (omega (arith, is.less)) is.frees (filled (ap is_dir dir))).1
+        ∙ (cut_filled m (is_kept d.kept) o.places o.size size d f g d_content size_fits (omega (arith, is.less)) is.frees (filled (ap is_dir dir))).1
 
     whole : All (λ b. length (drafted g m b) ≡ 1024) (run_places (runs_of kept))
     whole = subst (All (λ b. length (drafted g m b) ≡ 1024)) (sym (is.places kept)) done.content.whole
@@ -251,10 +276,10 @@ module _ (tells : Bool) (s : State) (number size : ℕ) (o : OpenNode) (node : N
     is_used = used_some new is.loaded.fits.used
 
     all : IsSoundDraft k m e × IsWithFile (files_of k.geom (drafted d m)) (files_of k.geom (drafted e m)) number (Some (file_of (drafted e m) new))
-    all = stored_cut k m number new (node_of_open o) d g e sound stored is_used used inside whole tail kept gone
+    all = stored_cut k m number new (node_of_open o) d g e now sound stored refl is_used used inside whole tail kept gone
         (ps ∙ sym (take-append-drop (blocks_for size) o.places)) (is.places kept)
         (λ b from below out. others b (ap (λ xs. has xs b) (sym ps) ∙ out))
-        (λ b. writes_marks k Meta rest f g is.clears.writes k.marked b ∙ frees_marks k gone d f is.frees k.marked b)
+        (λ b. refl)
 
     pub cut_sound : IsSoundDraft k m e
     cut_sound = all.0
@@ -263,7 +288,7 @@ module _ (tells : Bool) (s : State) (number size : ℕ) (o : OpenNode) (node : N
     cut_node = stored.node_is.own ∙ is_used
 
     now_bytes : content (drafted e m) new ≡ resized size (content (drafted d m) (node_of_open o))
-    now_bytes = stored_content k m number new (node_of_open o) d g e sound stored is_used used inside whole tail
+    now_bytes = stored_content k m number new (node_of_open o) d g e now sound stored refl is_used used inside whole tail
         ∙ ap (λ xs. take size (joined (drafted g m) xs)) (is.places kept)
         ∙ bytes
         ∙ ap (λ xs. resized size (take o.size (joined (drafted d m) xs))) (sym ps)

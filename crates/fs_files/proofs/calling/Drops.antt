@@ -18,8 +18,12 @@ use Rattle.fs_files.specs.Bytes.{overwrite}
 use Rattle.fs_files.specs.Calls.{IsWithFile, IsWithPlaces, SetsNode, places_or_none, places_of}
 use Rattle.fs_files.specs.Drafts.{DraftState, drafted, PutsBlock, FreesBlocks}
 use Rattle.fs_files.specs.Frames.{ReadsBack}
+use Rattle.fs_files.specs.Growing.{alone}
 use Rattle.fs_files.specs.Nodes.{node_of_open, node_block, node_byte}
+use Rattle.fs_files.specs.Shared.{is_kept}
 use Rattle.fs_files.specs.Sound.{FitsBooks, IsSoundDraft}
+use Rattle.fs_files.proofs.drafts.Lists.{each_of, in_alone}
+use Rattle.fs_files.proofs.frames.Places.{all_of}
 use Rattle.fs_files.proofs.frames.Dropped.{dropped_sound, dropped_file, dropped_places}
 use Rattle.fs_files.proofs.frames.Rules.{frees_fits}
 use Rattle.fs_files.proofs.calling.Nodes.{put_still_fits}
@@ -43,22 +47,24 @@ put_sets k g number c d e same geom from upto fits puts = grind (arith, nat_test
 pub drops : (k : Bookkeeping) (m : Blocks) (g : Geometry) (number : ℕ) (o : OpenNode) (n : Node) (table : List ℕ) (d f e : DraftState) → g ≡ k.geom → IsGeometry g → 1 ≤ number → number ≤ k.geom.i
     → FitsBooks k d → IsSoundDraft k m d → All (IsData k.geom) o.places → run_places (runs_of o.places) ≡ o.places
     → option_map node_of_open (Some o) ≡ used_node k.geom (drafted d m) number → table ≡ drafted d m (node_block k.geom number)
-    → FreesBlocks o.places d f → n ≡ free_node
+    → FreesBlocks (alone (is_kept d.kept) o.places) d f → n ≡ free_node
     → PutsBlock (node_block g number) (record { class = Meta; bytes = overwrite (node_byte number) (node_spelling n) table }) f e
     → (FitsAs g n n.kind → ReadsBack g n)
-    → IsSoundDraft k m e × IsWithFile (files_of k.geom (drafted d m)) (files_of k.geom (drafted e m)) number None × SetsNode k.geom number (places_or_none (used_node k.geom (drafted d m) number)) d e
+    → IsSoundDraft k m e × IsWithFile (files_of k.geom (drafted d m)) (files_of k.geom (drafted e m)) number None × SetsNode k.geom number (alone (is_kept d.kept) (places_or_none (used_node k.geom (drafted d m) number))) d e
     × IsWithPlaces (places_of k.geom (drafted d m)) (places_of k.geom (drafted e m)) number []
 drops k m g number o n table d f e same geom from upto fits sound inside runs used bytes frees is puts back =
     let right : IsGeometry k.geom = subst IsGeometry same geom in
     let c : Changed = record { class = Meta; bytes = overwrite (node_byte number) (node_spelling n) table } in
     let old : Node = node_of_open o in
-    let all_freed : FreesBlocks (run_places old.runs) d f = subst (λ ps. FreesBlocks ps d f) (sym runs) frees in
+    let all_freed : FreesBlocks (alone (is_kept d.kept) (run_places old.runs)) d f = subst (λ ps. FreesBlocks (alone (is_kept d.kept) ps) d f) (sym runs) frees in
+    let gone : List ℕ = alone (is_kept d.kept) o.places in
+    let gone_data : All (IsData k.geom) gone = all_of (IsData k.geom) gone (λ b is. each_of (IsData k.geom) o.places inside b (in_alone (is_kept d.kept) o.places b is)) in
     let text : c.bytes ≡ overwrite (node_byte number) (node_spelling free_node) (drafted d m (node_block k.geom number)) =
     ap (λ x. overwrite (node_byte number) (node_spelling x) table) is ∙ ap (overwrite (node_byte number) (node_spelling free_node)) bytes in
     let put : PutsBlock (node_block k.geom number) c f e = subst (λ h. PutsBlock (node_block h number) c f e) same puts in
     let reads : ReadsBack k.geom free_node = subst (λ h. ReadsBack h free_node) same (subst (λ x. FitsAs g x x.kind → ReadsBack g x) is back refl) in (
       dropped_sound k m number old c d f e right fits sound (sym used) all_freed text put reads,
       dropped_file k m number old c d f e right fits sound (sym used) all_freed text put reads,
-      subst (λ ps. SetsNode k.geom number ps d e) (sym runs ∙ ap places_or_none used) (drop_sets k number o.places c d f e right from upto (frees_fits k o.places d f frees inside fits) frees put),
+      subst (λ ps. SetsNode k.geom number (alone (is_kept d.kept) ps) d e) (sym runs ∙ ap places_or_none used) (drop_sets k number gone c d f e right from upto (frees_fits k gone d f frees gone_data fits) frees put),
       dropped_places k m number old c d f e right fits sound (sym used) all_freed text put reads,
     )

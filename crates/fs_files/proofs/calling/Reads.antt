@@ -1,6 +1,6 @@
 -- A call on a file that reads its bytes, and one that looks up the rest of it.
 use Rattle.std.proofs.Common.{◌≡◌, ℕ, zero, suc, ◌+◌, ◌-◌, ◌*◌, ◌%◌, ◌<◌, ◌≤◌, ◌&&◌, nat_le, Bool, true, false, min, List, [], ◌∷◌, length, take, drop, All, Option, Some, None, option_map, slice_get, refl, sym, ap, ◌∙◌, arith, subst, drop_of_length-le}
-use Rattle.std.proofs.lemmas.List.{take_all, length-take}
+use Rattle.std.proofs.lemmas.List.{take_all}
 use Rattle.std.proofs.lemmas.Bool.{false≢true, lt-leb}
 use Rattle.std.proofs.lemmas.Bool.Decides.{nat_tests}
 use Rattle.base_types.specs.Seal.{Blocks}
@@ -19,7 +19,7 @@ use Rattle.fs_files.specs.declared.nodes.OpenNode.{OpenNode}
 use Rattle.fs_files.specs.Bytes.{blocks_for}
 use Rattle.fs_files.specs.Calls.{block_bytes, facts_of, files_in, places_of, places_or_none}
 use Rattle.fs_files.specs.Content.{HasContent}
-use Rattle.fs_files.specs.Drafts.{DraftState, drafted, marks_of}
+use Rattle.fs_files.specs.Drafts.{DraftState, drafted}
 use Rattle.fs_files.specs.Nodes.{node_of_open}
 use Rattle.fs_files.specs.Sound.{AreSoundBy, IsSoundDraft}
 use Rattle.fs_files.proofs.bytes.Contents.{read_part}
@@ -27,14 +27,14 @@ use Rattle.fs_files.proofs.bytes.Joins.{of_place, joined_length, joined_part}
 use Rattle.fs_files.proofs.bytes.Known.{content_known}
 use Rattle.fs_files.proofs.bytes.Sizes.{blocks_hold}
 use Rattle.fs_files.proofs.calling.Nodes.{its_file}
-use Rattle.fs_files.proofs.frames.Places.{file_node, node_file, used_fits, used_length, parts_fit}
+use Rattle.fs_files.proofs.frames.Places.{file_node, node_file, places_needed, used_fits, used_length, parts_fit}
 
 -- a node in use is what is looked up of its file
 pub looked_up : (s : State) (d : DraftState) (number : ℕ) (o : OpenNode) → IsSoundDraft s.books s.map d → option_map node_of_open (Some o) ≡ used_node s.books.geom (drafted d s.map) number
     → Some (record { kind = o.kind; links = o.links; size = o.size }) ≡ option_map facts_of (files_in s d number)
 looked_up s d number o sound used =
     let node : Node = node_of_open o in
-    ap (λ n. Some (record { kind = o.kind; links = o.links; size = n })) (sym (used_length s.books.geom (marks_of d s.books.marked) (drafted d s.map) number node sound.blocks (sym used)))
+    ap (λ n. Some (record { kind = o.kind; links = o.links; size = n })) (sym (used_length s.books.geom sound.live (drafted d s.map) number node sound.blocks (sym used)))
     ∙ sym (ap (option_map facts_of) (node_file s.books.geom (drafted d s.map) number node (sym used)))
 
 -- and one out of use is none
@@ -122,7 +122,7 @@ pub block_begins : (k : Bookkeeping) (m : Blocks) (d : DraftState) (number index
     → (b : ℕ) → slice_get ps index ≡ Some b → (length (drafted d m b) ≡ 1024 → block ≡ drafted d m b)
     → take (length (block_bytes x index)) block ≡ block_bytes x index
 block_begins k m d number index ps block x sound inside at ps_are b place seen =
-    let r = file_node k.geom (marks_of d k.marked) (drafted d m) number x sound.blocks at in
+    let r = file_node k.geom sound.live (drafted d m) number x sound.blocks at in
     let same : ps ≡ run_places r.0.runs = ps_are ∙ ap places_or_none r.1 in
     let whole : All (λ q. length (drafted d m q) ≡ 1024) ps = places_whole k m d number r.0 ps sound r.1 same inside in
     let big : length (drafted d m b) ≡ 1024 = of_place (λ q. length (drafted d m q) ≡ 1024) ps index b whole place in
@@ -137,4 +137,8 @@ block_begins k m d number index ps block x sound inside at ps_are b place seen =
 -- and behind its blocks a file has no bytes
 pub block_past : (k : Bookkeeping) (m : Blocks) (d : DraftState) (number index : ℕ) (ps block : List ℕ) (x : FileNode) → IsSoundDraft k m d → All (IsData k.geom) ps → files_of k.geom (drafted d m) number ≡ Some x → ps ≡ places_of k.geom (drafted d m) number
     → length ps ≤ index → take (length (block_bytes x index)) block ≡ block_bytes x index
-block_past k m d number index ps block x sound inside at ps_are past = grind (arith, nat_tests, file_node, joined_length, places_whole, text_of, length-take, drop_of_length-le)
+block_past k m d number index ps block x sound inside at ps_are past =
+    let r = file_node k.geom sound.live (drafted d m) number x sound.blocks at in
+    let same : ps ≡ run_places r.0.runs = ps_are ∙ ap places_or_none r.1 in
+    let none : drop (1024 * index) x.bytes ≡ [] = drop_of_length-le x.bytes (omega (arith, r.3, past, ap length same, places_needed k.geom r.0 (used_fits k.geom (drafted d m) number r.0 r.1))) in
+    subst (λ bs. take (length bs) block ≡ bs) (sym (ap (take 1024) none ∙ take_all 1024 [] (omega arith))) refl

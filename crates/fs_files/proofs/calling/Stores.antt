@@ -1,53 +1,63 @@
 -- A write whose node was stored where its size grew: the draft is one of the blocks again, and the file has the bytes.
-use Rattle.std.proofs.Common.{◌≡◌, ◌≢◌, ◌⊎◌, inl, inr, ℕ, ◌+◌, ◌%◌, ◌^◌, ◌<◌, ◌≤◌, Bool, true, false, IsTrue, List, ◌++◌, length, take, drop, max, All, Some, refl, sym, ap, subst, ◌∙◌, arith, ⊎_elim}
-use Rattle.std.proofs.lemmas.Bool.{cases_lt}
-use Rattle.std.proofs.lemmas.List.{length-append, length-take-le}
-use Rattle.std.proofs.lemmas.Bool.Decides.{nat_tests}
+use Rattle.std.proofs.Common.{◌≡◌, ◌≢◌, ◌⊎◌, inl, inr, ℕ, ◌+◌, ◌%◌, ◌^◌, ◌<◌, ◌≤◌, Bool, true, false, not, ◌&&◌, ◌||◌, IsTrue, List, length, take, drop, max, min, All, Some, refl, sym, ap, subst, ◌∙◌, arith, ⊎_elim}
+use Rattle.std.specs.List.{AllPairs}
+use Rattle.std.proofs.lemmas.Bool.{cases_lt, false≢true, false_from_ne_true}
 use Rattle.base_types.specs.Seal.{Blocks}
 use Rattle.base_types.specs.Runs.{run_places}
 use Rattle.base_types.specs.declared.words.Class.TheVariants.{Meta}
 use Rattle.layout_geometry.specs.Geometry.{IsGeometry, table_start, data_start}
 use Rattle.layout_extent.specs.Runs.{AreTidy, runs_of, stretches}
 use Rattle.layout_bytes.specs.declared.node.Node.{Node}
-use Rattle.layout_bytes.specs.declared.node.NodeKind.TheVariants.{Free, Dir}
+use Rattle.layout_bytes.specs.declared.node.NodeKind.TheVariants.{Free, Dir, File}
 use Rattle.layout_bytes.specs.Bytes.{are_zeros}
-use Rattle.layout_bytes.specs.Node.{node_fits, node_spelling, kind_fits}
+use Rattle.layout_bytes.specs.Node.{node_fits, node_spelling, kind_fits, FitsAs}
 use Rattle.engine_blocks.specs.Running.{has}
 use Rattle.engine_blocks.specs.Puts.{IsData}
-use Rattle.engine_blocks.specs.State.{Bookkeeping, reusable_blocks, IsReusable}
+use Rattle.engine_blocks.specs.State.{Bookkeeping, IsReusable}
 use Rattle.lang_tree.specs.Step.{written}
 use Rattle.crash_stands.specs.Files.{FileNode, joined, file_of, files_of, used_node}
 use Rattle.fs_files.specs.declared.changes.Changed.{Changed}
 use Rattle.fs_files.specs.declared.nodes.OpenNode.{OpenNode}
-use Rattle.fs_files.specs.Bytes.{blocks_for, met, overwrite, overwritten}
-use Rattle.fs_files.specs.Calls.{IsWithFile, IsWithPlaces, with_bytes, places_or_none, places_of}
+use Rattle.fs_files.specs.Bytes.{blocks_for, met, overwrite}
+use Rattle.fs_files.specs.Calls.{IsWithFile, is_dir, with_bytes, places_or_none, places_of}
 use Rattle.fs_files.specs.Content.{WritesContent}
-use Rattle.fs_files.specs.Drafts.{DraftState, drafted, marks_of}
-use Rattle.fs_files.specs.Frames.{used_of}
-use Rattle.fs_files.specs.Growing.{more_blocks}
+use Rattle.fs_files.specs.Drafts.{DraftState, drafted, PutsBlock}
+use Rattle.fs_files.specs.Frames.{used_of, ReadsBack}
+use Rattle.fs_files.specs.Growing.{placed, taken_by}
 use Rattle.fs_files.specs.Nodes.{class_of, node_of_open, node_block, node_byte, IsOpen}
+use Rattle.fs_files.specs.Places.{place_of}
+use Rattle.fs_files.specs.Shared.{is_kept}
 use Rattle.fs_files.specs.Sound.{FitsBooks, IsSoundDraft}
 use Rattle.fs_files.specs.Writing.{WritesOpen, KeepsSize, with_size}
-use Rattle.fs_files.proofs.bytes.Contents.{overwritten_some}
 use Rattle.fs_files.proofs.bytes.Places.{met_in}
-use Rattle.fs_files.proofs.frames.After.{IsStored, stored_after, stored_grown, stored_content}
+use Rattle.fs_files.proofs.frames.After.{IsStored, stored_after, stored_renewed, stored_content}
 use Rattle.fs_files.proofs.frames.Cells.{block_from, block_below}
 use Rattle.fs_files.proofs.frames.Fits.{fits_with}
 use Rattle.fs_files.proofs.frames.Frames.{node_places}
-use Rattle.fs_files.proofs.frames.Places.{used_length, parts_fit}
+use Rattle.fs_files.proofs.frames.Places.{all_of, used_length, parts_fit}
 use Rattle.fs_files.proofs.frames.Puts.{put_fits}
 use Rattle.fs_files.proofs.frames.Spelled.{fits_as, used_some}
 use Rattle.fs_files.proofs.frames.Steps.{file_is, file_bytes, node_kept}
 use Rattle.fs_files.proofs.frames.Written.{written_sound}
+use Rattle.fs_files.proofs.calling.Came.{news}
 use Rattle.fs_files.proofs.calling.Nodes.{its_file}
 use Rattle.fs_files.proofs.calling.Writes as writes
 use Rattle.fs_files.proofs.drafts.Lists.{none_of_table}
 use Rattle.fs_files.proofs.calling.Cuts.{sized_kind}
 
-module _ (tells : Bool) (k : Bookkeeping) (m : Blocks) (number off : ℕ) (ys : List ℕ) (o p : OpenNode) (d f e : DraftState) (table : List ℕ) (geom : IsGeometry k.geom) (opened : IsOpen k.geom o) (fits : FitsBooks k d) (w : WritesOpen tells k m off ys o p d f)
-    (from : 1 ≤ number) (upto : number ≤ k.geom.i) (keeps : KeepsSize k.geom number (max o.size (off + length ys)) p table f e) where
+module _ (tells : Bool) (k : Bookkeeping) (m : Blocks) (number off : ℕ) (ys : List ℕ) (o p : OpenNode) (d f e : DraftState) (table : List ℕ) (geom : IsGeometry k.geom) (opened : IsOpen k.geom o) (fits : FitsBooks k d) (some : (0 < length ys) ⊎ (o.size < off)) (w : WritesOpen tells k m off ys o p d f)
+    (from : 1 ≤ number) (upto : number ≤ k.geom.i) (keeps : KeepsSize k.geom number (off + length ys) (taken_by (is_kept d.kept) (min off o.size) (off + length ys) o.places) p table f e) where
   abbrev wide : ℕ
   wide = max o.size (off + length ys)
+
+  abbrev hi : ℕ
+  hi = off + length ys
+
+  abbrev need : ℕ
+  need = taken_by (is_kept d.kept) (min off o.size) (off + length ys) o.places
+
+  abbrev extra : List ℕ
+  extra = news k (min off o.size) (off + length ys) o d
 
   low : table_start k.geom ≤ node_block k.geom number
   low = block_from k.geom number
@@ -56,30 +66,40 @@ module _ (tells : Bool) (k : Bookkeeping) (m : Blocks) (number off : ℕ) (ys : 
   high = block_below k.geom number geom.whole_blocks from upto
 
   abbrev put : Changed
-  put = record { class = Meta; bytes = overwrite (node_byte number) (node_spelling (with_size p wide)) table }
+  put = record { class = Meta; bytes = overwrite (node_byte number) (node_spelling (with_size p (max p.size hi))) table }
 
   fits_f : FitsBooks k f
-  fits_f = writes.wrote_fits tells k m number off ys o p d f geom opened fits w
+  fits_f = writes.wrote_fits tells k m number off ys o p d f geom opened fits some w
+
+  -- the node was stored, or it has the size and the blocks that it had
+  pub stored_or : ((p.size < hi) ⊎ (0 < need)) ⊎ ((hi ≤ p.size) × (need ≡ 0))
+  stored_or = ⊎_elim (λ grew. inl (inl grew))
+      (λ small. ⊎_elim (λ got. inl (inr got))
+      (λ none. inr (small, omega (arith, none)))
+      (cases_lt 0 need))
+      (cases_lt p.size hi)
 
   pub kept_fits : FitsBooks k e
-  kept_fits = ⊎_elim (λ more. put_fits k f e (node_block k.geom number) put geom low high fits_f (keeps.puts more))
-      (λ enough. subst (FitsBooks k) (sym (keeps.same enough)) fits_f)
-      (cases_lt p.size wide)
+  kept_fits = ⊎_elim (λ stored. put_fits k f e (node_block k.geom number) put geom low high fits_f (keeps.puts stored))
+      (λ not. subst (FitsBooks k) (sym (keeps.same not.0 not.1)) fits_f)
+      stored_or
+
+  pub kept_kept : e.kept ≡ d.kept
+  kept_kept = ⊎_elim (λ stored. (keeps.puts stored).kept)
+      (λ not. ap (λ (x : DraftState). x.kept) (keeps.same not.0 not.1))
+      stored_or ∙ writes.wrote_kept tells k m number off ys o p d f geom opened fits some w
 
   module _ (told : IsTrue tells) (sound : IsSoundDraft k m d) (free : (b : ℕ) → IsReusable k.geom k.reusable b → k.marked b ≡ false)
       (used : used_node k.geom (drafted d m) number ≡ Some (node_of_open o)) (back : (xs : List ℕ) → run_places (runs_of xs) ≡ xs) (count : (xs : List ℕ) → length (runs_of xs) ≡ stretches xs) (tidy : (xs : List ℕ) → AreTidy (runs_of xs))
-      (at_table : table ≡ drafted d m (node_block k.geom number)) (few : off + length ys ≤ 2 ^ 30) (some : 0 < length ys) (slots : o.kind ≡ Dir → wide % 64 ≡ 0) where
+      (at_table : table ≡ drafted d m (node_block k.geom number)) (few : off + length ys ≤ 2 ^ 30) (slots : o.kind ≡ Dir → wide % 64 ≡ 0) where
     abbrev old : Node
     old = node_of_open o
 
     abbrev new : Node
     new = with_size p wide
 
-    places : p.places ≡ o.places ++ writes.extra tells k m number off ys o p d f geom opened fits w
-    places = writes.its_places tells k m number off ys o p d f geom opened fits w
-
-    node_is : p ≡ record o { places = o.places ++ writes.extra tells k m number off ys o p d f geom opened fits w }
-    node_is = (writes.its tells k m number off ys o p d f geom opened fits w).node
+    node_is : p ≡ record o { places = placed (is_kept d.kept) (min off o.size) (off + length ys) o.places extra }
+    node_is = (writes.its tells k m number off ys o p d f geom opened fits some w).node
 
     kind_is : p.kind ≡ o.kind
     kind_is = ap (λ (q : OpenNode). q.kind) node_is
@@ -90,24 +110,21 @@ module _ (tells : Bool) (k : Bookkeeping) (m : Blocks) (number off : ℕ) (ys : 
     size_is : p.size ≡ o.size
     size_is = ap (λ (q : OpenNode). q.size) node_is
 
+    wide_is : max p.size hi ≡ wide
+    wide_is = ap (λ n. max n hi) size_is
+
     -- the places fit
-    stretched : stretches p.places ≤ 28
-    stretched = ⊎_elim (λ more. (w.room.grows more).runs)
-        (λ enough. subst (λ (q : OpenNode). stretches q.places ≤ 28) (sym (w.room.same enough)) opened.runs)
-        (cases_lt (length o.places) (blocks_for wide))
+    pub stretched : stretches p.places ≤ 28
+    stretched = (writes.its tells k m number off ys o p d f geom opened fits some w).runs opened.runs
 
     counted : length p.places ≡ blocks_for wide
-    counted = ⊎_elim (λ more. let r = w.room.grows more in
-        let long : length p.places ≡ length (o.places ++ take (more_blocks wide o) (reusable_blocks k)) = ap (λ (q : OpenNode). length q.places) r.node in
-        omega (arith, more, long, length-append o.places (take (more_blocks wide o) (reusable_blocks k)), length-take-le (more_blocks wide o) (reusable_blocks k) r.enough))
-        (λ enough. omega (arith, enough, opened.count, ap (λ (q : OpenNode). length q.places) (w.room.same enough)))
-        (cases_lt (length o.places) (blocks_for wide))
+    counted = omega (arith, writes.its_count tells k m number off ys o p d f geom opened fits some w, opened.count)
 
     fit : node_fits k.geom new ≡ true
     fit =
         let l = parts_fit k.geom old opened.fits in
         let linked_p : 0 < p.links = omega (arith, links_is, l.links) in
-        fits_with k.geom p.kind p.links wide p.places (back p.places) (count p.places) (tidy p.places) linked_p stretched (writes.all_inside tells k m number off ys o p d f geom opened fits w) counted
+        fits_with k.geom p.kind p.links wide p.places (back p.places) (count p.places) (tidy p.places) linked_p stretched (writes.all_inside tells k m number off ys o p d f geom opened fits some w) counted
         (subst (λ (q : OpenNode). kind_fits (record { kind = q.kind; links = q.links; size = wide; runs = runs_of p.places }) q.kind ≡ true) (sym node_is)
         (sized_kind o.kind o.links o.size wide (runs_of o.places) (runs_of p.places) slots (λ file. omega (arith, opened.file file, few)) l.kind))
 
@@ -116,39 +133,46 @@ module _ (tells : Bool) (k : Bookkeeping) (m : Blocks) (number off : ℕ) (ys : 
 
     table_same : (b : ℕ) → table_start k.geom ≤ b → b < data_start k.geom → drafted f m b ≡ drafted d m b
     table_same b above below =
-        writes.wrote_others tells k m number off ys o p d f geom opened fits w told sound free used back b
+        writes.wrote_others tells k m number off ys o p d f geom opened fits some w told sound free used back b
         (none_of_table k.geom o.places b opened.«data» below)
-        (none_of_table k.geom (writes.extra tells k m number off ys o p d f geom opened fits w) b (writes.its tells k m number off ys o p d f geom opened fits w).inside below)
+        (none_of_table k.geom extra b (writes.its tells k m number off ys o p d f geom opened fits some w).inside below)
 
     whole_f : All (λ b. length (drafted f m b) ≡ 1024) p.places
-    whole_f = (writes.content_after tells k m number off ys o p d f geom opened fits w told sound free used back).whole
+    whole_f = (writes.content_after tells k m number off ys o p d f geom opened fits some w told sound free used back).whole
 
     -- the bytes past the end of a directory
     tail_before : o.kind ≡ Dir → IsTrue (are_zeros (drop o.size (joined (drafted d m) o.places)))
     tail_before dir = subst (λ xs. IsTrue (are_zeros (drop o.size (joined (drafted d m) xs)))) (back o.places) (sound.blocks.tail number old used dir)
 
     tail_after : o.kind ≡ Dir → IsTrue (are_zeros (drop wide (joined (drafted f m) p.places)))
-    tail_after dir = subst (λ xs. IsTrue (are_zeros (drop wide (joined (drafted f m) xs)))) (sym places) (writes.tail_written tells k m number off ys o p d f geom opened fits w told sound free used back (tail_before dir))
+    tail_after dir = writes.tail_written tells k m number off ys o p d f geom opened fits some w told sound free used back (tail_before dir)
 
-    bytes_after : (x : FileNode) → files_of k.geom (drafted d m) number ≡ Some x → take wide (joined (drafted f m) p.places) ≡ overwritten off ys x.bytes
+    bytes_after : (x : FileNode) → files_of k.geom (drafted d m) number ≡ Some x → take wide (joined (drafted f m) p.places) ≡ written off ys x.bytes
     bytes_after x at =
-        ap (λ xs. take wide (joined (drafted f m) xs)) places
-        ∙ writes.bytes_written tells k m number off ys o p d f geom opened fits w told sound free used back
+        writes.bytes_written tells k m number off ys o p d f geom opened fits some w told sound free used back
         ∙ ap (λ xs. written off ys (take o.size (joined (drafted d m) xs))) (sym (back o.places))
         ∙ ap (λ (y : FileNode). written off ys y.bytes) (sym (its_file k.geom (drafted d m) number x old (sym used) at))
-        ∙ sym (overwritten_some off ys x.bytes some)
 
     abbrev Sound : Type 0
-    Sound = IsSoundDraft k m e × ((x : FileNode) → files_of k.geom (drafted d m) number ≡ Some x → IsWithFile (files_of k.geom (drafted d m)) (files_of k.geom (drafted e m)) number (Some (with_bytes x (overwritten off ys x.bytes))))
+    Sound = IsSoundDraft k m e × ((x : FileNode) → files_of k.geom (drafted d m) number ≡ Some x → IsWithFile (files_of k.geom (drafted d m)) (files_of k.geom (drafted e m)) number (Some (with_bytes x (written off ys x.bytes))))
 
-    module _ (more : p.size < wide) where
-      stored : IsStored k m number new d f e
-      stored = stored_after k m (marks_of d k.marked) number new put d f e geom from upto sound.blocks fits_f
-          (writes.wrote_rules tells k m number off ys o p d f geom opened fits w told sound free used back) table_same
-          (ap (overwrite (node_byte number) (node_spelling new)) at_table) (keeps.puts more) (keeps.back more (fits_as k.geom new used_kind fit))
+    abbrev now : ℕ → Bool
+    now b = has p.places b || (sound.live b && not (has o.places b))
+
+    module _ (grew : (p.size < hi) ⊎ (0 < need)) where
+      puts : PutsBlock (node_block k.geom number) (record { class = Meta; bytes = overwrite (node_byte number) (node_spelling new) table }) f e
+      puts = subst (λ n. PutsBlock (node_block k.geom number) (record { class = Meta; bytes = overwrite (node_byte number) (node_spelling (with_size p n)) table }) f e) wide_is (keeps.puts grew)
+
+      reads : ReadsBack k.geom new
+      reads = subst (λ n. FitsAs k.geom (with_size p n) p.kind → ReadsBack k.geom (with_size p n)) wide_is (keeps.back grew) (fits_as k.geom new used_kind fit)
+
+      stored : IsStored k now m number new d f e
+      stored = stored_after k sound.live now m number new (record { class = Meta; bytes = overwrite (node_byte number) (node_spelling new) table }) d f e geom from upto sound.blocks fits_f
+          (writes.now_rules tells k m number off ys o p d f geom opened fits some w told sound free used back) (writes.wrote_kept tells k m number off ys o p d f geom opened fits some w) table_same
+          (ap (overwrite (node_byte number) (node_spelling new)) at_table) puts reads
 
       inside_new : All (IsData k.geom) (run_places (runs_of p.places))
-      inside_new = subst (All (IsData k.geom)) (sym (back p.places)) (writes.all_inside tells k m number off ys o p d f geom opened fits w)
+      inside_new = subst (All (IsData k.geom)) (sym (back p.places)) (writes.all_inside tells k m number off ys o p d f geom opened fits some w)
 
       whole_new : All (λ b. length (drafted f m b) ≡ 1024) (run_places (runs_of p.places))
       whole_new = subst (All (λ b. length (drafted f m b) ≡ 1024)) (sym (back p.places)) whole_f
@@ -156,87 +180,102 @@ module _ (tells : Bool) (k : Bookkeeping) (m : Blocks) (number off : ℕ) (ys : 
       tail_new : p.kind ≡ Dir → IsTrue (are_zeros (drop wide (joined (drafted f m) (run_places (runs_of p.places)))))
       tail_new dir = subst (λ xs. IsTrue (are_zeros (drop wide (joined (drafted f m) xs)))) (sym (back p.places)) (tail_after (sym kind_is ∙ dir))
 
+      was_new : (b : ℕ) → has (run_places (runs_of p.places)) b ≡ has p.places b
+      was_new b = ap (λ xs. has xs b) (back p.places)
+
+      was_old : (b : ℕ) → has (run_places (runs_of o.places)) b ≡ has o.places b
+      was_old b = ap (λ xs. has xs b) (back o.places)
+
+      all_stored : IsSoundDraft k m e × IsWithFile (files_of k.geom (drafted d m)) (files_of k.geom (drafted e m)) number (Some (file_of (drafted e m) new))
+      all_stored = stored_renewed k m number new old d f e now sound stored kind_is (used_some new used_kind) used inside_new whole_new tail_new
+          extra
+          (λ b is. ⊎_elim (λ mine. inl (was_old b ∙ mine))
+          (λ came. inr came)
+          (writes.either tells k m number off ys o p d f geom opened fits some w b (sym (was_new b) ∙ is)))
+          (λ b is. was_new b ∙ writes.comes tells k m number off ys o p d f geom opened fits some w b is)
+          (subst (AllPairs (λ a b. a ≢ b)) (sym (back p.places)) (writes.once_now tells k m number off ys o p d f geom opened fits some w told sound free used back))
+          (writes.its tells k m number off ys o p d f geom opened fits some w).inside
+          (writes.came_unmarked tells k m number off ys o p d f geom opened fits some w told sound free used back)
+          (λ b above below out_old out_new. writes.wrote_others tells k m number off ys o p d f geom opened fits some w told sound free used back b (sym (was_old b) ∙ out_old) out_new)
+          (λ b. (λ i. sym (was_new b) i || (sound.live b && not (sym (was_old b) i))))
+
       sound_more : Sound
-      sound_more =
-          let all = stored_grown k m number new old d f e sound stored (used_some new used_kind) used inside_new whole_new tail_new
-          (writes.extra tells k m number off ys o p d f geom opened fits w)
-          (back p.places ∙ places ∙ ap (λ xs. xs ++ writes.extra tells k m number off ys o p d f geom opened fits w) (sym (back o.places)))
-          (writes.its tells k m number off ys o p d f geom opened fits w).inside
-          (writes.came_unmarked tells k m number off ys o p d f geom opened fits w told sound free used back)
-          (writes.its tells k m number off ys o p d f geom opened fits w).once
-          (λ b above below out_old out_new. writes.wrote_others tells k m number off ys o p d f geom opened fits w told sound free used back b (ap (λ xs. has xs b) (sym (back o.places)) ∙ out_old) out_new)
-          (writes.wrote_marks tells k m number off ys o p d f geom opened fits w told sound free used back) in (
-            all.0,
-            λ x at. file_is (files_of k.geom (drafted d m)) (files_of k.geom (drafted e m)) number (Some (file_of (drafted e m) new)) (Some (with_bytes x (overwritten off ys x.bytes)))
-                (file_bytes (drafted d m) (drafted e m) old new x (overwritten off ys x.bytes) (its_file k.geom (drafted d m) number x old (sym used) at) kind_is links_is
-                (stored_content k m number new old d f e sound stored (used_some new used_kind) used inside_new whole_new tail_new
-                ∙ ap (λ xs. take wide (joined (drafted f m) xs)) (back p.places) ∙ bytes_after x at))
-                all.1,
-          )
+      sound_more = (
+        all_stored.0,
+        λ x at. file_is (files_of k.geom (drafted d m)) (files_of k.geom (drafted e m)) number (Some (file_of (drafted e m) new)) (Some (with_bytes x (written off ys x.bytes)))
+            (file_bytes (drafted d m) (drafted e m) old new x (written off ys x.bytes) (its_file k.geom (drafted d m) number x old (sym used) at) kind_is links_is
+            (stored_content k m number new old d f e now sound stored kind_is (used_some new used_kind) used inside_new whole_new tail_new
+            ∙ ap (λ xs. take wide (joined (drafted f m) xs)) (back p.places) ∙ bytes_after x at))
+            all_stored.1,
+      )
 
-    module _ (enough : wide ≤ p.size) where
-      wide_is : wide ≡ o.size
-      wide_is = omega (arith, enough, size_is)
-
-      none_more : blocks_for wide ≤ length o.places
-      none_more = omega (arith, opened.count, wide_is)
+    module _ (small : hi ≤ p.size) (none : need ≡ 0) where
+      wide_old : wide ≡ o.size
+      wide_old = omega (arith, small, size_is)
 
       same_node : p ≡ o
-      same_node = w.room.same none_more
+      same_node = (w.room.same none).0
 
-      writes_d : WritesContent (class_of o.kind) (met off (off + length ys) o.places) d f
-      writes_d = grind (arith, nat_tests, size_is, places, same_node, none_more)
+      same_draft : w.grown ≡ d
+      same_draft = (w.room.same none).1
 
       old_places : p.places ≡ run_places (runs_of o.places)
       old_places = ap (λ (q : OpenNode). q.places) same_node ∙ sym (back o.places)
+
+      writes_d : WritesContent (class_of o.kind) (met (min off o.size) hi p.places) d f
+      writes_d = subst (λ (x : DraftState). WritesContent (class_of o.kind) (met (min off o.size) hi p.places) x f) same_draft (writes.grown_wrote tells k m number off ys o p d f geom opened fits some w)
 
       sound_enough : Sound
       sound_enough =
           let whole : All (λ b. length (drafted f m b) ≡ 1024) (run_places (runs_of o.places)) = subst (All (λ b. length (drafted f m b) ≡ 1024)) old_places whole_f in
           let tail : o.kind ≡ Dir → IsTrue (are_zeros (drop o.size (joined (drafted f m) (run_places (runs_of o.places))))) =
-          λ dir. subst (λ n. IsTrue (are_zeros (drop n (joined (drafted f m) (run_places (runs_of o.places)))))) wide_is (subst (λ xs. IsTrue (are_zeros (drop wide (joined (drafted f m) xs)))) old_places (tail_after dir)) in
-          let all = written_sound k m number old (class_of o.kind) (met off (off + length ys) o.places) d f geom fits sound used writes_d
-          (λ b is. ap (λ xs. has xs b) (back o.places) ∙ met_in off (off + length ys) o.places b is) whole tail in
-          subst (λ (y : DraftState). IsSoundDraft k m y × ((x : FileNode) → files_of k.geom (drafted d m) number ≡ Some x → IsWithFile (files_of k.geom (drafted d m)) (files_of k.geom (drafted y m)) number (Some (with_bytes x (overwritten off ys x.bytes)))))
-          (sym (keeps.same enough)) (
+          λ dir. subst (λ n. IsTrue (are_zeros (drop n (joined (drafted f m) (run_places (runs_of o.places)))))) wide_old (subst (λ xs. IsTrue (are_zeros (drop wide (joined (drafted f m) xs)))) old_places (tail_after dir)) in
+          let all = written_sound k m number old (class_of o.kind) (met (min off o.size) hi p.places) d f geom fits sound used writes_d
+          (λ b is. ap (λ xs. has xs b) (sym old_places) ∙ met_in (min off o.size) hi p.places b is)
+          (writes.met_alone tells k m number off ys o p d f geom opened fits some w told sound free used back) whole tail in
+          subst (λ (y : DraftState). IsSoundDraft k m y × ((x : FileNode) → files_of k.geom (drafted d m) number ≡ Some x → IsWithFile (files_of k.geom (drafted d m)) (files_of k.geom (drafted y m)) number (Some (with_bytes x (written off ys x.bytes)))))
+          (sym (keeps.same small none)) (
             all.0,
-            λ x at. file_is (files_of k.geom (drafted d m)) (files_of k.geom (drafted f m)) number (Some (file_of (drafted f m) old)) (Some (with_bytes x (overwritten off ys x.bytes)))
-                (file_bytes (drafted d m) (drafted f m) old old x (overwritten off ys x.bytes) (its_file k.geom (drafted d m) number x old (sym used) at) refl refl
-                (ap (λ n. take n (joined (drafted f m) (run_places (runs_of o.places)))) (sym wide_is) ∙ ap (λ xs. take wide (joined (drafted f m) xs)) (sym old_places) ∙ bytes_after x at))
+            λ x at. file_is (files_of k.geom (drafted d m)) (files_of k.geom (drafted f m)) number (Some (file_of (drafted f m) old)) (Some (with_bytes x (written off ys x.bytes)))
+                (file_bytes (drafted d m) (drafted f m) old old x (written off ys x.bytes) (its_file k.geom (drafted d m) number x old (sym used) at) refl refl
+                (ap (λ n. take n (joined (drafted f m) (run_places (runs_of o.places)))) (sym wide_old) ∙ ap (λ xs. take wide (joined (drafted f m) xs)) (sym old_places) ∙ bytes_after x at))
                 all.1,
           )
 
     pub kept_sound : Sound
-    kept_sound = ⊎_elim (λ more. sound_more more)
-        (λ enough. sound_enough enough)
-        (cases_lt p.size wide)
+    kept_sound = ⊎_elim (λ grew. sound_more grew)
+        (λ not. sound_enough not.0 not.1)
+        stored_or
 
     -- Its blocks before and after.
 
-    pub places_before : places_or_none (used_node k.geom (drafted d m) number) ≡ o.places
+    pub places_before : places_of k.geom (drafted d m) number ≡ o.places
     places_before = ap places_or_none used ∙ back o.places
 
-    pub places_after : places_or_none (used_node k.geom (drafted e m) number) ≡ o.places ++ writes.extra tells k m number off ys o p d f geom opened fits w
-    places_after = ⊎_elim (λ more. ap places_or_none ((stored more).node_is.own ∙ used_some new used_kind) ∙ back p.places ∙ places)
-        (λ enough. ap (λ (y : DraftState). places_or_none (used_node k.geom (drafted y m) number)) (keeps.same enough)
-        ∙ ap places_or_none ((node_kept k.geom (marks_of d k.marked) (drafted d m) (drafted f m) number geom.whole_blocks from upto sound.blocks table_same).own ∙ used)
-        ∙ sym (old_places enough) ∙ places)
-        (cases_lt p.size wide)
+    pub places_now : places_of k.geom (drafted e m) number ≡ p.places
+    places_now = ⊎_elim (λ grew. ap places_or_none ((stored grew).node_is.own ∙ used_some new used_kind) ∙ back p.places)
+        (λ not. ap (λ (y : DraftState). places_of k.geom (drafted y m) number) (keeps.same not.0 not.1)
+        ∙ ap places_or_none ((node_kept k.geom sound.live (drafted d m) (drafted f m) number geom.whole_blocks from upto sound.blocks table_same).own ∙ used)
+        ∙ sym (old_places not.0 not.1))
+        stored_or
 
     -- and those of the other nodes are as before
-    pub kept_places : IsWithPlaces (places_of k.geom (drafted d m)) (places_of k.geom (drafted e m)) number (o.places ++ writes.extra tells k m number off ys o p d f geom opened fits w)
-    kept_places = record { own = places_after; others = λ l other. by l other (cases_lt p.size wide) }
-      where
-        by : (l : ℕ) → l ≢ number → (p.size < wide) ⊎ (wide ≤ p.size) → places_of k.geom (drafted e m) l ≡ places_of k.geom (drafted d m) l
-        by l other (inl more) = (node_places k.geom (drafted d m) (drafted e m) number (used_of new) (stored more).node_is).others l other
-        by l other (inr enough) =
-            ap (λ (y : DraftState). places_of k.geom (drafted y m) l) (keeps.same enough)
-            ∙ (node_places k.geom (drafted d m) (drafted f m) number (used_node k.geom (drafted d m) number) (node_kept k.geom (marks_of d k.marked) (drafted d m) (drafted f m) number geom.whole_blocks from upto sound.blocks table_same)).others l other
-
-    pub stretched_after : stretches (o.places ++ writes.extra tells k m number off ys o p d f geom opened fits w) ≤ 28
-    stretched_after = subst (λ xs. stretches xs ≤ 28) places stretched
+    pub other_places : (l : ℕ) → l ≢ number → places_of k.geom (drafted e m) l ≡ places_of k.geom (drafted d m) l
+    other_places l other = ⊎_elim (λ grew. (node_places k.geom (drafted d m) (drafted e m) number (used_of new) (stored grew).node_is).others l other)
+        (λ not. ap (λ (y : DraftState). places_of k.geom (drafted y m) l) (keeps.same not.0 not.1)
+        ∙ (node_places k.geom (drafted d m) (drafted f m) number (used_node k.geom (drafted d m) number) (node_kept k.geom sound.live (drafted d m) (drafted f m) number geom.whole_blocks from upto sound.blocks table_same)).others l other)
+        stored_or
 
     pub file_size : (x : FileNode) → files_of k.geom (drafted d m) number ≡ Some x → (length x.bytes ≡ o.size) × (x.kind ≡ o.kind)
     file_size x at =
         let is = its_file k.geom (drafted d m) number x old (sym used) at in
-        (ap (λ (y : FileNode). length y.bytes) is ∙ used_length k.geom (marks_of d k.marked) (drafted d m) number old sound.blocks used, ap (λ (y : FileNode). y.kind) is)
+        (ap (λ (y : FileNode). length y.bytes) is ∙ used_length k.geom sound.live (drafted d m) number old sound.blocks used, ap (λ (y : FileNode). y.kind) is)
+
+    -- of a directory's blocks none is kept
+    pub dir_alone : is_dir o.kind ≡ true → All (λ b. is_kept d.kept b ≡ false) o.places
+    dir_alone dir = all_of (λ b. is_kept d.kept b ≡ false) o.places (λ b is. false_from_ne_true (is_kept d.kept b) (λ mine.
+        let r = place_of (run_places (runs_of o.places)) b (ap (λ xs. has xs b) (back o.places) ∙ is) in
+        not_file (sound.shared b number r.0 old mine (record { node = old; is_node = used; place = r.1 }) used)))
+      where
+        not_file : o.kind ≡ File → ⊥
+        not_file file = false≢true (sym (ap is_dir file) ∙ dir)

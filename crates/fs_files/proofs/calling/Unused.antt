@@ -2,7 +2,6 @@
 use Rattle.std.proofs.Common.{◌≡◌, ◌≢◌, ℕ, ◌+◌, ◌%◌, ◌<◌, ◌≤◌, ◌&&◌, nat_le, Bool, true, false, List, length, drop, replicate, get_or, slice_index, Option, None, is_some, sym, ap, ◌∙◌, arith, IsTrue}
 use Rattle.std.proofs.lemmas.List.{get_or-drop, get_or-take}
 use Rattle.std.proofs.lemmas.Bool.Decides.{nat_tests}
-use Rattle.std.proofs.lemmas.Grind.{common_steps}
 use Rattle.base_types.specs.Seal.{Blocks}
 use Rattle.layout_geometry.specs.Geometry.{Geometry, IsGeometry}
 use Rattle.layout_bytes.specs.Bytes.{when}
@@ -60,7 +59,10 @@ in_table g number l whole from upto high = omega (arith, whole, from, upto, high
 -- those of other kind bytes than zero are in use
 pub block_used : (k : Bookkeeping) (m : Blocks) (d : DraftState) (number upto : ℕ) (table : List ℕ) → k.geom.i % 4 ≡ 0 → IsSoundDraft k m d → 1 ≤ number → number ≤ k.geom.i → upto ≤ block_end number
     → table ≡ drafted d m (node_block k.geom number) → ((l : ℕ) → number ≤ l → l < upto → kind_in table l ≢ 0) → AreUsed k.geom (drafted d m) number upto
-block_used k m d number upto table whole sound from in_it end bytes kinds = grind (arith, common_steps, in_table, one_block, used_by_kind)
+block_used k m d number upto table whole sound from in_it end bytes kinds l low high =
+    let inside : l ≤ k.geom.i = in_table k.geom number l whole from in_it (omega (arith, high, end)) in
+    let block : table ≡ drafted d m (node_block k.geom l) = bytes ∙ ap (drafted d m) (sym (one_block k.geom number l from low (omega (arith, high, end)))) in
+    used_by_kind k.geom (drafted d m) l (omega (arith, from, low)) inside (sound.blocks.free l (omega (arith, from, low)) inside) (λ zero. kinds l low high (ap (λ t. kind_in t l) block ∙ zero))
 
 -- and the first one of kind byte zero is the first that isn't
 pub block_first : (k : Bookkeeping) (m : Blocks) (d : DraftState) (number first : ℕ) (table : List ℕ) → k.geom.i % 4 ≡ 0 → IsSoundDraft k m d → 1 ≤ number → number ≤ k.geom.i → number ≤ first → first < block_end number

@@ -1,29 +1,43 @@
 -- A node that was read, and then written within its bytes.
-use Rattle.std.proofs.Common.{◌≡◌, ℕ, ◌+◌, ◌%◌, ◌^◌, ◌<◌, ◌≤◌, Bool, true, false, IsTrue, List, ◌++◌, length, take, max, Some, is_some, refl, sym, ap, subst, ◌∙◌, arith}
-use Rattle.std.proofs.lemmas.Bool.{eqb-true}
+use Rattle.std.proofs.Common.{◌≡◌, ℕ, ◌+◌, ◌*◌, ◌^◌, ◌<◌, ◌≤◌, Bool, true, false, IsTrue, List, ◌++◌, length, take, drop, replicate, max, All, Some, is_some, refl, sym, ap, subst, ◌∙◌, arith}
 use Rattle.std.proofs.lemmas.List.{append-nil}
 use Rattle.std.proofs.lemmas.Bool.Decides.{nat_tests}
 use Rattle.base_types.specs.Runs.{run_places}
-use Rattle.layout_extent.specs.Runs.{AreTidy, runs_of, stretches}
-use Rattle.layout_geometry.specs.Geometry.{IsGeometry}
+use Rattle.base_types.specs.Seal.{Blocks}
+use Rattle.layout_extent.specs.Runs.{runs_of}
+use Rattle.layout_geometry.specs.Geometry.{IsGeometry, table_start, data_start}
+use Rattle.layout_bytes.specs.declared.node.Node.{Node}
 use Rattle.layout_bytes.specs.declared.node.NodeKind.TheVariants.{Dir}
-use Rattle.layout_bytes.specs.Node.{kind_fits}
-use Rattle.engine_blocks.specs.State.{State, IsReusable, reusable_blocks}
-use Rattle.crash_stands.specs.Files.{FileNode, joined, used_node, files_of}
+use Rattle.layout_bytes.specs.Bytes.{are_zeros}
+use Rattle.lang_tree.specs.Step.{written}
+use Rattle.engine_blocks.specs.Puts.{IsData}
+use Rattle.engine_blocks.specs.Running.{has}
+use Rattle.engine_blocks.specs.State.{State}
+use Rattle.crash_stands.specs.Files.{FileNode, joined, used_node, file_of, files_of}
 use Rattle.fs_files.specs.declared.nodes.OpenNode.{OpenNode}
 use Rattle.fs_files.specs.Bytes.{met, overwrite, overwritten}
-use Rattle.fs_files.specs.Calls.{IsWithFile, IsWithPlaces, files_in, places_in, places_or_none, with_bytes}
+use Rattle.fs_files.specs.Calls.{IsWithFile, IsWithPlaces, files_in, places_in, with_bytes}
 use Rattle.fs_files.specs.Content.{HasContent, HasNewBytes, WritesContent}
 use Rattle.fs_files.specs.Drafts.{DraftState, ChangesSome, change_of, drafted}
 use Rattle.fs_files.specs.Effects.{LooksOnly}
-use Rattle.fs_files.specs.Growing.{more_blocks}
-use Rattle.fs_files.specs.Nodes.{IsOpen, class_of, node_block, node_of_open}
-use Rattle.fs_files.specs.Sound.{IsDraftOf, IsSoundDraft}
-use Rattle.fs_files.specs.Writing.{KeepsSize, WritesOpen}
+use Rattle.fs_files.specs.Frames.{HasNewNode}
+use Rattle.fs_files.specs.Nodes.{IsOpen, class_of, node_of_open}
+use Rattle.fs_files.specs.Shared.{is_kept}
+use Rattle.fs_files.specs.Sound.{FitsBooks, IsDraftOf, IsSoundDraft}
+use Rattle.fs_files.proofs.bytes.Contents.{overwritten_some, written_within}
+use Rattle.fs_files.proofs.bytes.Joins.{joined_length}
+use Rattle.fs_files.proofs.bytes.Known.{content_known}
+use Rattle.fs_files.proofs.bytes.Places.{met_in}
+use Rattle.fs_files.proofs.bytes.Sizes.{blocks_hold}
+use Rattle.fs_files.proofs.bytes.Tails.{past_written}
+use Rattle.fs_files.proofs.calling.Nodes.{its_file, looked_files}
+use Rattle.fs_files.proofs.drafts.Lists.{none_of_table}
 use Rattle.fs_files.proofs.frames.Carry.{draft_looks, looked_places}
-use Rattle.fs_files.proofs.calling.Nodes.{looked_files}
-use Rattle.fs_files.proofs.calling.Stores as stores
-use Rattle.fs_files.proofs.frames.Places.{parts_fit}
+use Rattle.fs_files.proofs.frames.Frames.{node_places}
+use Rattle.fs_files.proofs.frames.Met.{met_all}
+use Rattle.fs_files.proofs.frames.Rules.{writes_fits, writes_others}
+use Rattle.fs_files.proofs.frames.Steps.{file_is, file_bytes, node_kept}
+use Rattle.fs_files.proofs.frames.Written.{written_sound}
 
 -- some block changed where some has new bytes: where they are new content some other had changed before
 some_changes : (bs : List ℕ) (o : OpenNode) (d e : DraftState) → WritesContent (class_of o.kind) bs d e → ((b : ℕ) → is_some (change_of d.fresh b) ≡ true → ChangesSome d) → HasNewBytes e → ChangesSome e
@@ -40,78 +54,103 @@ pub record WritesWithin (tells : Bool) (s : State) (number off : ℕ) (ys : List
   pub within : off + length ys ≤ o.size
   pub few : off + length ys ≤ 2 ^ 30
   pub some : 0 < length ys
+  pub apart : IsTrue tells → All (λ b. is_kept d.kept b ≡ false) o.places
   pub writes : WritesContent (class_of o.kind) (met off (off + length ys) o.places) d e
   pub new : 0 < length ys → HasNewBytes e
   pub content : IsTrue tells → HasContent s.map d o.places → HasContent s.map e o.places
   pub bytes : IsTrue tells → HasContent s.map d o.places → joined (drafted e s.map) o.places ≡ overwrite off ys (joined (drafted d s.map) o.places)
-  pub free : (b : ℕ) → IsReusable s.books.geom s.books.reusable b → s.books.marked b ≡ false
   pub places : (xs : List ℕ) → run_places (runs_of xs) ≡ xs
-  pub count : (xs : List ℕ) → length (runs_of xs) ≡ stretches xs
-  pub tidy : (xs : List ℕ) → AreTidy (runs_of xs)
 
 module _ (tells : Bool) (s : State) (number off : ℕ) (ys : List ℕ) (o : OpenNode) (d e : DraftState) (is : WritesWithin tells s number off ys o d e) where
-  -- as a write that fills no gap, takes no blocks and leaves the size
+  abbrev bs : List ℕ
+  bs = met off (off + length ys) o.places
 
-  abbrev table : List ℕ
-  table = drafted d s.map (node_block s.books.geom number)
+  inside : All (IsData s.books.geom) bs
+  inside = met_all (IsData s.books.geom) off (off + length ys) o.places is.opened.«data»
 
-  w : WritesOpen tells s.books s.map off ys o o d e
-  w = record {
-    filled = d;
-    grown = d;
-    gap = record {
-      none = λ within. refl;
-      writes = λ past. absurd (omega (arith, past, is.within));
-      content = λ told h. h;
-      bytes = λ told h past. absurd (omega (arith, past, is.within));
-    };
-    room = record {
-      same = λ enough. refl;
-      kept = λ enough. refl;
-      grows = λ more. absurd (omega (arith, more, is.opened.count, is.within));
-      first = λ more. absurd (omega (arith, more, is.opened.count, is.within));
-    };
-    writes = is.writes;
-    some = is.new;
-    content = is.content;
-    bytes = is.bytes;
-  }
-
-  keeps : KeepsSize s.books.geom number (max o.size (off + length ys)) o table e e
-  keeps = grind (arith, nat_tests)
-
-  slots : o.kind ≡ Dir → max o.size (off + length ys) % 64 ≡ 0
-  slots dir =
-      let whole : o.size % 64 ≡ 0 = eqb-true (o.size % 64) 0 (subst (λ kind. kind_fits (node_of_open o) kind ≡ true) dir (parts_fit s.books.geom (node_of_open o) is.opened.fits).kind) in
-      let same : max o.size (off + length ys) ≡ o.size = omega (arith, is.within) in
-      ap (λ n. n % 64) same ∙ whole
+  fits : FitsBooks s.books e
+  fits = writes_fits s.books (class_of o.kind) bs d e is.writes is.geom inside is.draft.fits
 
   changed : ChangesSome e
-  changed = some_changes (met off (off + length ys) o.places) o d e is.writes is.draft.content (is.new is.some)
+  changed = some_changes bs o d e is.writes is.draft.content (is.new is.some)
 
-  abbrev Sound : Type 0
-  Sound = IsSoundDraft s.books s.map e × ((x : FileNode) → files_in s d number ≡ Some x → IsWithFile (files_in s d) (files_of s.books.geom (drafted e s.map)) number (Some (with_bytes x (overwritten off ys x.bytes))))
+  room : o.size ≤ 1024 * length o.places
+  room = omega (arith, is.opened.count, (blocks_hold o.size).0)
 
-  sound : IsTrue tells → Sound
-  sound told = stores.kept_sound tells s.books s.map number off ys o o d e e table is.geom is.opened is.draft.fits w is.from is.upto keeps told (is.draft.sound told) is.free (sym (is.used told)) is.places is.count is.tidy refl is.few is.some slots
+  -- where the blocks are known
+  module _ (told : IsTrue tells) where
+    abbrev m : Blocks
+    m = s.map
+
+    abbrev node : Node
+    node = node_of_open o
+
+    sound : IsSoundDraft s.books m d
+    sound = is.draft.sound told
+
+    used : used_node s.books.geom (drafted d m) number ≡ Some node
+    used = sym (is.used told)
+
+    known : HasContent m d o.places
+    known = subst (HasContent m d) (is.places o.places) (content_known s.books m d number node sound used (subst (All (IsData s.books.geom)) (sym (is.places o.places)) is.opened.«data»))
+
+    long : o.size ≤ length (joined (drafted d m) o.places)
+    long = omega (arith, joined_length (drafted d m) o.places known.whole, room)
+
+    size_is : max o.size (off + length ys) ≡ o.size
+    size_is = omega (arith, is.within)
+
+    -- as if blocks of no bytes were behind
+    padded : joined (drafted e m) o.places ≡ overwrite off ys (joined (drafted d m) o.places ++ replicate 0 0)
+    padded = is.bytes told known ∙ ap (overwrite off ys) (sym (append-nil (joined (drafted d m) o.places)))
+
+    bytes : take o.size (joined (drafted e m) o.places) ≡ written off ys (take o.size (joined (drafted d m) o.places))
+    bytes = ap (λ n. take n (joined (drafted e m) o.places)) (sym size_is) ∙ ap (take (max o.size (off + length ys))) padded
+        ∙ written_within o.size off 0 ys (joined (drafted d m) o.places) long (omega (arith, is.within)) (omega (arith, is.within, long))
+
+    tail : o.kind ≡ Dir → IsTrue (are_zeros (drop o.size (joined (drafted e m) o.places)))
+    tail dir =
+        let zeros : IsTrue (are_zeros (drop o.size (joined (drafted d m) o.places))) = subst (λ xs. IsTrue (are_zeros (drop o.size (joined (drafted d m) xs)))) (is.places o.places) (sound.blocks.tail number node used dir) in
+        subst (λ n. IsTrue (are_zeros (drop n (joined (drafted e m) o.places)))) size_is (subst (λ xs. IsTrue (are_zeros (drop (max o.size (off + length ys)) xs))) (sym padded)
+        (past_written o.size off 0 ys (joined (drafted d m) o.places) zeros long (omega (arith, is.within, long))))
+
+    its : (b : ℕ) → has bs b ≡ true → has (run_places node.runs) b ≡ true
+    its b mine = ap (λ xs. has xs b) (is.places o.places) ∙ met_in off (off + length ys) o.places b mine
+
+    all : IsSoundDraft s.books m e × IsWithFile (files_of s.books.geom (drafted d m)) (files_of s.books.geom (drafted e m)) number (Some (file_of (drafted e m) node))
+    all = written_sound s.books m number node (class_of o.kind) bs d e is.geom is.draft.fits sound used is.writes its
+        (met_all (λ b. is_kept d.kept b ≡ false) off (off + length ys) o.places (is.apart told))
+        (subst (All (λ b. length (drafted e m b) ≡ 1024)) (sym (is.places o.places)) (is.content told known).whole)
+        (λ dir. subst (λ xs. IsTrue (are_zeros (drop o.size (joined (drafted e m) xs)))) (sym (is.places o.places)) (tail dir))
+
+    file : (x : FileNode) → files_in s d number ≡ Some x → IsWithFile (files_in s d) (files_of s.books.geom (drafted e m)) number (Some (with_bytes x (overwritten off ys x.bytes)))
+    file x at =
+        let it : x ≡ file_of (drafted d m) node = its_file s.books.geom (drafted d m) number x node (is.used told) at in
+        file_is (files_of s.books.geom (drafted d m)) (files_of s.books.geom (drafted e m)) number (Some (file_of (drafted e m) node)) (Some (with_bytes x (overwritten off ys x.bytes)))
+        (file_bytes (drafted d m) (drafted e m) node node x (overwritten off ys x.bytes) it refl refl
+        (ap (λ xs. take o.size (joined (drafted e m) xs)) (is.places o.places) ∙ bytes
+        ∙ ap (λ xs. written off ys (take o.size (joined (drafted d m) xs))) (sym (is.places o.places))
+        ∙ ap (λ (y : FileNode). written off ys y.bytes) (sym it) ∙ sym (overwritten_some off ys x.bytes is.some)))
+        all.1
+
+    table_same : (b : ℕ) → table_start s.books.geom ≤ b → b < data_start s.books.geom → drafted e m b ≡ drafted d m b
+    table_same b from below = writes_others s.books (class_of o.kind) bs d e is.writes m b (none_of_table s.books.geom bs b inside below)
+
+    now : HasNewNode s.books.geom (drafted d m) (drafted e m) number (used_node s.books.geom (drafted d m) number)
+    now = node_kept s.books.geom sound.live (drafted d m) (drafted e m) number is.geom.whole_blocks is.from is.upto sound.blocks table_same
 
   -- what is so after it
 
   pub within_draft : (failed : Bool) (t : State) → LooksOnly tells failed s t → IsDraftOf tells t e
-  within_draft failed t looks = draft_looks tells failed s t e looks (record {
-    fits = stores.kept_fits tells s.books s.map number off ys o o d e e table is.geom is.opened is.draft.fits w is.from is.upto keeps;
-    sound = λ told. (sound told).0;
-    content = λ b some. changed;
-  })
+  within_draft failed t looks = draft_looks tells failed s t e looks (record { fits = fits; sound = λ told. (all told).0; content = λ b some. changed })
 
   pub within_file : (failed : Bool) (t : State) → LooksOnly tells failed s t → IsTrue tells → (x : FileNode) → files_in s d number ≡ Some x → IsWithFile (files_in s d) (files_in t e) number (Some (with_bytes x (overwritten off ys x.bytes)))
-  within_file failed t looks told x at = looked_files tells failed s t d e number (Some (with_bytes x (overwritten off ys x.bytes))) looks told ((sound told).1 x at)
+  within_file failed t looks told x at = looked_files tells failed s t d e number (Some (with_bytes x (overwritten off ys x.bytes))) looks told (file told x at)
 
   pub within_places : (failed : Bool) (t : State) → LooksOnly tells failed s t → IsTrue tells → IsWithPlaces (places_in s d) (places_in t e) number (places_in s d number)
   within_places failed t looks told =
-      looked_places tells failed s t d e number (o.places ++ take (more_blocks (max o.size (off + length ys)) o) (reusable_blocks s.books)) (places_in s d number) looks told
-      (ap (λ n. o.places ++ take n (reusable_blocks s.books)) {x = more_blocks (max o.size (off + length ys)) o} {y = 0} (omega (arith, is.opened.count, is.within)) ∙ append-nil o.places ∙ sym (is.places o.places) ∙ ap places_or_none (is.used told))
-      (stores.kept_places tells s.books s.map number off ys o o d e e table is.geom is.opened is.draft.fits w is.from is.upto keeps told (is.draft.sound told) is.free (sym (is.used told)) is.places is.count is.tidy refl is.few is.some slots)
+      looked_places tells failed s t d e number (places_in s d number) (places_in s d number) looks told refl
+      (node_places s.books.geom (drafted d s.map) (drafted e s.map) number (used_node s.books.geom (drafted d s.map) number) (now told))
 
   pub within_changes : ChangesSome e
   within_changes = changed

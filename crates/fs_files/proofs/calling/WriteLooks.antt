@@ -1,14 +1,13 @@
 -- Calls that look and calls that settle, one behind the other, where what a crash leaves composes.
-use Rattle.std.proofs.Common.{◌≡◌, ℕ, List, Bool, false, IsTrue, Result, Err, arith}
+use Rattle.std.proofs.Common.{◌≡◌, Bool, false, IsTrue, Result, arith}
 use Rattle.std.specs.Prelude.{IfErr}
-use Rattle.std.specs.Result.{IsErrAnd}
 use Rattle.std.proofs.lemmas.Bool.Decides.{nat_tests}
-use Rattle.engine_blocks.specs.State.{Bookkeeping, State}
+use Rattle.engine_blocks.specs.State.{State}
 use Rattle.engine_blocks.specs.Crashes.{IssuesNothing, Advances}
 use Rattle.fs_files.specs.declared.refusal.FileRefusal.{FileRefusal}
 use Rattle.fs_files.specs.declared.refusal.FileRefusal.TheVariants as refusal
-use Rattle.fs_files.specs.Calls.{GrowthRefused, LookRefused}
-use Rattle.fs_files.specs.Content.{fails_reading, fails_settling}
+use Rattle.fs_files.specs.Calls.{LookRefused}
+use Rattle.fs_files.specs.Content.{fails_settling}
 use Rattle.fs_files.specs.Effects.{LooksOnly, LooksAndSettles}
 use Rattle.fs_files.proofs.effects.Settles.{looks_settle, settles_more}
 
@@ -29,19 +28,6 @@ module _ {A : Type 0} (st : A → State) (tells : Bool)
 
 -- What a refusal that is passed on says.
 
--- a refused look settles nothing
-look_case : (T U : Type 0) (tells : Bool) (s u : State) (why : FileRefusal) → LookRefused why → LooksAndSettles tells (fails_reading {T = U} (Err why)) false s u
-    → LooksAndSettles tells (fails_reading {T = T} (Err why)) (fails_settling {T = T} (Err why)) s u
-look_case T U tells s u why e h = grind (arith, nat_tests)
-
-pub look_passed : {T U : Type 0} (called : Result U FileRefusal) (r : Result T FileRefusal) (why : FileRefusal) (tells : Bool) (s u : State) → IsErrAnd r (λ y. y ≡ why) → LookRefused why → LooksAndSettles tells (fails_reading {T = U} (Err why)) false s u
-    → LooksAndSettles tells (fails_reading r) (fails_settling r) s u
-look_passed called r why tells s u e h p = grind (arith, nat_tests, look_case)
-
 -- what is done, or refused as a look, settles nothing
 pub settles_none : {T : Type 0} (r : Result T FileRefusal) → IfErr r LookRefused → fails_settling r ≡ false
 settles_none r e = grind (arith, nat_tests)
-
--- a refused look is refused as a call that grows may be
-pub look_growth : (n : ℕ) (places : List ℕ) (old new : Bookkeeping) (why : FileRefusal) → LookRefused why → GrowthRefused n places old new why
-look_growth n places old new why e = grind (arith, nat_tests)

@@ -1,9 +1,7 @@
 -- What a draft is after a write into an open node, and what the node's bytes are: the steps of it put together.
-use Rattle.std.proofs.Common.{◌≡◌, ◌≢◌, ℕ, ◌+◌, ◌*◌, ◌≤◌, ◌||◌, Bool, true, false, IsTrue, List, ◌++◌, length, take, drop, max, min, All, Some, None, is_some, sym, ap, subst, ◌∙◌, arith, ⊎_elim}
+use Rattle.std.proofs.Common.{◌≡◌, ◌≢◌, ◌⊎◌, ℕ, ◌+◌, ◌-◌, ◌*◌, ◌<◌, ◌≤◌, ◌&&◌, ◌||◌, not, Bool, true, false, IsTrue, List, length, take, drop, replicate, max, min, All, Some, None, is_some, sym, ap, subst, ◌∙◌, arith, ⊎_elim}
 use Rattle.std.specs.List.{AllPairs}
-use Rattle.std.proofs.lemmas.Bool.{cases_lt, false≢true, or_left, or_right, or_cases, or_from, false_from_ne_true}
-use Rattle.std.proofs.lemmas.List.{length-append}
-use Rattle.std.proofs.lemmas.List.Elements.{All-append}
+use Rattle.std.proofs.lemmas.Bool.{cases_Bool, cases_lt, false≢true, or_left, or_right, false_from_ne_true}
 use Rattle.base_types.specs.Seal.{Blocks}
 use Rattle.base_types.specs.Runs.{run_places}
 use Rattle.base_types.specs.declared.words.Class.{Class}
@@ -16,141 +14,203 @@ use Rattle.engine_blocks.specs.State.{Bookkeeping, IsReusable}
 use Rattle.lang_tree.specs.Step.{written}
 use Rattle.crash_stands.specs.Files.{joined, used_node}
 use Rattle.fs_files.specs.declared.nodes.OpenNode.{OpenNode}
-use Rattle.fs_files.specs.Bytes.{met, overwrite}
+use Rattle.fs_files.specs.Bytes.{blocks_for, met, overwrite}
 use Rattle.fs_files.specs.Content.{HasContent, WritesContent}
 use Rattle.fs_files.specs.Drafts.{DraftState, change_of, drafted, marks_of}
+use Rattle.fs_files.specs.Growing.{placed}
 use Rattle.fs_files.specs.Nodes.{class_of, node_of_open, IsOpen}
+use Rattle.fs_files.specs.Shared.{is_kept}
 use Rattle.fs_files.specs.Sound.{FitsBooks, IsSoundDraft}
 use Rattle.fs_files.specs.Writing.{WritesOpen}
-use Rattle.fs_files.proofs.bytes.Calls.{TakesBehind, within_bytes, within_tail, past_bytes, past_tail}
-use Rattle.fs_files.proofs.bytes.Places.{met_out, content_grown}
+use Rattle.fs_files.proofs.bytes.Joins.{joined_length}
+use Rattle.fs_files.proofs.bytes.Places.{met_in}
 use Rattle.fs_files.proofs.frames.Met.{met_all}
 use Rattle.fs_files.proofs.frames.Places.{used_marked, used_whole, all_of}
-use Rattle.fs_files.proofs.frames.Rules.{HasRules, rules_of, writes_fits, writes_rules, writes_others, writes_marks}
+use Rattle.fs_files.proofs.frames.Rules.{HasRules, renews_rules, rules_of, writes_fits, writes_rules, writes_others}
 use Rattle.fs_files.proofs.frames.Steps.{used_once}
-use Rattle.fs_files.proofs.calling.Came.{Came, CameSound, news, came, came_sound}
-use Rattle.fs_files.proofs.calling.Opens.{room_within, gap_writes}
-use Rattle.fs_files.proofs.drafts.Lists.{each_of, has_append}
+use Rattle.fs_files.proofs.calling.Came.{Came, CameSound, came, news}
+use Rattle.fs_files.proofs.calling.Among.{met_wider}
+use Rattle.fs_files.proofs.calling.Opens.{gap_writes, room_count, room_data}
+use Rattle.fs_files.proofs.drafts.Lists.{each_of}
+use Rattle.fs_files.proofs.growing.Copied.{KeepsOutside}
+use Rattle.fs_files.proofs.growing.Edges.{writes_both, writes_wide}
+use Rattle.fs_files.proofs.growing.Outside.{over_past, over_within, tail_past, tail_within}
+use Rattle.fs_files.proofs.growing.Placed.{comes_of, either_of, gone_kept, met_old}
 
-module _ (tells : Bool) (k : Bookkeeping) (m : Blocks) (number off : ℕ) (ys : List ℕ) (o p : OpenNode) (d f : DraftState) (geom : IsGeometry k.geom) (opened : IsOpen k.geom o) (fits : FitsBooks k d) (w : WritesOpen tells k m off ys o p d f) where
-  -- its size then, and the blocks that come
+module _ (tells : Bool) (k : Bookkeeping) (m : Blocks) (number off : ℕ) (ys : List ℕ) (o p : OpenNode) (d f : DraftState) (geom : IsGeometry k.geom) (opened : IsOpen k.geom o) (fits : FitsBooks k d) (some : (0 < length ys) ⊎ (o.size < off)) (w : WritesOpen tells k m off ys o p d f) where
+  -- its size then, the bytes, and the blocks that come
   abbrev pub wide : ℕ
   wide = max o.size (off + length ys)
 
+  abbrev pub lo : ℕ
+  lo = min off o.size
+
+  abbrev pub hi : ℕ
+  hi = off + length ys
+
   abbrev pub extra : List ℕ
-  extra = news k wide o
+  extra = news k lo hi o d
 
   abbrev class : Class
   class = class_of o.kind
 
-  abbrev gap_met : List ℕ
-  gap_met = met o.size (min off (1024 * length o.places)) o.places
+  pub less : lo < hi
+  less = ⊎_elim (λ bytes. omega (arith, bytes))
+      (λ past. omega (arith, past))
+      some
 
-  gap_wrote : WritesContent class gap_met d w.filled
-  gap_wrote = gap_writes tells m off o d w.filled w.gap
+  inside : lo ≤ 1024 * length o.places
+  inside = omega (arith, opened.count)
 
-  filled_fits : FitsBooks k w.filled
-  filled_fits = writes_fits k class gap_met d w.filled gap_wrote geom (met_all (IsData k.geom) o.size (min off (1024 * length o.places)) o.places opened.«data») fits
+  pub its : Came tells k m lo hi o p extra d w.grown
+  its = came tells k m lo hi o p d w.grown geom fits less inside w.room
 
-  pub its : Came k o p extra w.filled w.grown
-  its = came k wide o p w.filled w.grown geom filled_fits w.room
+  its_kind : p.kind ≡ o.kind
+  its_kind = ap (λ (q : OpenNode). q.kind) its.node
 
-  pub its_places : p.places ≡ o.places ++ extra
+  its_size : p.size ≡ o.size
+  its_size = ap (λ (q : OpenNode). q.size) its.node
+
+  pub its_places : p.places ≡ placed (is_kept d.kept) lo hi o.places extra
   its_places = ap (λ (q : OpenNode). q.places) its.node
 
+  pub its_count : length p.places ≡ length o.places + (blocks_for hi - length o.places)
+  its_count = room_count tells k m lo hi o p d w.grown w.room
+
   pub all_inside : All (IsData k.geom) p.places
-  all_inside = subst (All (IsData k.geom)) (sym its_places) (All-append (IsData k.geom) o.places extra opened.«data» its.inside)
+  all_inside = room_data tells k m lo hi o p d w.grown k.geom (λ i. k.geom) opened.«data» w.room
+
+  gap_wrote : WritesContent class (met lo hi p.places) w.grown w.fills.filled
+  gap_wrote = subst (λ (x : Class). WritesContent x (met lo hi p.places) w.grown w.fills.filled) (ap class_of its_kind)
+      (writes_wide (class_of p.kind) (met p.size (min off (1024 * length o.places)) p.places) (met lo hi p.places) w.grown w.fills.filled (gap_writes tells m off (length o.places) p w.grown w.fills.filled w.fills.gap)
+      (λ q is. met_wider p.size lo (min off (1024 * length o.places)) hi p.places q (omega (arith, its_size)) (omega arith) is))
+
+  bytes_wrote : WritesContent class (met lo hi p.places) w.fills.filled f
+  bytes_wrote = subst (λ (x : Class). WritesContent x (met lo hi p.places) w.fills.filled f) (ap class_of its_kind)
+      (writes_wide (class_of p.kind) (met off hi p.places) (met lo hi p.places) w.fills.filled f w.fills.writes (λ q is. met_wider off lo hi hi p.places q (omega arith) (omega arith) is))
+
+  pub grown_wrote : WritesContent class (met lo hi p.places) w.grown f
+  grown_wrote = writes_both class (met lo hi p.places) w.grown w.fills.filled f gap_wrote bytes_wrote
+
+  pub all_wrote : WritesContent class (met lo hi p.places) its.base f
+  all_wrote = writes_both class (met lo hi p.places) its.base w.grown f its.edges grown_wrote
 
   pub wrote_fits : FitsBooks k f
-  wrote_fits = writes_fits k class (met off (off + length ys) p.places) w.grown f w.writes geom (met_all (IsData k.geom) off (off + length ys) p.places all_inside) its.fits
+  wrote_fits = writes_fits k class (met lo hi p.places) its.base f all_wrote geom (met_all (IsData k.geom) lo hi p.places all_inside) its.fits
+
+  pub wrote_kept : f.kept ≡ d.kept
+  wrote_kept = all_wrote.kept ∙ its.takes.kept
+
+  -- what its places are
+  pub either : (b : ℕ) → has p.places b ≡ true → (has o.places b ≡ true) ⊎ (has extra b ≡ true)
+  either = either_of (is_kept d.kept) lo hi o.places p.places extra its_places its.many
+
+  pub comes : (b : ℕ) → has extra b ≡ true → has p.places b ≡ true
+  comes = comes_of (is_kept d.kept) lo hi o.places p.places extra its_places its.many
 
   module _ (told : IsTrue tells) (sound : IsSoundDraft k m d) (free : (b : ℕ) → IsReusable k.geom k.reusable b → k.marked b ≡ false)
       (used : used_node k.geom (drafted d m) number ≡ Some (node_of_open o)) (back : (xs : List ℕ) → run_places (runs_of xs) ≡ xs) where
     own : (b : ℕ) → has o.places b ≡ true → has (run_places (runs_of o.places)) b ≡ true
     own b is = ap (λ xs. has xs b) (back o.places) ∙ is
 
+    lives : (b : ℕ) → has o.places b ≡ true → sound.live b ≡ true
+    lives b is = used_marked k.geom sound.live (drafted d m) number (node_of_open o) sound.blocks used b (own b is)
+
     marked : (b : ℕ) → has o.places b ≡ true → marks_of d k.marked b ≡ true
-    marked b is = used_marked k.geom (marks_of d k.marked) (drafted d m) number (node_of_open o) sound.blocks used b (own b is)
-
-    filled_rules : HasRules k w.filled
-    filled_rules = writes_rules k class gap_met d w.filled gap_wrote
-        (met_all (λ b. marks_of d k.marked b ≡ true) o.size (min off (1024 * length o.places)) o.places (all_of (λ b. marks_of d k.marked b ≡ true) o.places marked)) (rules_of k m d sound)
-
-    filled_marks : (b : ℕ) → marks_of w.filled k.marked b ≡ marks_of d k.marked b
-    filled_marks = writes_marks k class gap_met d w.filled gap_wrote k.marked
-
-    filled_others : (b : ℕ) → has o.places b ≡ false → drafted w.filled m b ≡ drafted d m b
-    filled_others b out = writes_others k class gap_met d w.filled gap_wrote m b (met_out o.size (min off (1024 * length o.places)) o.places b out)
-
-    pub new : CameSound k extra w.filled w.grown
-    new = came_sound k wide o p w.filled w.grown geom filled_fits free filled_rules w.room
-
-    -- no block that came is one that it had
-    pub apart : (q : ℕ) → has o.places q ≡ true → has extra q ≡ false
-    apart q is = false_from_ne_true (has extra q) (λ came. false≢true (sym (each_of (λ b. marks_of w.filled k.marked b ≡ false) extra new.unmarked q came) ∙ filled_marks q ∙ marked q is))
-
-    grown_marked : (b : ℕ) → has p.places b ≡ true → marks_of w.grown k.marked b ≡ true
-    grown_marked b is = new.marks b ∙ (⊎_elim (λ mine. or_right (has extra b) (marks_of w.filled k.marked b) (filled_marks b ∙ marked b mine))
-        (λ came. or_left (has extra b) (marks_of w.filled k.marked b) came)
-        (or_cases (has o.places b) (has extra b) (sym (ap (λ xs. has xs b) its_places ∙ has_append o.places extra b) ∙ is)))
-
-    pub wrote_rules : HasRules k f
-    wrote_rules = writes_rules k class (met off (off + length ys) p.places) w.grown f w.writes
-        (met_all (λ b. marks_of w.grown k.marked b ≡ true) off (off + length ys) p.places (all_of (λ b. marks_of w.grown k.marked b ≡ true) p.places grown_marked)) new.rules
-
-    pub wrote_marks : (b : ℕ) → marks_of f k.marked b ≡ (has extra b || marks_of d k.marked b)
-    wrote_marks b = writes_marks k class (met off (off + length ys) p.places) w.grown f w.writes k.marked b ∙ new.marks b ∙ ap (λ t. has extra b || t) (filled_marks b)
-
-    pub came_unmarked : All (λ b. marks_of d k.marked b ≡ false) extra
-    came_unmarked = all_of (λ b. marks_of d k.marked b ≡ false) extra (λ b is. sym (filled_marks b) ∙ each_of (λ c. marks_of w.filled k.marked c ≡ false) extra new.unmarked b is)
-
-    pub wrote_others : (b : ℕ) → has o.places b ≡ false → has extra b ≡ false → drafted f m b ≡ drafted d m b
-    wrote_others b out_old out_new =
-        writes_others k class (met off (off + length ys) p.places) w.grown f w.writes m b (met_out off (off + length ys) p.places b (ap (λ xs. has xs b) its_places ∙ has_append o.places extra b ∙ or_from (has o.places b) (has extra b) out_old out_new))
-        ∙ its.others m b out_new ∙ filled_others b out_old
-
-    -- The bytes.
+    marked b is = let at = each_of (IsData k.geom) o.places opened.«data» b is in sound.bits b at.from at.below ∙ or_left (sound.live b) (is_kept d.kept b) (lives b is)
 
     pub content_before : HasContent m d o.places
     content_before = record {
-      whole = all_of (λ b. length (drafted d m b) ≡ 1024) o.places (λ b is. used_whole k.geom (marks_of d k.marked) (drafted d m) number (node_of_open o) sound.blocks used b (own b is));
-      once = subst (AllPairs (λ a b. a ≢ b)) (back o.places) (used_once k.geom (marks_of d k.marked) (drafted d m) number (node_of_open o) sound.blocks used);
+      whole = all_of (λ b. length (drafted d m b) ≡ 1024) o.places (λ b is. used_whole k.geom sound.live (drafted d m) number (node_of_open o) sound.blocks used b (own b is));
+      once = subst (AllPairs (λ a b. a ≢ b)) (back o.places) (used_once k.geom sound.live (drafted d m) number (node_of_open o) sound.blocks used);
       apart = all_of (λ b. is_some (change_of d.fresh b) ≡ true → change_of d.changed b ≡ None) o.places (λ b is. sound.apart b);
     }
 
-    content_filled : HasContent m w.filled o.places
-    content_filled = w.gap.content told content_before
+    new : CameSound k sound.live extra d its.base
+    new = its.sound sound.live free (rules_of k m d sound)
 
-    content_now : HasContent m w.grown p.places
-    content_now = subst (HasContent m w.grown) (sym its_places) (content_grown m class o.places extra w.filled w.grown content_filled its.takes new.new apart)
+    out : KeepsOutside m lo hi o.places p.places d w.grown
+    out = its.outside sound.live free (rules_of k m d sound) told marked content_before
+
+    pub came_unmarked : All (λ b. marks_of d k.marked b ≡ false) extra
+    came_unmarked = new.unmarked
+
+    -- no block that came is kept
+    came_alone : (b : ℕ) → has extra b ≡ true → is_kept d.kept b ≡ false
+    came_alone b is = false_from_ne_true (is_kept d.kept b) (λ mine.
+        let at = each_of (IsData k.geom) extra its.inside b is in
+        false≢true (sym (each_of (λ c. marks_of d k.marked c ≡ false) extra new.unmarked b is) ∙ sound.bits b at.from at.below ∙ or_right (sound.live b) (is_kept d.kept b) mine))
+
+    pub met_alone : All (λ b. is_kept d.kept b ≡ false) (met lo hi p.places)
+    met_alone = all_of (λ b. is_kept d.kept b ≡ false) (met lo hi p.places) (λ b is. ⊎_elim (λ came. came_alone b came)
+        (λ old. (met_old (is_kept d.kept) lo hi o.places p.places extra its_places its.many b less is old).1)
+        (cases_Bool (has extra b)))
+
+    met_live : All (λ b. (has extra b || sound.live b) ≡ true) (met lo hi p.places)
+    met_live = all_of (λ b. (has extra b || sound.live b) ≡ true) (met lo hi p.places) (λ b is. ⊎_elim (λ old. or_right (has extra b) (sound.live b) (lives b old))
+        (λ came. or_left (has extra b) (sound.live b) came)
+        (either b (met_in lo hi p.places b is)))
+
+    pub wrote_rules : HasRules k (λ b. has extra b || sound.live b) f
+    wrote_rules = writes_rules k class (met lo hi p.places) its.base f all_wrote (λ b. has extra b || sound.live b) met_live
+        (subst (λ ks. All (λ b. is_kept ks b ≡ false) (met lo hi p.places)) (sym its.takes.kept) met_alone) new.rules
+
+    -- what is live then
+    pub now_rules : HasRules k (λ b. has p.places b || (sound.live b && not (has o.places b))) f
+    now_rules = renews_rules k sound.live o.places p.places extra f lives either
+        (λ b is gone. ap (λ ks. is_kept ks b) wrote_kept ∙ gone_kept (is_kept d.kept) lo hi o.places p.places extra its_places its.many b is gone) comes wrote_rules
+
+    pub once_now : AllPairs (λ a b. a ≢ b) p.places
+    once_now = out.content.once
+
+    pub wrote_others : (b : ℕ) → has o.places b ≡ false → has extra b ≡ false → drafted f m b ≡ drafted d m b
+    wrote_others b out_old out_new =
+        writes_others k class (met lo hi p.places) its.base f all_wrote m b (false_from_ne_true (has (met lo hi p.places) b) (λ is.
+        ⊎_elim (λ old. false≢true (sym out_old ∙ old))
+        (λ came. false≢true (sym out_new ∙ came))
+        (either b (met_in lo hi p.places b is))))
+        ∙ its.others b out_new
+
+    -- The bytes.
+
+    content_filled : HasContent m w.fills.filled p.places
+    content_filled = w.fills.gap.content told out.content
 
     pub content_after : HasContent m f p.places
-    content_after = w.content told content_now
+    content_after = w.fills.content told content_filled
 
-    bytes_after : joined (drafted f m) (o.places ++ extra) ≡ overwrite off ys (joined (drafted w.grown m) (o.places ++ extra))
-    bytes_after = subst (λ xs. joined (drafted f m) xs ≡ overwrite off ys (joined (drafted w.grown m) xs)) its_places (w.bytes told content_now)
+    bytes_after : joined (drafted f m) p.places ≡ overwrite off ys (joined (drafted w.fills.filled m) p.places)
+    bytes_after = w.fills.bytes told content_filled
 
-    behind : TakesBehind class o.places extra w.filled w.grown
-    behind = record { takes = its.takes; new = new.new; apart = apart }
+    long_old : length (joined (drafted d m) o.places) ≡ 1024 * length o.places
+    long_old = joined_length (drafted d m) o.places content_before.whole
 
-    holds : o.size ≤ 1024 * length o.places
-    holds = omega (arith, opened.count)
+    long_now : length (joined (drafted w.grown m) p.places) ≡ 1024 * length p.places
+    long_now = joined_length (drafted w.grown m) p.places out.content.whole
 
-    ends : off + length ys ≤ 1024 * length o.places + 1024 * length extra
-    ends = omega (arith, room_within k wide (off + length ys) o p w.filled w.grown (omega arith) w.room, ap length its_places, length-append o.places extra)
+    bytes_within : off ≤ o.size → joined (drafted f m) p.places ≡ overwrite off ys (joined (drafted w.grown m) p.places)
+    bytes_within within = bytes_after ∙ ap (λ (x : DraftState). overwrite off ys (joined (drafted x m) p.places)) (w.fills.gap.none (omega (arith, within, its_size)))
+
+    bytes_past : o.size < off → joined (drafted f m) p.places ≡ overwrite off ys (overwrite o.size (replicate (min off (1024 * length o.places) - o.size) 0) (joined (drafted w.grown m) p.places))
+    bytes_past past = bytes_after ∙ ap (overwrite off ys) (w.fills.gap.bytes told out.content (omega (arith, past, its_size)))
+        ∙ ap (λ n. overwrite off ys (overwrite n (replicate (min off (1024 * length o.places) - n) 0) (joined (drafted w.grown m) p.places))) its_size
 
     -- the bytes are those written
-    pub bytes_written : take wide (joined (drafted f m) (o.places ++ extra)) ≡ written off ys (take o.size (joined (drafted d m) o.places))
-    bytes_written = ⊎_elim (λ past. past_bytes m class o.places extra o.size off ys d w.filled w.grown f
-        (record { content = content_before; fits = holds; past = omega (arith, past); ends = ends; gap = w.gap.bytes told content_before past; grows = behind; bytes = bytes_after }))
-        (λ within. within_bytes m class o.places extra o.size off ys w.filled w.grown f (record { content = content_filled; fits = holds; within = within; ends = ends; grows = behind; bytes = bytes_after })
-        ∙ ap (λ (x : DraftState). written off ys (take o.size (joined (drafted x m) o.places))) (w.gap.none within))
+    pub bytes_written : take wide (joined (drafted f m) p.places) ≡ written off ys (take o.size (joined (drafted d m) o.places))
+    bytes_written = ⊎_elim (λ past. ap (take wide) (bytes_past past)
+        ∙ over_past o.size off (1024 * length o.places) ys (joined (drafted d m) o.places) (joined (drafted w.grown m) p.places) long_old (omega (arith, opened.count)) past (omega (arith, long_now, its_count)) (omega (arith, long_now, its_count))
+        (λ i z l. out.front i z (omega (arith, l, past))) (λ i z h l. out.zeros i z h (omega (arith, l, long_now))))
+        (λ within. ap (take wide) (bytes_within within)
+        ∙ over_within o.size off ys (joined (drafted d m) o.places) (joined (drafted w.grown m) p.places) (omega (arith, long_old, opened.count)) within (omega (arith, long_now, its_count)) (omega (arith, long_now, long_old, its_count))
+        (λ i z l. out.front i z (omega (arith, l, within))) (λ i z h l. out.back i z h (omega (arith, l, long_old))))
         (cases_lt o.size off)
 
     -- and what is past them is zeros, if it was
-    pub tail_written : IsTrue (are_zeros (drop o.size (joined (drafted d m) o.places))) → IsTrue (are_zeros (drop wide (joined (drafted f m) (o.places ++ extra))))
-    tail_written zeros = ⊎_elim (λ past. past_tail m class o.places extra o.size off ys d w.filled w.grown f
-        (record { content = content_before; fits = holds; past = omega (arith, past); ends = ends; gap = w.gap.bytes told content_before past; grows = behind; bytes = bytes_after }) zeros)
-        (λ within. within_tail m class o.places extra o.size off ys w.filled w.grown f (record { content = content_filled; fits = holds; within = within; ends = ends; grows = behind; bytes = bytes_after })
-        (ap (λ (x : DraftState). are_zeros (drop o.size (joined (drafted x m) o.places))) (w.gap.none within) ∙ zeros))
+    pub tail_written : IsTrue (are_zeros (drop o.size (joined (drafted d m) o.places))) → IsTrue (are_zeros (drop wide (joined (drafted f m) p.places)))
+    tail_written zeros = ⊎_elim (λ past. subst (λ xs. IsTrue (are_zeros (drop wide xs))) (sym (bytes_past past))
+        (tail_past o.size off (1024 * length o.places) ys (joined (drafted d m) o.places) (joined (drafted w.grown m) p.places) zeros long_old (omega (arith, opened.count)) past (omega (arith, long_now, its_count)) (omega (arith, long_now, its_count))
+        (λ i z h l. out.back i z h l) (λ i z h l. out.zeros i z h (omega (arith, l, long_now)))))
+        (λ within. subst (λ xs. IsTrue (are_zeros (drop wide xs))) (sym (bytes_within within))
+        (tail_within o.size off (1024 * length o.places) ys (joined (drafted d m) o.places) (joined (drafted w.grown m) p.places) zeros long_old (omega (arith, long_now, its_count)) (omega (arith, long_now, its_count))
+        (λ i z h l. out.back i z h l) (λ i z h l. out.zeros i z h (omega (arith, l, long_now)))))
         (cases_lt o.size off)

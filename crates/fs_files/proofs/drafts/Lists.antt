@@ -1,11 +1,12 @@
 -- Which numbers a list has.
-use Rattle.std.proofs.Common.{◌≡◌, ℕ, zero, suc, ◌<◌, ◌==◌, Bool, true, false, cond, ◌||◌, List, [], ◌∷◌, ◌++◌, take, drop, All, refl, sym, ap, subst, ◌∙◌, arith, ◌⊎◌, inl, inr}
-use Rattle.std.proofs.lemmas.Bool.{cases_Bool, eqb-true, false≢true, or_left, or_right, or_cases, false_from_ne_true}
+use Rattle.std.proofs.Common.{◌≡◌, ℕ, zero, suc, ◌<◌, ◌==◌, Bool, true, false, cond, not, ◌&&◌, ◌||◌, List, [], ◌∷◌, ◌++◌, take, drop, All, refl, sym, ap, subst, ◌∙◌, arith, ◌⊎◌, inl, inr}
+use Rattle.std.proofs.lemmas.Bool.{and_parts, cases_Bool, eqb-true, false≢true, or_left, or_right, or_cases, false_from_ne_true}
 use Rattle.std.proofs.Math.Bool.{or_assoc}
 use Rattle.std.proofs.lemmas.Bool.Decides.{nat_tests}
 use Rattle.layout_geometry.specs.Geometry.{Geometry, data_start}
 use Rattle.engine_blocks.specs.Puts.{IsData}
 use Rattle.engine_blocks.specs.Running.{has}
+use Rattle.fs_files.specs.Growing.{alone}
 
 or_none : (a : Bool) → (a || false) ≡ a
 or_none a = grind (arith, nat_tests)
@@ -19,6 +20,17 @@ has_append (x ∷ xs) ys c = ap (λ t. (c == x) || t) (has_append xs ys c) ∙ s
 
 pub has_push : (xs : List ℕ) (b c : ℕ) → has (xs ++ b ∷ []) c ≡ (has xs c || (c == b))
 has_push xs b c = has_append xs (b ∷ []) c ∙ ap (λ t. has xs c || t) (has_one b c)
+
+-- those of a list that aren't kept
+pub has_alone : (kept : ℕ → Bool) (xs : List ℕ) (b : ℕ) → has (alone kept xs) b ≡ (has xs b && not (kept b))
+has_alone kept [] b = refl
+has_alone kept (x ∷ xs) b = by (cases_Bool (b == x)) (cases_Bool (kept x)) (has_alone kept xs b)
+  where
+    by : ((b == x) ≡ true) ⊎ ((b == x) ≡ false) → (kept x ≡ true) ⊎ (kept x ≡ false) → has (alone kept xs) b ≡ (has xs b && not (kept b)) → has (alone kept (x ∷ xs)) b ≡ (has (x ∷ xs) b && not (kept b))
+    by here it rest = grind (arith, nat_tests)
+
+pub in_alone : (kept : ℕ → Bool) (xs : List ℕ) (b : ℕ) → has (alone kept xs) b ≡ true → has xs b ≡ true
+in_alone kept xs b is = (and_parts (has xs b) (not (kept b)) (sym (has_alone kept xs b) ∙ is)).0
 
 -- what holds of all numbers of a list holds of each that it has
 pub each_of : (P : ℕ → Type 0) (bs : List ℕ) → All P bs → (c : ℕ) → has bs c ≡ true → P c

@@ -1,6 +1,7 @@
 -- What a finished draft leaves of the bookkeeping, as the contract of finishing says it.
-use Rattle.std.proofs.Common.{◌≡◌, ◌≢◌, ℕ, ◌<◌, ◌≤◌, Bool, IsTrue, List, length, AllPairs, refl, sym, ap, ap₂, subst, ◌∙◌, arith, rules}
+use Rattle.std.proofs.Common.{◌≡◌, ◌≢◌, ℕ, ◌<◌, ◌≤◌, Bool, IsTrue, List, length, AllPairs, refl, sym, ap, ap₂, subst, ◌∙◌, arith}
 use Rattle.std.proofs.lemmas.Bool.Decides.{nat_tests}
+use Rattle.base_types.specs.Seal.{Blocks}
 use Rattle.layout_geometry.specs.Geometry.{IsGeometry}
 use Rattle.engine_blocks.specs.Running.{Spare}
 use Rattle.engine_blocks.specs.State.{Bookkeeping, State, IsReusable}
@@ -8,7 +9,7 @@ use Rattle.engine_blocks.specs.Calls.{IsSound}
 use Rattle.engine_blocks.specs.Crashes.{IsTold}
 use Rattle.fs_files.specs.declared.changes.Changed.{Changed}
 use Rattle.fs_files.specs.Drafts.{DraftState}
-use Rattle.fs_files.specs.Sound.{FitsBooks, IsDraftOf}
+use Rattle.fs_files.specs.Sound.{FitsBooks, IsDraftOf, IsSoundDraft}
 use Rattle.fs_files.specs.Finish.{MayGoOn, BooksFinished, MapFinished}
 use Rattle.fs_files.specs.Making.{after_draft, AreDrafted, HasMade}
 use Rattle.fs_files.proofs.finishing.Few.{few_below}
@@ -42,15 +43,22 @@ books_finished grows k new spare d fits once e = subst (BooksFinished d k) (sym 
 -- The whole, from the state before memory was made ready.
 
 -- the draft with these parts
-abbrev pub draft_with : List (ℕ × Changed) → List (ℕ × Changed) → List ℕ → List ℕ → DraftState
-draft_with a b t f = record { changed = a; fresh = b; taken = t; freed = f }
+abbrev pub draft_with : List ℕ → List (ℕ × Changed) → List (ℕ × Changed) → List ℕ → List ℕ → DraftState
+draft_with kept a b t f = record { kept = kept; changed = a; fresh = b; taken = t; freed = f }
 
-pub same_draft : (d : DraftState) (a b : List (ℕ × Changed)) (t f : List ℕ) → a ≡ d.changed → b ≡ d.fresh → t ≡ d.taken → f ≡ d.freed → draft_with a b t f ≡ d
+pub same_draft : (d : DraftState) (a b : List (ℕ × Changed)) (t f : List ℕ) → a ≡ d.changed → b ≡ d.fresh → t ≡ d.taken → f ≡ d.freed → draft_with d.kept a b t f ≡ d
 same_draft d a b t f ea eb et ef = grind (arith, nat_tests)
+
+sound_ready : (k : Bookkeeping) (spare : Spare) (m : Blocks) (d : DraftState) → IsSoundDraft k m d → IsSoundDraft (record k { spare = spare }) m d
+sound_ready k spare m d h = record { live = h.live; blocks = h.blocks; bits = h.bits; untouched = h.untouched; shared = h.shared; changed = h.changed; fresh = h.fresh; apart = h.apart; freed = h.freed; once = h.once }
 
 -- a draft is one of the same blocks after memory was made ready
 pub draft_ready : (tells : Bool) (s one : State) (d : DraftState) → IsDraftOf tells s d → one.books ≡ record s.books { spare = one.books.spare } → (IsTrue tells → one.map ≡ s.map) → IsDraftOf tells one d
-draft_ready tells s one d draft books map = search (rules, arith, fits_ready)
+draft_ready tells s one d draft books map = record {
+  fits = subst (λ k. FitsBooks k d) (sym books) (fits_ready s.books one.books.spare d draft.fits);
+  sound = λ t. subst (λ k. IsSoundDraft k one.map d) (sym books) (subst (λ m. IsSoundDraft (record s.books { spare = one.books.spare }) m d) (sym (map t)) (sound_ready s.books one.books.spare s.map d (draft.sound t)));
+  content = draft.content;
+}
 
 after : (tells : Bool) (s one new : State) (d e : DraftState) → e ≡ d → one.books ≡ record s.books { spare = one.books.spare } → HasMade tells e one new → new.books ≡ after_draft (record s.books { spare = one.books.spare }) d
 after tells s one new d e same books made = made.books ∙ ap₂ after_draft books same

@@ -1,6 +1,6 @@
 -- All changes of a draft, one behind the other.
 use Rattle.std.proofs.Common.{◌≡◌, ℕ, suc, ◌+◌, ◌-◌, ◌*◌, ◌<◌, ◌≤◌, Bool, true, false, cond, not, ◌&&◌, ◌||◌, IsTrue, List, [], ◌∷◌, length, All, refl, sym, ap, subst, ◌∙◌, arith}
-use Rattle.std.proofs.lemmas.Bool.{ne_eqb}
+use Rattle.std.proofs.lemmas.Bool.{ne_eqb, or_left}
 use Rattle.std.proofs.lemmas.Bool.Decides.{nat_tests}
 use Rattle.std.proofs.lemmas.Grind.{common_steps}
 use Rattle.layout_geometry.specs.Geometry.{Geometry, bitmap_blocks, table_start, data_start}
@@ -13,6 +13,7 @@ use Rattle.engine_blocks.specs.Effects.{LeavesDisk}
 use Rattle.engine_blocks.specs.Puts.{after_frees, IsData}
 use Rattle.fs_files.specs.declared.changes.Changed.{Changed}
 use Rattle.fs_files.specs.Drafts.{DraftState, change_of, bytes_or}
+use Rattle.fs_files.specs.Shared.{is_kept}
 use Rattle.fs_files.specs.Sound.{IsDraftOf}
 use Rattle.fs_files.specs.Making.{after_changes, IsTableOrData, HasPut, HasFreed, HasMade}
 use Rattle.fs_files.proofs.finishing.Basics.{bits_alike, leaves_on}
@@ -91,7 +92,9 @@ module _ (tells : Bool) (d : DraftState) (s one : State) (draft : IsDraftOf tell
     changed_marked t told = by_keys (λ b. data_start two.books.geom ≤ b → is_set two.books.geom two.map b ≡ true) d.changed (λ b c is from.
         ap (λ g. is_set g two.map b) two_geom
         ∙ two_bits t b (omega (arith, (draft.fits.changed b c is).1))
-        ∙ set_after t told b (draft.fits.changed b c is).1 (and_last (not (has d.freed b)) (has d.taken b || s.books.marked b) ((draft.sound t).changed b c is (subst (λ g. data_start g ≤ b) two_geom from))))
+        ∙ set_after t told b (draft.fits.changed b c is).1 (and_last (not (has d.freed b)) (has d.taken b || s.books.marked b)
+        ((draft.sound t).bits b (subst (λ g. data_start g ≤ b) two_geom from) (draft.fits.changed b c is).1
+        ∙ or_left ((draft.sound t).live b) (is_kept d.kept b) ((draft.sound t).changed b c is (subst (λ g. data_start g ≤ b) two_geom from)))))
 
     module _ (three : State) (others : HasPut tells false d.changed two three) where
       three_geom : three.books.geom ≡ s.books.geom

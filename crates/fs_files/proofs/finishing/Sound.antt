@@ -1,6 +1,6 @@
 -- The blocks are sound once the changes of a draft are made.
-use Rattle.std.proofs.Common.{◌≡◌, ℕ, suc, ◌-◌, ◌<◌, ◌≤◌, Bool, true, false, nat_lt, nat_le, not, ◌&&◌, ◌||◌, IsTrue, List, [], ◌∷◌, length, drop, All, filter, refl, sym, ap, subst, ◌∙◌, arith}
-use Rattle.std.proofs.lemmas.Bool.{and_parts, ltb-true, ne_eqb}
+use Rattle.std.proofs.Common.{◌≡◌, ◌⊎◌, inl, inr, ℕ, suc, ◌-◌, ◌<◌, ◌≤◌, Bool, true, false, nat_lt, nat_le, not, ◌&&◌, ◌||◌, IsTrue, List, [], ◌∷◌, length, drop, All, filter, refl, sym, ap, subst, ◌∙◌, arith}
+use Rattle.std.proofs.lemmas.Bool.{and_parts, ltb-true, ne_eqb, or_cases, or_left, or_right}
 use Rattle.std.proofs.lemmas.Bool.Decides.{nat_tests}
 use Rattle.base_types.specs.Seal.{Blocks}
 use Rattle.layout_geometry.specs.Geometry.{Geometry, IsGeometry, bitmap_start, data_start}
@@ -12,9 +12,10 @@ use Rattle.engine_blocks.specs.State.{State, data_blocks}
 use Rattle.engine_blocks.specs.Calls.{IsSound}
 use Rattle.engine_blocks.specs.Crashes.{IsTold}
 use Rattle.engine_blocks.specs.Puts.{IsData}
-use Rattle.crash_stands.specs.Stands.{AreSound}
+use Rattle.crash_stands.specs.Stands.{HasBlock}
 use Rattle.fs_files.specs.Drafts.{DraftState, drafted, marks_of}
-use Rattle.fs_files.specs.Sound.{FitsBooks, IsSoundDraft}
+use Rattle.fs_files.specs.Shared.{is_kept}
+use Rattle.fs_files.specs.Sound.{AreSoundBeside, FitsBooks, IsSoundDraft}
 use Rattle.fs_files.specs.Calls.{places_or_none}
 use Rattle.fs_files.specs.Finish.{BooksFinished, MapFinished}
 use Rattle.fs_files.specs.Making.{after_draft, AreDrafted}
@@ -74,15 +75,27 @@ module _ (d : DraftState) (s new : State) (spare : Spare) (geom : IsGeometry s.b
   bit_is : (b : ℕ) → b < s.books.geom.n → is_set s.books.geom new.map b ≡ marks_of d s.books.marked b
   bit_is b low = made.bits b (omega (arith, low)) ∙ ap (λ x. not (has d.freed b) && (has d.taken b || x)) (sym (told.bits b low))
 
-  sound_kept : AreSound s.books.geom s.map → AreSound s.books.geom new.map
+  -- who has a block whose bit is set
+  whose : (b : ℕ) → (sound.live b ≡ true) ⊎ (is_kept d.kept b ≡ true) → data_start s.books.geom ≤ b → b < s.books.geom.n → ((k : ℕ) × (i : ℕ) × HasBlock s.books.geom new.map k i b) ⊎ (is_kept d.kept b ≡ true)
+  whose b (inl is) from below = let found = (sound.blocks.marked b from below).0 is in inl (found.0, found.1, has_block s.books.geom new.map (drafted d s.map) geom alike found.0 found.1 b found.2)
+  whose b (inr keep) from below = inr keep
+
+  has_bit : (b : ℕ) → ((k : ℕ) × (i : ℕ) × HasBlock s.books.geom new.map k i b) ⊎ (is_kept d.kept b ≡ true) → data_start s.books.geom ≤ b → b < s.books.geom.n → (sound.live b || is_kept d.kept b) ≡ true
+  has_bit b (inl found) from below = or_left (sound.live b) (is_kept d.kept b) ((sound.blocks.marked b from below).1 (found.0, found.1, has_block s.books.geom (drafted d s.map) new.map geom back found.0 found.1 b found.2))
+  has_bit b (inr keep) from below = or_right (sound.live b) (is_kept d.kept b) keep
+
+  sound_kept : AreSoundBeside s.books.geom (is_kept d.kept) s.map → AreSoundBeside s.books.geom (is_kept d.kept) new.map
   sound_kept before = record {
     whole = subst (λ h. (b : ℕ) → IsTrue (is_live h new.map b) → length (new.map b) ≡ 1024) same_geom (live_whole new told_new finished.none_bare);
     own = λ k l i j b x y. sound.blocks.own k l i j b (has_block s.books.geom (drafted d s.map) new.map geom back k i b x) (has_block s.books.geom (drafted d s.map) new.map geom back l j b y);
     fixed = λ b low. made.bits b (omega (arith, low, geom.data_room)) ∙ set_by (has d.freed b) (has d.taken b) (is_set s.books.geom s.map b) (none_of_table s.books.geom d.freed b fits.freed low) (before.fixed b low);
     marked = λ b from below. (
-      (λ is. let found = (sound.blocks.marked b from below).0 (sym (bit_is b below) ∙ is) in (found.0, found.1, has_block s.books.geom new.map (drafted d s.map) geom alike found.0 found.1 b found.2)),
-      (λ found. bit_is b below ∙ (sound.blocks.marked b from below).1 (found.0, found.1, has_block s.books.geom (drafted d s.map) new.map geom back found.0 found.1 b found.2)),
+      (λ is. whose b (or_cases (sound.live b) (is_kept d.kept b) (sym (sound.bits b from below) ∙ sym (bit_is b below) ∙ is)) from below),
+      (λ has. bit_is b below ∙ sound.bits b from below ∙ has_bit b has from below),
     );
+    inside = before.inside;
+    shared = λ b k i node keep h used.
+        sound.shared b k i node keep (has_block s.books.geom (drafted d s.map) new.map geom back k i b h) (used_alike s.books.geom (drafted d s.map) new.map geom back k ∙ used);
     past = λ b from below. made.bits b below ∙ clear_by (has d.freed b) (has d.taken b) (is_set s.books.geom s.map b) (high_out s.books.geom d.taken b taken_data from) (before.past b from below);
     free = λ k from upto none.
         let bytes = bytes_alike s.books.geom new.map (drafted d s.map) geom alike k from upto in

@@ -1,41 +1,115 @@
 -- A draft in which nothing was done.
-use Rattle.std.proofs.Common.{◌≡◌, ℕ, ◌<◌, ◌≤◌, Bool, true, ◌&&◌, ◌||◌, nat_le, nat_lt, sym, ◌∙◌, arith, rules}
-use Rattle.std.proofs.lemmas.Bool.{lt-ltb, or_left, or_right, false≢true}
+use Rattle.std.proofs.Common.{◌≡◌, ◌⊎◌, inl, inr, ℕ, zero, suc, ◌<◌, ◌≤◌, Bool, true, false, ◌&&◌, ◌||◌, List, [], nat_le, nat_lt, refl, subst, ◌∙◌, ⊎_elim, arith, rules}
+use Rattle.std.proofs.lemmas.Bool.{cases_eq, lt-ltb, or_cases, or_left, or_right, false≢true}
 use Rattle.std.proofs.lemmas.Bool.Decides.{nat_tests}
 use Rattle.std.proofs.lemmas.Option.{none-some}
 use Rattle.base_types.specs.Seal.{Blocks}
 use Rattle.layout_geometry.specs.Geometry.{Geometry, bitmap_start, data_start}
 use Rattle.layout_bytes.specs.Bitmap.{is_set}
-use Rattle.engine_blocks.specs.Running.{HasNoBare}
+use Rattle.engine_blocks.specs.Running.{HasNoBare, has}
 use Rattle.engine_blocks.specs.State.{Bookkeeping, State}
 use Rattle.engine_blocks.specs.Crashes.{IsTold}
-use Rattle.crash_stands.specs.Stands.{AreSound}
-use Rattle.fs_files.specs.Drafts.{nothing_drafted}
-use Rattle.fs_files.specs.Sound.{AreSoundBy, FitsBooks, IsSoundDraft}
+use Rattle.crash_stands.specs.Files.{used_node}
+use Rattle.crash_stands.specs.Stands.{AreSound, HasBlock}
+use Rattle.fs_files.specs.Calls.{places_of}
+use Rattle.fs_files.specs.Drafts.{begun_beside}
+use Rattle.fs_files.specs.Shared.{is_kept}
+use Rattle.fs_files.specs.Sound.{AreSoundBeside, FitsBooks, IsSoundDraft}
+use Rattle.fs_files.proofs.frames.Frames.{block_at, places_have}
+use Rattle.fs_files.proofs.frames.Places.{has_place, place_of, used_within}
 
-pub nothing_fits : (k : Bookkeeping) → HasNoBare k.running → FitsBooks k nothing_drafted
-nothing_fits k none = search (rules, arith)
+pub begun_fits : (k : Bookkeeping) (kept : List ℕ) → HasNoBare k.running → FitsBooks k (begun_beside kept)
+begun_fits k kept none = search (rules, arith)
 
 live : (g : Geometry) (m : Blocks) (b : ℕ) → bitmap_start g ≤ b → b < g.n → (nat_lt b (data_start g) || is_set g m b) ≡ true → (nat_le (bitmap_start g) b && (nat_lt b g.n && (nat_lt b (data_start g) || is_set g m b))) ≡ true
 live g m b low high one = grind (arith, nat_tests)
 
--- blocks that are sound are sound by marks that are their bits
-pub sound_by : (g : Geometry) (marks : ℕ → Bool) (m : Blocks) → data_start g ≤ g.n → ((b : ℕ) → b < g.n → marks b ≡ is_set g m b) → AreSound g m → AreSoundBy g marks m
-sound_by g marks m room bits sound = record {
-  table = λ b low high. sound.whole b (live g m b (omega (arith, low)) (omega (arith, high, room)) (or_left (nat_lt b (data_start g)) (is_set g m b) (lt-ltb b (data_start g) high)));
-  «data» = λ b low high is. sound.whole b (live g m b (omega (arith, low)) high (or_right (nat_lt b (data_start g)) (is_set g m b) (sym (bits b high) ∙ is)));
-  own = sound.own;
-  marked = λ b low high. let both = sound.marked b low high in (λ is. both.0 (sym (bits b high) ∙ is), λ has. bits b high ∙ both.1 has);
-  free = sound.free;
-  tail = sound.tail;
-}
+-- whether one of the first n nodes has block b
+abbrev is_had : Geometry → Blocks → ℕ → ℕ → Bool
+is_had g m b zero = false
+is_had g m b (suc n) = has (places_of g m (suc n)) b || is_had g m b n
 
-pub nothing_sound : (s : State) → data_start s.books.geom ≤ s.books.geom.n → IsTold s → AreSound s.books.geom s.map → IsSoundDraft s.books s.map nothing_drafted
-nothing_sound s room told sound = record {
-  blocks = sound_by s.books.geom s.books.marked s.map room told.bits sound;
+had_has : (g : Geometry) (m : Blocks) (b n : ℕ) → is_had g m b n ≡ true → (k : ℕ) × (i : ℕ) × HasBlock g m k i b
+had_has g m b zero is = absurd (false≢true is)
+had_has g m b (suc n) is = by (had_has g m b n) (or_cases (has (places_of g m (suc n)) b) (is_had g m b n) is)
+  where
+    by : (is_had g m b n ≡ true → (k : ℕ) × (i : ℕ) × HasBlock g m k i b) → (has (places_of g m (suc n)) b ≡ true) ⊎ (is_had g m b n ≡ true) → (k : ℕ) × (i : ℕ) × HasBlock g m k i b
+    by below (inl here) = let r = place_of (places_of g m (suc n)) b here in (suc n, r.0, block_at g m (suc n) r.0 b (used_node g m (suc n)) refl r.1)
+    by below (inr rest) = below rest
+
+has_had : (g : Geometry) (m : Blocks) (b n k i : ℕ) → 1 ≤ k → k ≤ n → HasBlock g m k i b → is_had g m b n ≡ true
+has_had g m b zero k i from upto h = absurd (omega (arith, from, upto))
+has_had g m b (suc n) k i from upto h = ⊎_elim
+    (λ here. or_left (has (places_of g m (suc n)) b) (is_had g m b n) (subst (λ l. has (places_of g m l) b ≡ true) here (has_place (places_of g m k) i b (places_have g m k i b (used_node g m k) refl h))))
+    (λ other. or_right (has (places_of g m (suc n)) b) (is_had g m b n) (has_had g m b n k i from (omega (arith, upto, other)) h))
+    (cases_eq k (suc n))
+
+had_by : (g : Geometry) (m : Blocks) (b : ℕ) → ((k : ℕ) × (i : ℕ) × HasBlock g m k i b) → is_had g m b g.i ≡ true
+had_by g m b r = let at = used_within g m r.0 r.2.node r.2.is_node in has_had g m b g.i r.0 r.1 at.0 at.1 r.2
+
+same_bool : (x y : Bool) → (x ≡ true → y ≡ true) → (y ≡ true → x ≡ true) → x ≡ y
+same_bool x y e h = grind (arith, nat_tests)
+
+-- blocks that are sound beside kept ones have what a draft in which nothing was done asks
+pub begun_sound : (s : State) (kept : List ℕ) → data_start s.books.geom ≤ s.books.geom.n → IsTold s → AreSoundBeside s.books.geom (is_kept kept) s.map → IsSoundDraft s.books s.map (begun_beside kept)
+begun_sound s kept room told sound = record {
+  live = λ b. is_had g s.map b g.i;
+  blocks = record {
+    table = λ b low high. sound.whole b (live g s.map b (omega (arith, low)) (omega (arith, high, room)) (or_left (nat_lt b (data_start g)) (is_set g s.map b) (lt-ltb b (data_start g) high)));
+    «data» = λ b low high is. sound.whole b (live g s.map b (omega (arith, low)) high (or_right (nat_lt b (data_start g)) (is_set g s.map b) ((sound.marked b low high).1 (inl (had_has g s.map b g.i is)))));
+    own = sound.own;
+    marked = λ b low high. (had_has g s.map b g.i, had_by g s.map b);
+    free = sound.free;
+    tail = sound.tail;
+  };
+  bits = λ b low high. told.bits b high ∙ same_bool (is_set g s.map b) (is_had g s.map b g.i || is_kept kept b)
+      (λ is. either b ((sound.marked b low high).0 is))
+      (λ is. (sound.marked b low high).1 (whose b (or_cases (is_had g s.map b g.i) (is_kept kept b) is)));
+  untouched = λ b keep. let at = sound.inside b keep in (at, told.bits b at.below ∙ (sound.marked b at.from at.below).1 (inr keep), refl);
+  shared = λ b n i node keep h used. sound.shared b n i node keep h used;
   changed = λ b c e. absurd (none-some c e);
   fresh = λ b c e. absurd (none-some c e);
   apart = λ b is. absurd (false≢true is);
   freed = λ i d low. absurd (omega (arith, low));
   once = λ i j d lt within. absurd (omega (arith, within));
+}
+  where
+    g : Geometry
+    g = s.books.geom
+
+    either : (b : ℕ) → ((k : ℕ) × (i : ℕ) × HasBlock s.books.geom s.map k i b) ⊎ (is_kept kept b ≡ true) → (is_had s.books.geom s.map b s.books.geom.i || is_kept kept b) ≡ true
+    either b (inl found) = or_left (is_had s.books.geom s.map b s.books.geom.i) (is_kept kept b) (had_by s.books.geom s.map b found)
+    either b (inr keep) = or_right (is_had s.books.geom s.map b s.books.geom.i) (is_kept kept b) keep
+
+    whose : (b : ℕ) → (is_had s.books.geom s.map b s.books.geom.i ≡ true) ⊎ (is_kept kept b ≡ true) → ((k : ℕ) × (i : ℕ) × HasBlock s.books.geom s.map k i b) ⊎ (is_kept kept b ≡ true)
+    whose b (inl is) = inl (had_has s.books.geom s.map b s.books.geom.i is)
+    whose b (inr keep) = inr keep
+
+left : {A : Type 0} → A ⊎ (Bool.false ≡ true) → A
+left (inl a) = a
+left (inr is) = absurd (false≢true is)
+
+-- where nothing is kept
+pub beside_nothing : (g : Geometry) (m : Blocks) → AreSound g m → AreSoundBeside g (is_kept []) m
+beside_nothing g m sound = record {
+  whole = sound.whole;
+  own = sound.own;
+  fixed = sound.fixed;
+  marked = λ b low high. (λ is. inl ((sound.marked b low high).0 is), λ has. (sound.marked b low high).1 (left has));
+  inside = λ b kept. absurd (false≢true kept);
+  shared = λ b k i node kept has is. absurd (false≢true kept);
+  past = sound.past;
+  free = sound.free;
+  tail = sound.tail;
+}
+
+pub sound_alone : (g : Geometry) (m : Blocks) → AreSoundBeside g (is_kept []) m → AreSound g m
+sound_alone g m sound = record {
+  whole = sound.whole;
+  own = sound.own;
+  fixed = sound.fixed;
+  marked = λ b low high. (λ is. left ((sound.marked b low high).0 is), λ has. (sound.marked b low high).1 (inl has));
+  past = sound.past;
+  free = sound.free;
+  tail = sound.tail;
 }

@@ -16,7 +16,9 @@ fits_moved k l d moves fits = search (rules, arith)
 
 -- and is sound where the marks are the same
 sound_moved : (k l : Bookkeeping) (m : Blocks) (d : DraftState) → l.geom ≡ k.geom → l.marked ≡ k.marked → IsSoundDraft k m d → IsSoundDraft l m d
-sound_moved k l m d geom marked sound = search (rules, arith)
+sound_moved k l m d geom marked sound =
+    let mid = subst (λ g. IsSoundDraft (record k { geom = g; marked = l.marked }) m d) (sym geom) (subst (λ ms. IsSoundDraft (record k { marked = ms }) m d) (sym marked) sound) in
+    record { live = mid.live; blocks = mid.blocks; bits = mid.bits; untouched = mid.untouched; shared = mid.shared; changed = mid.changed; fresh = mid.fresh; apart = mid.apart; freed = mid.freed; once = mid.once }
 
 pub draft_looks : (tells failed : Bool) (s t : State) (d : DraftState) → LooksOnly tells failed s t → IsDraftOf tells s d → IsDraftOf tells t d
 draft_looks tells failed s t d looks is = grind (arith, nat_tests)
@@ -33,16 +35,10 @@ draft_settles tells read_failed failed s t d settles is = record {
 pub files_look : (tells failed : Bool) (s t : State) (d : DraftState) → LooksOnly tells failed s t → IsTrue tells → (k : ℕ) → files_in t d k ≡ files_in s d k
 files_look tells failed s t d looks known k = grind (arith, nat_tests)
 
-pub files_settle : (tells read_failed failed : Bool) (s t : State) (d : DraftState) → LooksAndSettles tells read_failed failed s t → IsTrue tells → (k : ℕ) → files_in t d k ≡ files_in s d k
-files_settle tells read_failed failed s t d settles known k = grind (arith, nat_tests)
-
 -- And so are the places of its nodes.
 
 pub places_look : (tells failed : Bool) (s t : State) (d : DraftState) → LooksOnly tells failed s t → IsTrue tells → (k : ℕ) → places_in t d k ≡ places_in s d k
 places_look tells failed s t d looks known k = λ i. places_of (looks.books i).geom (drafted d (looks.map known i)) k
-
-pub places_settle : (tells read_failed failed : Bool) (s t : State) (d : DraftState) → LooksAndSettles tells read_failed failed s t → IsTrue tells → (k : ℕ) → places_in t d k ≡ places_in s d k
-places_settle tells read_failed failed s t d settles known k = λ i. places_of (settles.pipeline.geom i) (drafted d (settles.map known i)) k
 
 -- what became of the places is so where the blocks were looked at meanwhile
 pub looked_places : (tells failed : Bool) (s t : State) (d e : DraftState) (k : ℕ) (ps qs : List ℕ) → LooksOnly tells failed s t → IsTrue tells → ps ≡ qs

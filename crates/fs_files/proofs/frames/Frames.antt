@@ -6,7 +6,7 @@ use Rattle.base_types.specs.Seal.{Blocks}
 use Rattle.base_types.specs.Runs.{run_places}
 use Rattle.layout_geometry.specs.Geometry.{Geometry, data_start}
 use Rattle.layout_bytes.specs.declared.node.Node.{Node}
-use Rattle.layout_bytes.specs.declared.node.NodeKind.TheVariants.{Dir}
+use Rattle.layout_bytes.specs.declared.node.NodeKind.TheVariants.{Dir, File}
 use Rattle.layout_bytes.specs.Bytes.{are_zeros}
 use Rattle.layout_bytes.specs.Node.{node_of, node_at, node_bytes}
 use Rattle.engine_blocks.specs.Running.{has}
@@ -20,12 +20,16 @@ use Rattle.fs_files.proofs.frames.Cells.{when_true, is_number, same_node}
 use Rattle.fs_files.proofs.frames.Places.{place_of, has_place, one_place, joined_same, used_data, has_block, used_marked}
 use Rattle.fs_files.proofs.drafts.Lists.{each_of}
 
+-- a node that has a kept block is a file
+abbrev pub SharesFiles : Geometry → (ℕ → Bool) → Blocks → Type 0
+SharesFiles g kept m = (b n i : ℕ) (node : Node) → kept b ≡ true → HasBlock g m n i b → used_node g m n ≡ Some node → node.kind ≡ File
+
 -- the places of a node that has a block
-places_have : (g : Geometry) (m : Blocks) (k i b : ℕ) (o : Option Node) → used_node g m k ≡ o → HasBlock g m k i b → slice_get (places_or_none o) i ≡ Some b
+pub places_have : (g : Geometry) (m : Blocks) (k i b : ℕ) (o : Option Node) → used_node g m k ≡ o → HasBlock g m k i b → slice_get (places_or_none o) i ≡ Some b
 places_have g m k i b o is h = ap (λ (p : Option Node). slice_get (places_or_none p) i) (sym is ∙ h.is_node) ∙ h.place
 
 -- a place of such a node is a block that it has
-block_at : (g : Geometry) (m : Blocks) (k i b : ℕ) (o : Option Node) → used_node g m k ≡ o → slice_get (places_or_none o) i ≡ Some b → HasBlock g m k i b
+pub block_at : (g : Geometry) (m : Blocks) (k i b : ℕ) (o : Option Node) → used_node g m k ≡ o → slice_get (places_or_none o) i ≡ Some b → HasBlock g m k i b
 block_at g m k i b o e h = grind (arith, nat_tests)
 
 -- the same node has the same block elsewhere
@@ -151,6 +155,24 @@ module _ (g : Geometry) (marks new_marks : ℕ → Bool) (m n : Blocks) (k : ℕ
 
   pub node_changed_files : IsWithFile (files_of g m) (files_of g n) k (option_map (file_of n) new)
   node_changed_files = search (rules, arith, own, other_node, map_same, file_with, other_joined)
+
+-- A node that has a kept block still is a file, where each kept block of the new one was the old one's, of the same kind.
+pub shared_changed : (g : Geometry) (live now : ℕ → Bool) (m n : Blocks) (k : ℕ) (old new : Option Node) (kept : ℕ → Bool) → AreSoundBy g live m → ChangesNode g live now m n k old new → SharesFiles g kept m
+    → ((node : Node) (b : ℕ) → new ≡ Some node → has (run_places node.runs) b ≡ true → kept b ≡ true → (was : Node) × (old ≡ Some was) × (has (run_places was.runs) b ≡ true) × (was.kind ≡ node.kind))
+    → SharesFiles g kept n
+shared_changed g live now m n k old new kept sound ch shared its b l i node keep h is = by (cases_eq l k)
+  where
+    by : (l ≡ k) ⊎ (l ≡ k → ⊥) → node.kind ≡ File
+    by (inl here) =
+        let same : new ≡ Some node = sym ch.node.own ∙ ap (used_node g n) (sym here) ∙ is in
+        let mine : has (run_places node.runs) b ≡ true = has_place (run_places node.runs) i b (ap (λ (p : Option Node). slice_get (places_or_none p) i) (sym is ∙ h.is_node) ∙ h.place) in
+        let was = its node b same mine keep in
+        let used : used_node g m k ≡ Some was.0 = ch.was ∙ was.1 in
+        let at = has_block g m k was.0 used b was.2 in
+        sym was.3 ∙ shared b k at.0 was.0 keep at.1 used
+    by (inr other) =
+        let used : used_node g m l ≡ Some node = sym (same_node g m n l (λ from upto. ch.node.others l from upto other)) ∙ is in
+        shared b l i node keep (block_same g n m l i b (used ∙ sym is) h) used
 
 -- The places.
 

@@ -1,6 +1,7 @@
 -- A block of the node table that was put into a draft: the blocks, the marks, and how the draft still fits.
 use Rattle.std.proofs.Common.{◌≡◌, ◌≢◌, ◌⊎◌, inl, inr, ℕ, ◌<◌, ◌≤◌, ◌==◌, Bool, true, false, not, ◌&&◌, ◌||◌, if◌then◌else◌, [], All, Option, Some, None, is_some, refl, sym, ap, ap₂, subst, ◌∙◌, arith, rules}
-use Rattle.std.proofs.lemmas.Bool.{cases_Bool, cases_eq, eq-eqb, ne_eqb, or_left, or_right, false_from_ne_true}
+use Rattle.std.specs.List.{AllPairs}
+use Rattle.std.proofs.lemmas.Bool.{cases_Bool, cases_eq, eq-eqb, ne_eqb, or_left, or_right, false≢true, false_from_ne_true}
 use Rattle.std.proofs.lemmas.Bool.Decides.{nat_tests}
 use Rattle.base_types.specs.Seal.{Blocks}
 use Rattle.layout_geometry.specs.Geometry.{Geometry, IsGeometry, table_start, data_start}
@@ -14,8 +15,10 @@ use Rattle.fs_files.specs.Bytes.{overwrite}
 use Rattle.fs_files.specs.Drafts.{DraftState, ChangesSome, change_of, bytes_or, drafted, marks_of, PutsBlock}
 use Rattle.fs_files.specs.Frames.{used_of, ReadsBack, HasNewNode}
 use Rattle.fs_files.specs.Nodes.{node_block, node_byte}
+use Rattle.fs_files.specs.Shared.{is_kept}
 use Rattle.fs_files.specs.Sound.{AreSoundBy, FitsBooks, IsSoundDraft, is_filled}
 use Rattle.fs_files.proofs.frames.Cells.{block_from, block_below, node_stored}
+use Rattle.fs_files.proofs.frames.Frames.{SharesFiles}
 use Rattle.fs_files.proofs.frames.Rules.{HasRules, rules_of, sound_from}
 use Rattle.fs_files.proofs.drafts.Lists.{each_of}
 
@@ -77,13 +80,28 @@ module _ (k : Bookkeeping) (d e : DraftState) (at : ℕ) (c : Changed) (geom : I
           (or_left (is_some (change_of e.changed b)) (is_some (change_of e.fresh b)) (ap (λ q. is_some (change_of e.changed q)) here ∙ ap is_some put_here))
       filled b was (inr away) = (λ i. has (puts.freed i) b || (is_some (put_other b away i) || is_some (put_fresh b i))) ∙ was
 
+  put_filled : (b : ℕ) → b ≢ at → is_filled e b ≡ is_filled d b
+  put_filled b away = λ i. has (puts.freed i) b || (is_some (put_other b away i) || is_some (put_fresh b i))
+
   -- and has its rules
-  pub put_rules : HasRules k d → HasRules k e
-  put_rules rules = search (rules, arith, put_marks, put_other, put_fresh, not_fresh)
+  pub put_rules : (live : ℕ → Bool) → HasRules k live d → HasRules k live e
+  put_rules live rules = record {
+    bits = λ b from below. put_marks k.marked b ∙ rules.bits b from below ∙ ap (λ ks. live b || is_kept ks b) (sym puts.kept);
+    untouched = λ b kept.
+        let was = rules.untouched b (ap (λ ks. is_kept ks b) (sym puts.kept) ∙ kept) in
+        (was.0, was.1, put_filled b (λ here. absurd (omega (arith, here, high, was.0.from))) ∙ was.2);
+    changed = λ b x is from. rules.changed b x (sym (put_other b (λ here. absurd (omega (arith, here, high, from)))) ∙ is) from;
+    fresh = λ b x is. ap (λ fs. has fs b) puts.freed ∙ rules.fresh b x (sym (put_fresh b) ∙ is);
+    apart = λ b some.
+        let was : is_some (change_of d.fresh b) ≡ true = ap is_some (sym (put_fresh b)) ∙ some in
+        put_other b (λ here. false≢true (sym not_fresh ∙ ap (λ q. is_some (change_of d.fresh q)) (sym here) ∙ was)) ∙ rules.apart b was;
+    freed = subst (All (λ b. (has e.taken b || k.marked b) ≡ true)) (sym puts.freed) (subst (λ ts. All (λ b. (has ts b || k.marked b) ≡ true) d.freed) (sym puts.taken) rules.freed);
+    once = subst (AllPairs (λ a b. a ≢ b)) (sym puts.freed) rules.once;
+  }
 
   -- so it is sound where the blocks are
-  pub put_sound : (m : Blocks) → IsSoundDraft k m d → AreSoundBy k.geom (marks_of e k.marked) (drafted e m) → IsSoundDraft k m e
-  put_sound m sound blocks = sound_from k m e (put_rules (rules_of k m d sound)) blocks
+  pub put_sound : (m : Blocks) (sound : IsSoundDraft k m d) → AreSoundBy k.geom sound.live (drafted e m) → SharesFiles k.geom (is_kept d.kept) (drafted e m) → IsSoundDraft k m e
+  put_sound m sound blocks shared = sound_from k sound.live m e (put_rules sound.live (rules_of k m d sound)) blocks (subst (λ ks. SharesFiles k.geom (is_kept ks) (drafted e m)) (sym puts.kept) shared)
 
 -- A block of the node table that was put changes, since it is no new content.
 pub put_changes : (k : Bookkeeping) (g : Geometry) (number : ℕ) (c : Changed) (d e : DraftState) → g ≡ k.geom → IsGeometry g → 1 ≤ number → number ≤ k.geom.i → FitsBooks k e → PutsBlock (node_block g number) c d e → ChangesSome e

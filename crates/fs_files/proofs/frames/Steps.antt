@@ -1,7 +1,7 @@
 -- The ways in which a call changes one node: its content alone, more or fewer blocks, its links, a new node, and one that is dropped.
 use Rattle.std.proofs.Common.{◌≡◌, ◌≢◌, ◌⊎◌, inl, inr, ℕ, ◌+◌, ◌-◌, ◌%◌, ◌<◌, ◌≤◌, Bool, true, false, not, ◌&&◌, ◌||◌, IsTrue, List, [], ◌++◌, length, take, drop, get_or, slice_get, Option, Some, None, option_map, All, refl, sym, ap, subst, ◌∙◌, arith}
 use Rattle.std.specs.List.{AllPairs}
-use Rattle.std.proofs.lemmas.Bool.{cases_lt, false≢true, or_left, or_cases}
+use Rattle.std.proofs.lemmas.Bool.{cases_lt, false≢true, or_left, false_from_ne_true}
 use Rattle.std.proofs.lemmas.Option.{none-some, same_Some, slice_get-get_or, slice_get_within, get_or_from_slice_get}
 use Rattle.std.proofs.lemmas.List.{length-append, get_or-append_right, get_or_append_left, append-nil, take_all, drop_all}
 use Rattle.std.proofs.lemmas.Bool.Decides.{nat_tests}
@@ -107,53 +107,39 @@ content_changes g marks new_marks m n k node even sound is table elsewhere same 
     self true false e = refl
     self false false e = refl
 
--- One node got more blocks, which were marked for none: it has another size.
-pub node_grows : (g : Geometry) (marks new_marks : ℕ → Bool) (m n : Blocks) (k : ℕ) (old new : Node) (more : List ℕ) → AreSoundBy g marks m → used_node g m k ≡ Some old → HasNewNode g m n k (Some new)
-    → run_places new.runs ≡ run_places old.runs ++ more → All (IsData g) more → All (λ b. marks b ≡ false) more → AllPairs (λ a b. a ≢ b) more
+-- One node got new blocks, which no node had, in the stead of some of its own or besides them: it may have another size.
+pub node_renewed : (g : Geometry) (live now : ℕ → Bool) (m n : Blocks) (k : ℕ) (old new : Node) (more : List ℕ) → AreSoundBy g live m → used_node g m k ≡ Some old → HasNewNode g m n k (Some new)
+    → ((b : ℕ) → has (run_places new.runs) b ≡ true → (has (run_places old.runs) b ≡ true) ⊎ (has more b ≡ true)) → ((b : ℕ) → has more b ≡ true → has (run_places new.runs) b ≡ true)
+    → AllPairs (λ a b. a ≢ b) (run_places new.runs) → All (IsData g) more → All (λ b. live b ≡ false) more
     → ((b : ℕ) → data_start g ≤ b → b < g.n → has (run_places old.runs) b ≡ false → has more b ≡ false → n b ≡ m b)
-    → ((b : ℕ) → data_start g ≤ b → b < g.n → new_marks b ≡ (has more b || marks b))
+    → ((b : ℕ) → data_start g ≤ b → b < g.n → now b ≡ (has (run_places new.runs) b || (live b && not (has (run_places old.runs) b))))
     → All (λ b. length (n b) ≡ 1024) (run_places new.runs)
     → (new.kind ≡ Dir → IsTrue (are_zeros (past_content n new)))
-    → ChangesNode g marks new_marks m n k (Some old) (Some new)
-node_grows g marks new_marks m n k old new more sound is now places inside unmarked once elsewhere marked whole tail =
+    → ChangesNode g live now m n k (Some old) (Some new)
+node_renewed g live now m n k old new more sound is there either came once inside unmarked elsewhere marked whole tail =
     let at = used_within g m k old is in
     record {
       from = at.0;
       upto = at.1;
       was = is;
-      node = now;
-      elsewhere = λ b low high not_old not_new. elsewhere b low high not_old (not_more b not_old not_new);
-      marked = λ b low high. marked b low high
-          ∙ grown (has more b) (marks b) (has (run_places old.runs) b) (used_marked g marks m k old sound is b)
-          ∙ ap (λ t. t || (marks b && not (has (run_places old.runs) b))) (sym (has_new b));
-      fresh = λ b mine other. each_of (λ c. marks c ≡ false) more unmarked b (in_more b mine other);
-      once = subst (AllPairs (λ a b. a ≢ b)) (sym places) (once_append (run_places old.runs) more (used_once g marks m k old sound is) once
-          (λ b first second. false≢true (sym (each_of (λ c. marks c ≡ false) more unmarked b second) ∙ used_marked g marks m k old sound is b first)));
-      inside = all_of (IsData g) (run_places new.runs) (λ b mine. data_of b (or_cases (has (run_places old.runs) b) (has more b) (sym (has_new b) ∙ mine)));
+      node = there;
+      elsewhere = λ b low high not_old not_new. elsewhere b low high not_old (false_from_ne_true (has more b) (λ mine. false≢true (sym not_new ∙ came b mine)));
+      marked = marked;
+      fresh = λ b mine other. each_of (λ c. live c ≡ false) more unmarked b (in_more b other (either b mine));
+      once = once;
+      inside = all_of (IsData g) (run_places new.runs) (λ b mine. data_of b (either b mine));
       whole = whole;
       tail = λ x e dir. let back : new ≡ x = same_Some new x e in
           subst (λ (y : Node). IsTrue (are_zeros (past_content n y))) back (tail (ap (λ (y : Node). y.kind) back ∙ dir));
     }
   where
-    has_new : (b : ℕ) → has (run_places new.runs) b ≡ (has (run_places old.runs) b || has more b)
-    has_new b = ap (λ xs. has xs b) places ∙ has_append (run_places old.runs) more b
-
-    not_more : (b : ℕ) → has (run_places old.runs) b ≡ false → has (run_places new.runs) b ≡ false → has more b ≡ false
-    not_more b not_old not_new = ap (λ t. t || has more b) (sym not_old) ∙ sym (has_new b) ∙ not_new
-
-    in_more : (b : ℕ) → has (run_places new.runs) b ≡ true → has (run_places old.runs) b ≡ false → has more b ≡ true
-    in_more b mine other = ap (λ t. t || has more b) (sym other) ∙ sym (has_new b) ∙ mine
+    in_more : (b : ℕ) → has (run_places old.runs) b ≡ false → (has (run_places old.runs) b ≡ true) ⊎ (has more b ≡ true) → has more b ≡ true
+    in_more b other (inl first) = absurd (false≢true (sym other ∙ first))
+    in_more b other (inr second) = second
 
     data_of : (b : ℕ) → (has (run_places old.runs) b ≡ true) ⊎ (has more b ≡ true) → IsData g b
     data_of b (inl first) = used_data g m k old is b first
     data_of b (inr second) = each_of (IsData g) more inside b second
-
-    grown : (more was its : Bool) → (its ≡ true → was ≡ true) → (more || was) ≡ ((its || more) || (was && not its))
-    grown true was true e = refl
-    grown true was false e = refl
-    grown false was true e = e refl
-    grown false true false e = refl
-    grown false false false e = refl
 
 -- One node gave up all its blocks but the first ones, perhaps none: it has another size, or other links.
 pub node_cut : (g : Geometry) (marks new_marks : ℕ → Bool) (m n : Blocks) (k : ℕ) (old new : Node) (kept gone : List ℕ) → AreSoundBy g marks m → used_node g m k ≡ Some old → HasNewNode g m n k (Some new)

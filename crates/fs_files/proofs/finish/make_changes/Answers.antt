@@ -11,7 +11,7 @@ use Rattle.fs_files.proofs.finish.make_changes.Goals.{After-take}
 -- the draft, and its numbers taken
 module _ (g : _) (c : goal.After-take g) where
   abbrev draft : DraftState
-  draft = record { changed = c.args.changed; fresh = c.args.fresh; taken = c.args.taken.now; freed = c.args.freed.now }
+  draft = record { kept = c.requires.draft.0; changed = c.args.changed; fresh = c.args.fresh; taken = c.args.taken.now; freed = c.args.freed.now }
 
   abbrev old : State
   old = g.S.Blocks.state c.args.blocks.now
@@ -25,34 +25,34 @@ module _ (g : _) (c : goal.After-take g) where
 pub put_all-requires-clause-within : goal.put_all-requires-clause-within
 put_all-requires-clause-within g c =
     let a = (goal.at.put_all-requires-clause-within g c).After-take in
-    fresh_within g.S.Blocks.tells (draft g a) (old g a) (one g a) c.requires.draft c.requires.ready (took g a)
+    fresh_within g.S.Blocks.tells (draft g a) (old g a) (one g a) c.requires.draft.1 c.requires.ready (took g a)
 
 pub put_all-requires-clause-marked : goal.put_all-requires-clause-marked
 put_all-requires-clause-marked g c = λ t.
     let a = (goal.at.put_all-requires-clause-marked g c).After-take in
-    fresh_marked g.S.Blocks.tells (draft g a) (old g a) (one g a) c.requires.draft c.requires.ready (took g a) t (g.met.S.Blocks.is_told c.args.blocks.now t)
+    fresh_marked g.S.Blocks.tells (draft g a) (old g a) (one g a) c.requires.draft.1 c.requires.ready (took g a) t (g.met.S.Blocks.is_told c.args.blocks.now t)
 
 pub put_all-requires-2-clause-room : goal.put_all-requires-2-clause-room
 put_all-requires-2-clause-room g c =
     let a = (goal.at.put_all-requires-2-clause-room g c).After-take in
-    changed_room g.S.Blocks.tells (draft g a) (old g a) (one g a) c.requires.draft c.requires.ready (took g a) (g.S.Blocks.state c.put_all.new.blocks) c.put_all.ensures.puts
+    changed_room g.S.Blocks.tells (draft g a) (old g a) (one g a) c.requires.draft.1 c.requires.ready (took g a) (g.S.Blocks.state c.put_all.new.blocks) c.put_all.ensures.puts
 
 pub put_all-requires-2-clause-within : goal.put_all-requires-2-clause-within
 put_all-requires-2-clause-within g c =
     let a = (goal.at.put_all-requires-2-clause-within g c).After-take in
-    changed_within g.S.Blocks.tells (draft g a) (old g a) (one g a) c.requires.draft c.requires.ready (took g a) (g.S.Blocks.state c.put_all.new.blocks) c.put_all.ensures.puts
+    changed_within g.S.Blocks.tells (draft g a) (old g a) (one g a) c.requires.draft.1 c.requires.ready (took g a) (g.S.Blocks.state c.put_all.new.blocks) c.put_all.ensures.puts
 
 pub put_all-requires-2-clause-marked : goal.put_all-requires-2-clause-marked
 put_all-requires-2-clause-marked g c = λ t.
     let a = (goal.at.put_all-requires-2-clause-marked g c).After-take in
-    changed_marked g.S.Blocks.tells (draft g a) (old g a) (one g a) c.requires.draft c.requires.ready (took g a) (g.S.Blocks.state c.put_all.new.blocks) c.put_all.ensures.puts t (g.met.S.Blocks.is_told c.args.blocks.now t)
+    changed_marked g.S.Blocks.tells (draft g a) (old g a) (one g a) c.requires.draft.1 c.requires.ready (took g a) (g.S.Blocks.state c.put_all.new.blocks) c.put_all.ensures.puts t (g.met.S.Blocks.is_told c.args.blocks.now t)
 
 pub free_all-requires-clause-room : goal.free_all-requires-clause-room
 free_all-requires-clause-room g c =
     let a = (goal.at.free_all-requires-clause-room g c).After-take in
     omega (
       arith,
-      freed_room g.S.Blocks.tells (draft g a) (old g a) (one g a) c.requires.draft c.requires.ready (took g a) (g.S.Blocks.state c.put_all.new.blocks) c.put_all.ensures.puts (g.S.Blocks.state c.put_all-2.new.blocks) c.put_all-2.ensures.puts,
+      freed_room g.S.Blocks.tells (draft g a) (old g a) (one g a) c.requires.draft.1 c.requires.ready (took g a) (g.S.Blocks.state c.put_all.new.blocks) c.put_all.ensures.puts (g.S.Blocks.state c.put_all-2.new.blocks) c.put_all-2.ensures.puts,
       ap length c.as_slice.ensures,
     )
 
@@ -61,21 +61,20 @@ free_all-requires-clause-blocks g c =
     let a = (goal.at.free_all-requires-clause-blocks g c).After-take in
     let three = g.S.Blocks.state c.put_all-2.new.blocks in
     subst (All (IsData three.books.geom)) (sym c.as_slice.ensures)
-    (freed_data g.S.Blocks.tells (draft g a) (old g a) (one g a) c.requires.draft c.requires.ready (took g a) (g.S.Blocks.state c.put_all.new.blocks) c.put_all.ensures.puts three c.put_all-2.ensures.puts)
+    (freed_data g.S.Blocks.tells (draft g a) (old g a) (one g a) c.requires.draft.1 c.requires.ready (took g a) (g.S.Blocks.state c.put_all.new.blocks) c.put_all.ensures.puts three c.put_all-2.ensures.puts)
 
 pub free_all-requires-clause-marked : goal.free_all-requires-clause-marked
 free_all-requires-clause-marked g c = λ t.
     let a = (goal.at.free_all-requires-clause-marked g c).After-take in
     let three = g.S.Blocks.state c.put_all-2.new.blocks in
     subst (All (λ b. is_set three.books.geom three.map b ≡ true)) (sym c.as_slice.ensures)
-    (freed_marked g.S.Blocks.tells (draft g a) (old g a) (one g a) c.requires.draft c.requires.ready (took g a) (g.S.Blocks.state c.put_all.new.blocks) c.put_all.ensures.puts three c.put_all-2.ensures.puts t (g.met.S.Blocks.is_told c.args.blocks.now t))
+    (freed_marked g.S.Blocks.tells (draft g a) (old g a) (one g a) c.requires.draft.1 c.requires.ready (took g a) (g.S.Blocks.state c.put_all.new.blocks) c.put_all.ensures.puts three c.put_all-2.ensures.puts t (g.met.S.Blocks.is_told c.args.blocks.now t))
 
 pub returns : goal.returns
 returns g c =
     let a = (goal.at.returns g c).After-take in
     let three = g.S.Blocks.state c.put_all-2.new.blocks in
     let new = g.S.Blocks.state c.free_all.new.blocks in
-    record {
-      made = all_made g.S.Blocks.tells (draft g a) (old g a) (one g a) c.requires.draft c.requires.ready (took g a) (g.S.Blocks.state c.put_all.new.blocks) c.put_all.ensures.puts three c.put_all-2.ensures.puts new
-          (subst (λ bs. HasFreed g.S.Blocks.tells bs three new) c.as_slice.ensures c.free_all.ensures.frees);
-    }
+    let made = all_made g.S.Blocks.tells (draft g a) (old g a) (one g a) c.requires.draft.1 c.requires.ready (took g a) (g.S.Blocks.state c.put_all.new.blocks) c.put_all.ensures.puts three c.put_all-2.ensures.puts new
+    (subst (λ bs. HasFreed g.S.Blocks.tells bs three new) c.as_slice.ensures c.free_all.ensures.frees) in
+    record { made = λ kept. record { books = made.books; map = λ t. let m = made.map t in record { lies = m.lies; bits = m.bits }; disk = made.disk } }

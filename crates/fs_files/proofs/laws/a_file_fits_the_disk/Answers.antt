@@ -4,7 +4,7 @@ use Rattle.base_types.specs.Seal.{Blocks}
 use Rattle.base_types.specs.Runs.{run_places}
 use Rattle.layout_geometry.specs.Geometry.{Geometry, IsGeometry, data_start}
 use Rattle.crash_stands.specs.Files.{FileNode, files_of}
-use Rattle.fs_files.specs.Drafts.{drafted, marks_of}
+use Rattle.fs_files.specs.Drafts.{drafted}
 use Rattle.fs_files.specs.Sound.{AreSoundBy}
 use Rattle.fs_files.proofs.finishing.Few.{few_below}
 use Rattle.fs_files.proofs.frames.Places.{file_node, has_place, places_needed, used_data, used_fits}
@@ -25,5 +25,5 @@ file_fits g marks m k x limits sound file =
 
 pub returns : goal.returns
 returns g c = λ d k x tells draft file.
-    file_fits (g.S.Blocks.state c.args.blocks.now).books.geom (marks_of d (g.S.Blocks.state c.args.blocks.now).books.marked) (drafted d (g.S.Blocks.state c.args.blocks.now).map) k x
+    file_fits (g.S.Blocks.state c.args.blocks.now).books.geom (draft.sound tells).live (drafted d (g.S.Blocks.state c.args.blocks.now).map) k x
     (subst IsGeometry c.geom.ensures c.lawful.ensures.limits) (draft.sound tells).blocks file

@@ -1,5 +1,5 @@
 use Rattle.engine_blocks.specs.State.{State}
-use Rattle.fs_files.proofs.calling.Cuts.{CutsNode, cut_steps, cut_draft, cut_file, cut_places, cut_shrinks, cut_changes, file_looks}
+use Rattle.fs_files.proofs.calling.Cuts.{CutsNode, cut_steps, cut_draft, cut_file, cut_kept, cut_places, cut_shrinks, cut_changes, file_looks}
 use Rattle.fs_files.proofs.resize.cut.Goals as goal
 
 module _ (g : _) (c : goal.In_ok-store g) where
@@ -22,6 +22,7 @@ returns g c = record {
       (cut_file g.S.Blocks.tells (s g c) c.args.number c.args.size c.args.node.now c.to_node.result c.args.table.now c.args.draft.now c.shrink.new.draft c.clear_rest.new.draft c.store.new.draft (steps g c) known x at);
   places = λ known. cut_places g.S.Blocks.tells (s g c) c.args.number c.args.size c.args.node.now c.to_node.result c.args.table.now c.args.draft.now c.shrink.new.draft c.clear_rest.new.draft c.store.new.draft (steps g c) known (t g c) c.in_ok-clear_rest.ensures.looks;
   draft = cut_draft g.S.Blocks.tells (s g c) (t g c) c.args.number c.args.size c.args.node.now c.to_node.result c.args.table.now c.args.draft.now c.shrink.new.draft c.clear_rest.new.draft c.store.new.draft (steps g c) c.in_ok-clear_rest.ensures.looks;
+  kept = cut_kept g.S.Blocks.tells (s g c) c.args.number c.args.size c.args.node.now c.to_node.result c.args.table.now c.args.draft.now c.shrink.new.draft c.clear_rest.new.draft c.store.new.draft (steps g c);
   shrinks = λ known x at. cut_shrinks g.S.Blocks.tells (s g c) c.args.number c.args.size c.args.node.now c.to_node.result c.args.table.now c.args.draft.now c.shrink.new.draft c.clear_rest.new.draft c.store.new.draft (steps g c) known (t g c) c.in_ok-clear_rest.ensures.looks x;
   among = λ known x at. cut_changes g.S.Blocks.tells (s g c) c.args.number c.args.size c.args.node.now c.to_node.result c.args.table.now c.args.draft.now c.shrink.new.draft c.clear_rest.new.draft c.store.new.draft (steps g c) known x at;
   refused = tt;

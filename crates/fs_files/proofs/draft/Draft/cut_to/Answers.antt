@@ -1,4 +1,4 @@
-use Rattle.std.proofs.Common.{◌≡◌, ℕ, List, false, IsTrue, Some, option_map, sym, subst, ap, ◌∙◌, arith}
+use Rattle.std.proofs.Common.{◌≡◌, ℕ, List, false, IsTrue, Some, option_map, refl, sym, subst, ap, ◌∙◌, arith}
 use Rattle.std.specs.Prelude.{IfSome}
 use Rattle.layout_geometry.specs.Geometry.{IsGeometry}
 use Rattle.engine_blocks.specs.State.{Bookkeeping, State}
@@ -40,6 +40,7 @@ returns-then-node-size g c =
       file = λ told x at. absurd (omega (arith, c.if-node-size.true, c.requires.cuts.shorter told x at, longer told x at));
       places = λ told. let there = c.requires.used told in absurd (omega (arith, c.if-node-size.true, c.requires.cuts.shorter told there.0 there.1, longer told there.0 there.1));
       draft = draft_looks g.S.Blocks.tells false (s g b) (t g b) c.args.self.now c.in_ok-node.ensures.looks c.requires.look.may;
+      kept = refl;
       shrinks = λ told x at. absurd (omega (arith, c.if-node-size.true, c.requires.cuts.shorter told x at, longer told x at));
       among = λ told x at. absurd (omega (arith, c.if-node-size.true, c.requires.cuts.shorter told x at, longer told x at));
       refused = tt;
@@ -61,6 +62,7 @@ returns g c =
           let there = c.requires.used told in
           cut_read tells (s g b) (t g b) c.args.number c.args.size c.in-Some.node there.0 d (read g b there.0 told there.1) _ (c.in_ok-cut.ensures.places told);
       draft = c.in_ok-cut.ensures.draft;
+      kept = c.in_ok-cut.ensures.kept;
       shrinks = λ told x at.
           subst (λ (ps : List ℕ). Shrinks x ps (places_in u e c.args.number) c.args.size d e) (places_look tells false (s g b) (t g b) d c.in_ok-node.ensures.looks told c.args.number)
           (c.in_ok-cut.ensures.shrinks told x (read_at tells (s g b) (t g b) c.args.number c.args.size c.in-Some.node x d (read g b x told at)));

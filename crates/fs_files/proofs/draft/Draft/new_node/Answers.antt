@@ -22,6 +22,7 @@ returns-in_default g c = record {
       (λ l low high. all_used s.books.geom (drafted c.args.self.now s.map) c.args.from (s.books.geom.i + 1) (c.requires.below tells) used l low (omega (arith, high)), refl);
   number = tt;
   draft = first_of (search rules, grind (arith, common_steps));
+  kept = refl;
   among = tt;
   changes = tt;
   refused = tt;
@@ -63,6 +64,7 @@ returns g c =
             sound = λ tells. (made tells).0;
             content = λ b some. changed g c;
           });
+      kept = c.in_ok-store.ensures.ok.kept;
       among = put_sets (k g c) c.geom-geom.result c.in-Some.number _ c.args.self.now c.store.new.draft c.geom-geom.ensures c.lawful.ensures.limits (range g c).0 (range g c).1 c.requires.draft.fits c.in_ok-store.ensures.ok;
       changes = changed g c;
       refused = tt;

@@ -1,4 +1,4 @@
-use Rattle.std.proofs.Common.{◌≡◌, ◌+◌, ℕ, List, false, IsTrue, length, option_map, Some, sym, ap, subst, ◌∙◌, rules, arith}
+use Rattle.std.proofs.Common.{◌≡◌, ◌+◌, ℕ, List, false, All, IsTrue, length, option_map, Some, refl, sym, ap, subst, ◌∙◌, rules, arith}
 use Rattle.std.specs.Prelude.{IfSome}
 use Rattle.std.proofs.lemmas.Bool.{eqb-false}
 use Rattle.base_types.specs.Seal.{Blocks}
@@ -12,6 +12,7 @@ use Rattle.fs_files.specs.Changing.{OverwritesFile}
 use Rattle.fs_files.specs.Content.{HasContent, WritesContent}
 use Rattle.fs_files.specs.Drafts.{drafted}
 use Rattle.fs_files.specs.Effects.{LooksOnly}
+use Rattle.fs_files.specs.Shared.{is_kept}
 use Rattle.fs_files.specs.Nodes.{node_of_open, IsOpen}
 use Rattle.fs_files.specs.Places.{looks_more}
 use Rattle.fs_files.proofs.frames.Carry.{draft_looks}
@@ -42,11 +43,12 @@ pub returns-then-node-offset : goal.returns-then-node-offset
 returns-then-node-offset g c =
     let b = (goal.at.returns-then-node-offset g c).In-Some in
     let there = c.requires.used in
-    let short = λ (told : IsTrue g.S.Blocks.tells). is_long g.S.Blocks.tells (s g b) (t g b) c.args.number c.args.self.now c.in-Some.node c.in_ok-node.ensures.looks told (c.requires.look.may.sound told) (opened g b) (used g b told) (there told).0 (there told).1 in
+    let short = λ (told : IsTrue g.S.Blocks.tells). is_long g.S.Blocks.tells (s g b) (t g b) c.args.number c.args.self.now c.in-Some.node c.in_ok-node.ensures.looks told (c.requires.look.may.sound told) (opened g b) (used g b told) c.a_list_has_its_runs.ensures.places (there told).0 (there told).1 in
     record {
       file = λ told x at. absurd (omega (arith, c.if-node-offset.true, c.requires.within told (there told).0 (there told).1, short told));
       places = λ told. absurd (omega (arith, c.if-node-offset.true, c.requires.within told (there told).0 (there told).1, short told));
       draft = draft_looks g.S.Blocks.tells false (s g b) (t g b) c.args.self.now c.in_ok-node.ensures.looks c.requires.look.may;
+      kept = refl;
       overwrites = λ told. absurd (omega (arith, c.if-node-offset.true, c.requires.within told (there told).0 (there told).1, short told));
       changes = λ told some. absurd (omega (arith, c.if-node-offset.true, c.requires.within told (there told).0 (there told).1, short told));
       refused = tt;
@@ -79,14 +81,16 @@ module _ (g : _) (c : goal.In_ok-write_content g) where
     within = omega (arith, c.if-node-offset.false);
     few = c.requires.size;
     some = omega (arith, eqb-false (length c.args.bytes.now) 0 ((sym c.is_empty.ensures ∙ c.if-is_empty.false)));
+    apart = λ told. subst (All (λ b. is_kept c.args.self.now.kept b ≡ false))
+        (sym (ap places_or_none (ap (option_map node_of_open) (sym c.in-Some.is)
+        ∙ c.in_ok-node.ensures.node told (has_table old c.args.self.now c.args.number (subst IsGeometry c.geom.ensures c.lawful.ensures.limits) c.requires.look.from c.requires.look.upto (c.requires.look.may.sound told))))
+        ∙ c.a_list_has_its_runs.ensures.places c.in-Some.node.places)
+        (c.requires.apart told);
     writes = subst (λ (x : Class). WritesContent x (met c.args.offset (c.args.offset + length c.args.bytes.now) c.in-Some.node.places) c.args.self.now c.write_content.new.draft) c.class_of-class.ensures c.in_ok-write_content.ensures.writes;
     new = c.in_ok-write_content.ensures.some;
     content = λ told. subst (λ (m : Blocks). HasContent m c.args.self.now c.in-Some.node.places → HasContent m c.write_content.new.draft c.in-Some.node.places) (c.in_ok-node.ensures.looks.map told) (c.in_ok-write_content.ensures.content told);
     bytes = λ told. subst (λ (m : Blocks). HasContent m c.args.self.now c.in-Some.node.places → joined (drafted c.write_content.new.draft m) c.in-Some.node.places ≡ overwrite c.args.offset c.args.bytes.now (joined (drafted c.args.self.now m) c.in-Some.node.places)) (c.in_ok-node.ensures.looks.map told) (c.in_ok-write_content.ensures.bytes told);
-    free = (g.met.S.Blocks.is_sound c.args.blocks.now).unmarked;
     places = c.a_list_has_its_runs.ensures.places;
-    count = c.a_list_has_its_runs.ensures.count;
-    tidy = c.a_list_has_its_runs.ensures.tidy;
   }
 
 pub returns : goal.returns
@@ -94,6 +98,7 @@ returns g c = record {
   file = within_file g.S.Blocks.tells (old g c) c.args.number c.args.offset c.args.bytes.now c.in-Some.node c.args.self.now c.write_content.new.draft (written g c) false (new g c) (looks g c);
   places = within_places g.S.Blocks.tells (old g c) c.args.number c.args.offset c.args.bytes.now c.in-Some.node c.args.self.now c.write_content.new.draft (written g c) false (new g c) (looks g c);
   draft = within_draft g.S.Blocks.tells (old g c) c.args.number c.args.offset c.args.bytes.now c.in-Some.node c.args.self.now c.write_content.new.draft (written g c) false (new g c) (looks g c);
+  kept = c.in_ok-write_content.ensures.writes.kept;
   overwrites = λ told.
       let bs = met c.args.offset (c.args.offset + length c.args.bytes.now) in
       let same : c.in-Some.node.places ≡ places_in (old g c) c.args.self.now c.args.number = sym (c.a_list_has_its_runs.ensures.places c.in-Some.node.places) ∙ ap places_or_none ((written g c).used told) in

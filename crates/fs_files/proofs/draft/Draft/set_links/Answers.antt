@@ -49,6 +49,7 @@ returns-in_default g c =
       file = λ tells x at. none_found s d c.args.number x c.in_ok-node.field-0 c.in_default.is (node tells) at;
       places = λ tells. let used = c.requires.used tells in none_found s d c.args.number used.0 c.in_ok-node.field-0 c.in_default.is (node tells) used.1;
       draft = draft_looks g.S.Blocks.tells false s t d c.in_ok-node.ensures.looks c.requires.look.may;
+      kept = refl;
       among = λ tells. let used = c.requires.used tells in none_found s d c.args.number used.0 c.in_ok-node.field-0 c.in_default.is (node tells) used.1;
       changes = λ tells. let used = c.requires.used tells in none_found s d c.args.number used.0 c.in_ok-node.field-0 c.in_default.is (node tells) used.1;
       refused = tt;
@@ -64,6 +65,7 @@ returns g c = record {
   draft =
       draft_looks g.S.Blocks.tells _ (s g c) (g.S.Blocks.state c.load.new.blocks) c.store.new.draft c.load.ensures.looks
       (record { fits = fits g c; sound = λ tells. let used = c.requires.used tells in (made g c tells used.0 used.1).0; content = λ b some. changed g c });
+  kept = c.in_ok-store.ensures.ok.kept;
   among = λ tells. put_sets (k g c) c.geom-geom.result c.args.number _ c.args.self.now c.store.new.draft c.geom-geom.ensures c.lawful.ensures.limits c.requires.look.from c.requires.look.upto c.requires.look.may.fits c.in_ok-store.ensures.ok;
   changes = λ tells. changed g c;
   refused = tt;

@@ -1,0 +1,6 @@
+pub mod Renewed
+pub mod Counted
+pub mod Edges
+pub mod Placed
+pub mod Copied
+pub mod Outside
