@@ -1,5 +1,6 @@
 -- What laws say that proofs take as arguments.
-use Rattle.std.proofs.Common.{◌≡◌, ℕ, ◌+◌, ◌-◌, ◌*◌, ◌/◌, ◌≤◌, min, max, Bool, false, IsTrue, sym, subst, List, ◌++◌, length, slice_get, Some, Ok}
+use Rattle.std.proofs.Common.{◌≡◌, ℕ, ◌+◌, ◌-◌, ◌*◌, ◌/◌, ◌≤◌, min, max, Bool, false, IsTrue, sym, subst, List, [], ◌++◌, length, slice_get, Some, Ok}
+use Rattle.std.specs.List.{All}
 use Rattle.base_types.specs.Seal.{Blocks}
 use Rattle.layout_geometry.specs.Geometry.{Geometry, bitmap_blocks}
 use Rattle.layout_bytes.specs.declared.node.NodeKind.TheVariants.{File}
@@ -7,7 +8,7 @@ use Rattle.layout_bytes.specs.declared.slot.Slot.{Slot}
 use Rattle.layout_directory.specs.Directory.{place_of}
 use Rattle.lang_tree.specs.declared.command.Cmd.{Cmd}
 use Rattle.lang_tree.specs.Conditions.{refusal}
-use Rattle.lang_tree.specs.Figures.{blocks_for, blocks_met, figures, writing}
+use Rattle.lang_tree.specs.Figures.{blocks_for, blocks_met, writing}
 use Rattle.lang_tree.specs.Points.{answers_point}
 use Rattle.lang_tree.specs.Step.{Session, step}
 use Rattle.lang_tree.specs.Tree.{Tree}
@@ -23,19 +24,23 @@ use Rattle.fs_inodes.specs.Refusals.{reason}
 use Rattle.fs_inodes.specs.Replies.{reply_of}
 use Rattle.fs_files.specs.Drafts.{DraftState, nothing_drafted}
 use Rattle.fs_files.specs.Finish.{ChangesOnly, price}
+use Rattle.fs_files.specs.Growing.{alone, placed, taken_by}
+use Rattle.fs_files.specs.Shared.{is_kept}
 use Rattle.fs_dirs.specs.Changing.{Alters, IsWithSlots}
 use Rattle.engine_blocks.specs.Crashes.{Advances, IssuesNothing}
 use Rattle.engine_blocks.specs.State.{State}
 use Rattle.fs_session.specs.Changes.{ChangesAtMost, IsWithinCost}
 use Rattle.fs_session.specs.Sessions.{IsSession, inodes}
+use Rattle.lang_tree.specs.Sharing.{figures_over}
+use Rattle.fs_session.specs.Space.{none_renewed}
 
 -- the tree refuses a command for the reason that its inode map gives
 abbrev pub RefusalLaw : Type 0
 RefusalLaw = (limit : ℕ) (m : Inodes) (t : Tree) (cmd : Cmd) → IsMapOf limit m t → refusal limit t cmd ≡ reason limit m cmd
 
--- a command takes what its inode map says
+-- with nothing shared a command takes what its inode map says
 abbrev pub FiguresLaw : Type 0
-FiguresLaw = (bitmap : ℕ) (s : Session) (m : Inodes) (cmd : Cmd) → IsMapOf s.limit m s.tree → figures bitmap s cmd ≡ cost bitmap s.limit m cmd
+FiguresLaw = (bitmap : ℕ) (s : Session) (m : Inodes) (cmd : Cmd) → IsMapOf s.limit m s.tree → figures_over bitmap none_renewed s cmd ≡ cost bitmap s.limit m cmd
 
 -- and is answered as it says
 abbrev pub ReplyLaw : Type 0
@@ -74,6 +79,21 @@ DivisionLaw = (size lo hi : ℕ) → min (blocks_for size) (blocks_for hi) - lo 
 abbrev pub WritingLaw : Type 0
 WritingLaw = (g : Geometry) (d : DraftState) (size lo hi : ℕ) → ChangesAtMost d (blocks_met size lo hi + 1) (blocks_for (max size hi) - blocks_for size) (blocks_for (max size hi) - blocks_for size) 0
     → IsWithinCost g d (writing (bitmap_blocks g) size lo hi).cost
+
+-- Where no block is kept a node takes those blocks alone that it has too few, they come behind its own, and it frees all that it gives up.
+pub record UnkeptLaw : Type 0 where
+  pub takes : (lo hi : ℕ) (places : List ℕ) → taken_by (is_kept []) lo hi places ≡ blocks_for hi - length places
+  pub behind : (lo hi : ℕ) (places more : List ℕ) → placed (is_kept []) lo hi places more ≡ places ++ more
+  pub all : (places : List ℕ) → alone (is_kept []) places ≡ places
+
+pub unkept_law : ((kept : ℕ → Bool) (lo hi : ℕ) (places : List ℕ) → All (λ b. kept b ≡ false) places → taken_by kept lo hi places ≡ blocks_for hi - length places)
+    → ((kept : ℕ → Bool) (lo hi : ℕ) (places more : List ℕ) → All (λ b. kept b ≡ false) places → placed kept lo hi places more ≡ places ++ more)
+    → ((kept : ℕ → Bool) (places : List ℕ) → All (λ b. kept b ≡ false) places → alone kept places ≡ places) → ((places : List ℕ) → All (λ b. is_kept [] b ≡ false) places) → UnkeptLaw
+unkept_law takes behind all none = record {
+  takes = λ lo hi places. takes (is_kept []) lo hi places (none places);
+  behind = λ lo hi places more. behind (is_kept []) lo hi places more (none places);
+  all = λ places. all (is_kept []) places (none places);
+}
 
 -- a map of blocks where a tree stands has the tree's inode map
 abbrev pub MapLaw : Type 0

@@ -4,7 +4,8 @@ use Rattle.std.proofs.Math.Seq.{take-append_seam}
 use Rattle.std.proofs.lemmas.Bool.{cases_eq}
 use Rattle.std.proofs.lemmas.List.{append-nil, length-take, take_all, take_min, take-append-le, take-take}
 use Rattle.fs_files.specs.Calls.{IsWithPlaces}
-use Rattle.fs_session.specs.Space.{ArePlaced}
+use Rattle.fs_session.specs.NothingKept.{behind_placed, placed_behind}
+use Rattle.fs_session.specs.Space.{ArePlaced, none_renewed}
 
 -- what is the first of a list is so by its own length
 pub front : (xs zs : List ℕ) (n : ℕ) → xs ≡ take n zs → xs ≡ take (length xs) zs
@@ -23,26 +24,26 @@ pub grown_front : (ps more : List ℕ) → ps ++ more ≡ take (length (ps ++ mo
 grown_front ps more = sym (take_all (length (ps ++ more)) (ps ++ more) (omega arith))
 
 -- one node has
-pub placed_by : (old new : ℕ → List ℕ) (k : ℕ) (ps more : List ℕ) → IsWithPlaces old new k ps → ps ≡ take (length ps) (old k ++ more) → ArePlaced old new more
-placed_by old new k ps more w is l = ⊎_elim
+pub placed_by : (old new : ℕ → List ℕ) (k : ℕ) (ps more : List ℕ) → IsWithPlaces old new k ps → ps ≡ take (length ps) (old k ++ more) → ArePlaced none_renewed old new more
+placed_by old new k ps more w is = placed_behind old new more (λ l. ⊎_elim
     (λ e. subst (λ n. new n ≡ take (length (new n)) (old n ++ more)) (sym e) (subst (λ (qs : List ℕ). qs ≡ take (length qs) (old k ++ more)) (sym w.own) is))
-    (λ d. subst (λ (qs : List ℕ). qs ≡ take (length qs) (old l ++ more)) (sym (w.others l d)) (own_front (old l) more)) (cases_eq l k)
+    (λ d. subst (λ (qs : List ℕ). qs ≡ take (length qs) (old l ++ more)) (sym (w.others l d)) (own_front (old l) more)) (cases_eq l k))
 
 -- it keeps the first of its own, and it has others behind all of its own
-pub placed_cut : (old new : ℕ → List ℕ) (k n : ℕ) (more : List ℕ) → IsWithPlaces old new k (take n (old k)) → ArePlaced old new more
+pub placed_cut : (old new : ℕ → List ℕ) (k n : ℕ) (more : List ℕ) → IsWithPlaces old new k (take n (old k)) → ArePlaced none_renewed old new more
 placed_cut old new k n more w = placed_by old new k (take n (old k)) more w (cut_front n (old k) more)
 
-pub placed_grown : (old new : ℕ → List ℕ) (k : ℕ) (more : List ℕ) → IsWithPlaces old new k (old k ++ more) → ArePlaced old new more
+pub placed_grown : (old new : ℕ → List ℕ) (k : ℕ) (more : List ℕ) → IsWithPlaces old new k (old k ++ more) → ArePlaced none_renewed old new more
 placed_grown old new k more w = placed_by old new k (old k ++ more) more w (grown_front (old k) more)
 
 -- it has the blocks that it had
-pub placed_kept : (old new : ℕ → List ℕ) (k : ℕ) (more : List ℕ) → IsWithPlaces old new k (old k) → ArePlaced old new more
+pub placed_kept : (old new : ℕ → List ℕ) (k : ℕ) (more : List ℕ) → IsWithPlaces old new k (old k) → ArePlaced none_renewed old new more
 placed_kept old new k more w = placed_by old new k (old k) more w (own_front (old k) more)
 
 -- One change behind another: the second one takes none.
-pub placed_then : (old mid new : ℕ → List ℕ) (more : List ℕ) → ArePlaced old mid more → ArePlaced mid new [] → ArePlaced old new more
-placed_then old mid new more first second k =
+pub placed_then : (old mid new : ℕ → List ℕ) (more : List ℕ) → ArePlaced none_renewed old mid more → ArePlaced none_renewed mid new [] → ArePlaced none_renewed old new more
+placed_then old mid new more first second = placed_behind old new more (λ k.
     let all = old k ++ more in
-    let of_mid : new k ≡ take (length (new k)) (mid k) = second k ∙ ap (λ (xs : List ℕ). take (length (new k)) xs) (append-nil (mid k)) in
+    let of_mid : new k ≡ take (length (new k)) (mid k) = behind_placed mid new [] second k ∙ ap (λ (xs : List ℕ). take (length (new k)) xs) (append-nil (mid k)) in
     let within : length (new k) ≤ length (mid k) = omega (arith, ap (λ (xs : List ℕ). length xs) of_mid, length-take (length (new k)) (mid k)) in
-    of_mid ∙ ap (λ (xs : List ℕ). take (length (new k)) xs) (first k) ∙ take-take (length (new k)) (length (mid k)) all within
+    of_mid ∙ ap (λ (xs : List ℕ). take (length (new k)) xs) (behind_placed old mid more first k) ∙ take-take (length (new k)) (length (mid k)) all within)

@@ -2,15 +2,17 @@
 use Rattle.std.specs.Prelude.{◌≡◌, ℕ, List, length, None}
 use Rattle.lang_tree.specs.declared.command.Cmd.{Cmd}
 use Rattle.lang_tree.specs.Conditions.{refusal}
-use Rattle.lang_tree.specs.Figures.{Figures, figures}
+use Rattle.lang_tree.specs.Figures.{Figures}
+use Rattle.lang_tree.specs.Sharing.{figures_over}
 use Rattle.lang_tree.specs.Step.{Session}
 use Rattle.crash_stands.specs.Inodes.{Inodes}
 use Rattle.crash_stands.specs.Maps.{IsMapOf}
+use Rattle.fs_session.specs.Space.{none_renewed}
 use Rattle.fs_inodes.specs.Lookups.{links_in, bytes_of, inode_at}
 
--- The command has these figures, whichever tree has this inode map and doesn't refuse it.
+-- The command has these figures, with nothing shared, whichever tree has this inode map and doesn't refuse it.
 abbrev pub AreFiguresOf : ℕ → Inodes → Cmd → Figures → Type 0
-AreFiguresOf bitmap m cmd f = (s : Session) → IsMapOf s.limit m s.tree → refusal s.limit s.tree cmd ≡ None → figures bitmap s cmd ≡ f
+AreFiguresOf bitmap m cmd f = (s : Session) → IsMapOf s.limit m s.tree → refusal s.limit s.tree cmd ≡ None → figures_over bitmap none_renewed s cmd ≡ f
 
 -- a path has so many links, and so many bytes are there
 abbrev pub HasFacts : Inodes → List (List ℕ) → ℕ → ℕ → Type 0

@@ -30,6 +30,8 @@ use Rattle.fs_session.specs.Changes.{IsWithinCost, Uses}
 use Rattle.fs_session.specs.Commands.{GrowsInRuns, figures_on, grown_by, places_of}
 use Rattle.fs_commands.specs.Looks.{ComesTo}
 use Rattle.fs_session.specs.Sessions.{inodes}
+use Rattle.lang_tree.specs.Sharing.{none_shared}
+use Rattle.fs_session.specs.Space.{none_renewed}
 
 -- the command that makes a node of this kind
 abbrev pub make_cmd : Kind → List (List ℕ) → Cmd
@@ -61,8 +63,8 @@ pub record AddsName (old now : State) (d : DraftState) (dir node : ℕ) (name : 
   pub adds : AddsSlot (inodes old) (inodes_in now d) dir node name x
   pub reads : AreInodesOf (files_in now d) (inodes_in now d)
   pub within : IsWithinCost now.books.geom d (adding (growth (length slots))).cost
-  pub runs : GrowsInRuns old now.books dir (growth (length slots))
-  pub uses : Uses (growth (length slots)) 0 (reusable_blocks now.books) (places_of old) (places_in now d) d
+  pub runs : GrowsInRuns none_shared old now.books dir (growth (length slots))
+  pub uses : Uses (growth (length slots)) 0 (reusable_blocks now.books) none_renewed (places_of old) (places_in now d) d
   pub rests : growth (length slots) ≤ length (reusable_blocks old.books) → now.books ≡ old.books
 
 -- The tree accepts the command and answers that it is done, and directory `dir`, which has so many slots, gets a name more by it.

@@ -23,7 +23,7 @@ use Rattle.fs_commands.specs.Looks.{ComesTo, HasEntry}
 use Rattle.fs_commands.specs.Removing.{IsFound}
 use Rattle.fs_session.specs.declared.unused.NodeUse.{NodeUse}
 use Rattle.fs_session.specs.Sessions.{KeepsUsed, inodes}
-use Rattle.fs_session.specs.Space.{ArePlaced}
+use Rattle.fs_session.specs.Space.{ArePlaced, none_renewed}
 
 -- The slot at the entry's place, the first of its name, names the entry's node, in a directory of so many slots.
 pub record HasNamed (m : Inodes) (name : List ℕ) (n : Named) : Type 0 where
@@ -56,7 +56,7 @@ pub record MovesName (old now : State) (d : DraftState) (from into node : ℕ) (
   pub moves : MovesSlot (inodes old) (inodes_in now d) from into node name other
   pub reads : AreInodesOf (files_in now d) (inodes_in now d)
   pub alters : Alters most takes frees nothing_drafted d
-  pub placed : ArePlaced (places_of old) (places_in now d) takes
+  pub placed : ArePlaced none_renewed (places_of old) (places_in now d) takes
   pub used : KeepsUsed nodes (files_in old nothing_drafted) (files_in now d)
 
 -- A name may move to a free one of its directory.

@@ -30,7 +30,7 @@ use Rattle.fs_commands.specs.Looks.{ComesTo}
 use Rattle.fs_session.specs.declared.unused.NodeUse.{NodeUse}
 use Rattle.fs_session.specs.declared.unused.NodeUse.TheVariants.{Dropped, Stays}
 use Rattle.fs_session.specs.Sessions.{KeepsUsed, inodes}
-use Rattle.fs_session.specs.Space.{ArePlaced}
+use Rattle.fs_session.specs.Space.{ArePlaced, none_renewed}
 
 -- the command that takes the path to a node of this kind away, and why the tree refuses it
 abbrev pub lose_cmd : Kind → List (List ℕ) → Cmd
@@ -79,7 +79,7 @@ pub record LosesName (old now : State) (d : DraftState) (name : List ℕ) (n : N
   pub takes : TakesSlot (inodes old) (inodes_in now d) n.dir n.entry.node.number name
   pub reads : AreInodesOf (files_in now d) (inodes_in now d)
   pub alters : Alters 4 [] (release n.count + blocks_gone n.entry.node.facts) nothing_drafted d
-  pub placed : ArePlaced (places_of old) (places_in now d) []
+  pub placed : ArePlaced none_renewed (places_of old) (places_in now d) []
   pub used : KeepsUsed (use_after n.entry.node) (files_in old nothing_drafted) (files_in now d)
 
 -- The path leads to what stands under the name, and the tree accepts that the path goes.

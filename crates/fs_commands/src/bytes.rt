@@ -32,13 +32,15 @@ use base_types::limits::LARGEST_FILE;
 use engine_blocks::{Blocks, calls_compose};
 use fs_files::{
     Draft, FileRefusal, a_directory_has_whole_slots, a_draft_begins, a_file_fits_the_disk,
-    a_file_has_its_blocks,
+    a_file_has_its_blocks, where_nothing_is_kept,
 };
 use fs_inodes::{
     new_bytes_are_mapped, paths_lead_to_inodes, the_map_gives_the_refusal, walks_are_the_same,
 };
 use fs_session::{NodeUse, Plan, blocks_have_the_map_of_their_tree, has_room};
-use lang_tree::{Path, Refusal, Reply, touched_blocks_are_counted_by_division};
+use lang_tree::{
+    Path, Refusal, Reply, nothing_shared_costs_nothing, touched_blocks_are_counted_by_division,
+};
 use std::alloc::Global;
 
 /// The file at a path, or why there is none.
@@ -78,13 +80,13 @@ pub(crate) fn find_file<S: Blocks>(
 /// # Errors
 /// There is no room; the file's blocks would lie in too many runs; a read of the disk failed, or another call
 /// of it; or out of memory.
-pub(crate) fn plan_write<S: Blocks>(
+pub(crate) fn plan_write<'a, S: Blocks>(
     alloc: Global,
     blocks: &mut S,
     path: &Path,
     offset: u32,
     bytes: &[u8],
-) -> Result<Plan, Refusal>
+) -> Result<Plan<'a>, Refusal>
     requires may { MayPlan S.tells (S.state blocks.old) }
     ensures plans { Plans S.tells (Write path.now offset bytes.now) result (S.state blocks.old) (S.state blocks.new) }
     ensures made { OnChange result (λ draft cost nodes. MayBeMade S.tells draft cost nodes (S.state blocks.new)) }
@@ -103,13 +105,13 @@ pub(crate) fn plan_write<S: Blocks>(
 ///
 /// # Errors
 /// As `plan_write`.
-fn write_found<S: Blocks>(
+fn write_found<'a, S: Blocks>(
     alloc: Global,
     blocks: &mut S,
     found: &NodeFound,
     offset: u32,
     bytes: &[u8],
-) -> Result<Plan, Refusal>
+) -> Result<Plan<'a>, Refusal>
     requires may { MayPlan S.tells (S.state blocks.old) }
     requires number { IsNumber (S.state blocks.old).books.geom.i found.now.number }
     requires file { IsTrue S.tells → IsFile (files_in (S.state blocks.old) nothing_drafted) found.now }
@@ -120,6 +122,7 @@ fn write_found<S: Blocks>(
 {
     calls_compose::<S>();
     a_file_is_at_its_path(blocks);
+    nothing_shared_costs_nothing();
     the_map_gives_the_refusal();
     if is_too_large(offset, bytes.len() as u64) {
         return Ok(Plan::Answer(Reply::Refused(Refusal::TooLarge)));
@@ -140,14 +143,14 @@ fn write_found<S: Blocks>(
 /// # Errors
 /// The file's blocks would lie in too many runs; a read of the disk failed, or another call of it; or out of
 /// memory.
-pub(crate) fn plan_bytes<S: Blocks>(
+pub(crate) fn plan_bytes<'a, S: Blocks>(
     alloc: Global,
     blocks: &mut S,
     number: u32,
     offset: u32,
     bytes: &[u8],
     cost: u32,
-) -> Result<Plan, Refusal>
+) -> Result<Plan<'a>, Refusal>
     requires may { MayPlan S.tells (S.state blocks.old) }
     requires number { IsNumber (S.state blocks.old).books.geom.i number }
     requires file { IsTrue S.tells → (x : FileNode) × (files_in (S.state blocks.old) nothing_drafted number ≡ Some x) × (x.kind ≡ File) }
@@ -167,8 +170,10 @@ pub(crate) fn plan_bytes<S: Blocks>(
     paths_lead_to_inodes();
     walks_are_the_same();
     the_node_at_a_path_gives_the_inode();
+    nothing_shared_costs_nothing();
     small_drafts_are_within_the_cost();
     touched_blocks_are_counted_by_division();
+    where_nothing_is_kept();
     let mut draft = Draft::new(alloc);
     match draft.write_at(alloc, blocks, number, u64::from(offset), bytes) {
         Ok(()) => Ok(Plan::Change {

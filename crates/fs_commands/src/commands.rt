@@ -131,12 +131,12 @@ fn run_on_tree<S: Blocks>(
 ///
 /// # Errors
 /// As `run`.
-fn plan<S: Blocks>(
+fn plan<'a, S: Blocks>(
     alloc: Global,
     blocks: &mut S,
     cmd: &Cmd,
     first_unused: u32,
-) -> Result<Plan, Refusal>
+) -> Result<Plan<'a>, Refusal>
     requires may { MayPlan S.tells (S.state blocks.old) }
     requires above { 1 ≤ first_unused }
     requires below { IsTrue S.tells → AreUsedBelow (files_in (S.state blocks.old) nothing_drafted) first_unused }

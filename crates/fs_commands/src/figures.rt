@@ -7,14 +7,19 @@ ghost use Rattle.lang_tree.specs.declared.command.Cmd.TheVariants.{Mkdir, Create
 ghost use Rattle.lang_tree.specs.Figures as spec;
 ghost use Rattle.lang_tree.specs.Figures.{Figures as FiguresValue};
 ghost use Rattle.lang_tree.specs.Values.{value_of};
+ghost use Rattle.lang_tree.specs.Sharing.{figures_over};
+ghost use Rattle.lang_tree.specs.Step.{Session};
 ghost use Rattle.crash_stands.specs.Inodes.{Inodes};
+ghost use Rattle.crash_stands.specs.Maps.{IsMapOf};
 ghost use Rattle.fs_inodes.specs.Lookups.{bytes_of, inode_at};
-ghost use Rattle.fs_inodes.specs.Figures.{accepted_cost, slots_above, blocks_lost};
+ghost use Rattle.fs_inodes.specs.Figures.{accepted_cost, cost, slots_above, blocks_lost};
+ghost use Rattle.fs_session.specs.Space.{none_renewed};
 ghost use Rattle.fs_commands.specs.Figures.{AreFiguresOf, HasFacts};
 
 use fs_inodes::{the_map_gives_the_figures, the_map_gives_the_refusal};
 use lang_tree::{
-    Figures, adding, blocks_for, growth, release, removing, truncate_figures, write_figures,
+    Figures, adding, blocks_for, growth, nothing_shared_costs_nothing, release, removing,
+    truncate_figures, write_figures,
 };
 
 /// The figures of a new name in a directory of so many slots: of mkdir, create and link.
@@ -84,6 +89,15 @@ fn blocks_gone(links: u32, size: u32) -> u32
 fn figures_come_from_inodes()
     ensures { (bitmap : ℕ) (m : Inodes) (cmd : Cmd) (f : FiguresValue) → f ≡ accepted_cost bitmap m cmd → AreFiguresOf bitmap m cmd f }
 {
-    the_map_gives_the_figures();
+    the_map_gives_the_costs();
     the_map_gives_the_refusal();
+}
+
+/// With nothing shared a command has the figures that its inode map says.
+pub(crate) fn the_map_gives_the_costs()
+    ensures { (bitmap : ℕ) (s : Session) (m : Inodes) (cmd : Cmd) → IsMapOf s.limit m s.tree
+        → figures_over bitmap none_renewed s cmd ≡ cost bitmap s.limit m cmd }
+{
+    the_map_gives_the_figures();
+    nothing_shared_costs_nothing();
 }

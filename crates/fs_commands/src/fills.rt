@@ -20,7 +20,7 @@ use crate::refusals::refusal_of;
 use engine_blocks::{Blocks, calls_compose};
 use fs_inodes::the_map_gives_the_refusal;
 use fs_session::{Plan, blocks_have_the_map_of_their_tree, has_room};
-use lang_tree::{Path, Refusal, Reply};
+use lang_tree::{Path, Refusal, Reply, nothing_shared_costs_nothing};
 use std::alloc::Global;
 
 /// Plans to put `byte` into a file `count` times from `offset` on.
@@ -28,14 +28,14 @@ use std::alloc::Global;
 /// # Errors
 /// There is no room; the file's blocks would lie in too many runs; a read of the disk failed, or another call
 /// of it; or out of memory.
-pub(crate) fn plan_fill<S: Blocks>(
+pub(crate) fn plan_fill<'a, S: Blocks>(
     alloc: Global,
     blocks: &mut S,
     path: &Path,
     offset: u32,
     count: u32,
     byte: u8,
-) -> Result<Plan, Refusal>
+) -> Result<Plan<'a>, Refusal>
     requires may { MayPlan S.tells (S.state blocks.old) }
     ensures plans { Plans S.tells (Fill path.now offset count byte) result (S.state blocks.old) (S.state blocks.new) }
     ensures made { OnChange result (λ draft cost nodes. MayBeMade S.tells draft cost nodes (S.state blocks.new)) }
@@ -54,14 +54,14 @@ pub(crate) fn plan_fill<S: Blocks>(
 ///
 /// # Errors
 /// As `plan_fill`.
-fn fill_found<S: Blocks>(
+fn fill_found<'a, S: Blocks>(
     alloc: Global,
     blocks: &mut S,
     found: &NodeFound,
     offset: u32,
     count: u32,
     byte: u8,
-) -> Result<Plan, Refusal>
+) -> Result<Plan<'a>, Refusal>
     requires may { MayPlan S.tells (S.state blocks.old) }
     requires number { IsNumber (S.state blocks.old).books.geom.i found.now.number }
     requires file { IsTrue S.tells → IsFile (files_in (S.state blocks.old) nothing_drafted) found.now }
@@ -72,6 +72,7 @@ fn fill_found<S: Blocks>(
 {
     calls_compose::<S>();
     a_file_is_at_its_path(blocks);
+    nothing_shared_costs_nothing();
     the_map_gives_the_refusal();
     if is_too_large(offset, u64::from(count)) {
         return Ok(Plan::Answer(Reply::Refused(Refusal::TooLarge)));

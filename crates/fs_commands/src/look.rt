@@ -198,11 +198,11 @@ pub(crate) fn list_in<N: Nodes, S: Blocks>(
 ///
 /// # Errors
 /// A read of the disk failed; or out of memory.
-pub(crate) fn plan_stat<S: Blocks>(
+pub(crate) fn plan_stat<'a, S: Blocks>(
     alloc: Global,
     blocks: &mut S,
     path: &Path,
-) -> Result<Plan, Refusal>
+) -> Result<Plan<'a>, Refusal>
     requires may { MayPlan S.tells (S.state blocks.old) }
     ensures plans { Plans S.tells (StatCmd path.now) result (S.state blocks.old) (S.state blocks.new) }
     ensures answers { IsAnswer result }
@@ -215,13 +215,13 @@ pub(crate) fn plan_stat<S: Blocks>(
 ///
 /// # Errors
 /// As `plan_stat`.
-pub(crate) fn plan_read<S: Blocks>(
+pub(crate) fn plan_read<'a, S: Blocks>(
     alloc: Global,
     blocks: &mut S,
     path: &Path,
     offset: u32,
     len: u32,
-) -> Result<Plan, Refusal>
+) -> Result<Plan<'a>, Refusal>
     requires may { MayPlan S.tells (S.state blocks.old) }
     ensures plans { Plans S.tells (Read path.now offset len) result (S.state blocks.old) (S.state blocks.new) }
     ensures answers { IsAnswer result }
@@ -234,11 +234,11 @@ pub(crate) fn plan_read<S: Blocks>(
 ///
 /// # Errors
 /// As `plan_stat`.
-pub(crate) fn plan_list<S: Blocks>(
+pub(crate) fn plan_list<'a, S: Blocks>(
     alloc: Global,
     blocks: &mut S,
     path: &Path,
-) -> Result<Plan, Refusal>
+) -> Result<Plan<'a>, Refusal>
     requires may { MayPlan S.tells (S.state blocks.old) }
     ensures plans { Plans S.tells (ListNames path.now) result (S.state blocks.old) (S.state blocks.new) }
     ensures answers { IsAnswer result }
@@ -248,7 +248,7 @@ pub(crate) fn plan_list<S: Blocks>(
 }
 
 /// The plan of a command that only looks.
-fn answer(looked: Result<Reply, FileRefusal>) -> Result<Plan, Refusal>
+fn answer<'a>(looked: Result<Reply, FileRefusal>) -> Result<Plan<'a>, Refusal>
     ensures { result ≡ answer_of looked }
 {
     match looked {

@@ -38,7 +38,7 @@ ghost use Rattle.fs_session.specs.Plans.{MayBeMade, OnChange, Plans};
 ghost use Rattle.fs_session.specs.Sessions.{AreUsedBelow, IsSession, KeepsUsed, MayBegin, MayPlan, inodes};
 
 use crate::facts::what_a_path_comes_to_gives_the_walk;
-use crate::figures::new_name_figures;
+use crate::figures::{new_name_figures, the_map_gives_the_costs};
 use crate::look::is_dir;
 use crate::paths::{NodeFound, Spot, find_node, look_up};
 use crate::refusals::refusal_of;
@@ -49,8 +49,8 @@ use engine_blocks::{Blocks, calls_compose};
 use fs_dirs::{add_slot, alterations_add_up};
 use fs_files::{Draft, FileRefusal, a_draft_begins, a_file_fits_the_disk, a_file_has_its_blocks};
 use fs_inodes::{
-    a_file_reads_as_itself, a_new_node_is_mapped, a_new_path_is_mapped, the_map_gives_the_figures,
-    the_map_gives_the_refusal, walks_are_the_same,
+    a_file_reads_as_itself, a_new_node_is_mapped, a_new_path_is_mapped, the_map_gives_the_refusal,
+    walks_are_the_same,
 };
 use fs_session::{NodeUse, Plan, blocks_have_the_map_of_their_tree, has_room};
 use lang_tree::{Kind, Path, Refusal, Reply};
@@ -62,13 +62,13 @@ use std::alloc::Global;
 /// # Errors
 /// There is no room; the directory's blocks would lie in too many runs; a read of the disk failed, or another
 /// call of it; or out of memory.
-pub(crate) fn plan_node<S: Blocks>(
+pub(crate) fn plan_node<'a, S: Blocks>(
     alloc: Global,
     blocks: &mut S,
     kind: Kind,
     path: &Path,
     first_unused: u32,
-) -> Result<Plan, Refusal>
+) -> Result<Plan<'a>, Refusal>
     requires may { MayPlan S.tells (S.state blocks.old) }
     requires above { 1 ≤ first_unused }
     requires below { IsTrue S.tells → AreUsedBelow (files_in (S.state blocks.old) nothing_drafted) first_unused }
@@ -88,13 +88,13 @@ pub(crate) fn plan_node<S: Blocks>(
 ///
 /// # Errors
 /// As `plan_node`.
-fn make_in<S: Blocks>(
+fn make_in<'a, S: Blocks>(
     alloc: Global,
     blocks: &mut S,
     kind: Kind,
     vacancy: &Vacancy,
     first_unused: u32,
-) -> Result<Plan, Refusal>
+) -> Result<Plan<'a>, Refusal>
     requires may { MayPlan S.tells (S.state blocks.old) }
     requires above { 1 ≤ first_unused }
     requires below { IsTrue S.tells → AreUsedBelow (files_in (S.state blocks.old) nothing_drafted) first_unused }
@@ -118,13 +118,13 @@ fn make_in<S: Blocks>(
 ///
 /// # Errors
 /// As `plan_node`.
-fn make_node<S: Blocks>(
+fn make_node<'a, S: Blocks>(
     alloc: Global,
     blocks: &mut S,
     kind: Kind,
     vacancy: &Vacancy,
     node: u32,
-) -> Result<Plan, Refusal>
+) -> Result<Plan<'a>, Refusal>
     requires may { MayPlan S.tells (S.state blocks.old) }
     requires below { IsTrue S.tells → AreUsedBelow (files_in (S.state blocks.old) nothing_drafted) node }
     requires dir { IsNumber (S.state blocks.old).books.geom.i vacancy.now.dir }
@@ -162,12 +162,12 @@ fn make_node<S: Blocks>(
 ///
 /// # Errors
 /// As `plan_node`.
-pub(crate) fn plan_link<S: Blocks>(
+pub(crate) fn plan_link<'a, S: Blocks>(
     alloc: Global,
     blocks: &mut S,
     path: &Path,
     other: &Path,
-) -> Result<Plan, Refusal>
+) -> Result<Plan<'a>, Refusal>
     requires may { MayPlan S.tells (S.state blocks.old) }
     ensures plans { Plans S.tells (Link path.now other.now) result (S.state blocks.old) (S.state blocks.new) }
     ensures made { OnChange result (λ draft cost nodes. MayBeMade S.tells draft cost nodes (S.state blocks.new)) }
@@ -185,12 +185,12 @@ pub(crate) fn plan_link<S: Blocks>(
 ///
 /// # Errors
 /// As `plan_node`.
-fn link_to<S: Blocks>(
+fn link_to<'a, S: Blocks>(
     alloc: Global,
     blocks: &mut S,
     found: &NodeFound,
     other: &Path,
-) -> Result<Plan, Refusal>
+) -> Result<Plan<'a>, Refusal>
     requires may { MayPlan S.tells (S.state blocks.old) }
     requires number { IsNumber (S.state blocks.old).books.geom.i found.now.number }
     requires used { IsTrue S.tells → IsUsed (files_in (S.state blocks.old) nothing_drafted) found.now.number }
@@ -211,12 +211,12 @@ fn link_to<S: Blocks>(
 ///
 /// # Errors
 /// As `plan_node`.
-fn link_in<S: Blocks>(
+fn link_in<'a, S: Blocks>(
     alloc: Global,
     blocks: &mut S,
     found: &NodeFound,
     vacancy: &Vacancy,
-) -> Result<Plan, Refusal>
+) -> Result<Plan<'a>, Refusal>
     requires may { MayPlan S.tells (S.state blocks.old) }
     requires dir { IsNumber (S.state blocks.old).books.geom.i vacancy.now.dir }
     requires few { vacancy.now.count < 2 ^ 24 }
@@ -248,13 +248,13 @@ fn link_in<S: Blocks>(
 ///
 /// # Errors
 /// As `plan_node`.
-fn link_file<S: Blocks>(
+fn link_file<'a, S: Blocks>(
     alloc: Global,
     blocks: &mut S,
     vacancy: &Vacancy,
     slot: &Slot,
     links: u32,
-) -> Result<Plan, Refusal>
+) -> Result<Plan<'a>, Refusal>
     requires may { MayPlan S.tells (S.state blocks.old) }
     requires dir { IsNumber (S.state blocks.old).books.geom.i vacancy.now.dir }
     requires few { vacancy.now.count < 2 ^ 24 }
@@ -303,7 +303,7 @@ fn the_tree_makes_nodes<S: Blocks>()
 {
     a_new_node_is_mapped();
     blocks_have_the_map_of_their_tree();
-    the_map_gives_the_figures();
+    the_map_gives_the_costs();
     the_map_gives_the_refusal();
     walks_are_the_same();
     what_a_path_comes_to_gives_the_walk();
@@ -332,7 +332,7 @@ fn the_tree_links_files<S: Blocks>()
 {
     a_new_path_is_mapped();
     blocks_have_the_map_of_their_tree();
-    the_map_gives_the_figures();
+    the_map_gives_the_costs();
     the_map_gives_the_refusal();
     walks_are_the_same();
     what_a_path_comes_to_gives_the_walk();
@@ -468,14 +468,14 @@ fn is_unused<S: Blocks>(draft: &Draft, blocks: &mut S, number: u32) -> Result<bo
 ///
 /// # Errors
 /// As `add_slot`.
-fn draft_node<S: Blocks>(
+fn draft_node<'a, S: Blocks>(
     alloc: Global,
     blocks: &mut S,
     kind: Kind,
     dir: u32,
     count: u32,
     slot: &Slot,
-) -> Result<Draft, FileRefusal>
+) -> Result<Draft<'a>, FileRefusal>
     requires may { MayPlan S.tells (S.state blocks.old) }
     requires below { IsTrue S.tells → AreUsedBelow (files_in (S.state blocks.old) nothing_drafted) slot.now.node }
     requires dir { IsNumber (S.state blocks.old).books.geom.i dir }
@@ -483,6 +483,7 @@ fn draft_node<S: Blocks>(
     requires there { IsTrue S.tells → HasCount (S.state blocks.old) nothing_drafted dir count }
     requires node { IsNumber (S.state blocks.old).books.geom.i slot.now.node }
     ensures draft { IfOk result (λ draft. IsDraftOf S.tells (S.state blocks.new) draft) }
+    ensures kept { IfOk result (λ draft. draft.kept ≡ []) }
     ensures used { IsTrue S.tells → IfOk result (λ draft. KeepsUsed (Taken slot.now.node) (files_in (S.state blocks.old) nothing_drafted)
         (files_in (S.state blocks.new) draft)) }
     ensures names { IsTrue S.tells → IfOk result (λ draft. (t : Tree) (slots : List SlotValue)
@@ -490,7 +491,8 @@ fn draft_node<S: Blocks>(
         → inodes (S.state blocks.old) dir ≡ Some (ADir slots)
         → AddsName (S.state blocks.old) (S.state blocks.new) draft dir slot.now.node slot.now.name (new_inode (first_thing kind)) slots) }
     ensures refused { IsTrue S.tells → IfErr result (λ why. (slots : List SlotValue) → inodes (S.state blocks.old) dir ≡ Some (ADir slots)
-        → GrowthRefused (growth (length slots)) (places_of (S.state blocks.old) dir) (S.state blocks.old).books (S.state blocks.new).books why) }
+        → GrowthRefused (growth (length slots)) (λ more. places_of (S.state blocks.old) dir ++ more) (S.state blocks.old).books
+        (S.state blocks.new).books why) }
     ensures quiet { IsTrue S.tells → (slots : List SlotValue) → inodes (S.state blocks.old) dir ≡ Some (ADir slots)
         → IsCalm (growth (length slots)) (S.state blocks.old) (S.state blocks.new) }
     ensures settles { LooksAndSettles S.tells (fails_reading result) (fails_settling result) (S.state blocks.old) (S.state blocks.new) }
@@ -527,14 +529,14 @@ fn node_kind(kind: Kind) -> NodeKind
 ///
 /// # Errors
 /// As `add_slot`.
-fn draft_link<S: Blocks>(
+fn draft_link<'a, S: Blocks>(
     alloc: Global,
     blocks: &mut S,
     dir: u32,
     count: u32,
     slot: &Slot,
     links: u32,
-) -> Result<Draft, FileRefusal>
+) -> Result<Draft<'a>, FileRefusal>
     requires begin { MayBegin S.tells (S.state blocks.old) }
     requires turns { HasTurns (S.state blocks.old).books }
     requires dir { IsNumber (S.state blocks.old).books.geom.i dir }
@@ -545,6 +547,7 @@ fn draft_link<S: Blocks>(
     requires some { 1 ≤ links }
     requires most { links ≤ 65535 }
     ensures draft { IfOk result (λ draft. IsDraftOf S.tells (S.state blocks.new) draft) }
+    ensures kept { IfOk result (λ draft. draft.kept ≡ []) }
     ensures used { IsTrue S.tells → IfOk result (λ draft. (l : ℕ) → IsUsed (files_in (S.state blocks.old) nothing_drafted) l
         → IsUsed (files_in (S.state blocks.new) draft) l) }
     ensures names { IsTrue S.tells → IfOk result (λ draft. (t : Tree) (slots : List SlotValue) (before : ℕ) (bytes : List ℕ)
@@ -552,7 +555,8 @@ fn draft_link<S: Blocks>(
         → inodes (S.state blocks.old) dir ≡ Some (ADir slots)
         → AddsName (S.state blocks.old) (S.state blocks.new) draft dir slot.now.node slot.now.name (AFile links bytes) slots) }
     ensures refused { IsTrue S.tells → IfErr result (λ why. (slots : List SlotValue) → inodes (S.state blocks.old) dir ≡ Some (ADir slots)
-        → GrowthRefused (growth (length slots)) (places_of (S.state blocks.old) dir) (S.state blocks.old).books (S.state blocks.new).books why) }
+        → GrowthRefused (growth (length slots)) (λ more. places_of (S.state blocks.old) dir ++ more) (S.state blocks.old).books
+        (S.state blocks.new).books why) }
     ensures quiet { IsTrue S.tells → (slots : List SlotValue) → inodes (S.state blocks.old) dir ≡ Some (ADir slots)
         → IsCalm (growth (length slots)) (S.state blocks.old) (S.state blocks.new) }
     ensures settles { LooksAndSettles S.tells (fails_reading result) (fails_settling result) (S.state blocks.old) (S.state blocks.new) }

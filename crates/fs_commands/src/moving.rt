@@ -1,9 +1,10 @@
 //! The command rename: a name moves, with all that lies below it. It finds its refusal from reads alone, weighs
 //! what it needs, and plans a draft. Nothing of that is made here.
 
-ghost use Rattle.std.specs.Prelude.{◌≡◌, ◌≢◌, ◌<◌, ◌≤◌, ◌+◌, ◌^◌, [], ℕ, IsTrue, List, length, take, Option, None, Some, IfSome, IfOk, IfErr};
+ghost use Rattle.std.specs.Prelude.{◌≡◌, ◌≢◌, ◌<◌, ◌≤◌, ◌+◌, ◌++◌, ◌^◌, [], ℕ, IsTrue, List, length, take, Option, None, Some, IfSome, IfOk, IfErr};
 ghost use Rattle.lang_tree.specs.declared.command.Cmd.TheVariants.{Rename};
 ghost use Rattle.lang_tree.specs.Figures.{growth, release};
+ghost use Rattle.lang_tree.specs.Sharing.{none_shared};
 ghost use Rattle.lang_tree.specs.Tree.{Tree};
 ghost use Rattle.crash_stands.specs.Stands.{IsTreeOf};
 ghost use Rattle.fs_inodes.specs.Figures.{blocks_lost};
@@ -24,6 +25,7 @@ ghost use Rattle.fs_commands.specs.Removing.{blocks_gone, use_after};
 ghost use Rattle.fs_session.specs.Sessions.{MayBegin, MayPlan, Stands, inodes};
 
 use crate::facts::{the_node_at_a_path_gives_the_inode, what_a_path_comes_to_gives_the_walk};
+use crate::figures::the_map_gives_the_costs;
 use crate::making::a_disk_is_small;
 use crate::paths::{Entry, NodeFound};
 use crate::refusals::refusal_of;
@@ -37,8 +39,8 @@ use fs_files::{
     Draft, FileRefusal, a_directory_has_whole_slots, a_draft_begins, a_file_fits_the_disk,
 };
 use fs_inodes::{
-    a_move_is_mapped, a_name_stands_at_its_place, paths_lead_to_inodes, the_map_gives_the_figures,
-    the_map_gives_the_refusal, the_map_gives_the_reply, walks_are_the_same,
+    a_move_is_mapped, a_name_stands_at_its_place, paths_lead_to_inodes, the_map_gives_the_refusal,
+    the_map_gives_the_reply, walks_are_the_same,
 };
 use fs_session::{NodeUse, Plan, blocks_have_the_map_of_their_tree, has_room};
 use lang_tree::{Refusal, blocks_for, growth, moving, release};
@@ -58,13 +60,13 @@ pub(crate) struct Goal {
 ///
 /// # Errors
 /// A read of the disk failed, which the disk has counted; or out of memory.
-fn draft_onto<S: Blocks>(
+fn draft_onto<'a, S: Blocks>(
     alloc: Global,
     blocks: &mut S,
     source: &Named,
     target: &Named,
     other: &Name,
-) -> Result<Draft, FileRefusal>
+) -> Result<Draft<'a>, FileRefusal>
     requires begin { MayBegin S.tells (S.state blocks.old) }
     requires stands { IsTrue S.tells → Stands (S.state blocks.old) }
     requires from_dir { IsNumber (S.state blocks.old).books.geom.i source.now.dir }
@@ -73,6 +75,7 @@ fn draft_onto<S: Blocks>(
     requires onto_entry { MayBeEntry (S.state blocks.old).books.geom.i target.now.entry }
     requires moves { IsTrue S.tells → (name : List ℕ) × MayMoveOnto (S.state blocks.old) source.now target.now name other.now }
     ensures draft { IfOk result (λ draft. IsDraftOf S.tells (S.state blocks.new) draft) }
+    ensures kept { IfOk result (λ draft. draft.kept ≡ []) }
     ensures moves { IsTrue S.tells → IfOk result (λ draft. (name : List ℕ) → MayMoveOnto (S.state blocks.old) source.now target.now name other.now
         → MovesName (S.state blocks.old) (S.state blocks.new) draft source.now.dir target.now.dir source.now.entry.node.number name other.now 5 []
         (release source.now.count + blocks_gone target.now.entry.node.facts) (use_after target.now.entry.node)) }
@@ -114,18 +117,19 @@ fn draft_onto<S: Blocks>(
 ///
 /// # Errors
 /// As `draft_onto`.
-fn draft_within<S: Blocks>(
+fn draft_within<'a, S: Blocks>(
     alloc: Global,
     blocks: &mut S,
     source: &Named,
     other: &Name,
-) -> Result<Draft, FileRefusal>
+) -> Result<Draft<'a>, FileRefusal>
     requires begin { MayBegin S.tells (S.state blocks.old) }
     requires stands { IsTrue S.tells → Stands (S.state blocks.old) }
     requires dir { IsNumber (S.state blocks.old).books.geom.i source.now.dir }
     requires entry { MayBeEntry (S.state blocks.old).books.geom.i source.now.entry }
     requires moves { IsTrue S.tells → (name : List ℕ) × MayRename (S.state blocks.old) source.now name other.now }
     ensures draft { IfOk result (λ draft. IsDraftOf S.tells (S.state blocks.new) draft) }
+    ensures kept { IfOk result (λ draft. draft.kept ≡ []) }
     ensures moves { IsTrue S.tells → IfOk result (λ draft. (name : List ℕ) → MayRename (S.state blocks.old) source.now name other.now
         → MovesName (S.state blocks.old) (S.state blocks.new) draft source.now.dir source.now.dir source.now.entry.node.number name other.now 1 [] 0
         Stays) }
@@ -161,14 +165,14 @@ fn draft_within<S: Blocks>(
 /// # Errors
 /// Where the directory grows by a block: none may be taken; its blocks would lie in more than 28 runs; or the
 /// disk failed as it settled. Else as `draft_onto`.
-fn draft_across<S: Blocks>(
+fn draft_across<'a, S: Blocks>(
     alloc: Global,
     blocks: &mut S,
     source: &Named,
     into: u32,
     count: u32,
     other: &Name,
-) -> Result<Draft, FileRefusal>
+) -> Result<Draft<'a>, FileRefusal>
     requires begin { MayBegin S.tells (S.state blocks.old) }
     requires turns { HasTurns (S.state blocks.old).books }
     requires stands { IsTrue S.tells → Stands (S.state blocks.old) }
@@ -178,6 +182,7 @@ fn draft_across<S: Blocks>(
     requires few { count < 2 ^ 24 }
     requires moves { IsTrue S.tells → (name : List ℕ) × MayMoveAway (S.state blocks.old) source.now into count name other.now }
     ensures draft { IfOk result (λ draft. IsDraftOf S.tells (S.state blocks.new) draft) }
+    ensures kept { IfOk result (λ draft. draft.kept ≡ []) }
     ensures moves { IsTrue S.tells → IfOk result (λ draft. (name : List ℕ) → MayMoveAway (S.state blocks.old) source.now into count name other.now
         → MovesName (S.state blocks.old) (S.state blocks.new) draft source.now.dir into source.now.entry.node.number name other.now 5
         (take (growth count) (reusable_blocks (S.state blocks.new).books)) (release source.now.count) Stays) }
@@ -185,9 +190,9 @@ fn draft_across<S: Blocks>(
         → growth count ≤ length (reusable_blocks (S.state blocks.old).books) → (S.state blocks.new).books ≡ (S.state blocks.old).books) }
     ensures grows { IsTrue S.tells → IfOk result (λ draft. (name : List ℕ)
         → MayMoveAway (S.state blocks.old) source.now into count name other.now
-        → GrowsInRuns (S.state blocks.old) (S.state blocks.new).books into (growth count)) }
+        → GrowsInRuns none_shared (S.state blocks.old) (S.state blocks.new).books into (growth count)) }
     ensures refused { IsTrue S.tells → IfErr result (λ why. (name : List ℕ) → MayMoveAway (S.state blocks.old) source.now into count name other.now
-        → GrowthRefused (growth count) (places_of (S.state blocks.old) into) (S.state blocks.old).books (S.state blocks.new).books why) }
+        → GrowthRefused (growth count) (λ more. places_of (S.state blocks.old) into ++ more) (S.state blocks.old).books (S.state blocks.new).books why) }
     ensures quiet { IsTrue S.tells → (name : List ℕ) → MayMoveAway (S.state blocks.old) source.now into count name other.now
         → IsCalm (growth count) (S.state blocks.old) (S.state blocks.new) }
     ensures settles { LooksAndSettles S.tells (fails_reading result) (fails_settling result) (S.state blocks.old) (S.state blocks.new) }
@@ -219,13 +224,13 @@ fn draft_across<S: Blocks>(
 /// # Errors
 /// There is no room; the directory's blocks would lie in too many runs; a read of the disk failed, or another
 /// call of it; or out of memory.
-pub(crate) fn plan_move<S: Blocks>(
+pub(crate) fn plan_move<'a, S: Blocks>(
     alloc: Global,
     blocks: &mut S,
     source: &Named,
     spot: &Goal,
     other: &Name,
-) -> Result<Plan, Refusal>
+) -> Result<Plan<'a>, Refusal>
     requires may { MayPlan S.tells (S.state blocks.old) }
     requires dir { IsNumber (S.state blocks.old).books.geom.i source.now.dir }
     requires entry { MayBeEntry (S.state blocks.old).books.geom.i source.now.entry }
@@ -261,13 +266,13 @@ pub(crate) fn plan_move<S: Blocks>(
 ///
 /// # Errors
 /// There is no room; a read of the disk failed; or out of memory.
-fn plan_onto<S: Blocks>(
+fn plan_onto<'a, S: Blocks>(
     alloc: Global,
     blocks: &mut S,
     source: &Named,
     target: &Named,
     other: &Name,
-) -> Result<Plan, Refusal>
+) -> Result<Plan<'a>, Refusal>
     requires may { MayPlan S.tells (S.state blocks.old) }
     requires from_dir { IsNumber (S.state blocks.old).books.geom.i source.now.dir }
     requires from_entry { MayBeEntry (S.state blocks.old).books.geom.i source.now.entry }
@@ -286,7 +291,7 @@ fn plan_onto<S: Blocks>(
     a_move_is_mapped();
     alterations_add_up();
     blocks_have_the_map_of_their_tree();
-    the_map_gives_the_figures();
+    the_map_gives_the_costs();
     the_map_gives_the_refusal();
     the_map_gives_the_reply();
     let bitmap = blocks.geom().bitmap_blocks();
@@ -322,12 +327,12 @@ fn blocks_gone_with(node: &NodeFound) -> u32
 ///
 /// # Errors
 /// As `plan_onto`.
-fn plan_within<S: Blocks>(
+fn plan_within<'a, S: Blocks>(
     alloc: Global,
     blocks: &mut S,
     source: &Named,
     other: &Name,
-) -> Result<Plan, Refusal>
+) -> Result<Plan<'a>, Refusal>
     requires may { MayPlan S.tells (S.state blocks.old) }
     requires dir { IsNumber (S.state blocks.old).books.geom.i source.now.dir }
     requires entry { MayBeEntry (S.state blocks.old).books.geom.i source.now.entry }
@@ -344,7 +349,7 @@ fn plan_within<S: Blocks>(
     alterations_add_up();
     blocks_have_the_map_of_their_tree();
     paths_lead_to_inodes();
-    the_map_gives_the_figures();
+    the_map_gives_the_costs();
     the_map_gives_the_refusal();
     the_map_gives_the_reply();
     let figures = moving(blocks.geom().bitmap_blocks(), 0, 0);
@@ -367,14 +372,14 @@ fn plan_within<S: Blocks>(
 /// # Errors
 /// There is no room; the directory's blocks would lie in too many runs; a read of the disk failed, or another
 /// call of it; or out of memory.
-fn plan_across<S: Blocks>(
+fn plan_across<'a, S: Blocks>(
     alloc: Global,
     blocks: &mut S,
     source: &Named,
     into: u32,
     count: u32,
     other: &Name,
-) -> Result<Plan, Refusal>
+) -> Result<Plan<'a>, Refusal>
     requires may { MayPlan S.tells (S.state blocks.old) }
     requires dir { IsNumber (S.state blocks.old).books.geom.i source.now.dir }
     requires entry { MayBeEntry (S.state blocks.old).books.geom.i source.now.entry }
@@ -395,7 +400,7 @@ fn plan_across<S: Blocks>(
     alterations_add_up();
     blocks_have_the_map_of_their_tree();
     paths_lead_to_inodes();
-    the_map_gives_the_figures();
+    the_map_gives_the_costs();
     the_map_gives_the_refusal();
     the_map_gives_the_reply();
     let bitmap = blocks.geom().bitmap_blocks();

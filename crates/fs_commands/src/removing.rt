@@ -25,10 +25,10 @@ ghost use Rattle.fs_session.specs.Plans.{IsAnswer, MayBeMade, OnChange, Plans};
 ghost use Rattle.fs_commands.specs.Removing.{IsFound, IsLoss, IsNamed, KnowsLoss, LosesLink, LosesName, MayLose, blocks_gone, lose_cmd, use_after};
 ghost use Rattle.fs_commands.specs.Removing.{lose_reason};
 ghost use Rattle.fs_session.specs.Sessions.{MayBegin, MayPlan, Stands, inodes};
-ghost use Rattle.fs_session.specs.Space.{ArePlaced};
+ghost use Rattle.fs_session.specs.Space.{ArePlaced, none_renewed};
 
 use crate::facts::{the_node_at_a_path_gives_the_inode, what_a_path_comes_to_gives_the_walk};
-use crate::figures::{rmdir_figures, unlink_figures};
+use crate::figures::{rmdir_figures, the_map_gives_the_costs, unlink_figures};
 use crate::look::is_dir;
 use crate::paths::{Entry, NodeFound, Spot, look_up};
 use crate::prices::small_drafts_are_within_the_cost;
@@ -39,11 +39,11 @@ use engine_blocks::{Blocks, calls_compose};
 use fs_dirs::{alterations_add_up, count_slots, directories_are_read, take_slot};
 use fs_files::{
     Draft, FileFacts, FileRefusal, a_directory_has_whole_slots, a_draft_begins,
-    a_file_fits_the_disk, a_file_has_its_blocks,
+    a_file_fits_the_disk, a_file_has_its_blocks, where_nothing_is_kept,
 };
 use fs_inodes::{
-    a_lost_path_is_mapped, a_name_stands_at_its_place, the_map_gives_the_figures,
-    the_map_gives_the_refusal, walks_are_the_same,
+    a_lost_path_is_mapped, a_name_stands_at_its_place, the_map_gives_the_refusal,
+    walks_are_the_same,
 };
 use fs_session::{
     NodeUse, Plan, a_node_in_use_has_links, blocks_have_the_map_of_their_tree, has_room,
@@ -63,11 +63,11 @@ pub(crate) struct Named {
 ///
 /// # Errors
 /// There is no room for it; a read of the disk failed; or out of memory.
-pub(crate) fn plan_unlink<S: Blocks>(
+pub(crate) fn plan_unlink<'a, S: Blocks>(
     alloc: Global,
     blocks: &mut S,
     path: &Path,
-) -> Result<Plan, Refusal>
+) -> Result<Plan<'a>, Refusal>
     requires may { MayPlan S.tells (S.state blocks.old) }
     ensures plans { Plans S.tells (Unlink path.now) result (S.state blocks.old) (S.state blocks.new) }
     ensures made { OnChange result (λ draft cost nodes. MayBeMade S.tells draft cost nodes (S.state blocks.new)) }
@@ -79,11 +79,11 @@ pub(crate) fn plan_unlink<S: Blocks>(
 ///
 /// # Errors
 /// As `plan_unlink`.
-pub(crate) fn plan_rmdir<S: Blocks>(
+pub(crate) fn plan_rmdir<'a, S: Blocks>(
     alloc: Global,
     blocks: &mut S,
     path: &Path,
-) -> Result<Plan, Refusal>
+) -> Result<Plan<'a>, Refusal>
     requires may { MayPlan S.tells (S.state blocks.old) }
     ensures plans { Plans S.tells (Rmdir path.now) result (S.state blocks.old) (S.state blocks.new) }
     ensures made { OnChange result (λ draft cost nodes. MayBeMade S.tells draft cost nodes (S.state blocks.new)) }
@@ -95,12 +95,12 @@ pub(crate) fn plan_rmdir<S: Blocks>(
 ///
 /// # Errors
 /// As `plan_unlink`.
-fn plan_loss<S: Blocks>(
+fn plan_loss<'a, S: Blocks>(
     alloc: Global,
     blocks: &mut S,
     kind: Kind,
     path: &Path,
-) -> Result<Plan, Refusal>
+) -> Result<Plan<'a>, Refusal>
     requires may { MayPlan S.tells (S.state blocks.old) }
     ensures plans { Plans S.tells (lose_cmd kind path.now) result (S.state blocks.old) (S.state blocks.new) }
     ensures made { OnChange result (λ draft cost nodes. MayBeMade S.tells draft cost nodes (S.state blocks.new)) }
@@ -123,13 +123,13 @@ fn plan_loss<S: Blocks>(
 ///
 /// # Errors
 /// As `plan_unlink`.
-fn plan_loss_at<S: Blocks>(
+fn plan_loss_at<'a, S: Blocks>(
     alloc: Global,
     blocks: &mut S,
     kind: Kind,
     path: &Path,
     spot: &Spot,
-) -> Result<Plan, Refusal>
+) -> Result<Plan<'a>, Refusal>
     requires may { MayPlan S.tells (S.state blocks.old) }
     requires comes { IsTrue S.tells → ComesTo (files_in (S.state blocks.old) nothing_drafted) path.now (Fine spot.now) }
     requires within { IsWithin (S.state blocks.old).books.geom.i spot.now }
@@ -159,7 +159,11 @@ fn plan_loss_at<S: Blocks>(
 ///
 /// # Errors
 /// A read of the disk failed; or out of memory.
-fn plan_root_loss<S: Blocks>(alloc: Global, blocks: &mut S, kind: Kind) -> Result<Plan, Refusal>
+fn plan_root_loss<'a, S: Blocks>(
+    alloc: Global,
+    blocks: &mut S,
+    kind: Kind,
+) -> Result<Plan<'a>, Refusal>
     requires may { MayPlan S.tells (S.state blocks.old) }
     ensures plans { Plans S.tells (lose_cmd kind []) result (S.state blocks.old) (S.state blocks.new) }
     ensures answers { IsAnswer result }
@@ -190,15 +194,18 @@ pub(crate) fn lose_link<S: Blocks>(
     requires found { IsTrue S.tells → IsFound (files_in (S.state blocks.old) draft.old) node.now }
     ensures link { IsTrue S.tells → OnOk result ((x : Inode) → inodes_in (S.state blocks.old) draft.old node.now.number ≡ Some x
         → LosesLink (files_in (S.state blocks.old) draft.old) (files_in (S.state blocks.new) draft.new) node.now.number) }
-    ensures placed { IsTrue S.tells → OnOk result (ArePlaced (places_in (S.state blocks.old) draft.old) (places_in (S.state blocks.new) draft.new) []) }
+    ensures placed { IsTrue S.tells
+        → OnOk result (ArePlaced none_renewed (places_in (S.state blocks.old) draft.old) (places_in (S.state blocks.new) draft.new) []) }
     ensures draft { OnOk result (IsDraftOf S.tells (S.state blocks.new) draft.new) }
-    ensures alters { IsTrue S.tells → OnOk result (Alters 1 [] (blocks_gone node.now.facts) draft.old draft.new) }
+    ensures kept { OnOk result (draft.new.kept ≡ draft.old.kept) }
+    ensures alters { IsTrue S.tells → draft.old.kept ≡ [] → OnOk result (Alters 1 [] (blocks_gone node.now.facts) draft.old draft.new) }
     ensures refused { IfErr result LookRefused }
     ensures looks { LooksOnly S.tells (fails_reading result) (S.state blocks.old) (S.state blocks.new) }
 {
     a_file_has_its_blocks::<S>();
     a_node_in_use_has_links();
     alterations_add_up();
+    where_nothing_is_kept();
     let links = node.facts.links;
     if links == 1 {
         return draft.drop_node(alloc, blocks, node.number);
@@ -297,13 +304,18 @@ fn root_refusal_by(count: Option<u32>) -> Refusal
 ///
 /// # Errors
 /// A read of the disk failed, which the disk has counted; or out of memory.
-fn draft_loss<S: Blocks>(alloc: Global, blocks: &mut S, named: &Named) -> Result<Draft, FileRefusal>
+fn draft_loss<'a, S: Blocks>(
+    alloc: Global,
+    blocks: &mut S,
+    named: &Named,
+) -> Result<Draft<'a>, FileRefusal>
     requires begin { MayBegin S.tells (S.state blocks.old) }
     requires stands { IsTrue S.tells → Stands (S.state blocks.old) }
     requires dir { IsNumber (S.state blocks.old).books.geom.i named.now.dir }
     requires entry { MayBeEntry (S.state blocks.old).books.geom.i named.now.entry }
     requires named { IsTrue S.tells → (name : List ℕ) × IsNamed (files_in (S.state blocks.old) nothing_drafted) name named.now }
     ensures draft { IfOk result (λ draft. IsDraftOf S.tells (S.state blocks.new) draft) }
+    ensures kept { IfOk result (λ draft. draft.kept ≡ []) }
     ensures loses { IsTrue S.tells → IfOk result (λ draft. (name : List ℕ) → IsNamed (files_in (S.state blocks.old) nothing_drafted) name named.now
         → LosesName (S.state blocks.old) (S.state blocks.new) draft name named.now) }
     ensures refused { IfErr result LookRefused }
@@ -385,12 +397,12 @@ pub(crate) fn use_after(node: &NodeFound) -> NodeUse
 ///
 /// # Errors
 /// There is no room for it; a read of the disk failed; or out of memory.
-fn plan_name_loss<S: Blocks>(
+fn plan_name_loss<'a, S: Blocks>(
     alloc: Global,
     blocks: &mut S,
     kind: Kind,
     named: &Named,
-) -> Result<Plan, Refusal>
+) -> Result<Plan<'a>, Refusal>
     requires may { MayPlan S.tells (S.state blocks.old) }
     requires dir { IsNumber (S.state blocks.old).books.geom.i named.now.dir }
     requires entry { MayBeEntry (S.state blocks.old).books.geom.i named.now.entry }
@@ -403,7 +415,7 @@ fn plan_name_loss<S: Blocks>(
     what_goes_is_known(blocks);
     blocks_have_the_map_of_their_tree();
     a_lost_path_is_mapped();
-    the_map_gives_the_figures();
+    the_map_gives_the_costs();
     the_map_gives_the_refusal();
     small_drafts_are_within_the_cost();
     let bitmap = blocks.geom().bitmap_blocks();

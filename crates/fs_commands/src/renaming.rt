@@ -23,6 +23,7 @@ ghost use Rattle.fs_commands.specs.Renaming.{HasRoot, IsBelowRoot, ShowsEntry};
 ghost use Rattle.fs_session.specs.Sessions.{MayBegin, MayPlan, inodes};
 
 use crate::facts::what_a_path_comes_to_gives_the_walk;
+use crate::figures::the_map_gives_the_costs;
 use crate::look::is_dir;
 use crate::moving::{Goal, plan_move};
 use crate::paths::{Entry, Spot, look_up};
@@ -32,9 +33,8 @@ use base_types::Name;
 use engine_blocks::{Blocks, calls_compose};
 use fs_files::FileFacts;
 use fs_inodes::{
-    a_name_stands_at_its_place, no_tree_stands_for_damage, the_map_gives_the_figures,
-    the_map_gives_the_refusal, the_map_gives_the_reply, walks_are_the_same,
-    what_changes_nothing_keeps_the_map,
+    a_name_stands_at_its_place, no_tree_stands_for_damage, the_map_gives_the_refusal,
+    the_map_gives_the_reply, walks_are_the_same, what_changes_nothing_keeps_the_map,
 };
 use fs_session::{Plan, blocks_have_the_map_of_their_tree};
 use lang_tree::{Path, Refusal, Reply};
@@ -53,12 +53,12 @@ struct Ends {
 /// # Errors
 /// There is no room; the directory's blocks would lie in too many runs; a read of the disk failed, or another
 /// call of it; or out of memory.
-pub(crate) fn plan_rename<S: Blocks>(
+pub(crate) fn plan_rename<'a, S: Blocks>(
     alloc: Global,
     blocks: &mut S,
     from: &Path,
     to: &Path,
-) -> Result<Plan, Refusal>
+) -> Result<Plan<'a>, Refusal>
     requires may { MayPlan S.tells (S.state blocks.old) }
     ensures plans { Plans S.tells (Rename from.now to.now) result (S.state blocks.old) (S.state blocks.new) }
     ensures made { OnChange result (λ draft cost nodes. MayBeMade S.tells draft cost nodes (S.state blocks.new)) }
@@ -81,13 +81,13 @@ pub(crate) fn plan_rename<S: Blocks>(
 ///
 /// # Errors
 /// As `plan_rename`.
-fn plan_rename_of<S: Blocks>(
+fn plan_rename_of<'a, S: Blocks>(
     alloc: Global,
     blocks: &mut S,
     from: &Path,
     spot: &Spot,
     to: &Path,
-) -> Result<Plan, Refusal>
+) -> Result<Plan<'a>, Refusal>
     requires may { MayPlan S.tells (S.state blocks.old) }
     requires comes { IsTrue S.tells → ComesTo (files_in (S.state blocks.old) nothing_drafted) from.now (Fine spot.now) }
     requires within { IsWithin (S.state blocks.old).books.geom.i spot.now }
@@ -116,14 +116,18 @@ fn plan_rename_of<S: Blocks>(
 ///
 /// # Errors
 /// A read of the disk failed; or out of memory.
-fn plan_root_rename<S: Blocks>(alloc: Global, blocks: &mut S, to: &Path) -> Result<Plan, Refusal>
+fn plan_root_rename<'a, S: Blocks>(
+    alloc: Global,
+    blocks: &mut S,
+    to: &Path,
+) -> Result<Plan<'a>, Refusal>
     requires may { MayPlan S.tells (S.state blocks.old) }
     ensures plans { Plans S.tells (Rename [] to.now) result (S.state blocks.old) (S.state blocks.new) }
     ensures answers { IsAnswer result }
 {
     calls_compose::<S>();
     blocks_have_the_map_of_their_tree();
-    the_map_gives_the_figures();
+    the_map_gives_the_costs();
     the_map_gives_the_refusal();
     the_map_gives_the_reply();
     what_a_path_comes_to_gives_the_walk();
@@ -147,13 +151,13 @@ fn plan_root_rename<S: Blocks>(alloc: Global, blocks: &mut S, to: &Path) -> Resu
 ///
 /// # Errors
 /// As `plan_rename`.
-fn plan_entry_rename<S: Blocks>(
+fn plan_entry_rename<'a, S: Blocks>(
     alloc: Global,
     blocks: &mut S,
     from: &Path,
     source: &Named,
     to: &Path,
-) -> Result<Plan, Refusal>
+) -> Result<Plan<'a>, Refusal>
     requires may { MayPlan S.tells (S.state blocks.old) }
     requires dir { IsNumber (S.state blocks.old).books.geom.i source.now.dir }
     requires entry { MayBeEntry (S.state blocks.old).books.geom.i source.now.entry }
@@ -201,14 +205,14 @@ fn plan_entry_rename<S: Blocks>(
 ///
 /// # Errors
 /// As `plan_rename`.
-fn plan_entry_move<S: Blocks>(
+fn plan_entry_move<'a, S: Blocks>(
     alloc: Global,
     blocks: &mut S,
     from: &Path,
     to: &Path,
     ends: &Ends,
     name: &Name,
-) -> Result<Plan, Refusal>
+) -> Result<Plan<'a>, Refusal>
     requires may { MayPlan S.tells (S.state blocks.old) }
     requires dir { IsNumber (S.state blocks.old).books.geom.i ends.now.source.dir }
     requires entry { MayBeEntry (S.state blocks.old).books.geom.i ends.now.source.entry }
@@ -225,7 +229,7 @@ fn plan_entry_move<S: Blocks>(
 {
     calls_compose::<S>();
     blocks_have_the_map_of_their_tree();
-    the_map_gives_the_figures();
+    the_map_gives_the_costs();
     the_map_gives_the_refusal();
     the_map_gives_the_reply();
     what_a_path_comes_to_gives_the_walk();

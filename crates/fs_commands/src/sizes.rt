@@ -25,12 +25,16 @@ use crate::prices::small_drafts_are_within_the_cost;
 use crate::refusals::refusal_of;
 use base_types::limits::LARGEST_FILE;
 use engine_blocks::{Blocks, calls_compose};
-use fs_files::{Draft, a_draft_begins, a_file_fits_the_disk, a_file_has_its_blocks};
+use fs_files::{
+    Draft, a_draft_begins, a_file_fits_the_disk, a_file_has_its_blocks, where_nothing_is_kept,
+};
 use fs_inodes::{
     new_bytes_are_mapped, paths_lead_to_inodes, the_map_gives_the_refusal, walks_are_the_same,
 };
 use fs_session::{NodeUse, Plan, blocks_have_the_map_of_their_tree, has_room};
-use lang_tree::{Path, Refusal, Reply, touched_blocks_are_counted_by_division};
+use lang_tree::{
+    Path, Refusal, Reply, nothing_shared_costs_nothing, touched_blocks_are_counted_by_division,
+};
 use std::alloc::Global;
 
 /// Plans to give the file at a path so many bytes: its first ones, and zeros where it grows.
@@ -38,12 +42,12 @@ use std::alloc::Global;
 /// # Errors
 /// There is no room; the file's blocks would lie in too many runs; a read of the disk failed, or another call
 /// of it; or out of memory.
-pub(crate) fn plan_truncate<S: Blocks>(
+pub(crate) fn plan_truncate<'a, S: Blocks>(
     alloc: Global,
     blocks: &mut S,
     path: &Path,
     size: u32,
-) -> Result<Plan, Refusal>
+) -> Result<Plan<'a>, Refusal>
     requires may { MayPlan S.tells (S.state blocks.old) }
     ensures plans { Plans S.tells (Truncate path.now size) result (S.state blocks.old) (S.state blocks.new) }
     ensures made { OnChange result (λ draft cost nodes. MayBeMade S.tells draft cost nodes (S.state blocks.new)) }
@@ -62,12 +66,12 @@ pub(crate) fn plan_truncate<S: Blocks>(
 ///
 /// # Errors
 /// As `plan_truncate`.
-fn truncate_found<S: Blocks>(
+fn truncate_found<'a, S: Blocks>(
     alloc: Global,
     blocks: &mut S,
     found: &NodeFound,
     size: u32,
-) -> Result<Plan, Refusal>
+) -> Result<Plan<'a>, Refusal>
     requires may { MayPlan S.tells (S.state blocks.old) }
     requires number { IsNumber (S.state blocks.old).books.geom.i found.now.number }
     requires file { IsTrue S.tells → IsFile (files_in (S.state blocks.old) nothing_drafted) found.now }
@@ -78,6 +82,7 @@ fn truncate_found<S: Blocks>(
 {
     calls_compose::<S>();
     a_file_is_at_its_path(blocks);
+    nothing_shared_costs_nothing();
     the_map_gives_the_refusal();
     if is_past_the_most(size) {
         return Ok(Plan::Answer(Reply::Refused(Refusal::TooLarge)));
@@ -97,13 +102,13 @@ fn truncate_found<S: Blocks>(
 /// # Errors
 /// The file's blocks would lie in too many runs; a read of the disk failed, or another call of it; or out of
 /// memory.
-fn plan_size<S: Blocks>(
+fn plan_size<'a, S: Blocks>(
     alloc: Global,
     blocks: &mut S,
     number: u32,
     size: u32,
     cost: u32,
-) -> Result<Plan, Refusal>
+) -> Result<Plan<'a>, Refusal>
     requires may { MayPlan S.tells (S.state blocks.old) }
     requires number { IsNumber (S.state blocks.old).books.geom.i number }
     requires file { IsTrue S.tells → (x : FileNode) × (files_in (S.state blocks.old) nothing_drafted number ≡ Some x) × (x.kind ≡ File) }
@@ -122,8 +127,10 @@ fn plan_size<S: Blocks>(
     paths_lead_to_inodes();
     the_node_at_a_path_gives_the_inode();
     walks_are_the_same();
+    nothing_shared_costs_nothing();
     small_drafts_are_within_the_cost();
     touched_blocks_are_counted_by_division();
+    where_nothing_is_kept();
     let mut draft = Draft::new(alloc);
     match draft.resize(alloc, blocks, number, u64::from(size)) {
         Ok(()) => Ok(Plan::Change {

@@ -51,15 +51,16 @@ pub record AddsSlot {T : Type 0} (tells : Bool) (dir : ℕ) (slot : Slot) (resul
   -- its blocks are those that it had, and behind them the least that may be taken, where it grows
   pub places : IsTrue tells → OnOk result ((slots : List Slot) → inodes_in s d dir ≡ Some (ADir slots)
       → IsWithPlaces (places_in s d) (places_in t e) dir (places_in s d dir ++ take (growth (length slots)) (reusable_blocks t.books)))
-  -- the draft is one of the blocks as they are then
+  -- the draft is one of the blocks as they are then, beside the same kept blocks
   pub draft : OnOk result (IsDraftOf tells t e)
+  pub kept : OnOk result (e.kept ≡ d.kept)
   -- so many may be taken, and the directory has at most 28 runs
   pub room : IsTrue tells → OnOk result ((slots : List Slot) → inodes_in s d dir ≡ Some (ADir slots) → growth (length slots) ≤ length (reusable_blocks t.books))
   pub runs : IsTrue tells → OnOk result ((slots : List Slot) → inodes_in s d dir ≡ Some (ADir slots) → stretches (places_in s d dir ++ take (growth (length slots)) (reusable_blocks t.books)) ≤ 28)
   -- it changes two blocks at most, and takes those
   pub alters : IsTrue tells → OnOk result ((slots : List Slot) → inodes_in s d dir ≡ Some (ADir slots) → Alters 2 (take (growth (length slots)) (reusable_blocks t.books)) 0 d e)
   -- why it is refused
-  pub refused : IsTrue tells → IfErr result (λ why. (slots : List Slot) → inodes_in s d dir ≡ Some (ADir slots) → GrowthRefused (growth (length slots)) (places_in s d dir) s.books t.books why)
+  pub refused : IsTrue tells → IfErr result (λ why. (slots : List Slot) → inodes_in s d dir ≡ Some (ADir slots) → GrowthRefused (growth (length slots)) (λ more. places_in s d dir ++ more) s.books t.books why)
   -- what becomes of the blocks: where enough may be taken they are only read
   pub settles : LooksAndSettles tells (fails_reading result) (fails_settling result) s t
   pub looks : IsTrue tells → (slots : List Slot) → inodes_in s d dir ≡ Some (ADir slots) → growth (length slots) ≤ length (reusable_blocks s.books) → LooksOnly tells (fails_reading result) s t
@@ -70,8 +71,9 @@ pub record SetsSlot {T : Type 0} (tells : Bool) (dir place : ℕ) (slot : Slot) 
   pub slots : IsTrue tells → OnOk result ((slots : List Slot) → inodes_in s d dir ≡ Some (ADir slots) → IsWithSlots (files_in s d) (files_in t e) dir (set slots place slot))
   -- it has the blocks that it had
   pub places : IsTrue tells → OnOk result (IsWithPlaces (places_in s d) (places_in t e) dir (places_in s d dir))
-  -- the draft is one of the blocks as they are then
+  -- the draft is one of the blocks as they are then, beside the same kept blocks
   pub draft : OnOk result (IsDraftOf tells t e)
+  pub kept : OnOk result (e.kept ≡ d.kept)
   -- it changes one block
   pub alters : IsTrue tells → OnOk result (Alters 1 [] 0 d e)
   -- a read of the disk failed, or it is out of memory; blocks are only read
@@ -85,8 +87,9 @@ pub record TakesSlot {T : Type 0} (tells : Bool) (dir place : ℕ) (result : Res
   -- it has the first of its blocks, as many as one slot less needs
   pub places : IsTrue tells → OnOk result ((slots : List Slot) → inodes_in s d dir ≡ Some (ADir slots)
       → IsWithPlaces (places_in s d) (places_in t e) dir (take (directory_blocks (length slots - 1)) (places_in s d dir)))
-  -- the draft is one of the blocks as they are then
+  -- the draft is one of the blocks as they are then, beside the same kept blocks
   pub draft : OnOk result (IsDraftOf tells t e)
+  pub kept : OnOk result (e.kept ≡ d.kept)
   -- it changes three blocks at most, and frees one where it needs one less
   pub alters : IsTrue tells → OnOk result ((slots : List Slot) → inodes_in s d dir ≡ Some (ADir slots) → Alters 3 [] (release (length slots)) d e)
   -- a read of the disk failed, or it is out of memory; blocks are only read
@@ -99,8 +102,9 @@ pub record CutsSlots {T : Type 0} (tells : Bool) (dir count : ℕ) (result : Res
   pub slots : IsTrue tells → OnOk result ((slots : List Slot) → inodes_in s d dir ≡ Some (ADir slots) → IsWithSlots (files_in s d) (files_in t e) dir (take count slots))
   -- it has the first of its blocks, as many as these slots need
   pub places : IsTrue tells → OnOk result (IsWithPlaces (places_in s d) (places_in t e) dir (take (directory_blocks count) (places_in s d dir)))
-  -- the draft is one of the blocks as they are then
+  -- the draft is one of the blocks as they are then, beside the same kept blocks
   pub draft : OnOk result (IsDraftOf tells t e)
+  pub kept : OnOk result (e.kept ≡ d.kept)
   -- it changes two blocks at most, and frees the others of its own
   pub alters : IsTrue tells → OnOk result ((slots : List Slot) → inodes_in s d dir ≡ Some (ADir slots) → Alters 2 [] (directory_blocks (length slots) - directory_blocks count) d e)
   -- a read of the disk failed, or it is out of memory; blocks are only read

@@ -8,7 +8,10 @@ ghost use Rattle.fs_dirs.specs.Changing.{AddsSlot, HasCount};
 
 use crate::changing::slot_text;
 use engine_blocks::Blocks;
-use fs_files::{Draft, FileRefusal, a_directory_has_whole_slots, a_file_has_its_blocks};
+use fs_files::{
+    Draft, FileRefusal, a_directory_has_whole_slots, a_directory_shares_no_block,
+    a_file_has_its_blocks, where_nothing_is_kept,
+};
 use fs_inodes::slots_follow_the_bytes;
 use layout_bytes::{SLOT_LENGTH, Slot};
 use std::alloc::Global;
@@ -35,7 +38,9 @@ pub fn add_slot<S: Blocks>(
     ensures { AddsSlot S.tells dir slot.now result (S.state blocks.old) (S.state blocks.new) draft.old draft.new }
 {
     a_directory_has_whole_slots::<S>();
+    a_directory_shares_no_block::<S>();
     a_file_has_its_blocks::<S>();
+    where_nothing_is_kept();
     slots_follow_the_bytes();
     let text = slot_text(slot);
     let offset = SLOT_LENGTH as u64 * u64::from(count);

@@ -21,7 +21,8 @@ use crate::block::{SLOTS_IN_BLOCK, ZEROS, read_slots, slot_in};
 use crate::lookup::{Directory, open_directory};
 use engine_blocks::{Blocks, calls_compose};
 use fs_files::{
-    Draft, FileRefusal, a_directory_has_whole_slots, a_file_has_its_blocks, bytes_lie_in_blocks,
+    Draft, FileRefusal, a_directory_has_whole_slots, a_directory_shares_no_block,
+    a_file_has_its_blocks, bytes_lie_in_blocks, where_nothing_is_kept,
 };
 use fs_inodes::slots_follow_the_bytes;
 use layout_bytes::{SLOT_LENGTH, Slot};
@@ -47,6 +48,7 @@ pub fn set_slot<S: Blocks>(
     ensures { SetsSlot S.tells dir place slot.now result (S.state blocks.old) (S.state blocks.new) draft.old draft.new }
 {
     a_directory_has_whole_slots::<S>();
+    a_directory_shares_no_block::<S>();
     bytes_lie_in_blocks();
     slots_follow_the_bytes();
     let text = slot_text(slot);
@@ -140,8 +142,10 @@ fn cut_slots<S: Blocks>(
     ensures { CutsSlots S.tells dir count result (S.state blocks.old) (S.state blocks.new) draft.old draft.new }
 {
     a_directory_has_whole_slots::<S>();
+    a_directory_shares_no_block::<S>();
     a_file_has_its_blocks::<S>();
     slots_follow_the_bytes();
+    where_nothing_is_kept();
     let size = SLOT_LENGTH as u64 * u64::from(count);
     draft.cut_to(alloc, blocks, dir, size)?;
     Ok(())

@@ -3,6 +3,7 @@ use Rattle.std.specs.Prelude.{◌≡◌, ◌⊎◌, ℕ, ◌+◌, ◌<◌, ◌�
 use Rattle.layout_geometry.specs.Geometry.{Geometry}
 use Rattle.lang_tree.specs.declared.command.Refusal.{Refusal}
 use Rattle.lang_tree.specs.declared.command.Refusal.TheVariants.{TooBig, NoMemory}
+use Rattle.lang_tree.specs.Sharing.{SharedNodes}
 use Rattle.engine_blocks.specs.Running.{has}
 use Rattle.engine_blocks.specs.State.{Bookkeeping, State}
 use Rattle.fs_files.specs.Drafts.{DraftState, ChangesSome, marks_of}
@@ -48,8 +49,8 @@ pub record ChangesAtMost (d : DraftState) (changed fresh taken freed : ℕ) : Ty
   pub few_freed : length d.freed ≤ freed
   pub some : ChangesSome d
 
--- The draft takes the first of these blocks, as many as are needed, and frees so many. Of what the nodes had and have, each has the first of its own, or all of its own and behind them those taken.
-pub record Uses (need freed : ℕ) (spare : List ℕ) (old new : ℕ → List ℕ) (d : DraftState) : Type 0 where
+-- The draft takes the first of these blocks, as many as are needed, and frees so many. Of what the nodes had and have, each has the first of its own, or all of its own and behind them those taken, of which the first stand where places are renewed.
+pub record Uses (need freed : ℕ) (spare : List ℕ) (renewed : SharedNodes) (old new : ℕ → List ℕ) (d : DraftState) : Type 0 where
   pub taken : d.taken ≡ take need spare
   pub freed_are : length d.freed ≡ freed
-  pub placed : ArePlaced old new (take need spare)
+  pub placed : ArePlaced renewed old new (take need spare)

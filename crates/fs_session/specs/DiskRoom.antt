@@ -11,19 +11,20 @@ use Rattle.lang_tree.specs.Step.{Session, step}
 use Rattle.engine_blocks.specs.Running.{has}
 use Rattle.engine_blocks.specs.State.{data_blocks}
 use Rattle.fs_session.specs.Commands.{is_on_tree}
-use Rattle.fs_session.specs.Room.{AnswersIn, HoldsTree, RefusesIn, Room, left_in, most_weight, node_blocks}
+use Rattle.fs_session.specs.Room.{AnswersIn, HoldsTree, RefusesIn, Room, is_in_use, left_in, most_weight}
 
--- The room is one of this session: each node has as many blocks as its content needs, and the transaction fits. The blocks that may be taken are data blocks, ascending, that no node has, and no more than are left.
+-- The room is one of this session: each node has as many blocks as its content needs, and the transaction fits. The blocks that may be taken are data blocks, ascending, that are in no list, and no more than are left.
 pub record IsRoomOf (g : Geometry) (f : Session) (r : Room) : Type 0 where
-  pub holds : HoldsTree f.tree r
+  pub holds : HoldsTree g f.tree r
   pub fits : r.weight ≤ most_weight g
   pub takeable : r.takeable ≡ filter (has r.takeable) (data_blocks g)
-  pub apart : (b : ℕ) → has (node_blocks r.places g.i) b ≡ true → has r.takeable b ≡ false
+  pub apart : (b : ℕ) → is_in_use g f.tree r b ≡ true → has r.takeable b ≡ false
   pub upto : length r.takeable ≤ left_in g f r
 
--- Each node keeps its blocks, and what might be taken still may. Blocks that waited may be taken again by themselves.
+-- Each list stays, and what might be taken still may. Blocks that waited may be taken again by themselves.
 pub record KeepsRoom (old new : Room) : Type 0 where
   pub places : new.places ≡ old.places
+  pub kept : new.kept ≡ old.kept
   pub takeable : (b : ℕ) → has old.takeable b ≡ true → has new.takeable b ≡ true
 
 -- The session's room came back: the transaction is as it was, and it has what it had of blocks, and perhaps some that waited.

@@ -1,9 +1,12 @@
+pub mod Lists
+pub mod Row
 pub mod Sessions
 pub mod Space
 pub mod Room
 pub mod Memory
 pub mod Changes
 pub mod Commands
+pub mod NothingKept
 pub mod DiskRoom
 pub mod Plans
 pub mod Syncs

@@ -4,12 +4,12 @@ use Rattle.layout_geometry.specs.Geometry.{data_start}
 use Rattle.layout_bytes.specs.Bitmap.{is_set}
 use Rattle.engine_blocks.specs.State.{State, reusable_blocks}
 use Rattle.fs_session.specs.Applying.{is_spent}
-use Rattle.fs_session.specs.Commands.{places_of}
+use Rattle.fs_session.specs.Commands.{kept_in, places_of}
 use Rattle.fs_session.specs.Room.{Room}
 
 -- the room that blocks show
 abbrev pub room_of : State → Room
-room_of s = record { weight = s.books.running.weight; held = s.books.running.held; takeable = reusable_blocks s.books; places = places_of s }
+room_of s = record { weight = s.books.running.weight; held = s.books.running.held; takeable = reusable_blocks s.books; places = places_of s; kept = kept_in s }
 
 -- no data block is set in the bitmap
 abbrev pub HasNoBlocks : State → Type 0

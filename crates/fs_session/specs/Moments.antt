@@ -6,6 +6,7 @@ use Rattle.lang_tree.specs.declared.command.Cmd.TheVariants.{Mkdir, Create, Writ
 use Rattle.lang_tree.specs.declared.command.Refusal.TheVariants.{Stopped, Spent}
 use Rattle.lang_tree.specs.declared.command.Reply.{Reply}
 use Rattle.lang_tree.specs.Step.{Session}
+use Rattle.lang_tree.specs.Tree.{Tree}
 use Rattle.fs_session.specs.DiskRoom.{AnswersOn, BeginsOver}
 use Rattle.fs_session.specs.Room.{RefusesIn}
 use Rattle.fs_session.specs.Serving.{AnswersAt, AnyAt, BeginsAt, EndsSync, LeavesWaiting, LetsGoIn, Moment, RoomOn, SaysNoMore, ServesRoom, TicksRoom, WaitsFor}
@@ -18,7 +19,7 @@ begins_over g at end f old cmd reply next new x = record {
   comes_back = record {
     weight = x.settles.back.weight ∙ x.ticks.back.weight;
     held = x.settles.back.held ∙ x.ticks.back.held;
-    keeps = record { places = x.settles.back.keeps.places ∙ x.ticks.back.keeps.places; takeable = λ b may. x.settles.back.keeps.takeable b (x.ticks.back.keeps.takeable b may) };
+    keeps = record { places = x.settles.back.keeps.places ∙ x.ticks.back.keeps.places; kept = x.settles.back.keeps.kept ∙ x.ticks.back.keeps.kept; takeable = λ b may. x.settles.back.keeps.takeable b (x.ticks.back.keeps.takeable b may) };
     is_room = x.settles.back.is_room;
   };
   answers = x.answers;
@@ -72,14 +73,14 @@ module _ (g : Geometry) (at end now last : Moment) (same : SaysNoMore at now) (e
   waits_too point b new (inl waits) = inl waits
   waits_too point b new (inr sure) = inr ((ends.sure point).1 sure.0, sure.1, sure.2)
 
-  goes_too : (point : ℕ) (old new : RoomOn) → LetsGoIn g end point old new → LetsGoIn g last point old new
-  goes_too point old new x = record { held = λ b at held. waits_too point b new (x.held b at held); takeable = x.takeable; since = x.since }
+  goes_too : (t : Tree) (point : ℕ) (old new : RoomOn) → LetsGoIn g end t point old new → LetsGoIn g last t point old new
+  goes_too t point old new x = record { held = λ b at held. waits_too point b new (x.held b at held); takeable = x.takeable; since = x.since }
 
   syncs_too : (reply : Reply) (next : Session) (old new : RoomOn) → EndsSync g at end reply next old new → EndsSync g now last reply next old new
   syncs_too reply next old new (inl x) = inl (record {
     idle = x.idle;
-    some = λ some. ⊎_elim (λ wait. inl (goes_too next.points old new wait)) (λ serve. inr (goes_too next.points _ new serve)) (x.some some);
-    fits = λ some fits. goes_too next.points old new (x.fits some (same.fits fits));
+    some = λ some. ⊎_elim (λ wait. inl (goes_too next.tree next.points old new wait)) (λ serve. inr (goes_too next.tree next.points _ new serve)) (x.some some);
+    fits = λ some fits. goes_too next.tree next.points old new (x.fits some (same.fits fits));
   })
   syncs_too reply next old new (inr none) = inr none
 

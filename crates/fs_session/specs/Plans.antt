@@ -1,5 +1,5 @@
 -- What a command has planned before anything is changed: a reply, or a draft with its cost. It is described in docs/FILE-SYSTEM.md.
-use Rattle.std.specs.Prelude.{◌≡◌, ℕ, ◌+◌, ◌≤◌, ⊤, Bool, false, IsTrue, length, None, Result, Ok, Err}
+use Rattle.std.specs.Prelude.{◌≡◌, ℕ, ◌+◌, ◌≤◌, ⊤, Bool, false, IsTrue, [], length, None, Result, Ok, Err}
 use Rattle.lang_tree.specs.declared.command.Cmd.{Cmd}
 use Rattle.lang_tree.specs.declared.command.Refusal.{Refusal}
 use Rattle.lang_tree.specs.declared.command.Reply.{Reply}
@@ -19,7 +19,7 @@ use Rattle.fs_session.specs.declared.plan.Plan.{Plan}
 use Rattle.fs_session.specs.declared.plan.Plan.TheVariants.{Answer, Change}
 use Rattle.fs_session.specs.declared.unused.NodeUse.{NodeUse}
 use Rattle.fs_session.specs.Changes.{IsWithinCost, Uses}
-use Rattle.fs_session.specs.Commands.{figures_on, places_of, FindsRuns, IsCalm, IsRefusedFor, is_read_fault, is_disk_fault}
+use Rattle.fs_session.specs.Commands.{figures_on, places_of, renewed_on, FindsRuns, IsCalm, IsRefusedFor, is_read_fault, is_disk_fault}
 use Rattle.fs_session.specs.Sessions.{IsSession, KeepsUsed}
 use Rattle.fs_session.specs.Space.{HasRoom}
 
@@ -33,13 +33,14 @@ pub record MakesTree (cmd : Cmd) (d : DraftState) (cost : ℕ) (old now : State)
   pub reads : AreInodesOf (files_in now d) (inodes_of (files_in now d))
   pub map : IsMapOf f.limit (inodes_of (files_in now d)) (step f cmd).0.tree
   pub within : IsWithinCost now.books.geom d cost
-  pub uses : Uses (figures_on old f cmd).need (figures_on old f cmd).freed (reusable_blocks now.books) (places_of old) (places_in now d) d
+  pub uses : Uses (figures_on old f cmd).need (figures_on old f cmd).freed (reusable_blocks now.books) (renewed_on old f cmd) (places_of old) (places_in now d) d
   pub enough : (figures_on old f cmd).need ≤ length (reusable_blocks now.books)
   pub rests : (figures_on old f cmd).need ≤ length (reusable_blocks old.books) → now.books ≡ old.books
 
--- The draft may be finished now, its cost fits the transaction, and it uses nodes so.
+-- The draft may be finished now, where no block is kept, its cost fits the transaction, and it uses nodes so.
 pub record MayBeMade (tells : Bool) (d : DraftState) (cost : ℕ) (nodes : NodeUse) (now : State) : Type 0 where
   pub draft : IsDraftOf tells now d
+  pub kept : d.kept ≡ []
   pub weight : now.books.running.weight + cost ≤ now.books.room
   pub used : IsTrue tells → KeepsUsed nodes (files_of now.books.geom now.map) (files_in now d)
 

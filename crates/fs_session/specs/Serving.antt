@@ -12,6 +12,7 @@ use Rattle.lang_tree.specs.declared.command.Reply.{Reply}
 use Rattle.lang_tree.specs.declared.command.Reply.TheVariants.{Refused}
 use Rattle.lang_tree.specs.Points.{is_refusal, is_sync}
 use Rattle.lang_tree.specs.Step.{Session}
+use Rattle.lang_tree.specs.Tree.{Tree}
 use Rattle.engine_blocks.specs.Running.{has}
 use Rattle.engine_blocks.specs.State.{State, data_blocks}
 use Rattle.engine_blocks.specs.Puts.{IsData}
@@ -21,7 +22,7 @@ use Rattle.engine_blocks.specs.Serving.{is_sure_in, rests_in}
 use Rattle.fs_session.specs.Applying.{is_spent}
 use Rattle.fs_session.specs.DiskRoom.{AnswersOver, BeginsOver, ComesBack, IsRoomOf}
 use Rattle.fs_session.specs.Memory.{room_of}
-use Rattle.fs_session.specs.Room.{AnswersIn, RefusesIn, Room, figures_in, left_in, most_weight, node_blocks}
+use Rattle.fs_session.specs.Room.{AnswersIn, RefusesIn, Room, figures_in, is_in_use, left_in, most_weight}
 use Rattle.fs_session.specs.Space.{FailsToFit}
 
 -- What a session has of room, and of each data block that waits to be taken again the point whose transaction freed it.
@@ -81,29 +82,29 @@ pub record SettlesRoom (g : Geometry) (f : Session) (need : ℕ) (old new : Room
   pub rests : need ≤ length old.room.takeable → SameWait g old new
   pub serves : SameWait g old new ⊎ SameWait g (with_all_serving g old) new
 
--- the transaction freed the block: no node has it, it may not be taken, and it doesn't wait
-abbrev pub is_held_in : Geometry → RoomOn → ℕ → Bool
-is_held_in g r b = not (has (node_blocks r.room.places g.i) b || (has r.room.takeable b || is_some (r.since b)))
+-- the transaction freed the block: it is in no list, it may not be taken, and it doesn't wait
+abbrev pub is_held_in : Geometry → Tree → RoomOn → ℕ → Bool
+is_held_in g t r b = not (is_in_use g t r.room b || (has r.room.takeable b || is_some (r.since b)))
 
 -- A block that was held waits for this point, or may be taken at once where the point is sure as the command ends.
 abbrev pub WaitsFor : Moment → ℕ → RoomOn → ℕ → Type 0
 WaitsFor end point new b = ((has new.room.takeable b ≡ false) × (new.since b ≡ Some point)) ⊎ (end.sure point × (has new.room.takeable b ≡ true) × (new.since b ≡ None))
 
 -- So it is of each block that was held, and of all others the same is known.
-pub record LetsGoIn (g : Geometry) (end : Moment) (point : ℕ) (old new : RoomOn) : Type 0 where
-  pub held : (b : ℕ) → IsData g b → is_held_in g old b ≡ true → WaitsFor end point new b
-  pub takeable : (b : ℕ) → IsData g b → is_held_in g old b ≡ false → has new.room.takeable b ≡ has old.room.takeable b
-  pub since : (b : ℕ) → IsData g b → is_held_in g old b ≡ false → new.since b ≡ old.since b
+pub record LetsGoIn (g : Geometry) (end : Moment) (t : Tree) (point : ℕ) (old new : RoomOn) : Type 0 where
+  pub held : (b : ℕ) → IsData g b → is_held_in g t old b ≡ true → WaitsFor end point new b
+  pub takeable : (b : ℕ) → IsData g b → is_held_in g t old b ≡ false → has new.room.takeable b ≡ has old.room.takeable b
+  pub since : (b : ℕ) → IsData g b → is_held_in g t old b ≡ false → new.since b ≡ old.since b
 
 -- After a sync that is done: with nothing to commit the same blocks wait. Else what the transaction freed waits for the last point. The others wait on, or all of them may be taken; where the record fits the ring, they wait on.
-pub record SyncsRoomOn (g : Geometry) (at end : Moment) (point : ℕ) (old new : RoomOn) : Type 0 where
+pub record SyncsRoomOn (g : Geometry) (at end : Moment) (t : Tree) (point : ℕ) (old new : RoomOn) : Type 0 where
   pub idle : old.room.weight ≡ 0 → SameWait g old new
-  pub some : 0 < old.room.weight → LetsGoIn g end point old new ⊎ LetsGoIn g end point (with_all_serving g old) new
-  pub fits : 0 < old.room.weight → at.fits → LetsGoIn g end point old new
+  pub some : 0 < old.room.weight → LetsGoIn g end t point old new ⊎ LetsGoIn g end t point (with_all_serving g old) new
+  pub fits : 0 < old.room.weight → at.fits → LetsGoIn g end t point old new
 
 -- A sync is done so, or it was out of memory and the same blocks wait.
 abbrev pub EndsSync : Geometry → Moment → Moment → Reply → Session → RoomOn → RoomOn → Type 0
-EndsSync g at end reply next old new = SyncsRoomOn g at end next.points old new ⊎ ((reply ≡ Refused NoMemory) × SameWait g old new)
+EndsSync g at end reply next old new = SyncsRoomOn g at end next.tree next.points old new ⊎ ((reply ≡ Refused NoMemory) × SameWait g old new)
 
 -- What a command leaves waiting, with the blocks that it needs: a sync so, and any other what waited.
 abbrev pub LeavesWaiting : Geometry → Moment → Moment → Cmd → Reply → Session → RoomOn → RoomOn → Type 0
@@ -116,9 +117,9 @@ pub record BeginsAt (g : Geometry) (at end : Moment) (f : Session) (old : RoomOn
   pub back : RoomOn
   pub ticks : TicksRoom g at f old back
   pub ready : RoomOn
-  pub settles : SettlesRoom g f (figures_in g f cmd).need back ready
+  pub settles : SettlesRoom g f (figures_in g f back.room cmd).need back ready
   -- nothing settles for what is refused for want of room
-  pub full : (why : Refusal) → reply ≡ Refused why → FailsToFit (left_in g f back.room) back.room.weight (most_weight g) (figures_in g f cmd) why → SameWait g back ready
+  pub full : (why : Refusal) → reply ≡ Refused why → FailsToFit (left_in g f back.room) back.room.weight (most_weight g) (figures_in g f back.room cmd) why → SameWait g back ready
   pub answers : AnswersOver g f ready.room cmd reply next new.room
   pub leaves : LeavesWaiting g at end cmd reply next ready new
   pub is_room : IsRoomOf g next new.room

@@ -1,11 +1,17 @@
 -- When a command that the tree accepts has room in the blocks, and how the blocks of the nodes are chosen. It is described in docs/SPACE.md.
-use Rattle.std.specs.Prelude.{◌≡◌, ◌⊎◌, ℕ, ◌+◌, ◌-◌, ◌<◌, ◌≤◌, List, ◌++◌, length, take, Option, None, Some}
+use Rattle.std.specs.Prelude.{◌≡◌, ◌⊎◌, ℕ, ◌+◌, ◌-◌, ◌<◌, ◌≤◌, ◌&&◌, min, List, length, take, Option, None, Some, option_and_then}
+use Rattle.std.specs.FinMap.{get}
+use Rattle.layout_extent.specs.Renew.{renew}
 use Rattle.lang_tree.specs.declared.command.Cmd.{Cmd}
 use Rattle.lang_tree.specs.declared.command.Cmd.TheVariants as cmds
 use Rattle.lang_tree.specs.declared.command.Refusal.{Refusal}
 use Rattle.lang_tree.specs.declared.command.Refusal.TheVariants.{Full, TooBig}
 use Rattle.lang_tree.specs.Figures.{Figures}
 use Rattle.lang_tree.specs.Paths.{parent}
+use Rattle.lang_tree.specs.Sharing.{SharedNodes, SharedPlaces, is_renewed, none_shared}
+use Rattle.lang_tree.specs.Step.{Session}
+use Rattle.lang_tree.specs.Tree.{Tree}
+use Rattle.lang_tree.specs.Walk.{are_same, content}
 use Rattle.engine_blocks.specs.State.{Bookkeeping, live_blocks}
 
 -- In what follows, so many blocks are left, the running transaction weighs so much, and so much is the most that one may weigh.
@@ -53,6 +59,25 @@ grown_path (cmds.Fill path offset count byte) = Some path
 grown_path (cmds.Truncate path size) = Some path
 grown_path _ = None
 
--- Each node has the first of its own blocks, or all of its own and behind them the first of these.
-abbrev pub ArePlaced : (ℕ → List ℕ) → (ℕ → List ℕ) → List ℕ → Type 0
-ArePlaced old new more = (k : ℕ) → new k ≡ take (length (new k)) (old k ++ more)
+-- the number of the node that the command may grow
+abbrev pub grown_in : Session → Cmd → Option ℕ
+grown_in f cmd = option_and_then (get f.tree.names) (grown_path cmd)
+
+-- the shared blocks that the command's bytes touch, by their places in the file that it writes
+abbrev pub touched_by : Tree → Cmd → SharedPlaces → SharedPlaces
+touched_by t (cmds.Write path offset bytes) shared = is_renewed shared (min offset (length (content t path))) (offset + length bytes)
+touched_by t (cmds.Fill path offset count byte) shared = is_renewed shared (min offset (length (content t path))) (offset + count)
+touched_by t (cmds.Truncate path size) shared = is_renewed shared (length (content t path)) size
+touched_by t _ shared = none_shared
+
+-- the places at which the command puts a new block in the stead of a shared one: those of the node that it grows
+abbrev pub renewed_by : Session → Cmd → SharedNodes → SharedNodes
+renewed_by f cmd shared k i = touched_by f.tree cmd (shared k) i && are_same (grown_in f cmd) (Some k)
+
+-- no place is renewed
+abbrev pub none_renewed : SharedNodes
+none_renewed k = none_shared
+
+-- Each node has the first of its own blocks, or all of its own and behind them the first of these. Where places are renewed, the first of these stand there.
+abbrev pub ArePlaced : SharedNodes → (ℕ → List ℕ) → (ℕ → List ℕ) → List ℕ → Type 0
+ArePlaced renewed old new more = (k : ℕ) → new k ≡ take (length (new k)) (renew (renewed k) 0 (old k) more)

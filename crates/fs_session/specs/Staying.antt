@@ -1,7 +1,8 @@
 -- Lemmas on what stays of a session: while blocks are read, while the pipeline settles, over a tick, and where nothing is done. The session is described in docs/FILE-SYSTEM.md.
-use Rattle.std.proofs.Common.{◌≡◌, ◌≤◌, nat_lt, Bool, false, IsTrue, refl, sym, subst, ap, ◌∙◌, arith}
+use Rattle.std.proofs.Common.{◌≡◌, ℕ, ◌≤◌, nat_lt, Bool, false, IsTrue, List, refl, sym, subst, ap, ap₂, ◌∙◌, arith}
 use Rattle.base_types.specs.Seal.{Blocks}
 use Rattle.layout_geometry.specs.Geometry.{Geometry}
+use Rattle.lang_tree.specs.declared.command.Cmd.{Cmd}
 use Rattle.lang_tree.specs.Step.{Session}
 use Rattle.lang_tree.specs.Tree.{Tree}
 use Rattle.crash_stands.specs.Files.{files_of}
@@ -13,7 +14,10 @@ use Rattle.engine_blocks.specs.State.{Bookkeeping, State}
 use Rattle.fs_files.specs.Effects.{LooksAndSettles}
 use Rattle.fs_files.specs.Finish.{MayGoOn}
 use Rattle.fs_session.specs.Applying.{Ticks}
+use Rattle.fs_session.specs.DiskRoom.{KeepsRoom}
 use Rattle.fs_session.specs.declared.unused.UnusedNodes.{UnusedNodes}
+use Rattle.fs_session.specs.Lists.{KeptLists}
+use Rattle.fs_session.specs.Room.{Room, figures_in}
 use Rattle.fs_session.specs.Sessions.{IsSession, IsBetween, AreUsedBut, Stands}
 
 -- Where blocks and geometry are the same.
@@ -91,3 +95,7 @@ nothing_issued s = record {
 -- The same blocks wait where the bookkeeping is the same.
 pub freed_alike : (old new : Bookkeeping) → new ≡ old → SameFreed old new
 freed_alike old new e = record { reusable = λ b at. ap (λ (k : Bookkeeping). k.reusable b) e; since = λ b at. ap (λ (k : Bookkeeping). k.since b) e }
+
+-- in a room whose lists stayed a command has the same figures
+pub figures_stay : (g : Geometry) (f : Session) (old new : Room) (cmd : Cmd) → KeepsRoom old new → figures_in g f new cmd ≡ figures_in g f old cmd
+figures_stay g f old new cmd keeps = ap₂ (λ (places : ℕ → List ℕ) (kept : KeptLists). figures_in g f (record old { places = places; kept = kept }) cmd) keeps.places keeps.kept

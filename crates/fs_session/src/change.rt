@@ -27,8 +27,8 @@ pub(crate) fn carry_out<S: Blocks>(
     requires draft { IsDraftOf S.tells (S.state blocks.old) draft }
     requires goes_on { MayGoOn (S.state blocks.old).books }
     requires room { (S.state blocks.old).books.running.weight + cost ≤ (S.state blocks.old).books.room }
-    ensures made { OnOk result (IsCarriedOut S.tells draft cost (S.state blocks.old) (S.state blocks.new)) }
-    ensures refused { IfErr result (λ why. ChangeRefused (S.state blocks.old).books draft cost why) }
+    ensures made { OnOk result (IsCarriedOut S.tells draft.entry cost (S.state blocks.old) (S.state blocks.new)) }
+    ensures refused { IfErr result (λ why. ChangeRefused (S.state blocks.old).books draft.entry cost why) }
     ensures kept { OnErr result (KeepsBlocks S.tells (S.state blocks.old) (S.state blocks.new)) }
     ensures goes_on { MayGoOn (S.state blocks.new).books }
     ensures disk { LeavesDisk S.tells (S.state blocks.old) (S.state blocks.new) }

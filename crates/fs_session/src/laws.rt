@@ -101,5 +101,5 @@ pub fn a_command_takes_no_more_blocks_than_it_needs()
         → old.takeable ≡ filter (has old.takeable) (data_blocks g) → new.takeable ≡ filter (has new.takeable) (data_blocks g) }
     ensures few { (g : Geometry) (f next : Session) (old new : Room) (cmd : Cmd) (reply : Reply) → AnswersOn g f old cmd reply next new
         → old.takeable ≡ filter (has old.takeable) (data_blocks g)
-        → length old.takeable ≤ length new.takeable + (if is_refusal reply then 0 else (figures_in g f cmd).need) }
+        → length old.takeable ≤ length new.takeable + (if is_refusal reply then 0 else (figures_in g f old cmd).need) }
 {}

@@ -5,6 +5,7 @@
 
 mod change;
 mod disk;
+mod kept;
 mod laws;
 mod live;
 mod memory;
@@ -18,6 +19,10 @@ mod without_memory;
 pub use disk::{
     a_command_is_answered_in_a_room_that_came_back, a_command_serves_what_is_sure,
     any_command_may_be_answered,
+};
+pub use kept::{
+    lists_of_two_snapshots_are_counted_so, nothing_is_kept_so_far,
+    without_snapshots_a_room_is_that_of_its_tree,
 };
 pub use laws::{
     a_command_answers_its_session, a_command_begins_with_a_tick,

@@ -8,6 +8,8 @@ ghost use Rattle.layout_journal.specs.Run.{is_live};
 ghost use Rattle.lang_tree.specs.Figures.{blocks};
 ghost use Rattle.lang_tree.specs.Step.{Session};
 ghost use Rattle.engine_blocks.specs.State.{live_blocks, reusable_blocks};
+ghost use Rattle.fs_session.specs.Memory.{room_of};
+ghost use Rattle.fs_session.specs.Room.{left_in};
 ghost use Rattle.fs_session.specs.Sessions.{IsSession};
 ghost use Rattle.fs_session.specs.Space.{left_of};
 
@@ -20,11 +22,14 @@ pub fn bitmap_and_node_table_are_live()
 {}
 
 /// In a session as many data blocks are marked as the tree has. So what is left is the data blocks without
-/// those of the tree and those that the transaction freed. They may be taken, or wait until they may.
+/// those of the tree and those that the transaction freed, and as much as the session's room says by its lists.
+/// They may be taken, or wait until they may.
 pub fn as_many_blocks_are_marked_as_the_tree_has<S: Blocks>()
     ensures live { (s : S) (f : Session) → IsTrue S.tells → IsSession (S.state s) f → length (live_blocks (S.state s).books) ≡ blocks f.tree }
     ensures left { (s : S) (f : Session) → IsTrue S.tells → IsSession (S.state s) f
         → left_of (S.state s).books ≡ (S.state s).books.area - blocks f.tree - (S.state s).books.running.held }
+    ensures room { (s : S) (f : Session) → IsTrue S.tells → IsSession (S.state s) f
+        → left_of (S.state s).books ≡ left_in (S.state s).books.geom f (room_of (S.state s)) }
     ensures takeable { (s : S) → left_of (S.state s).books ≡ length (reusable_blocks (S.state s).books) + (S.state s).books.waiting }
 {
     the_map_gives_the_figures();

@@ -11,18 +11,18 @@ ghost use Rattle.fs_session.specs.Sessions.{IsBetween};
 use crate::change::carry_out;
 use crate::unused::{NodeUse, UnusedNodes};
 use engine_blocks::{Blocks, calls_compose};
-use fs_files::{Draft, a_sync_may_follow};
-use lang_tree::{Refusal, Reply, a_command_changes_where_it_costs};
+use fs_files::{Draft, a_sync_may_follow, sound_beside_nothing};
+use lang_tree::{Refusal, Reply, a_command_changes_where_it_costs, nothing_shared_costs_nothing};
 use std::alloc::Global;
 
 /// What a command is to answer or to change.
 #[derive(Drop)]
-pub enum Plan {
+pub enum Plan<'a> {
     /// This reply, and nothing changes.
     Answer(Reply),
     /// The changes of this draft at this cost, which use nodes so, and that the command is done.
     Change {
-        draft: Draft,
+        draft: Draft<'a>,
         cost: u32,
         nodes: NodeUse,
     },
@@ -41,13 +41,15 @@ pub fn carry<S: Blocks>(
 ) -> Result<Reply, Refusal>
     requires may { OnChange planned (λ draft cost nodes. MayBeMade S.tells draft cost nodes (S.state blocks.old)) }
     requires between { IsBetween S.tells (S.state blocks.old) unused.old }
-    ensures carries { (cmd : Cmd) (start : S) → is_sync cmd ≡ false → Plans S.tells cmd planned (S.state start) (S.state blocks.old)
+    ensures carries { (cmd : Cmd) (start : S) → is_sync cmd ≡ false → Plans S.tells cmd planned.entry (S.state start) (S.state blocks.old)
         → Carries S.tells cmd result (S.state start) (S.state blocks.new) }
     ensures between { IsBetween S.tells (S.state blocks.new) unused.new }
 {
     a_command_changes_where_it_costs();
+    nothing_shared_costs_nothing();
     a_sync_may_follow();
     calls_compose::<S>();
+    sound_beside_nothing();
     match planned {
         Err(why) => Err(why),
         Ok(Plan::Answer(reply)) => Ok(reply),

@@ -1,10 +1,11 @@
 -- Why a command is refused whose file or directory couldn't grow: there were never too few blocks, since it had room.
-use Rattle.std.proofs.Common.{◌≡◌, inl, inr, ℕ, ◌-◌, ◌^◌, ◌≤◌, min, List, [], ◌∷◌, ◌++◌, take, length, filter, None, Some, refl, ap, ap₂, arith}
+use Rattle.std.proofs.Common.{◌≡◌, inl, inr, ℕ, ◌-◌, ◌^◌, ◌≤◌, min, List, [], ◌∷◌, ◌++◌, take, length, filter, None, Some, refl, ap, ap₂, ◌∙◌, arith}
 use Rattle.std.proofs.lemmas.List.{length-append, length-take}
 use Rattle.std.proofs.lemmas.List.Sums.{count_by-le-length}
 use Rattle.std.proofs.lemmas.Slice.Zip.{length-zip}
 use Rattle.std.specs.List.{zip}
 use Rattle.layout_geometry.specs.Geometry.{Geometry}
+use Rattle.layout_extent.specs.Renew.{renew}
 use Rattle.layout_extent.specs.Runs.{stretches, is_break}
 use Rattle.lang_tree.specs.declared.command.Cmd.{Cmd}
 use Rattle.lang_tree.specs.declared.command.Refusal.TheVariants as because
@@ -16,7 +17,8 @@ use Rattle.engine_blocks.specs.State.{Bookkeeping, State, data_blocks, live_bloc
 use Rattle.fs_files.specs.declared.refusal.FileRefusal.{FileRefusal}
 use Rattle.fs_files.specs.declared.refusal.FileRefusal.TheVariants as file
 use Rattle.fs_files.specs.Calls.{GrowthRefused}
-use Rattle.fs_session.specs.Commands.{figures_on, grown_by, places_of, IsRefusedFor}
+use Rattle.fs_session.specs.Commands.{figures_on, grown_by, places_of, renewed_on, IsRefusedFor}
+use Rattle.fs_session.specs.NothingKept.{runs_so_far}
 use Rattle.fs_commands.specs.Refusals.{refusal_of}
 use Rattle.fs_session.specs.Sessions.{inodes}
 use Rattle.fs_session.specs.Space.{HasRoom, left_of}
@@ -32,6 +34,14 @@ reusable_are_left k l sound moves none =
     let live : live_blocks l ≡ live_blocks k = ap₂ (λ m (g : Geometry). filter m (data_blocks g)) moves.marked moves.geom in
     omega (arith, sound.accounts, none, moves.area, ap (λ (xs : List ℕ). length xs) live, ap (λ (r : Running). r.held) moves.running)
 
+-- a growth is refused alike where its blocks stand alike
+pub refused_alike : (n : ℕ) (with_more as_more : List ℕ → List ℕ) (old new : Bookkeeping) → ((more : List ℕ) → with_more more ≡ as_more more) → (why : FileRefusal) → GrowthRefused n with_more old new why → GrowthRefused n as_more old new why
+refused_alike n with_more as_more old new same file.ReadFault h = tt
+refused_alike n with_more as_more old new same file.NoMemory h = tt
+refused_alike n with_more as_more old new same file.DiskFault h = h
+refused_alike n with_more as_more old new same (file.Short need reusable) h = h
+refused_alike n with_more as_more old new same (file.Scattered runs) h = (h.0 ∙ ap stretches (same (take n (reusable_blocks new))), h.1, h.2)
+
 module _ (old new : State) (f : Session) (cmd : Cmd) (node : ℕ) (sound : IsSound new.books) (moves : MovesPipeline old.books new.books) (small : old.books.geom.n ≤ 1048576)
     (accepted : refusal f.limit f.tree cmd ≡ None) (room : HasRoom old.books (figures_on old f cmd)) (grows : grown_by (inodes old) cmd ≡ Some node) (few : length (places_of old node) ≤ 1048576) where
   -- the number of runs fits
@@ -40,7 +50,7 @@ module _ (old new : State) (f : Session) (cmd : Cmd) (node : ℕ) (sound : IsSou
       let behind = take n (reusable_blocks new.books) in
       omega (arith, few_stretches (places_of old node ++ behind), length-append (places_of old node) behind, length-take n (reusable_blocks new.books), few, sound.accounts, sound.area, ap (λ (g : Geometry). g.n) moves.geom, small)
 
-  pub growth_refused : (why : FileRefusal) → GrowthRefused (figures_on old f cmd).need (places_of old node) old.books new.books why → IsRefusedFor old new f cmd (refusal_of why)
+  pub growth_refused : (why : FileRefusal) → GrowthRefused (figures_on old f cmd).need (λ more. places_of old node ++ more) old.books new.books why → IsRefusedFor old new f cmd (refusal_of why)
   growth_refused file.ReadFault h = inr (inr (inr (inl refl)))
   growth_refused file.NoMemory h = inr (inr (inr (inr refl)))
   growth_refused file.DiskFault h = inr (inr (inl (record { accepted = accepted; room = room; is = refl; short = h })))
@@ -51,6 +61,9 @@ module _ (old new : State) (f : Session) (cmd : Cmd) (node : ℕ) (sound : IsSou
     node = node;
     grows = grows;
     enough = h.2;
-    is = ap (λ r. because.Scattered r) {x = min runs (2 ^ 32 - 1)} {y = stretches (places_of old node ++ take (figures_on old f cmd).need (reusable_blocks new.books))} (omega (arith, h.0, number_fits (figures_on old f cmd).need h.2));
-    past = omega (arith, h.0, h.1);
+    is = ap (λ r. because.Scattered r) {x = min runs (2 ^ 32 - 1)} {y = stretches (renew (renewed_on old f cmd node) 0 (places_of old node) (take (figures_on old f cmd).need (reusable_blocks new.books)))} (omega (arith, h.0, number_fits (figures_on old f cmd).need h.2, behind));
+    past = omega (arith, h.0, h.1, behind);
   }))
+    where
+      behind : stretches (renew (renewed_on old f cmd node) 0 (places_of old node) (take (figures_on old f cmd).need (reusable_blocks new.books))) ≡ stretches (places_of old node ++ take (figures_on old f cmd).need (reusable_blocks new.books))
+      behind = runs_so_far old f cmd node (take (figures_on old f cmd).need (reusable_blocks new.books))

@@ -9,14 +9,12 @@ use Rattle.lang_tree.specs.Tree.{Tree}
 use Rattle.crash_stands.specs.Files.{FileNode, Files, files_of}
 use Rattle.crash_stands.specs.Inodes.{Inode, inode_of, inodes_of}
 use Rattle.crash_stands.specs.Maps.{IsMapOf}
-use Rattle.crash_stands.specs.Walks.{LeadsTo}
-use Rattle.fs_inodes.specs.Lookups.{walk_on}
 use Rattle.fs_files.specs.declared.look.FileFacts.{FileFacts}
 use Rattle.fs_files.specs.Calls.{facts_of, files_in}
 use Rattle.fs_files.specs.Drafts.{DraftState, nothing_drafted, drafted}
 use Rattle.fs_files.specs.Effects.{LooksAndSettles, LooksOnly}
 use Rattle.fs_files.specs.Sound.{IsDraftOf}
-use Rattle.fs_dirs.specs.Directories.{inodes_in, IsNumber}
+use Rattle.fs_dirs.specs.Directories.{IsNumber}
 use Rattle.engine_blocks.specs.Running.{HasNoBare}
 use Rattle.fs_files.specs.declared.refusal.FileRefusal.{FileRefusal}
 use Rattle.fs_session.specs.declared.unused.NodeUse.{NodeUse}
@@ -41,13 +39,6 @@ settled_files tells read_failed failed s t h told = ap₂ (λ (g : Geometry) (m 
 pub uses_of : (nodes : NodeUse) (s t : State) (d : DraftState) → files_in t nothing_drafted ≡ files_in s nothing_drafted → KeepsUsed nodes (files_in s nothing_drafted) (files_in t d) → KeepsUsed nodes (files_of t.books.geom t.map) (files_in t d)
 uses_of nodes s t d same h = subst (λ (files : Files). KeepsUsed nodes files (files_in t d)) (sym same) h
 
--- what a walk in an empty draft comes to
-pub walked_as : (s : State) (d : DraftState) (path : List (List ℕ)) (end r : Result ℕ Refusal) → d ≡ nothing_drafted → end ≡ r
-    → ((t : Tree) → IsMapOf s.books.geom.i (inodes_in s d) t → end ≡ walk_on (inodes_in s d) 1 path)
-    → (t : Tree) → IsMapOf s.books.geom.i (inodes_in s nothing_drafted) t → walk_on (inodes_of (files_in s nothing_drafted)) 1 path ≡ r
-walked_as s d path end r none is ends t map =
-    sym (sym is ∙ ends t (subst (λ e. IsMapOf s.books.geom.i (inodes_in s e) t) (sym none) map) ∙ ap (λ e. walk_on (inodes_in s e) 1 path) none)
-
 -- where something is known of a node, it is in use
 pub facts_are : (o : Option FileNode) (facts : FileFacts) → Some facts ≡ option_map facts_of o → (x : FileNode) × (o ≡ Some x) × (facts ≡ facts_of x)
 facts_are None facts e = absurd (none-some facts (sym e))
@@ -62,34 +53,6 @@ is_used (Some file) x e none = none-some (facts_of file) none
 pub files_stay : (tells : Bool) (s t : State) (d : DraftState) → d ≡ nothing_drafted → IsTrue tells → LooksOnly tells false s t → files_in t d ≡ files_in s nothing_drafted
 files_stay tells s t d none told looks = same_files tells false s t d looks told ∙ ap (files_in s) none
 
--- a node that something is known of is in use
-pub there_so : (tells : Bool) (s mid : State) (d : DraftState) (number : ℕ) (facts : FileFacts) → d ≡ nothing_drafted → IsTrue tells → LooksOnly tells false s mid → Some facts ≡ option_map facts_of (files_in mid d number)
-    → (x : FileNode) × (files_in s nothing_drafted number ≡ Some x) × (facts ≡ facts_of x)
-there_so tells s mid d number facts none told looks known =
-    facts_are (files_in s nothing_drafted number) facts (known ∙ ap (λ (files : Files). option_map facts_of (files number)) (files_stay tells s mid d none told looks))
-
--- what an empty draft has after a look is what it had before
-pub file_stays : (tells : Bool) (s mid : State) (d : DraftState) (number : ℕ) (x : FileNode) → d ≡ nothing_drafted → IsTrue tells → LooksOnly tells false s mid → files_in s nothing_drafted number ≡ Some x → files_in mid d number ≡ Some x
-file_stays tells s mid d number x none told looks at =
-    ap (λ (files : Files). files number) (files_stay tells s mid d none told looks) ∙ at
-
-pub inode_stays : (tells : Bool) (s mid : State) (d : DraftState) (number : ℕ) (x : Inode) → d ≡ nothing_drafted → IsTrue tells → LooksOnly tells false s mid → inodes_in s nothing_drafted number ≡ Some x → inodes_in mid d number ≡ Some x
-inode_stays tells s mid d number x none told looks at =
-    ap (λ (files : Files). inodes_of files number) (files_stay tells s mid d none told looks) ∙ at
-
--- the node that a path leads to, once it was looked at
-pub found_so : (tells : Bool) (s mid : State) (d : DraftState) (path : List (List ℕ)) (number : ℕ) (facts : FileFacts) → d ≡ nothing_drafted → IsTrue tells → LooksOnly tells false s mid
-    → walk_on (inodes_of (files_in s nothing_drafted)) 1 path ≡ Ok number → Some facts ≡ option_map facts_of (files_in mid d number)
-    → (walk_on (inodes_of (files_in s nothing_drafted)) 1 path ≡ Ok number) × ((x : FileNode) × (files_in s nothing_drafted number ≡ Some x) × (facts ≡ facts_of x))
-found_so tells s mid d path number facts none told looks walked known = (walked, there_so tells s mid d number facts none told looks known)
-
--- a path that leads to a number leads to a node in use
-pub found_none : {A : Type 0} (tells : Bool) (s mid : State) (d : DraftState) (path : List (List ℕ)) (number : ℕ) (t : Tree) → d ≡ nothing_drafted → IsTrue tells → LooksOnly tells false s mid
-    → IsMapOf s.books.geom.i (inodes_in s nothing_drafted) t → LeadsTo (inodes_in s nothing_drafted) path number → None ≡ option_map facts_of (files_in mid d number) → A
-found_none {A} tells s mid d path number t none told looks map leads unknown =
-    let used = map.shows.used path number leads in
-    absurd (is_used (files_in s nothing_drafted number) used.0 used.1 (unknown ∙ ap (λ (files : Files). option_map facts_of (files number)) (files_stay tells s mid d none told looks)))
-
 -- how a draft begins
 abbrev pub BeginsDraft : Bool → State → Type 0
 BeginsDraft tells s = HasNoBare s.books.running → (IsTrue tells → AreSound s.books.geom s.map) → IsDraftOf tells s nothing_drafted
@@ -100,14 +63,6 @@ draft_begun tells s d none may law = subst (IsDraftOf tells s) (sym none) (law m
 
 pub look_begins : (tells : Bool) (s : State) (d : DraftState) (k : ℕ) → d ≡ nothing_drafted → MayBegin tells s → IsNumber s.books.geom.i k → BeginsDraft tells s → MayLook tells s d k
 look_begins tells s d k none may number law = record { going = may.going; from = number.from; upto = number.upto; may = draft_begun tells s d none may law }
-
-pub look_on : (tells : Bool) (s t : State) (d : DraftState) (k : ℕ) → LooksOnly tells false s t → MayLook tells s d k → MayLook tells t d k
-look_on tells s t d k looks may = record {
-  going = ap (λ (b : Bookkeeping). b.stopped) looks.books ∙ may.going;
-  from = may.from;
-  upto = omega (arith, may.upto, ap (λ (b : Bookkeeping). b.geom.i) looks.books);
-  may = draft_stays tells false s t d looks may.may;
-}
 
 -- what a look in an empty draft finds, it finds in the blocks as they are
 pub found_begun : (s : State) (d : DraftState) (path : List (List ℕ)) (r : Result (Result NodeFound Refusal) FileRefusal) → d ≡ nothing_drafted

@@ -7,7 +7,7 @@ use Rattle.layout_bytes.specs.declared.slot.Slot.{Slot}
 use Rattle.lang_tree.specs.declared.command.Cmd.{Cmd}
 use Rattle.lang_tree.specs.declared.command.Cmd.TheVariants.{Rename}
 use Rattle.lang_tree.specs.Conditions.{refusal}
-use Rattle.lang_tree.specs.Figures.{Figures, figures, nothing, moving, growth, release, are_in_one}
+use Rattle.lang_tree.specs.Figures.{Figures, nothing, moving, growth, release, are_in_one}
 use Rattle.lang_tree.specs.Paths.{parent}
 use Rattle.lang_tree.specs.Step.{Session, step}
 use Rattle.lang_tree.specs.Tree.{Tree}
@@ -36,11 +36,13 @@ use Rattle.fs_session.specs.declared.unused.NodeUse.{NodeUse}
 use Rattle.fs_session.specs.declared.unused.NodeUse.TheVariants.{Stays}
 use Rattle.fs_session.specs.Sessions.{KeepsUsed, inodes}
 use Rattle.fs_commands.proofs.looking.Found.{uses_of}
-use Rattle.fs_session.specs.Space.{ArePlaced, HasRoom}
+use Rattle.fs_session.specs.Space.{ArePlaced, HasRoom, none_renewed}
 use Rattle.fs_commands.proofs.looking.Spots.{above}
 use Rattle.fs_commands.proofs.moved.Known.{entry_lacks}
 use Rattle.fs_commands.proofs.Given.{FiguresLaw, PriceLaw, RefusalLaw, ReplyLaw}
 use Rattle.fs_commands.specs.declared.paths.Entry.{Entry}
+use Rattle.lang_tree.specs.Sharing.{figures_over}
+use Rattle.fs_session.specs.NothingKept.{figures_unshared, uses_so_far}
 
 -- what is altered bounds the price
 pub within_move : (g : Geometry) (d : DraftState) (most frees grown : ℕ) (takes : List ℕ) → PriceLaw → Alters most takes frees nothing_drafted d → most ≤ 6 → length takes ≤ grown → IsWithinCost g d (moving (bitmap_blocks g) grown frees).cost
@@ -51,30 +53,30 @@ within_move g d most frees grown takes law alters few less =
 -- what a rename takes, by what the two paths lead to
 module _ (bitmap : ℕ) (f : Session) (m : Inodes) (from to : List (List ℕ)) (map : IsMapOf f.limit m f.tree) (accepted : rename_reason m from to ≡ None) (apart : are_same (number_at m from) (number_at m to) ≡ false)
     (law : FiguresLaw) where
-  moves_cost : figures bitmap f (Rename from to) ≡ move_cost bitmap m from to
+  moves_cost : figures_over bitmap none_renewed f (Rename from to) ≡ move_cost bitmap m from to
   moves_cost = law bitmap f m (Rename from to) map ∙ ap (λ r. cost_by bitmap m (Rename from to) r) accepted ∙ cond-false (are_same (number_at m from) (number_at m to)) nothing (move_cost bitmap m from to) apart
 
-  pub onto_cost : is_some (number_at m to) ≡ true → figures bitmap f (Rename from to) ≡ moving bitmap 0 (release (slots_above m from) + blocks_lost m to)
+  pub onto_cost : is_some (number_at m to) ≡ true → figures_over bitmap none_renewed f (Rename from to) ≡ moving bitmap 0 (release (slots_above m from) + blocks_lost m to)
   onto_cost there = moves_cost ∙ cond-true (is_some (number_at m to)) (moving bitmap 0 (release (slots_above m from) + blocks_lost m to))
       (cond (are_in_one from to) (moving bitmap 0 0) (moving bitmap (growth (slots_above m to)) (release (slots_above m from)))) there
 
-  pub within_cost : is_some (number_at m to) ≡ false → are_in_one from to ≡ true → figures bitmap f (Rename from to) ≡ moving bitmap 0 0
+  pub within_cost : is_some (number_at m to) ≡ false → are_in_one from to ≡ true → figures_over bitmap none_renewed f (Rename from to) ≡ moving bitmap 0 0
   within_cost free one = moves_cost
       ∙ cond-false (is_some (number_at m to)) (moving bitmap 0 (release (slots_above m from) + blocks_lost m to)) (cond (are_in_one from to) (moving bitmap 0 0) (moving bitmap (growth (slots_above m to)) (release (slots_above m from)))) free
       ∙ cond-true (are_in_one from to) (moving bitmap 0 0) (moving bitmap (growth (slots_above m to)) (release (slots_above m from))) one
 
-  pub across_cost : is_some (number_at m to) ≡ false → are_in_one from to ≡ false → figures bitmap f (Rename from to) ≡ moving bitmap (growth (slots_above m to)) (release (slots_above m from))
+  pub across_cost : is_some (number_at m to) ≡ false → are_in_one from to ≡ false → figures_over bitmap none_renewed f (Rename from to) ≡ moving bitmap (growth (slots_above m to)) (release (slots_above m from))
   across_cost free two = moves_cost
       ∙ cond-false (is_some (number_at m to)) (moving bitmap 0 (release (slots_above m from) + blocks_lost m to)) (cond (are_in_one from to) (moving bitmap 0 0) (moving bitmap (growth (slots_above m to)) (release (slots_above m from)))) free
       ∙ cond-false (are_in_one from to) (moving bitmap 0 0) (moving bitmap (growth (slots_above m to)) (release (slots_above m from))) two
 
 -- the blocks that a rename uses are those taken
 move_uses : (s t : State) (source into node most frees grown : ℕ) (takes : List ℕ) (name other : List ℕ) (d : DraftState) (nodes : NodeUse) → MovesName s t d source into node name other most takes frees nodes
-    → takes ≡ take grown (reusable_blocks t.books) → Uses grown frees (reusable_blocks t.books) (places_of s) (places_in t d) d
+    → takes ≡ take grown (reusable_blocks t.books) → Uses grown frees (reusable_blocks t.books) none_renewed (places_of s) (places_in t d) d
 move_uses s t source into node most frees grown takes name other d nodes made are = record {
   taken = made.alters.taken ∙ are;
   freed_are = omega (arith, made.alters.freed);
-  placed = subst (λ (bs : List ℕ). ArePlaced (places_of s) (places_in t d) bs) are made.placed;
+  placed = subst (λ (bs : List ℕ). ArePlaced none_renewed (places_of s) (places_in t d) bs) are made.placed;
 }
 
 -- A rename that the tree accepts, as it is weighed: what is known of it, and its figures.
@@ -116,7 +118,8 @@ planned_move s t f from to source into count found other most frees grown fs tak
           (moved f (inodes s) (inodes_in t d) paths.up paths.above a.known.name other source.dir into source.entry.node.number a.map (subst (λ (cmd : Cmd). refusal f.limit f.tree cmd ≡ None) (sym same) a.accepted) paths.source_leads paths.into_leads made.moves);
       within = subst (λ n. IsWithinCost t.books.geom d n) (sym (ap (λ (n : Figures). n.cost) a.counted) ∙ costs)
           (subst (λ (g : Geometry). IsWithinCost t.books.geom d (moving (bitmap_blocks g) grown frees).cost) geom (within_move t.books.geom d most frees grown takes prices made.alters few (omega (arith, ap (λ (bs : List ℕ). length bs) are, length-take grown (reusable_blocks t.books)))));
-      uses = subst (λ (n : Figures). Uses n.need n.freed (reusable_blocks t.books) (places_of s) (places_in t d) d) (sym a.counted) (move_uses s t source.dir into source.entry.node.number most frees grown takes a.known.name other d nodes made are);
+      uses = uses_so_far s f (Rename from to) _ _ (reusable_blocks t.books) (places_of s) (places_in t d) d
+          (subst (λ (n : Figures). Uses n.need n.freed (reusable_blocks t.books) none_renewed (places_of s) (places_in t d) d) (sym a.counted) (move_uses s t source.dir into source.entry.node.number most frees grown takes a.known.name other d nodes made are));
       enough = subst (λ (n : Figures). n.need ≤ length (reusable_blocks t.books)) (sym a.counted) enough;
       rests = λ enough. rests (subst (λ (n : Figures). n.need ≤ length (reusable_blocks s.books)) a.counted enough);
     }
@@ -130,7 +133,7 @@ module _ (s : State) (f : Session) (from to : List (List ℕ)) (source : Named) 
     (law : FiguresLaw) where
   pub onto_counted : (target : Named) → KnowsMove (files_in s nothing_drafted) from to source target.dir target.count (Some target.entry) other → blocks_lost (inodes s) to ≡ blocks_gone target.entry.node.facts
       → figures_on s f (Rename from to) ≡ moving (bitmap_blocks s.books.geom) 0 (release source.count + blocks_gone target.entry.node.facts)
-  onto_counted target k lost = onto_cost (bitmap_blocks s.books.geom) f (inodes s) from to map accepted k.apart law k.there
+  onto_counted target k lost = figures_unshared s f (Rename from to) ∙ onto_cost (bitmap_blocks s.books.geom) f (inodes s) from to map accepted k.apart law k.there
       ∙ ap₂ (λ c g. moving (bitmap_blocks s.books.geom) 0 (release c + g)) (sym k.slots) lost
 
   module _ (into count : ℕ) (k : KnowsMove (files_in s nothing_drafted) from to source into count None other)
@@ -141,10 +144,10 @@ module _ (s : State) (f : Session) (from to : List (List ℕ)) (source : Named) 
         ∙ one f.limit (inodes s) f.tree k.paths.up k.paths.above k.name other source.dir into k.named.slots map k.paths.source_leads k.paths.into_leads k.named.dir
 
     pub within_counted : source.dir ≡ into → figures_on s f (Rename from to) ≡ moving (bitmap_blocks s.books.geom) 0 0
-    within_counted same = within_cost (bitmap_blocks s.books.geom) f (inodes s) from to map accepted k.apart law k.there (in_one ∙ eq-eqb source.dir into same)
+    within_counted same = figures_unshared s f (Rename from to) ∙ within_cost (bitmap_blocks s.books.geom) f (inodes s) from to map accepted k.apart law k.there (in_one ∙ eq-eqb source.dir into same)
 
     pub across_counted : source.dir ≢ into → figures_on s f (Rename from to) ≡ moving (bitmap_blocks s.books.geom) (growth count) (release source.count)
-    across_counted two = across_cost (bitmap_blocks s.books.geom) f (inodes s) from to map accepted k.apart law k.there (in_one ∙ ne_eqb source.dir into two)
+    across_counted two = figures_unshared s f (Rename from to) ∙ across_cost (bitmap_blocks s.books.geom) f (inodes s) from to map accepted k.apart law k.there (in_one ∙ ne_eqb source.dir into two)
         ∙ ap₂ (λ c n. moving (bitmap_blocks s.books.geom) (growth c) (release n)) (sym k.more) (sym k.slots)
 
 -- figures that were made of equal numbers
@@ -152,9 +155,9 @@ pub counted_as : (bitmap grown freed b g n : ℕ) (fs : Figures) → fs ≡ movi
 counted_as bitmap grown freed b g n fs is x y z = is ∙ ap (λ i. moving i grown freed) x ∙ ap₂ (λ i j. moving b i j) y z
 
 -- the draft may be made, where no node goes
-pub move_made : (tells : Bool) (s now : State) (d : DraftState) (fs : Figures) → IsDraftOf tells now d → now.books.running.weight ≡ s.books.running.weight → now.books.room ≡ s.books.room → HasRoom s.books fs
+pub move_made : (tells : Bool) (s now : State) (d : DraftState) (fs : Figures) → IsDraftOf tells now d → d.kept ≡ [] → now.books.running.weight ≡ s.books.running.weight → now.books.room ≡ s.books.room → HasRoom s.books fs
     → (IsTrue tells → files_in now nothing_drafted ≡ files_in s nothing_drafted) → (IsTrue tells → KeepsUsed Stays (files_in s nothing_drafted) (files_in now d)) → MayBeMade tells d fs.cost Stays now
-move_made tells s now d fs draft weight room has same used = record { draft = draft; weight = omega (arith, weight, room, has.weight); used = λ told. uses_of Stays s now d (same told) (used told) }
+move_made tells s now d fs draft none weight room has same used = record { draft = draft; kept = none; weight = omega (arith, weight, room, has.weight); used = λ told. uses_of Stays s now d (same told) (used told) }
 
 -- what moves to a free name of its directory, and of another one
 pub may_rename : (s : State) (from to : List (List ℕ)) (source : Named) (other : List ℕ) → (k : KnowsMove (files_in s nothing_drafted) from to source source.dir source.count None other) → MayRename s source k.name other

@@ -40,6 +40,7 @@ use Rattle.fs_commands.proofs.looking.Facts.{inode_is, kind_told, file_told}
 use Rattle.fs_commands.proofs.looking.Spots.{above}
 use Rattle.fs_commands.proofs.FirstReason.{alone, first_more}
 use Rattle.fs_commands.proofs.Given.{RefusalLaw, FiguresLaw, EndsLaw}
+use Rattle.fs_session.specs.NothingKept.{figures_unshared}
 
 -- What the laws on what a path comes to say.
 
@@ -94,7 +95,7 @@ module _ (old : State) (f : Session) (h : IsSession old f) (map : IsMapOf old.bo
         accepted = accepted;
         answer = ap (λ r. (answered f cmd r).1) accepted ∙ done;
         grows = grown ∙ parent_leads ends files path dir count None comes;
-        figures = figured (bitmap_blocks old.books.geom) f m cmd its_map ∙ ap (cost_by (bitmap_blocks old.books.geom) m cmd) none ∙ costs ∙ ap (λ n. adding (growth n)) (sym (counted files path dir count None comes));
+        figures = figures_unshared old f cmd ∙ figured (bitmap_blocks old.books.geom) f m cmd its_map ∙ ap (cost_by (bitmap_blocks old.books.geom) m cmd) none ∙ costs ∙ ap (λ n. adding (growth n)) (sym (counted files path dir count None comes));
         slots = comes.4.slots;
         is_dir = comes.4.dir;
         count = comes.4.count;

@@ -24,13 +24,15 @@ use Rattle.fs_files.specs.Effects.{LooksOnly, LooksAndSettles}
 use Rattle.fs_dirs.specs.Changing.{Alters, IsWithSlots}
 use Rattle.fs_dirs.specs.Directories.{inodes_in}
 use Rattle.fs_session.specs.Changes.{IsWithinCost, Uses}
-use Rattle.fs_session.specs.Commands.{places_of}
+use Rattle.fs_session.specs.Commands.{places_of, GrowsInRuns}
 use Rattle.fs_commands.specs.Making.{AddsName, first_thing, node_kind}
 use Rattle.fs_session.specs.Sessions.{AreUsedBelow, inodes}
-use Rattle.fs_session.specs.Space.{ArePlaced}
+use Rattle.fs_session.specs.Space.{ArePlaced, none_renewed}
 use Rattle.fs_commands.proofs.Placing.{placed_grown, placed_then}
 use Rattle.fs_commands.proofs.Given.{PriceLaw, SumLaw}
 use Rattle.fs_commands.proofs.looking.InUse.{still_used}
+use Rattle.lang_tree.specs.Sharing.{none_shared}
+use Rattle.fs_session.specs.NothingKept.{runs_behind}
 
 -- once the least node that wasn't in use is so, all up to the number from which it was sought are
 pub used_upto : (limit n : ℕ) (old new : Files) (x : FileNode) (E : Type 0) (found : Option ℕ) → n ≤ limit → AreUsedBelow old n → (E → (l : ℕ) → new l ≡ old l)
@@ -109,7 +111,7 @@ module _ (tells : Bool) (old mid now : State) (d e : DraftState) (dir node : ℕ
 
   module _ (alters : Alters 2 (take (growth (length slots)) (reusable_blocks mid.books)) 0 nothing_drafted d) (then_alters : Alters 1 [] 0 d e)
       (settles : LooksAndSettles tells false false old mid) (looks : LooksOnly tells false mid now) (rests : growth (length slots) ≤ length (reusable_blocks old.books) → LooksOnly tells false old mid)
-      (grown : IsWithPlaces (places_of old) (places_in mid d) dir (places_of old dir ++ take (growth (length slots)) (reusable_blocks mid.books))) (then_placed : ArePlaced (places_in mid d) (places_in now e) [])
+      (grown : IsWithPlaces (places_of old) (places_in mid d) dir (places_of old dir ++ take (growth (length slots)) (reusable_blocks mid.books))) (then_placed : ArePlaced none_renewed (places_in mid d) (places_in now e) [])
       (room : growth (length slots) ≤ length (reusable_blocks mid.books)) (runs : stretches (places_of old dir ++ take (growth (length slots)) (reusable_blocks mid.books)) ≤ 28)
       (both : SumLaw)
       (priced : PriceLaw)
@@ -134,7 +136,7 @@ module _ (tells : Bool) (old mid now : State) (d e : DraftState) (dir node : ℕ
         }
 
     -- it takes what the directory grows by
-    takes : Uses (growth (length slots)) 0 (reusable_blocks mid.books) (places_of old) (places_in now e) e
+    takes : Uses (growth (length slots)) 0 (reusable_blocks mid.books) none_renewed (places_of old) (places_in now e) e
     takes = record {
       taken = all.taken ∙ append-nil more;
       freed_are = all.freed;
@@ -146,11 +148,8 @@ module _ (tells : Bool) (old mid now : State) (d e : DraftState) (dir node : ℕ
       adds = slot_added;
       reads = read (files_in now e) all_read;
       within = within now.books.geom;
-      runs = record {
-        enough = subst (λ (k : Bookkeeping). growth (length slots) ≤ length (reusable_blocks k)) (sym looks.books) room;
-        runs = subst (λ (k : Bookkeeping). stretches (places_of old dir ++ take (growth (length slots)) (reusable_blocks k)) ≤ 28) (sym looks.books) runs;
-      };
-      uses = subst (λ (k : Bookkeeping). Uses (growth (length slots)) 0 (reusable_blocks k) (places_of old) (places_in now e) e) (sym looks.books) takes;
+      runs = subst (λ (k : Bookkeeping). GrowsInRuns none_shared old k dir (growth (length slots))) (sym looks.books) (runs_behind old mid.books dir (growth (length slots)) room runs);
+      uses = subst (λ (k : Bookkeeping). Uses (growth (length slots)) 0 (reusable_blocks k) none_renewed (places_of old) (places_in now e) e) (sym looks.books) takes;
       rests = λ few. looks.books ∙ (rests few).books;
     }
 

@@ -1,5 +1,5 @@
 -- The plan of a command by which a name comes to be, once it is accepted and there is room.
-use Rattle.std.proofs.Common.{◌≡◌, ℕ, ◌≤◌, Bool, false, IsTrue, List, length, Some, Ok, Err, sym, subst, ap, ◌∙◌}
+use Rattle.std.proofs.Common.{◌≡◌, ℕ, ◌≤◌, Bool, false, IsTrue, List, ◌++◌, length, Some, Ok, Err, sym, subst, ap, ◌∙◌}
 use Rattle.std.proofs.lemmas.Option.{same_Some}
 use Rattle.layout_bytes.specs.declared.slot.Slot.{Slot}
 use Rattle.lang_tree.specs.declared.command.Cmd.{Cmd}
@@ -23,9 +23,11 @@ use Rattle.fs_commands.specs.Making.{AcceptsName, AddsName}
 use Rattle.fs_session.specs.Plans.{Plans, MakesTree}
 use Rattle.fs_commands.specs.Refusals.{refusal_of}
 use Rattle.fs_session.specs.Sessions.{IsSession, inodes}
-use Rattle.fs_session.specs.Space.{HasRoom}
+use Rattle.fs_session.specs.NothingKept.{grows_so_far, uses_so_far}
+use Rattle.fs_session.specs.Space.{HasRoom, none_renewed}
 use Rattle.fs_commands.proofs.growing.Refused.{growth_refused}
 use Rattle.fs_commands.proofs.planning.Looking.{growth_plan}
+use Rattle.lang_tree.specs.Sharing.{none_shared}
 
 module _ (old now : State) (f : Session) (cmd : Cmd) (dir count : ℕ) (h : AcceptsName old f cmd dir count) (v : Figures) (value : v ≡ adding (growth count)) (room : HasRoom old.books v) where
   room_is : HasRoom old.books (figures_on old f cmd)
@@ -44,11 +46,13 @@ module _ (old now : State) (f : Session) (cmd : Cmd) (dir count : ℕ) (h : Acce
     answer = h.answer;
     costs = ap (λ (w : Figures). w.cost) (h.figures ∙ sym value);
     room = room_is;
-    runs = λ k some grows. subst (λ n. GrowsInRuns old now.books k n) (sym need_is) (subst (λ l. GrowsInRuns old now.books l (growth (length h.slots))) (same_Some dir k (sym h.grows ∙ grows)) a.runs);
+    runs = λ k some grows. grows_so_far old f cmd now.books k _
+        (subst (λ n. GrowsInRuns none_shared old now.books k n) (sym need_is) (subst (λ l. GrowsInRuns none_shared old now.books l (growth (length h.slots))) (same_Some dir k (sym h.grows ∙ grows)) a.runs));
     reads = a.reads;
     map = map;
     within = subst (λ n. IsWithinCost now.books.geom d n) cost_is a.within;
-    uses = subst (λ (w : Figures). Uses w.need w.freed (reusable_blocks now.books) (places_of old) (places_in now d) d) (ap (λ n. adding (growth n)) (sym h.count) ∙ sym h.figures) a.uses;
+    uses = uses_so_far old f cmd _ _ (reusable_blocks now.books) (places_of old) (places_in now d) d
+        (subst (λ (w : Figures). Uses w.need w.freed (reusable_blocks now.books) none_renewed (places_of old) (places_in now d) d) (ap (λ n. adding (growth n)) (sym h.count) ∙ sym h.figures) a.uses);
     enough = subst (λ n. n ≤ length (reusable_blocks now.books)) (sym need_is) a.runs.enough;
     rests = λ enough. a.rests (subst (λ n. n ≤ length (reusable_blocks old.books)) need_is enough);
   }
@@ -58,10 +62,10 @@ module _ (old now : State) (f : Session) (cmd : Cmd) (dir count : ℕ) (h : Acce
   quiet_so quiet = subst (λ n. IsCalm n old now) (sym need_is) quiet
 
   -- the directory couldn't grow
-  pub refused_so : IsSound now.books → MovesPipeline old.books now.books → old.books.geom.n ≤ 1048576 → length (places_of old dir) ≤ 1048576 → (why : FileRefusal) → GrowthRefused (growth (length h.slots)) (places_of old dir) old.books now.books why
+  pub refused_so : IsSound now.books → MovesPipeline old.books now.books → old.books.geom.n ≤ 1048576 → length (places_of old dir) ≤ 1048576 → (why : FileRefusal) → GrowthRefused (growth (length h.slots)) (λ more. places_of old dir ++ more) old.books now.books why
       → IsRefusedFor old now f cmd (refusal_of why)
   refused_so sound moves small few why grown =
-      growth_refused old now f cmd dir sound moves small h.accepted room_is h.grows few why (subst (λ n. GrowthRefused n (places_of old dir) old.books now.books why) (sym need_is) grown)
+      growth_refused old now f cmd dir sound moves small h.accepted room_is h.grows few why (subst (λ n. GrowthRefused n (λ more. places_of old dir ++ more) old.books now.books why) (sym need_is) grown)
 
 -- A draft adds a name to the directory, and makes the command's tree.
 pub record Names (old now : State) (f : Session) (cmd : Cmd) (d : DraftState) (dir : ℕ) (slots : List Slot) : Type 0 where
@@ -86,6 +90,6 @@ module _ (tells : Bool) (cmd : Cmd) (s t : State) (dir count : ℕ) (v : Figures
   }
 
   pub name_refused : IsSound t.books → s.books.geom.n ≤ 1048576 → (IsTrue tells → length (places_of s dir) ≤ 1048576) → (why : FileRefusal) → LooksAndSettles tells (fails_reading {T = DraftState} (Err why)) (fails_settling {T = DraftState} (Err why)) s t
-      → (IsTrue tells → (slots : List Slot) → inodes s dir ≡ Some (ADir slots) → GrowthRefused (growth (length slots)) (places_of s dir) s.books t.books why) → Plans tells cmd (Err (refusal_of why)) s t
+      → (IsTrue tells → (slots : List Slot) → inodes s dir ≡ Some (ADir slots) → GrowthRefused (growth (length slots)) (λ more. places_of s dir ++ more) s.books t.books why) → Plans tells cmd (Err (refusal_of why)) s t
   name_refused sound small few why settles refused =
       growth_plan tells cmd s t why going (λ told f h. let a = accepts told f h in refused_so s t f cmd dir count a v value room sound settles.pipeline small (few told) why (refused told a.slots a.is_dir)) quiet_is settles

@@ -3,6 +3,8 @@ use Rattle.std.proofs.Common.{◌≡◌, inl, inr, ◌≤◌, Bool, false, IsTru
 use Rattle.lang_tree.specs.declared.command.Cmd.{Cmd}
 use Rattle.lang_tree.specs.declared.command.Refusal.{Refusal}
 use Rattle.lang_tree.specs.Step.{Session}
+use Rattle.base_types.specs.Seal.{Blocks}
+use Rattle.lang_tree.specs.Sharing.{SharedNodes}
 use Rattle.engine_blocks.specs.Crashes.{Advances}
 use Rattle.engine_blocks.specs.State.{Bookkeeping, State, reusable_blocks}
 use Rattle.fs_files.specs.Effects.{LooksOnly}
@@ -22,12 +24,12 @@ module _ (s t u : State) (f : Session) (cmd : Cmd) where
   runs_at : (l : Bookkeeping) → FindsRuns t l f cmd → FindsRuns (record s { books = t.books; map = t.map }) l f cmd
   runs_at l h k some grown = let r = h k some grown in record { enough = r.enough; runs = r.runs }
 
-  uses_at : (n m : ℕ) (l : List ℕ) (q : ℕ → List ℕ) (d : DraftState) → Uses n m l (places_of t) q d → Uses n m l (places_of (record s { books = t.books; map = t.map })) q d
-  uses_at n m l q d h = record { taken = h.taken; freed_are = h.freed_are; placed = h.placed }
+  uses_at : (n m : ℕ) (l : List ℕ) (q : ℕ → List ℕ) (renewed : SharedNodes) (d : DraftState) → Uses n m l renewed (places_of t) q d → Uses n m l renewed (places_of (record s { books = t.books; map = t.map })) q d
+  uses_at n m l q renewed d h = record { taken = h.taken; freed_are = h.freed_are; placed = h.placed }
 
   plan_at : (result : Result Plan Refusal) → PlanIs cmd result t u f → PlanIs cmd result (record s { books = t.books; map = t.map }) u f
   plan_at (Ok (Answer reply)) h = assumption (runs_at u.books h.runs)
-  plan_at (Ok (Change d cost first)) h = assumption (runs_at u.books h.runs, uses_at _ _ _ _ d h.uses)
+  plan_at (Ok (Change d cost first)) h = assumption (runs_at u.books h.runs, uses_at _ _ _ _ _ d h.uses)
   plan_at (Err why) (inl x) = inl (record { accepted = x.accepted; lacks = x.lacks; rests = x.rests })
   plan_at (Err why) (inr (inl x)) = inr (inl (record { accepted = x.accepted; room = x.room; node = x.node; grows = x.grows; enough = x.enough; is = x.is; past = x.past }))
   plan_at (Err why) (inr (inr (inl x))) = inr (inr (inl (record { accepted = x.accepted; room = x.room; is = x.is; short = x.short })))
@@ -37,14 +39,15 @@ module _ (s t u : State) (f : Session) (cmd : Cmd) where
   plan_before books map result h =
       subst (λ m. PlanIs cmd result (record s { map = m }) u f) map (subst (λ b. PlanIs cmd result (record s { books = b; map = t.map }) u f) books (plan_at result h))
 
-  enough_before : t.books ≡ s.books → (figures_on s f cmd).need ≤ length (reusable_blocks s.books) → (figures_on t f cmd).need ≤ length (reusable_blocks t.books)
-  enough_before books enough = subst (λ (b : Bookkeeping). (figures_on (record s { books = b }) f cmd).need ≤ length (reusable_blocks b)) (sym books) enough
+  enough_before : t.books ≡ s.books → t.map ≡ s.map → (figures_on s f cmd).need ≤ length (reusable_blocks s.books) → (figures_on t f cmd).need ≤ length (reusable_blocks t.books)
+  enough_before books map enough = subst (λ (m : Blocks). (figures_on (record t { map = m }) f cmd).need ≤ length (reusable_blocks t.books)) (sym map)
+      (subst (λ (b : Bookkeeping). (figures_on (record s { books = b }) f cmd).need ≤ length (reusable_blocks b)) (sym books) enough)
 
 plans_behind : (tells : Bool) (cmd : Cmd) (result : Result Plan Refusal) (s t u : State) → s.books.stopped ≡ false → LooksOnly tells false s t → (IsTrue tells → Advances s u) → Plans tells cmd result t u → Plans tells cmd result s u
 plans_behind tells cmd result s t u going looks advances plans = record {
   is = λ told f h. plan_before s t u f cmd looks.books (looks.map told) result (plans.is told f (still told f h));
   going = going;
-  quiet = λ told f h enough. calm_on s t u (looked_calmly tells false s t looks told) (plans.quiet told f (still told f h) (enough_before s t u f cmd looks.books enough));
+  quiet = λ told f h enough. calm_on s t u (looked_calmly tells false s t looks told) (plans.quiet told f (still told f h) (enough_before s t u f cmd looks.books (looks.map told) enough));
   settles = settled_after tells (plan_fails_reading result) (plan_fails_settling result) s t u looks plans.settles advances;
 }
   where

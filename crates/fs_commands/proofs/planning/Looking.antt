@@ -205,7 +205,7 @@ module _ {S : Type 0} (tells : Bool) (state : S → State) (rests : Rests tells 
         refusal_plan cmd old new why going (λ told f h. law f.limit (inodes (state old)) f.tree cmd (session_map map (state old) f h) ∙ refuses told f.tree h.tree f.limit) looks
 
 -- a look that was refused says nothing of growth
-pub cut_growth : (n : ℕ) (places : List ℕ) (old new : Bookkeeping) (why : FileRefusal) → LookRefused why → GrowthRefused n places old new why
-cut_growth n places old new file.ReadFault h = tt
-cut_growth n places old new file.NoMemory h = tt
-cut_growth n places old new why h = absurd h
+pub cut_growth : (n : ℕ) (with_more : List ℕ → List ℕ) (old new : Bookkeeping) (why : FileRefusal) → LookRefused why → GrowthRefused n with_more old new why
+cut_growth n with_more old new file.ReadFault h = tt
+cut_growth n with_more old new file.NoMemory h = tt
+cut_growth n with_more old new why h = absurd h

@@ -14,7 +14,7 @@ use Rattle.fs_commands.specs.declared.removing.Named.{Named}
 use Rattle.fs_session.specs.Commands.{places_of}
 use Rattle.fs_commands.specs.Removing.{IsFound, IsNamed, LosesLink, LosesName, blocks_gone, use_after}
 use Rattle.fs_session.specs.Sessions.{inodes}
-use Rattle.fs_session.specs.Space.{ArePlaced}
+use Rattle.fs_session.specs.Space.{ArePlaced, none_renewed}
 use Rattle.fs_commands.proofs.Placing.{placed_cut, placed_then}
 use Rattle.fs_commands.proofs.removed.Slots.{apart, used_inode, slots_used, found_still, lost_inode, lost_others, lost_reads, lost_used, uses_then}
 use Rattle.fs_commands.proofs.Given.{SlotsReadLaw, SumLaw}
@@ -54,7 +54,7 @@ module _ (old mid : State) (d : DraftState) (name : List ℕ) (n : Named) (named
         → SlotsReadLaw
         → SumLaw
         → Alters 3 [] (release (length named.slots)) nothing_drafted d → Alters 1 [] (blocks_gone n.entry.node.facts) d e
-        → (blocks : ℕ) → IsWithPlaces (places_of old) (places_in mid d) n.dir (take blocks (places_of old n.dir)) → ArePlaced (places_in mid d) (places_in now e) [] → LosesName old now e name n
+        → (blocks : ℕ) → IsWithPlaces (places_of old) (places_in mid d) n.dir (take blocks (places_of old n.dir)) → ArePlaced none_renewed (places_in mid d) (places_in now e) [] → LosesName old now e name n
     name_lost reads read both first second blocks cut left =
         let still = read (files_in old nothing_drafted) (files_in mid d) n.dir (without_at n.entry.place named.slots) taken reads in
         record {

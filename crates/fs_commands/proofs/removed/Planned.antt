@@ -3,7 +3,7 @@ use Rattle.std.proofs.Common.{◌≡◌, ℕ, ◌+◌, ◌≤◌, IsTrue, Bool, 
 use Rattle.layout_geometry.specs.Geometry.{Geometry, bitmap_blocks}
 use Rattle.lang_tree.specs.declared.command.Kind.{Kind}
 use Rattle.lang_tree.specs.Conditions.{refusal}
-use Rattle.lang_tree.specs.Figures.{Figures, figures, removing, release}
+use Rattle.lang_tree.specs.Figures.{Figures, removing, release}
 use Rattle.lang_tree.specs.Step.{Session}
 use Rattle.crash_stands.specs.Maps.{IsMapOf}
 use Rattle.fs_inodes.specs.Figures.{cost_by}
@@ -23,10 +23,12 @@ use Rattle.fs_commands.specs.Removing.{KnowsLoss, LosesName, blocks_gone, lose_c
 use Rattle.fs_session.specs.declared.unused.NodeUse.{NodeUse}
 use Rattle.fs_session.specs.Sessions.{KeepsUsed, inodes}
 use Rattle.fs_commands.proofs.looking.Found.{same_files, uses_of}
-use Rattle.fs_session.specs.Space.{HasRoom}
+use Rattle.fs_session.specs.NothingKept.{figures_unshared, uses_so_far}
+use Rattle.fs_session.specs.Space.{HasRoom, none_renewed}
 use Rattle.fs_commands.proofs.AtMost.{altered_few}
 use Rattle.fs_commands.proofs.removed.Accepted.{LossLaw, accepted_removes, loss_done, loss_mapped, reason_is}
 use Rattle.fs_commands.proofs.Given.{RefusalLaw, FiguresLaw}
+use Rattle.fs_commands.proofs.Weighing.{figures_as}
 
 -- A command that takes a path away, as it is weighed: what goes, and the figures.
 pub record LossIs (kind : Kind) (s : State) (path : List (List ℕ)) (n : Named) (f : Session) (fs : Figures) : Type 0 where
@@ -45,9 +47,9 @@ loss_is kind s path n f fs bitmap known map refusals counted is are =
       known = known;
       map = map;
       accepted = accepted;
-      removes = counted (bitmap_blocks s.books.geom) f (inodes s) (lose_cmd kind path) map ∙ ap (cost_by (bitmap_blocks s.books.geom) (inodes s) (lose_cmd kind path)) none
+      removes = figures_unshared s f (lose_cmd kind path) ∙ counted (bitmap_blocks s.books.geom) f (inodes s) (lose_cmd kind path) map ∙ ap (cost_by (bitmap_blocks s.books.geom) (inodes s) (lose_cmd kind path)) none
           ∙ accepted_removes kind (bitmap_blocks s.books.geom) (inodes s) path n.count n.entry.node.facts known.accepted known.above known.facts;
-      figures = ap (λ b. figures b f (lose_cmd kind path)) (sym is) ∙ are f map accepted;
+      figures = figures_as s f (lose_cmd kind path) bitmap (inodes s) fs is are map accepted;
     }
 
 -- the tree of such a loss
@@ -65,16 +67,18 @@ makes_loss kind s path n f fs a now d room loses law priced books = record {
   within = subst (λ (g : Geometry). IsWithinCost g d fs.cost) (sym (ap (λ (k : Bookkeeping). k.geom) books))
       (subst (λ (c : ℕ). IsWithinCost s.books.geom d c) (ap (λ (fs : Figures). fs.cost) (sym a.removes ∙ a.figures))
       (priced s.books.geom d (release n.count + blocks_gone n.entry.node.facts) (altered_few 4 (release n.count + blocks_gone n.entry.node.facts) [] d loses.alters)));
-  uses = subst (λ (fs : Figures). Uses fs.need fs.freed (reusable_blocks now.books) (places_of s) (places_in now d) d) (sym a.removes) (record { taken = loses.alters.taken; freed_are = omega (arith, loses.alters.freed); placed = loses.placed });
+  uses = uses_so_far s f (lose_cmd kind path) _ _ (reusable_blocks now.books) (places_of s) (places_in now d) d
+      (subst (λ (fs : Figures). Uses fs.need fs.freed (reusable_blocks now.books) none_renewed (places_of s) (places_in now d) d) (sym a.removes) (record { taken = loses.alters.taken; freed_are = omega (arith, loses.alters.freed); placed = loses.placed }));
   enough = omega (arith, ap (λ (fs : Figures). fs.need) a.removes);
   rests = λ enough. books;
 }
 
 -- The draft may be made.
-pub loss_made : (tells : Bool) (s now : State) (d : DraftState) (n : Named) (fs : Figures) (nodes : NodeUse) → IsDraftOf tells now d → LooksOnly tells false s now → HasRoom s.books fs
+pub loss_made : (tells : Bool) (s now : State) (d : DraftState) (n : Named) (fs : Figures) (nodes : NodeUse) → IsDraftOf tells now d → d.kept ≡ [] → LooksOnly tells false s now → HasRoom s.books fs
     → nodes ≡ use_after n.entry.node → (IsTrue tells → KeepsUsed (use_after n.entry.node) (files_in s nothing_drafted) (files_in now d)) → MayBeMade tells d fs.cost nodes now
-loss_made tells s now d n fs nodes draft looks room is used = record {
+loss_made tells s now d n fs nodes draft kept looks room is used = record {
   draft = draft;
+  kept = kept;
   weight = subst (λ (k : Bookkeeping). k.running.weight + fs.cost ≤ k.room) (sym looks.books) room.weight;
   used = λ told. uses_of nodes s now d (same_files tells false s now nothing_drafted looks told) (subst (λ (k : NodeUse). KeepsUsed k (files_in s nothing_drafted) (files_in now d)) (sym is) (used told));
 }

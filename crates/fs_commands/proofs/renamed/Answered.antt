@@ -26,6 +26,7 @@ use Rattle.fs_session.specs.Sessions.{inodes}
 use Rattle.fs_commands.proofs.planning.Looking.{done_plan, reason_plan}
 use Rattle.fs_commands.proofs.renamed.Reasons.{same_accepted, same_is}
 use Rattle.fs_commands.proofs.Given.{RefusalLaw, FiguresLaw, ReplyLaw, MapLaw, Rests, session_map}
+use Rattle.fs_session.specs.NothingKept.{figures_unshared}
 
 -- a rename of a node to itself leaves the session as it is
 abbrev SameLaw : Type 0
@@ -57,7 +58,7 @@ module _ (s : State) (f : Session) (from to : List (List ℕ)) (map : IsMapOf f.
 
   no_figures : FiguresLaw → figures_on s f (Rename from to) ≡ nothing
   no_figures counted =
-      counted (bitmap_blocks s.books.geom) f (inodes s) (Rename from to) map
+      figures_unshared s f (Rename from to) ∙ counted (bitmap_blocks s.books.geom) f (inodes s) (Rename from to) map
       ∙ ap (cost_by (bitmap_blocks s.books.geom) (inodes s) (Rename from to)) one.accepted
       ∙ ap (λ b. if b then nothing else move_cost (bitmap_blocks s.books.geom) (inodes s) from to) one.same
 

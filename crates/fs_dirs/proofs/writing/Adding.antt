@@ -1,9 +1,10 @@
 -- A slot written behind the last one of a directory: its inode, and which blocks change.
-use Rattle.std.proofs.Common.{◌≡◌, ℕ, ◌+◌, ◌-◌, ◌*◌, ◌/◌, ◌%◌, ◌≤◌, nat_le, max, min, Bool, true, false, if◌then◌else◌, List, [], ◌∷◌, ◌++◌, length, take, drop, Some, Result, Ok, Err, subst, ap, ap₂, ◌∙◌, arith, ⊎_elim}
+use Rattle.std.proofs.Common.{◌≡◌, ℕ, ◌+◌, ◌-◌, ◌*◌, ◌/◌, ◌%◌, ◌≤◌, ◌==◌, nat_le, max, min, Bool, true, false, not, ◌&&◌, if◌then◌else◌, List, [], ◌∷◌, ◌++◌, length, take, drop, Some, Result, Ok, Err, refl, subst, ap, ◌∙◌, arith, ⊎_elim}
 use Rattle.std.specs.Prelude.{OnOk}
 use Rattle.std.proofs.lemmas.Bool.{cases_eq}
 use Rattle.std.proofs.Math.Seq.{drop-append_seam}
 use Rattle.std.proofs.lemmas.List.{length-append, length-take, length-drop}
+use Rattle.std.proofs.lemmas.List.Filters.{length-filter_both}
 use Rattle.layout_extent.specs.Runs.{stretches}
 use Rattle.layout_bytes.specs.declared.node.NodeKind.TheVariants.{Dir}
 use Rattle.layout_bytes.specs.declared.slot.Slot.{Slot}
@@ -16,10 +17,13 @@ use Rattle.crash_stands.specs.Files.{FileNode, Files}
 use Rattle.crash_stands.specs.Inodes.{ADir, inode_of}
 use Rattle.engine_blocks.specs.State.{Bookkeeping, reusable_blocks}
 use Rattle.fs_files.specs.declared.refusal.FileRefusal.{FileRefusal}
+use Rattle.fs_files.specs.declared.refusal.FileRefusal.TheVariants as refusal
 use Rattle.fs_files.specs.Bytes.{blocks_for, met, overwritten}
-use Rattle.fs_files.specs.Calls.{is_dir, IsUsed, IsWithFile, IsWithPlaces, with_bytes, ChangesAmong, Grows, growth, written_blocks, GrowthRefused}
+use Rattle.fs_files.specs.Calls.{is_dir, IsUsed, IsWithFile, IsWithPlaces, with_bytes, ChangesAmong, Grows, written_blocks, GrowthRefused}
 use Rattle.fs_files.specs.Drafts.{DraftState}
+use Rattle.fs_files.specs.Growing.{alone, placed, places_after, taken_by}
 use Rattle.fs_files.specs.Nodes.{node_block}
+use Rattle.fs_files.specs.Shared.{is_kept}
 use Rattle.fs_dirs.specs.Changing.{Alters, IsWithSlots}
 use Rattle.fs_dirs.proofs.writing.Nodes.{DirNode, sets_file, bytes_over}
 
@@ -47,82 +51,98 @@ one_at_most true n = omega arith
 one_at_most false n = omega arith
 
 -- how many blocks a slot more changes, and how many it takes
-few_blocks : (size n hi : ℕ) → size ≡ 64 * n → hi ≡ 64 * n + 64 → (min (blocks_for hi) (blocks_for size) - size / 1024) + (blocks_for hi - blocks_for size) ≤ 1
-few_blocks size n hi e f = omega (arith, e, f)
+few_blocks : (lo n hi : ℕ) → lo ≡ 64 * n → hi ≡ 64 * n + 64 → (min (blocks_for hi) (blocks_for (64 * n)) - lo / 1024) + figures.growth n ≤ 1
+few_blocks lo n hi e f = omega (arith, e, f)
+
+-- A directory's blocks with those that it takes for one slot more, where none of them is kept: it takes what it has too few, and they come behind its own.
+pub record GrowsBehind (kept : ℕ → Bool) (lo hi : ℕ) (places : List ℕ) (n : ℕ) : Type 0 where
+  pub takes : taken_by kept lo hi places ≡ figures.growth n
+  pub behind : (more : List ℕ) → placed kept lo hi places more ≡ places ++ more
+  pub size : hi ≡ 64 * n + 64
 
 -- a directory grows as its slots do
-pub same_growth : (size n off more : ℕ) → size ≡ 64 * n → off ≡ 64 * n → more ≡ 64 → growth size (off + more) ≡ figures.growth n
-same_growth size n off more e at one = omega (arith, e, at, one)
+pub grows_behind : (kept : ℕ → Bool) (lo size n off text : ℕ) (places : List ℕ) → taken_by kept lo (off + text) places ≡ blocks_for (off + text) - length places → ((more : List ℕ) → placed kept lo (off + text) places more ≡ places ++ more)
+    → length places ≡ blocks_for size → size ≡ 64 * n → off ≡ 64 * n → text ≡ 64 → GrowsBehind kept lo (off + text) places n
+grows_behind kept lo size n off text places takes behind own e at one = record { takes = omega (arith, takes, own, e, at, one); behind = behind; size = omega (arith, at, one) }
+
+-- the blocks that it has then
+places_behind : (kept : ℕ → Bool) (lo hi n : ℕ) (places spare : List ℕ) → GrowsBehind kept lo hi places n → places_after kept lo hi places spare ≡ places ++ take (figures.growth n) spare
+places_behind kept lo hi n places spare h = h.behind (take (taken_by kept lo hi places) spare) ∙ ap (λ i. places ++ take i spare) h.takes
 
 -- there were blocks enough
-pub room_behind : (k : Bookkeeping) (slots : List Slot) (x : FileNode) (hi : ℕ) (places new_places : List ℕ) (d e : DraftState) → Grows k x places new_places hi d e → length x.bytes ≡ 64 * length slots → hi ≡ 64 * length slots + 64
-    → figures.growth (length slots) ≤ length (reusable_blocks k)
-room_behind k slots x hi places new_places d e grows long high = omega (arith, grows.enough, long, high)
+pub room_behind : (k : Bookkeeping) (n : ℕ) (x : FileNode) (lo hi : ℕ) (places new_places : List ℕ) (d e : DraftState) → Grows k x places new_places lo hi d e → GrowsBehind (is_kept d.kept) lo hi places n
+    → figures.growth n ≤ length (reusable_blocks k)
+room_behind k n x lo hi places new_places d e grows h = omega (arith, grows.enough, h.takes)
 
 -- its blocks and those that come behind them lie in few runs
-pub runs_behind : (k : Bookkeeping) (slots : List Slot) (x : FileNode) (hi : ℕ) (places new_places : List ℕ) (d e : DraftState) → Grows k x places new_places hi d e → length x.bytes ≡ 64 * length slots → hi ≡ 64 * length slots + 64
-    → stretches (places ++ take (figures.growth (length slots)) (reusable_blocks k)) ≤ 28
-runs_behind k slots x hi places new_places d e grows long high =
-    let grown : growth (length x.bytes) hi ≡ figures.growth (length slots) = omega (arith, long, high) in
-    subst (λ ps. stretches ps ≤ 28) (grows.behind ∙ ap (λ n. places ++ take n (reusable_blocks k)) grown) grows.runs
+pub runs_behind : (k : Bookkeeping) (n : ℕ) (x : FileNode) (lo hi : ℕ) (places new_places : List ℕ) (d e : DraftState) → Grows k x places new_places lo hi d e → GrowsBehind (is_kept d.kept) lo hi places n
+    → stretches (places ++ take (figures.growth n) (reusable_blocks k)) ≤ 28
+runs_behind k n x lo hi places new_places d e grows h = subst (λ ps. stretches ps ≤ 28) (grows.placed ∙ places_behind (is_kept d.kept) lo hi n places (reusable_blocks k) h) grows.runs
+
+-- not more of a list pass than it has
+alone_few : (kept : ℕ → Bool) (bs : List ℕ) → length (alone kept bs) ≤ length bs
+alone_few kept bs = omega (arith, length-filter_both (λ b. not (kept b)) (λ b. not (not (kept b))) (λ b. refl) bs)
 
 -- What a write behind the last slot alters. `lo` is where it begins, and `hi` where it ends.
-module _ (k : Bookkeeping) (g : Geometry) (dir lo hi : ℕ) (slots : List Slot) (x : FileNode) (places new_places : List ℕ) (d e : DraftState) (grows : Grows k x places new_places hi d e) (dir_kind : x.kind ≡ Dir) (long : length x.bytes ≡ 64 * length slots)
-    (low : lo ≡ length x.bytes) (high : hi ≡ 64 * length slots + 64) (own : length places ≡ blocks_for (length x.bytes)) (among : ChangesAmong (written_blocks g dir x places (drop (length places) new_places) lo hi) d e) where
-  grown : growth (length x.bytes) hi ≡ figures.growth (length slots)
-  grown = omega (arith, long, high)
-
+module _ (k : Bookkeeping) (g : Geometry) (dir lo hi n : ℕ) (x : FileNode) (places new_places : List ℕ) (d e : DraftState) (grows : Grows k x places new_places lo hi d e) (h : GrowsBehind (is_kept d.kept) lo hi places n) (dir_kind : x.kind ≡ Dir)
+    (low : lo ≡ 64 * n) (own : length places ≡ blocks_for (64 * n)) (among : ChangesAmong (written_blocks g (is_kept d.kept) dir x places (drop (length places) new_places) lo hi) d e) where
   abbrev more : List ℕ
   more = drop (length places) new_places
 
-  more_is : more ≡ take (growth (length x.bytes) hi) (reusable_blocks k)
-  more_is = ap (drop (length places)) grows.behind ∙ drop-append_seam places (take (growth (length x.bytes) hi) (reusable_blocks k))
+  more_is : more ≡ take (figures.growth n) (reusable_blocks k)
+  more_is =
+      ap (drop (length places)) (grows.placed ∙ places_behind (is_kept d.kept) lo hi n places (reusable_blocks k) h)
+      ∙ drop-append_seam places (take (figures.growth n) (reusable_blocks k))
 
-  more_few : length more ≤ growth (length x.bytes) hi
-  more_few = omega (arith, ap length more_is, length-take (growth (length x.bytes) hi) (reusable_blocks k))
+  more_few : length more ≤ figures.growth n
+  more_few = omega (arith, ap length more_is, length-take (figures.growth n) (reusable_blocks k))
 
   abbrev touched : List ℕ
   touched = met lo hi places
 
-  touched_few : length touched ≡ min (blocks_for hi) (blocks_for (length x.bytes)) - length x.bytes / 1024
-  touched_few =
-      length-drop (lo / 1024) (take (blocks_for hi) places)
-      ∙ ap₂ (λ a b. a - b / 1024) {x = length (take (blocks_for hi) places)} {y = min (blocks_for hi) (blocks_for (length x.bytes))} (length-take (blocks_for hi) places ∙ ap (min (blocks_for hi)) own) low
+  touched_few : length touched ≡ min (blocks_for hi) (blocks_for (64 * n)) - lo / 1024
+  touched_few = length-drop (lo / 1024) (take (blocks_for hi) places) ∙ ap (λ i. i - lo / 1024) {x = length (take (blocks_for hi) places)} {y = min (blocks_for hi) (blocks_for (64 * n))} (length-take (blocks_for hi) places ∙ ap (min (blocks_for hi)) own)
 
   abbrev own_part : List ℕ
   own_part = if is_dir x.kind then more else []
 
   abbrev node_part : List ℕ
-  node_part = if nat_le hi (length x.bytes) then [] else node_block g dir ∷ []
+  node_part = if nat_le hi (length x.bytes) && (taken_by (is_kept d.kept) lo hi places == 0) then [] else node_block g dir ∷ []
 
-  few : length (touched ++ (own_part ++ node_part)) ≤ 2
+  few : length (alone (is_kept d.kept) touched ++ (own_part ++ node_part)) ≤ 2
   few = omega (
     arith,
-    length-append touched (own_part ++ node_part),
+    length-append (alone (is_kept d.kept) touched) (own_part ++ node_part),
     length-append own_part node_part,
+    alone_few (is_kept d.kept) touched,
     touched_few,
     more_few,
-    few_blocks (length x.bytes) (length slots) hi long high,
+    few_blocks lo n hi low h.size,
     ap (λ q. length (if is_dir q then more else [])) dir_kind,
-    one_at_most (nat_le hi (length x.bytes)) (node_block g dir),
+    one_at_most (nat_le hi (length x.bytes) && (taken_by (is_kept d.kept) lo hi places == 0)) (node_block g dir),
   )
 
-  pub alters_behind : Alters 2 (take (figures.growth (length slots)) (reusable_blocks k)) 0 d e
+  pub alters_behind : Alters 2 (take (figures.growth n) (reusable_blocks k)) 0 d e
   alters_behind = record {
-    among = (touched ++ (own_part ++ node_part), few, among);
+    among = (alone (is_kept d.kept) touched ++ (own_part ++ node_part), few, among);
     some = grows.changes;
-    taken = grows.taken ∙ ap (λ n. d.taken ++ take n (reusable_blocks k)) grown;
+    taken = grows.taken ∙ ap (λ i. d.taken ++ take i (reusable_blocks k)) h.takes;
     freed = omega (arith, ap length grows.freed);
-    fresh = omega (arith, grows.fresh, ap (λ q. if is_dir q then 0 else growth (length x.bytes) hi) dir_kind);
+    fresh = omega (arith, grows.fresh, ap (λ q. if is_dir q then 0 else taken_by (is_kept d.kept) lo hi places) dir_kind);
   }
 
 -- its places
-pub placed_behind : (old new : ℕ → List ℕ) (k n m : ℕ) (more ps : List ℕ) → n ≡ m → new k ≡ old k ++ take n more → IsWithPlaces old new k ps → IsWithPlaces old new k (old k ++ take m more)
-placed_behind old new k n m more ps count behind w = record { own = behind ∙ ap (λ i. old k ++ take i more) count; others = w.others }
+pub placed_behind : (old new : ℕ → List ℕ) (k : ℕ) (kept : ℕ → Bool) (lo hi n : ℕ) (spare : List ℕ) → GrowsBehind kept lo hi (old k) n → IsWithPlaces old new k (places_after kept lo hi (old k) spare)
+    → IsWithPlaces old new k (old k ++ take (figures.growth n) spare)
+placed_behind old new k kept lo hi n spare h w = record { own = w.own ∙ places_behind kept lo hi n (old k) spare h; others = w.others }
 
 -- why it was refused
-pub refused_behind : (n m : ℕ) (ps : List ℕ) (old new : Bookkeeping) (why : FileRefusal) → n ≡ m → GrowthRefused n ps old new why → GrowthRefused m ps old new why
-refused_behind n m ps old new why count h = subst (λ i. GrowthRefused i ps old new why) count h
+pub refused_behind : (n m : ℕ) (f h : List ℕ → List ℕ) (old new : Bookkeeping) (why : FileRefusal) → n ≡ m → ((more : List ℕ) → f more ≡ h more) → GrowthRefused n f old new why → GrowthRefused m h old new why
+refused_behind n m f h old new (refusal.Short need reusable) count same r = (r.0 ∙ count, r.1, omega (arith, r.2, count), r.3)
+refused_behind n m f h old new (refusal.Scattered runs) count same r = (r.0 ∙ ap stretches (same (take n (reusable_blocks new)) ∙ ap (λ i. h (take i (reusable_blocks new))) count), r.1, omega (arith, r.2, count))
+refused_behind n m f h old new refusal.DiskFault count same r = omega (arith, r, count)
+refused_behind n m f h old new refusal.ReadFault count same r = r
+refused_behind n m f h old new refusal.NoMemory count same r = r
 
 -- What an answer or a refusal says, another way.
 

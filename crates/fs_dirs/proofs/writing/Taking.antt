@@ -12,7 +12,9 @@ use Rattle.crash_stands.specs.Inodes.{ADir, inode_of}
 use Rattle.fs_files.specs.Bytes.{blocks_for}
 use Rattle.fs_files.specs.Calls.{IsWithFile, IsWithPlaces, with_bytes, is_dir, Shrinks, ChangesAmong, cut_blocks}
 use Rattle.fs_files.specs.Drafts.{DraftState}
+use Rattle.fs_files.specs.Growing.{alone}
 use Rattle.fs_files.specs.Nodes.{node_block}
+use Rattle.fs_files.specs.Shared.{is_kept}
 use Rattle.fs_dirs.specs.Changing.{Alters, IsWithSlots}
 use Rattle.fs_dirs.proofs.writing.Nodes.{DirNode, sets_file}
 
@@ -35,12 +37,12 @@ few_cut size places b = omega (
 
 -- what a cut alters
 pub alters_cut : (g : Geometry) (dir count size : ℕ) (slots : List Slot) (o : Option FileNode) (r : DirNode o slots) (places new_places : List ℕ) (d e : DraftState) → size ≡ 64 * count → length places ≡ blocks_for (length r.file.bytes)
-    → Shrinks r.file places new_places size d e → ChangesAmong (cut_blocks g dir r.file places size) d e → Alters 2 [] (directory_blocks (length slots) - directory_blocks count) d e
-alters_cut g dir count size slots o r places new_places d e at own shrinks among = record {
+    → alone (is_kept d.kept) (drop (blocks_for size) places) ≡ drop (blocks_for size) places → Shrinks r.file places new_places size d e → ChangesAmong (cut_blocks g dir r.file places size) d e → Alters 2 [] (directory_blocks (length slots) - directory_blocks count) d e
+alters_cut g dir count size slots o r places new_places d e at own all shrinks among = record {
   among = (drop (size / 1024) (take (blocks_for size) places) ++ node_block g dir ∷ [], few_cut size places (node_block g dir), subst (λ t. ChangesAmong ((if is_dir t then drop (size / 1024) (take (blocks_for size) places) else []) ++ node_block g dir ∷ []) d e) r.kind among);
   some = shrinks.changes;
   taken = shrinks.taken ∙ sym (append-nil d.taken);
-  freed = omega (arith, ap length shrinks.freed, length-append d.freed (drop (blocks_for size) places), length-drop (blocks_for size) places, own, r.long, at);
+  freed = omega (arith, ap length (shrinks.freed ∙ ap (λ bs. d.freed ++ bs) all), length-append d.freed (drop (blocks_for size) places), length-drop (blocks_for size) places, own, r.long, at);
   fresh = shrinks.fresh;
 }
 

@@ -1,5 +1,6 @@
 -- A command that needn't wait for the disk has writes alone behind the notices of its tick.
 use Rattle.std.proofs.Common.{◌≡◌, ◌≢◌, inl, inr, ⊎_elim, ◌-◌, ◌≤◌, Bool, false, IsTrue, List, ◌++◌, filter, length, Result, refl, sym, subst, ap, ap₂, ◌∙◌, append_assoc, arith, ℕ, ◌⊎◌, ◌<◌}
+use Rattle.base_types.specs.Seal.{Blocks}
 use Rattle.disk_contract.specs.declared.event.Event.{Event}
 use Rattle.disk_contract.specs.Disk.{GrowsByWrites, PollsThenWrites}
 use Rattle.layout_geometry.specs.Geometry.{Geometry, data_start}
@@ -37,9 +38,9 @@ module _ (k l : Bookkeeping) (moves : MovesPipeline k l) where
   orders_still (inl fits) = inl (fits_still fits)
   orders_still (inr none) = inr (ap (λ (r : Running). r.weight) moves.running ∙ none)
 
-needs_still : (s t : State) (f : Session) (cmd : Cmd) → MovesPipeline s.books t.books → (figures_on s f cmd).need ≤ length (reusable_blocks s.books) → (figures_on t f cmd).need ≤ length (reusable_blocks t.books)
-needs_still s t f cmd moves enough =
-    omega (arith, enough, ap (λ (g : Geometry). (figures_on (record s { books = record s.books { geom = g } }) f cmd).need) moves.geom, as_many_left s.books t.books moves)
+needs_still : (s t : State) (f : Session) (cmd : Cmd) → MovesPipeline s.books t.books → t.map ≡ s.map → (figures_on s f cmd).need ≤ length (reusable_blocks s.books) → (figures_on t f cmd).need ≤ length (reusable_blocks t.books)
+needs_still s t f cmd moves map enough =
+    omega (arith, enough, ap₂ (λ (g : Geometry) (m : Blocks). (figures_on (record s { books = record s.books { geom = g }; map = m }) f cmd).need) moves.geom map, as_many_left s.books t.books moves)
 
 module _ {S : Type 0} (tells : Bool) (state : S → State) (told : IsTrue tells) where
   abbrev Writes : S → S → Type 0
@@ -51,7 +52,7 @@ module _ {S : Type 0} (tells : Bool) (state : S → State) (told : IsTrue tells)
   of_carried : (f : Session) (cmd : Cmd) (result : Result Reply Refusal) (old mid new : S) → Ticks tells false (state old) (state mid) → IsSession (state mid) f → (figures_on (state old) f cmd).need ≤ length (reusable_blocks (state old).books)
       → Carries tells cmd result (state mid) (state new) → Writes mid new
   of_carried f cmd result old mid new ticks h enough carries =
-      grows_by_none (state mid).crash.log (state new).crash.log (carries.quiet told f h (needs_still (state old) (state mid) f cmd ticks.moves.pipeline enough))
+      grows_by_none (state mid).crash.log (state new).crash.log (carries.quiet told f h (needs_still (state old) (state mid) f cmd ticks.moves.pipeline (ticks.moves.map told) enough))
 
   -- a wait for a point that is durable, or isn't there
   of_idle : (n : ℕ) (result : Result Reply Refusal) (old mid new : S) → Ticks tells false (state old) (state mid) → (n ≤ (state old).books.floor) ⊎ ((state old).books.point < n) → WaitsSession tells n result (state mid) (state new) → Writes mid new

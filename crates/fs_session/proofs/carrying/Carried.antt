@@ -1,9 +1,9 @@
 -- A plan carried out: what becomes of the session, and of the bookkeeping.
 use Rattle.std.proofs.lemmas.Bool.{lt-ltb, ltb-true, ltb-false, cases_Bool}
-use Rattle.std.proofs.Math.Seq.{take-append_seam}
-use Rattle.std.proofs.Common.{⊎_elim, ◌≡◌, ◌⊎◌, inl, inr, ℕ, ◌+◌, nat_lt, Bool, false, not, ◌&&◌, ◌||◌, IsTrue, List, ◌++◌, take, length, Ok, Err, refl, sym, subst, ap, ap₂, ◌∙◌, arith}
+use Rattle.std.proofs.Common.{⊎_elim, ◌≡◌, ◌⊎◌, inl, inr, ℕ, ◌+◌, nat_lt, Bool, false, not, ◌&&◌, ◌||◌, IsTrue, List, [], ◌++◌, take, take_all, length, Ok, Err, refl, sym, subst, ap, ap₂, ◌∙◌, arith}
 use Rattle.disk_contract.specs.Disk.{writes_in}
 use Rattle.layout_geometry.specs.Geometry.{Geometry, bitmap_blocks}
+use Rattle.layout_extent.specs.Renew.{renew}
 use Rattle.lang_tree.specs.declared.command.Cmd.{Cmd}
 use Rattle.lang_tree.specs.declared.command.Refusal.{Refusal}
 use Rattle.lang_tree.specs.declared.command.Refusal.TheVariants as because
@@ -11,6 +11,7 @@ use Rattle.lang_tree.specs.declared.command.Reply.{Reply}
 use Rattle.lang_tree.specs.declared.command.Reply.TheVariants.{Ok as Done}
 use Rattle.lang_tree.specs.Step.{Session, step}
 use Rattle.lang_tree.specs.Figures.{Figures, figures, nothing}
+use Rattle.lang_tree.specs.Sharing.{SharedNodes}
 use Rattle.lang_tree.specs.Tree.{Tree}
 use Rattle.lang_tree.specs.Points.{is_sync}
 use Rattle.crash_stands.specs.Files.{Files, files_of}
@@ -28,7 +29,8 @@ use Rattle.fs_files.specs.Calls.{files_in, places_in, places_of as blocks_of_nod
 use Rattle.fs_files.specs.Drafts.{DraftState}
 use Rattle.fs_files.specs.Effects.{LooksAndSettles, ServesAllOrNone}
 use Rattle.fs_session.specs.Changes.{IsCarriedOut, KeepsBlocks, ChangeRefused}
-use Rattle.fs_session.specs.Commands.{RunsCommand, Carries, FindsBlocks, IsDone, Spends, SpendsNothing, figures_on, places_of, is_read_fault, is_disk_fault}
+use Rattle.fs_session.specs.Commands.{RunsCommand, Carries, FindsBlocks, IsDone, Spends, SpendsNothing, figures_on, places_of, renewed_on, is_read_fault, is_disk_fault}
+use Rattle.fs_session.specs.NothingKept.{CostsAsAlone, figures_are, renews_nothing}
 use Rattle.fs_session.specs.Plans.{Plans, MakesTree, MayBeMade, plan_fails_reading, plan_fails_settling}
 use Rattle.fs_files.specs.Finish.{MayGoOn}
 use Rattle.fs_session.specs.Sessions.{IsSession, IsBetween, AreUsedBut, KeepsUsed}
@@ -36,6 +38,8 @@ use Rattle.fs_session.specs.declared.plan.Plan.{Plan}
 use Rattle.fs_session.specs.declared.plan.Plan.TheVariants.{Answer, Change}
 use Rattle.fs_session.specs.declared.unused.NodeUse.{NodeUse}
 use Rattle.fs_session.specs.declared.unused.UnusedNodes.{UnusedNodes}
+use Rattle.fs_files.specs.Shared.{is_kept}
+use Rattle.fs_files.specs.Sound.{AreSoundBeside}
 use Rattle.fs_session.proofs.carrying.Points.{points_stay}
 use Rattle.fs_session.specs.Space.{ArePlaced}
 use Rattle.fs_session.specs.Staying.{session_stays, session_settles, between_stays, freed_alike}
@@ -87,8 +91,15 @@ weighed w c = ⊎_elim
     (λ t. ap (λ b. b || nat_lt 0 c) t ∙ sym (lt-ltb 0 (w + c) (omega (arith, ltb-true 0 w t))))
     (λ n. ap (λ b. b || nat_lt 0 c) n ∙ ap (λ k. nat_lt 0 k) {x = c} {y = w + c} (omega (arith, ltb-false 0 w n))) (cases_Bool (nat_lt 0 w))
 
+-- Blocks stay sound by a draft that is made where no block is kept.
+pub sound_made : (tells : Bool) (d : DraftState) (cost : ℕ) (s t : State) → ((g : Geometry) (m : Blocks) → AreSound g m → AreSoundBeside g (is_kept []) m) → ((g : Geometry) (m : Blocks) → AreSoundBeside g (is_kept []) m → AreSound g m)
+    → d.kept ≡ [] → IsCarriedOut tells d cost s t → IsTrue tells → AreSound s.books.geom s.map → AreSound s.books.geom t.map
+sound_made tells d cost s t to from none h told sound =
+    from s.books.geom t.map (subst (λ (kept : List ℕ). AreSoundBeside s.books.geom (is_kept kept) t.map) none
+    ((h.map told).sound (subst (λ (kept : List ℕ). AreSoundBeside s.books.geom (is_kept kept) s.map) (sym none) (to s.books.geom s.map sound))))
+
 -- The blocks of a draft that is made stand for the tree of its inode map.
-pub tree_of_draft : (tells : Bool) (d : DraftState) (cost : ℕ) (s t : State) (tree : Tree) → IsTrue tells → IsCarriedOut tells d cost s t → AreSound s.books.geom s.map
+pub tree_of_draft : (tells : Bool) (d : DraftState) (cost : ℕ) (s t : State) (tree : Tree) → IsTrue tells → IsCarriedOut tells d cost s t → AreSound s.books.geom t.map
     → AreInodesOf (files_in s d) (inodes_of (files_in s d)) → IsMapOf s.books.geom.i (inodes_of (files_in s d)) tree → IsTreeOf t.books.geom t.map tree
 tree_of_draft tells d cost s t tree told h sound reads map =
     let finished = h.map told in
@@ -97,7 +108,7 @@ tree_of_draft tells d cost s t tree told h sound reads map =
       inodes = inodes_of (files_in s d);
       read = λ k. subst (λ o. IsInodeOf o (inodes_of (files_in s d) k)) (sym (finished.files k)) (reads k);
       map = map;
-      sound = finished.sound sound;
+      sound = sound;
     })
 
 -- Nothing is spent where blocks were read and the pipeline may have settled, and by a draft that isn't made behind that.
@@ -112,25 +123,27 @@ kept_unspent tells s t u h kept = record {
 }
 
 -- no node has other blocks
-placed_same : (old new : ℕ → List ℕ) (more : List ℕ) → ((k : ℕ) → new k ≡ old k) → ArePlaced old new more
-placed_same old new more same k = subst (λ (ps : List ℕ). ps ≡ take (length ps) (old k ++ more)) (sym (same k)) (sym (take-append_seam (old k) more))
+placed_same : (renewed : SharedNodes) (old new : ℕ → List ℕ) → ((k : ℕ) → new k ≡ old k) → ArePlaced renewed old new []
+placed_same renewed old new same k =
+    subst (λ (ps : List ℕ). ps ≡ take (length ps) (renew (renewed k) 0 (old k) [])) (sym (same k)) (sym (ap (take (length (old k))) (renews_nothing (renewed k) 0 (old k)) ∙ take_all (length (old k)) (old k) (omega arith)))
 
 -- A command that takes nothing finds it and spends nothing.
 pub finds_nothing : (k l : Bookkeeping) (n : Figures) → n ≡ nothing → MovesPipeline k l → l ≡ k → IsSound l → FindsBlocks n.need k l
 finds_nothing k l n none moves books sound = record { moves = moves; serves = inl (record { reusable = λ b at. ap (λ (x : Bookkeeping). x.reusable b) books; since = λ b at. ap (λ (x : Bookkeeping). x.since b) books }); rests = λ enough. books; enough = omega (arith, ap (λ (f : Figures). f.need) none); sound = sound }
 
-pub spends_nothing : (s t : State) (n : Figures) → n ≡ nothing → t.books ≡ s.books → t.map ≡ s.map → Spends s t.books t n
-spends_nothing s t n none books map = record {
+pub spends_nothing : (s t : State) (n : Figures) (renewed : SharedNodes) → n ≡ nothing → t.books ≡ s.books → t.map ≡ s.map → Spends s t.books t n renewed
+spends_nothing s t n renewed none books map = record {
   weight = omega (arith, ap (λ (b : Bookkeeping). b.running.weight) books, ap (λ (f : Figures). f.cost) none);
   held = omega (arith, ap (λ (b : Bookkeeping). b.running.held) books, ap (λ (f : Figures). f.freed) none);
   takeable = λ b. ap (λ (f : Figures). not (has (take f.need (reusable_blocks t.books)) b) && t.books.reusable b) {x = nothing} {y = n} (sym none);
   since = λ b. refl;
-  placed = placed_same (places_of s) (places_of t) (take n.need (reusable_blocks t.books)) (λ k. ap₂ (λ (g : Geometry) (m : Blocks). blocks_of_node g m k) (ap (λ (b : Bookkeeping). b.geom) books) map);
+  placed = subst (λ (f : Figures). ArePlaced renewed (places_of s) (places_of t) (take f.need (reusable_blocks t.books))) (sym none)
+      (placed_same renewed (places_of s) (places_of t) (λ k. ap₂ (λ (g : Geometry) (m : Blocks). blocks_of_node g m k) (ap (λ (b : Bookkeeping). b.geom) books) map));
 }
 
-module _ (tells : Bool) (cmd : Cmd) (start mid new : State) (costs : (bitmap : ℕ) (s : Session) → (step s cmd).0.changed ≡ (s.changed || nat_lt 0 (figures bitmap s cmd).cost)) (sync : is_sync cmd ≡ false) (sound : IsSound mid.books) where
+module _ (tells : Bool) (cmd : Cmd) (start mid new : State) (costs : (bitmap : ℕ) (s : Session) → (step s cmd).0.changed ≡ (s.changed || nat_lt 0 (figures bitmap s cmd).cost)) (alone : CostsAsAlone) (sync : is_sync cmd ≡ false) (sound : IsSound mid.books) (stays_sound : IsTrue tells → AreSound mid.books.geom mid.map → AreSound mid.books.geom new.map) where
   -- a draft that is made spends what the command takes
-  spends_so : (d : DraftState) (cost : ℕ) (f : Session) → IsTrue tells → LooksAndSettles tells false false start mid → MakesTree cmd d cost start mid f → IsCarriedOut tells d cost mid new → Spends start mid.books new (figures_on start f cmd)
+  spends_so : (d : DraftState) (cost : ℕ) (f : Session) → IsTrue tells → LooksAndSettles tells false false start mid → MakesTree cmd d cost start mid f → IsCarriedOut tells d cost mid new → Spends start mid.books new (figures_on start f cmd) (renewed_on start f cmd)
   spends_so d cost f told looks made carried =
       let n = figures_on start f cmd in
       let finished = carried.map told in
@@ -141,7 +154,7 @@ module _ (tells : Bool) (cmd : Cmd) (start mid new : State) (costs : (bitmap : �
         since = λ b. ap (λ (x : Bookkeeping). x.since b) carried.same;
         placed = λ k.
             let same : places_of new k ≡ places_in mid d k = ap (λ (g : Geometry). blocks_of_node g new.map k) (made_rests tells d cost mid new carried).geom ∙ finished.places k in
-            subst (λ (ps : List ℕ). ps ≡ take (length ps) (places_of start k ++ take n.need (reusable_blocks mid.books))) (sym same) (made.uses.placed k);
+            subst (λ (ps : List ℕ). ps ≡ take (length ps) (renew (renewed_on start f cmd k) 0 (places_of start k) (take n.need (reusable_blocks mid.books)))) (sym same) (made.uses.placed k);
       }
 
   -- a draft that is made does the command
@@ -154,10 +167,10 @@ module _ (tells : Bool) (cmd : Cmd) (start mid new : State) (costs : (bitmap : �
       record {
         answer = sym made.answer;
         session = record {
-          tree = tree_of_draft tells d cost mid new (step f cmd).0.tree told carried at_mid.tree.sound made.reads (subst (λ n. IsMapOf n (inodes_of (files_in mid d)) (step f cmd).0.tree) at_mid.limit made.map);
+          tree = tree_of_draft tells d cost mid new (step f cmd).0.tree told carried (stays_sound told at_mid.tree.sound) made.reads (subst (λ n. IsMapOf n (inodes_of (files_in mid d)) (step f cmd).0.tree) at_mid.limit made.map);
           limit = stay.limit ∙ at_mid.limit ∙ ap (λ (g : Geometry). g.i) (sym rest.geom);
           points = λ stopped. stay.points ∙ at_mid.points looks.stopped ∙ sym rest.point;
-          changed = λ stopped. costs (bitmap_blocks start.books.geom) f ∙ ap₂ (λ b c. b || nat_lt 0 c) (at_mid.changed looks.stopped) made.costs ∙ weighed mid.books.running.weight cost ∙ ap (λ n. nat_lt 0 n) (sym carried.weight);
+          changed = λ stopped. costs (bitmap_blocks start.books.geom) f ∙ ap₂ (λ b c. b || nat_lt 0 c) (at_mid.changed looks.stopped) (ap (λ (n : Figures). n.cost) (sym (figures_are start f alone cmd)) ∙ made.costs) ∙ weighed mid.books.running.weight cost ∙ ap (λ n. nat_lt 0 n) (sym carried.weight);
           durable = omega (arith, stay.durable, at_mid.durable, rest.floor);
         };
         room = made.room;
@@ -191,7 +204,7 @@ carried_answer tells cmd start mid reply sound plans = record {
     settled = mid.books;
     finds = finds_nothing start.books mid.books (figures_on start f cmd) p.costs plans.settles.pipeline p.books sound;
     runs = p.runs;
-    spends = spends_nothing start mid (figures_on start f cmd) p.costs p.books (plans.settles.map told);
+    spends = spends_nothing start mid (figures_on start f cmd) (renewed_on start f cmd) p.costs p.books (plans.settles.map told);
   };
   refused = λ told. tt;
   kept = λ told. tt;
@@ -250,13 +263,13 @@ refused_plan tells cmd start mid why plans = record {
 }
 
 -- What holds between commands, once a draft is made, and where it isn't.
-pub between_made : (tells : Bool) (d : DraftState) (cost : ℕ) (nodes : NodeUse) (before after : UnusedNodes) (s t : State) → IsCarriedOut tells d cost s t → MayBeMade tells d cost nodes s → MayGoOn t.books
+pub between_made : (tells : Bool) (d : DraftState) (cost : ℕ) (nodes : NodeUse) (before after : UnusedNodes) (s t : State) → IsCarriedOut tells d cost s t → MayBeMade tells d cost nodes s → (IsTrue tells → AreSound s.books.geom s.map → AreSound s.books.geom t.map) → MayGoOn t.books
     → ((old new : Files) → KeepsUsed nodes old new → AreUsedBut old before → AreUsedBut new after) → IsBetween tells s before → IsBetween tells t after
-between_made tells d cost nodes before after s t carried may goes_on follows h =
+between_made tells d cost nodes before after s t carried may stays_sound goes_on follows h =
     let geom : t.books.geom ≡ s.books.geom = (made_rests tells d cost s t carried).geom in
     record {
       goes_on = goes_on;
-      sound = λ told. subst (λ (g : Geometry). AreSound g t.map) (sym geom) ((carried.map told).sound (h.sound told));
+      sound = λ told. subst (λ (g : Geometry). AreSound g t.map) (sym geom) (stays_sound told (h.sound told));
       used = λ told. subst (λ (g : Geometry). AreUsedBut (files_of g t.map) after) (sym geom)
           (λ l from upto bare. let x = follows (files_of s.books.geom s.map) (files_in s d) (may.used told) (h.used told) l from upto bare in (x.0, (carried.map told).files l ∙ x.1));
     }

@@ -45,6 +45,7 @@ module _ (s : State) (told : IsTold s) (sound : AreSound s.books.geom s.map) (un
     held = begun.held;
     takeable = kept_same s.books.reusable (λ b. true) first count (λ b from below free. refl) long ∙ all_kept first count;
     places = λ k. no_place k (places_of s k) refl;
+    kept = λ name k. refl;
   }
     where
       first : ℕ

@@ -1,35 +1,37 @@
 -- A command on the tree in its room: what is done spends what its figures say, and what is refused leaves all as it was. Over blocks in memory that is the session's room; over any others one that came back.
-use Rattle.std.proofs.Common.{◌≡◌, ◌≢◌, ◌⊎◌, inl, inr, ℕ, ◌-◌, ◌<◌, ◌≤◌, Bool, true, false, not, ◌&&◌, List, ◌++◌, length, take, filter, Ok, Err, Result, refl, sym, subst, ap, ◌∙◌, arith}
+use Rattle.std.proofs.Common.{◌≡◌, ◌≢◌, ◌⊎◌, inl, inr, ℕ, ◌-◌, ◌<◌, ◌≤◌, Bool, true, false, not, ◌&&◌, List, length, take, filter, Ok, Err, Result, refl, sym, subst, ap, ◌∙◌, arith}
 use Rattle.std.proofs.lemmas.Bool.{cases_eq, true≢false}
-use Rattle.std.proofs.lemmas.List.{append-nil}
 use Rattle.layout_geometry.specs.Geometry.{Geometry, data_start}
+use Rattle.layout_extent.specs.Renew.{renew}
 use Rattle.layout_extent.specs.Runs.{stretches}
 use Rattle.lang_tree.specs.declared.command.Cmd.{Cmd}
 use Rattle.lang_tree.specs.declared.command.Refusal.{Refusal}
 use Rattle.lang_tree.specs.declared.command.Refusal.TheVariants as because
 use Rattle.lang_tree.specs.declared.command.Reply.{Reply}
 use Rattle.lang_tree.specs.Figures.{Figures}
+use Rattle.lang_tree.specs.Sharing.{SharedNodes}
 use Rattle.lang_tree.specs.Step.{Session, step}
 use Rattle.engine_blocks.specs.Ranges.{same_from}
 use Rattle.engine_blocks.specs.Running.{has}
 use Rattle.engine_blocks.specs.State.{Bookkeeping, State, IsReusable, data_blocks, reusable_blocks}
 use Rattle.fs_session.specs.Applying.{reply_for}
-use Rattle.fs_session.specs.Commands.{Carries, FindsRuns, IsDone, IsRefusedFor, IsScattered, Spends, figures_on, grown_by, is_disk_fault, is_on_tree, is_read_fault, places_of}
+use Rattle.fs_session.specs.Commands.{Carries, FindsRuns, IsDone, IsRefusedFor, IsScattered, Spends, figures_on, grown_by, is_disk_fault, is_on_tree, is_read_fault, places_of, renewed_on}
 use Rattle.fs_session.specs.DiskRoom.{ComesBack}
 use Rattle.fs_session.specs.Memory.{LieInMemory, room_of}
-use Rattle.fs_session.specs.Room.{IsDoneIn, IsRefusedIn, RefusesIn, Room, Scatters, SpendsRoom, StaysInRuns, grown_in, left_in, most_weight}
+use Rattle.fs_session.specs.NothingKept.{renews_nothing}
+use Rattle.fs_session.specs.Room.{HoldsTree, IsDoneIn, IsRefusedIn, RefusesIn, Room, Scatters, SpendsRoom, StaysInRuns, left_in, most_weight}
 use Rattle.fs_session.specs.Sessions.{IsSession, inodes}
-use Rattle.fs_session.specs.Space.{FitsIn, FailsToFit, HasRoom, LacksRoom, left_of}
-use Rattle.fs_session.proofs.rooms.Known.{Known, LeavesSession, brings_back, room_is_with, room_with, still_takeable}
+use Rattle.fs_session.specs.Space.{FitsIn, FailsToFit, HasRoom, LacksRoom, grown_in, left_of}
+use Rattle.fs_session.proofs.rooms.Known.{Known, LeavesSession, brings_back, room_holds, room_is_with, room_with, still_takeable}
 use Rattle.fs_session.proofs.rooms.Lists.{kept_behind}
-use Rattle.fs_session.proofs.rooms.Nodes.{grown_same, holds, in_few_runs}
+use Rattle.fs_session.proofs.rooms.Nodes.{grown_same, in_few_runs, marked_in_use}
 use Rattle.fs_session.proofs.rooms.Same.{never_failed, room_same, rooms}
 
 module _ {S : Type 0} (tells : Bool) (state : S → State) (known : Known tells state) where
   -- What is left, and the most weight, by a room with the same transaction.
 
   left_is : (s : S) (f : Session) → IsSession (state s) f → left_of (state s).books ≡ left_in (state s).books.geom f (room_of (state s))
-  left_is s f h = omega (arith, known.live s f h, (known.sound s).area)
+  left_is s f h = omega (arith, marked_in_use (state s) (known.agrees s).bits h.tree.sound f.tree, (known.sound s).area)
 
   in_room : (P : ℕ → ℕ → Type 0) (s : S) (f : Session) → IsSession (state s) f → P (left_of (state s).books) (state s).books.room → P (left_in (state s).books.geom f (room_of (state s))) (most_weight (state s).books.geom)
   in_room P s f h x = subst (λ n. P n (most_weight (state s).books.geom)) (left_is s f h) (subst (λ n. P (left_of (state s).books) n) (known.sound s).room x)
@@ -46,11 +48,11 @@ module _ {S : Type 0} (tells : Bool) (state : S → State) (known : Known tells 
 
   -- Done: in the room once the pipeline has settled.
 
-  in_runs : (s : S) (k : Bookkeeping) (f : Session) (cmd : Cmd) → IsSession (state s) f → FindsRuns (state s) k f cmd → StaysInRuns f (room_with (state s) k) cmd (figures_on (state s) f cmd).need
+  in_runs : (s : S) (k : Bookkeeping) (f : Session) (cmd : Cmd) → IsSession (state s) f → FindsRuns (state s) k f cmd → StaysInRuns (state s).books.geom f (room_with (state s) k) cmd (figures_on (state s) f cmd).need
   in_runs s k f cmd h finds node some grows = (finds node some (sym (grown_is s f cmd h) ∙ grows)).runs
 
-  spends_room : (s t : S) (k : Bookkeeping) (n : Figures) → (state t).books.geom ≡ (state s).books.geom → k.geom ≡ (state s).books.geom → Spends (state s) k (state t) n → SpendsRoom n (room_with (state s) k) (room_of (state t))
-  spends_room s t k n geom settled x = record {
+  spends_room : (s t : S) (k : Bookkeeping) (n : Figures) (renewed : SharedNodes) → (state t).books.geom ≡ (state s).books.geom → k.geom ≡ (state s).books.geom → Spends (state s) k (state t) n renewed → SpendsRoom n renewed (room_with (state s) k) (room_of (state t))
+  spends_room s t k n renewed geom settled x = record {
     weight = x.weight;
     held = x.held;
     takeable =
@@ -58,6 +60,7 @@ module _ {S : Type 0} (tells : Bool) (state : S → State) (known : Known tells 
         ∙ same_from (state t).books.reusable (λ b. not (has (take n.need (reusable_blocks k)) b) && k.reusable b) (data_start k.geom) (k.geom.n - data_start k.geom) (λ b from below. x.takeable b)
         ∙ kept_behind k.reusable (data_start k.geom) (k.geom.n - data_start k.geom) n.need;
     placed = x.placed;
+    kept = refl;
   }
 
   pub done_in : (f : Session) (cmd : Cmd) (reply : Reply) (old new : S) → IsSession (state old) f → (state new).books.geom ≡ (state old).books.geom → (d : IsDone (state old) (state new) f cmd reply)
@@ -67,8 +70,8 @@ module _ {S : Type 0} (tells : Bool) (state : S → State) (known : Known tells 
     fits = fits_in old f (figures_on (state old) f cmd) h d.room;
     enough = d.finds.enough;
     runs = in_runs old d.settled f cmd h d.runs;
-    spends = spends_room old new d.settled (figures_on (state old) f cmd) geom d.finds.moves.geom d.spends;
-    holds = holds known.slots known.bytes known.names (state new) (step f cmd).0.tree d.session.tree;
+    spends = spends_room old new d.settled (figures_on (state old) f cmd) (renewed_on (state old) f cmd) geom d.finds.moves.geom d.spends;
+    holds = subst (λ (g : Geometry). HoldsTree g (step f cmd).0.tree (room_of (state new))) geom (room_holds tells state known new (step f cmd).0 d.session);
   }
 
   -- which came back
@@ -78,13 +81,13 @@ module _ {S : Type 0} (tells : Bool) (state : S → State) (known : Known tells 
       record {
         weight = refl;
         held = refl;
-        keeps = record { places = refl; takeable = still_takeable (state old).books d.settled moves.geom moves.reusable };
+        keeps = record { places = refl; kept = refl; takeable = still_takeable (state old).books d.settled moves.geom moves.reusable };
         is_room = room_is_with tells state known old f h d.settled d.finds.sound moves.geom moves.marked moves.running;
       }
 
   -- Refused: in the room that it leaves.
 
-  scatters : (f : Session) (cmd : Cmd) (why : Refusal) (old new : S) → IsSession (state old) f → IsScattered (state old) (state new) f cmd why → Scatters f (room_with (state old) (state new).books) cmd (figures_on (state old) f cmd).need why
+  scatters : (f : Session) (cmd : Cmd) (why : Refusal) (old new : S) → IsSession (state old) f → IsScattered (state old) (state new) f cmd why → Scatters (state old).books.geom f (room_with (state old) (state new).books) cmd (figures_on (state old) f cmd).need why
   scatters f cmd why old new h x = record {
     node = x.node;
     some = by (cases_eq (figures_on (state old) f cmd).need 0);
@@ -99,7 +102,7 @@ module _ {S : Type 0} (tells : Bool) (state : S → State) (known : Known tells 
         arith,
         x.past,
         in_few_runs known.back known.many (state old).books.geom (state old).map x.node,
-        ap stretches (ap (λ n. places_of (state old) x.node ++ take n (reusable_blocks (state new).books)) none ∙ append-nil (places_of (state old) x.node)),
+        ap stretches (ap (λ n. renew (renewed_on (state old) f cmd x.node) 0 (places_of (state old) x.node) (take n (reusable_blocks (state new).books))) none ∙ renews_nothing (renewed_on (state old) f cmd x.node) 0 (places_of (state old) x.node)),
       ))
       by (inr some) = omega (arith, some)
 
@@ -129,7 +132,7 @@ module _ {S : Type 0} (tells : Bool) (state : S → State) (known : Known tells 
       where
         -- that room has the transaction and the nodes' blocks as they were
         same : room_with (state old) (state new).books ≡ room_of (state new)
-        same = rooms (room_with (state old) (state new).books) (room_of (state new)) (sym refused_back.weight) (sym refused_back.held) refl (sym refused_back.keeps.places)
+        same = rooms (room_with (state old) (state new).books) (room_of (state new)) (sym refused_back.weight) (sym refused_back.held) refl (sym refused_back.keeps.places) refl
 
         by : IsRefusedIn (state old).books.geom f (room_with (state old) (state new).books) cmd why ⊎ ((why ≡ because.DiskFault) ⊎ (why ≡ because.ReadFault)) → EndsOver f cmd (reply_for (Err why)) old f new (room_of (state new))
         by (inl own) = inl (inr (why, subst (λ (r : Room). IsRefusedIn (state old).books.geom f r cmd why) same own, refl, refl, refl))

@@ -35,7 +35,7 @@ use Rattle.fs_session.proofs.applying.Waiting.{fits_still}
 use Rattle.fs_session.proofs.rooms.Answered.{known_in, polled_in}
 use Rattle.fs_session.proofs.rooms.Carried.{EndsOver, done_in, fits_in, refused_back, refused_over, settled_back}
 use Rattle.fs_session.proofs.rooms.Known.{Known, LeavesSession, room_is}
-use Rattle.fs_session.proofs.rooms.Nodes.{marked_is}
+use Rattle.fs_session.proofs.rooms.Nodes.{in_use_is}
 use Rattle.fs_session.proofs.rooms.Over.{begun_over, itself, synced_over, tick_back, waited_back}
 use Rattle.fs_session.proofs.rooms.Waits.{all_or_none, room_on_with, same_wait, serves_room, syncs_room_on}
 
@@ -59,7 +59,7 @@ still_awaits old mid told point first p t waits = ⊎_elim
 
 -- nothing settles for what is refused for want of room
 abbrev pub SettlesNoneFor : Geometry → Session → RoomOn → RoomOn → Cmd → Reply → Type 0
-SettlesNoneFor g f back ready cmd reply = (why : Refusal) → reply ≡ Refused why → FailsToFit (left_in g f back.room) back.room.weight (most_weight g) (figures_in g f cmd) why → SameWait g back ready
+SettlesNoneFor g f back ready cmd reply = (why : Refusal) → reply ≡ Refused why → FailsToFit (left_in g f back.room) back.room.weight (most_weight g) (figures_in g f back.room cmd) why → SameWait g back ready
 
 -- what fits doesn't fail to
 fits_well : (left weighs most : ℕ) (n : Figures) (why : Refusal) → FitsIn left weighs most n → FailsToFit left weighs most n why → ⊥
@@ -80,7 +80,7 @@ no_other_want left weighs most n why (inr big) = ap is_other_want big.is
 -- What comes behind a tick: the command has the blocks that it needs, is answered in that room, and leaves waiting what it may.
 pub record Behind (g : Geometry) (at end : Moment) (f : Session) (back : RoomOn) (cmd : Cmd) (reply : Reply) (next : Session) (new : RoomOn) : Type 0 where
   pub ready : RoomOn
-  pub settles : SettlesRoom g f (figures_in g f cmd).need back ready
+  pub settles : SettlesRoom g f (figures_in g f back.room cmd).need back ready
   pub full : SettlesNoneFor g f back ready cmd reply
   pub answers : AnswersOver g f ready.room cmd reply next new.room
   pub leaves : LeavesWaiting g at end cmd reply next ready new
@@ -88,7 +88,7 @@ pub record Behind (g : Geometry) (at end : Moment) (f : Session) (back : RoomOn)
 -- A command on the tree so: it ends in a room, and what waited waits.
 pub record CarriedIn (g : Geometry) (f : Session) (cmd : Cmd) (reply : Reply) (old new : RoomOn) (Ends : Room → Type 0) : Type 0 where
   pub ready : RoomOn
-  pub settles : SettlesRoom g f (figures_in g f cmd).need old ready
+  pub settles : SettlesRoom g f (figures_in g f old.room cmd).need old ready
   pub full : SettlesNoneFor g f old ready cmd reply
   pub ends : Ends ready.room
   pub since : (b : ℕ) → IsData g b → new.since b ≡ ready.since b
@@ -118,20 +118,20 @@ module _ {S : Type 0} (tells : Bool) (state : S → State) (known : Known tells 
 
   -- what is refused for want of room
   none_for : (f : Session) (cmd : Cmd) (why other : Refusal) (old new : S) → IsSession (state old) f → (state new).books.geom ≡ (state old).books.geom → why ≡ other
-      → FailsToFit (left_in (state old).books.geom f (room_of (state old))) (state old).books.running.weight (most_weight (state old).books.geom) (figures_in (state old).books.geom f cmd) other
+      → FailsToFit (left_in (state old).books.geom f (room_of (state old))) (state old).books.running.weight (most_weight (state old).books.geom) (figures_in (state old).books.geom f (room_of (state old)) cmd) other
       → IsRefusedFor (state old) (state new) f cmd why → SameWait (state old).books.geom (room_on (state old)) (room_on (state new))
   none_for f cmd why other old new h geom same fails refused = by refused
     where
-      has_none : HasRoom (state old).books (figures_in (state old).books.geom f cmd) → ⊥
-      has_none room = fits_well (left_in (state old).books.geom f (room_of (state old))) (state old).books.running.weight (most_weight (state old).books.geom) (figures_in (state old).books.geom f cmd) other
-          (fits_in tells state known old f (figures_in (state old).books.geom f cmd) h room) fails
+      has_none : HasRoom (state old).books (figures_in (state old).books.geom f (room_of (state old)) cmd) → ⊥
+      has_none room = fits_well (left_in (state old).books.geom f (room_of (state old))) (state old).books.running.weight (most_weight (state old).books.geom) (figures_in (state old).books.geom f (room_of (state old)) cmd) other
+          (fits_in tells state known old f (figures_in (state old).books.geom f (room_of (state old)) cmd) h room) fails
 
       by : IsRefusedFor (state old) (state new) f cmd why → SameWait (state old).books.geom (room_on (state old)) (room_on (state new))
       by (inl x) = same_wait (state old).books (state new).books geom (state old) (state new) x.rests
       by (inr (inl x)) = absurd (has_none x.room)
       by (inr (inr (inl x))) = absurd (has_none x.room)
       by (inr (inr (inr w))) = absurd (true≢false (sym (⊎_elim (ap is_other_want) (ap is_other_want) w) ∙ ap is_other_want same
-          ∙ no_other_want (left_in (state old).books.geom f (room_of (state old))) (state old).books.running.weight (most_weight (state old).books.geom) (figures_in (state old).books.geom f cmd) other fails))
+          ∙ no_other_want (left_in (state old).books.geom f (room_of (state old))) (state old).books.running.weight (most_weight (state old).books.geom) (figures_in (state old).books.geom f (room_of (state old)) cmd) other fails))
 
   -- a command on the tree
   carried_at : (f : Session) (cmd : Cmd) (result : Result Reply Refusal) (old new : S) → is_on_tree cmd ≡ true → is_disk_fault result ≡ false → IsSession (state old) f → Carries tells cmd result (state old) (state new)
@@ -149,8 +149,8 @@ module _ {S : Type 0} (tells : Bool) (state : S → State) (known : Known tells 
             rests = λ enough. same_wait (state old).books d.settled geom (state old) (state old) (freed_alike (state old).books d.settled (d.finds.rests enough));
             serves = all_or_none (state old).books d.settled geom (state old) (state old) d.finds.serves;
           };
-          full = λ why is fails. absurd (fits_well (left_in (state old).books.geom f (room_of (state old))) (state old).books.running.weight (most_weight (state old).books.geom) (figures_in (state old).books.geom f cmd) why
-              (fits_in tells state known old f (figures_in (state old).books.geom f cmd) h d.room) fails);
+          full = λ why is fails. absurd (fits_well (left_in (state old).books.geom f (room_of (state old))) (state old).books.running.weight (most_weight (state old).books.geom) (figures_in (state old).books.geom f (room_of (state old)) cmd) why
+              (fits_in tells state known old f (figures_in (state old).books.geom f (room_of (state old)) cmd) h d.room) fails);
           ends = inl (inl (done_in tells state known f cmd reply old new h carries.runs.geom d));
           since = λ b at. d.spends.since b;
         },
@@ -182,7 +182,7 @@ module _ {S : Type 0} (tells : Bool) (state : S → State) (known : Known tells 
         x.2,
         (
           x.3,
-          inl (syncs_room_on (state old) (state new) syncs.geom (λ b at. marked_is (state old) (known.agrees old).bits h.tree.sound b at.from at.below) x.0.points (sym (x.1.points syncs.disk.stopped)) (syncs.frees known.told)),
+          inl (syncs_room_on (state old) (state new) syncs.geom x.0.tree (λ b at. in_use_is (state old) (known.agrees old).bits h.tree.sound x.0.tree b at.from at.below) x.0.points (sym (x.1.points syncs.disk.stopped)) (syncs.frees known.told)),
         ),
       )
   sync_at orders f cmd (Err why) old new well h syncs =
@@ -210,7 +210,7 @@ module _ {S : Type 0} (tells : Bool) (state : S → State) (known : Known tells 
     -- a command that needs no blocks
     of_other : (cmd : Cmd) → LeavesSession state old new (λ next. AnswersOver (state old).books.geom f (room_of (state old)) cmd (reply_for result) next (room_of (state new))
         × LeavesWaiting (state old).books.geom (moment_of (state old)) (moment_of (state new)) cmd (reply_for result) next (room_on (state old)) (room_on (state new))) → LeavesBehind cmd
-    of_other cmd x = (x.0, x.1, x.2, record { ready = room_on (state old); settles = nothing_settles f (figures_in (state old).books.geom f cmd).need old h; full = λ why is fails. same_room (state old).books.geom (room_on (state old)); answers = x.3.0; leaves = x.3.1 })
+    of_other cmd x = (x.0, x.1, x.2, record { ready = room_on (state old); settles = nothing_settles f (figures_in (state old).books.geom f (room_of (state old)) cmd).need old h; full = λ why is fails. same_room (state old).books.geom (room_on (state old)); answers = x.3.0; leaves = x.3.1 })
 
     -- a wait for a point: the same blocks wait, and it is answered in the room that it leaves
     waited_at : (n : ℕ) (r : Result Reply Refusal) → is_disk_fault r ≡ false → WaitsSession tells n r (state old) (state new)

@@ -2,6 +2,7 @@
 use Rattle.std.proofs.Common.{⊎_elim, ◌≡◌, ℕ, ◌-◌, ◌<◌, Bool, true, false, IsTrue, List, length, filter, refl, sym, subst, ap, ◌∙◌, arith}
 use Rattle.std.proofs.lemmas.Bool.{cases_Bool, true≢false}
 use Rattle.base_types.specs.Seal.{Blocks}
+use Rattle.std.specs.FinMap.{keys}
 use Rattle.layout_geometry.specs.Geometry.{Geometry, data_start}
 use Rattle.layout_bytes.specs.Bitmap.{is_set}
 use Rattle.lang_tree.specs.Figures.{blocks}
@@ -18,12 +19,14 @@ use Rattle.engine_blocks.specs.State.{Bookkeeping, State, IsReusable, data_block
 use Rattle.fs_session.specs.Commands.{places_of}
 use Rattle.fs_session.specs.DiskRoom.{ComesBack, IsRoomOf, KeepsRoom}
 use Rattle.fs_session.specs.Memory.{room_of}
-use Rattle.fs_session.specs.Room.{HoldsTree, Room, node_blocks}
+use Rattle.fs_session.specs.Lists.{node_blocks}
+use Rattle.fs_session.specs.NothingKept.{listed_of_nodes}
+use Rattle.fs_session.specs.Room.{HoldsTree, Room}
 use Rattle.fs_session.specs.Sessions.{IsSession}
 use Rattle.fs_session.proofs.standing.Lists.{is_kept, kept_is}
 use Rattle.fs_session.proofs.standing.Marks.{HasSlots, HasItsBytes}
 use Rattle.fs_session.proofs.rooms.Lists.{kept_themselves, node_among}
-use Rattle.fs_session.proofs.rooms.Nodes.{HasAsManyRuns, HasItsRuns, HasSlotsForNames, holds, marked_place}
+use Rattle.fs_session.proofs.rooms.Nodes.{HasAsManyRuns, HasItsRuns, HasSlotsForNames, holds, marked_in_use, marked_place}
 use Rattle.fs_session.proofs.rooms.Same.{places_same}
 
 -- contents are told, what holds of each state, and the laws that are called
@@ -47,8 +50,8 @@ LeavesSession state old new Answers = (next : Session) × IsSession (state new) 
 abbrev pub room_with : State → Bookkeeping → Room
 room_with s k = record (room_of s) { takeable = reusable_blocks k }
 
-module _ (s : State) (f : Session) (bits : (b : ℕ) → b < s.books.geom.n → s.books.marked b ≡ is_set s.books.geom s.map b) (sound : IsSound s.books) (stands : IsTreeOf s.books.geom s.map f.tree) (as_many : length (live_blocks s.books) ≡ blocks f.tree)
-    (tree : HoldsTree f.tree (room_of s)) (k : Bookkeeping) (behind : IsSound k) (geom : k.geom ≡ s.books.geom) (marked : k.marked ≡ s.books.marked) (running : k.running ≡ s.books.running) where
+module _ (s : State) (f : Session) (bits : (b : ℕ) → b < s.books.geom.n → s.books.marked b ≡ is_set s.books.geom s.map b) (sound : IsSound s.books) (stands : IsTreeOf s.books.geom s.map f.tree)
+    (tree : HoldsTree s.books.geom f.tree (room_of s)) (k : Bookkeeping) (behind : IsSound k) (geom : k.geom ≡ s.books.geom) (marked : k.marked ≡ s.books.marked) (running : k.running ≡ s.books.running) where
   -- what may be taken are data blocks
   moved : reusable_blocks k ≡ filter k.reusable (data_blocks s.books.geom)
   moved = ap (λ (g : Geometry). filter k.reusable (data_blocks g)) geom
@@ -64,17 +67,18 @@ module _ (s : State) (f : Session) (bits : (b : ℕ) → b < s.books.geom.n → 
       (λ there. let r = node_among (places_of s) s.books.geom.i b is in absurd (true≢false (sym (marked_place s bits stands.sound r.0 b r.1) ∙ unmarked b there)))
       (λ gone. gone) (cases_Bool (has (reusable_blocks k) b))
 
-  live_too : length (live_blocks k) ≡ blocks f.tree
-  live_too = ap (λ (m : ℕ → Bool). length (filter m (data_blocks k.geom))) marked ∙ ap (λ (g : Geometry). length (filter s.books.marked (data_blocks g))) geom ∙ as_many
+  -- as many data blocks are in use as are marked
+  live_too : length (live_blocks k) ≡ length (live_blocks s.books)
+  live_too = ap (λ (m : ℕ → Bool). length (filter m (data_blocks k.geom))) marked ∙ ap (λ (g : Geometry). length (filter s.books.marked (data_blocks g))) geom
 
   -- the room is one of the session's
   pub is_room : IsRoomOf s.books.geom f (room_with s k)
   is_room = record {
-    holds = record { files = tree.files; directories = tree.directories; unused = tree.unused };
+    holds = record { files = tree.files; directories = tree.directories; unused = tree.unused; alone = tree.alone };
     fits = omega (arith, sound.fits, sound.room);
     takeable = moved ∙ kept_themselves k.reusable (data_start s.books.geom) (s.books.geom.n - data_start s.books.geom) ∙ ap (λ (xs : List ℕ). filter (has xs) (data_blocks s.books.geom)) (sym moved);
-    apart = free;
-    upto = omega (arith, behind.accounts, behind.area, ap (λ (g : Geometry). g.n - data_start g) geom, live_too, ap (λ (r : Running). r.held) running);
+    apart = λ b is. free b (sym (listed_of_nodes s.books.geom.i (places_of s) (keys f.tree.snapshots) b) ∙ is);
+    upto = omega (arith, behind.accounts, behind.area, ap (λ (g : Geometry). g.n - data_start g) geom, live_too, marked_in_use s bits stands.sound f.tree, ap (λ (r : Running). r.held) running);
   }
 
 -- what may be taken may be taken still
@@ -90,15 +94,19 @@ pub back_again : (g : Geometry) (f : Session) (r s t : Room) → ComesBack g f r
 back_again g f r s t one two = record {
   weight = two.weight ∙ one.weight;
   held = two.held ∙ one.held;
-  keeps = record { places = two.keeps.places ∙ one.keeps.places; takeable = λ b may. two.keeps.takeable b (one.keeps.takeable b may) };
+  keeps = record { places = two.keeps.places ∙ one.keeps.places; kept = two.keeps.kept ∙ one.keeps.kept; takeable = λ b may. two.keeps.takeable b (one.keeps.takeable b may) };
   is_room = two.is_room;
 }
 
 module _ {S : Type 0} (tells : Bool) (state : S → State) (known : Known tells state) where
+  -- the room of a session holds its tree
+  pub room_holds : (s : S) (f : Session) → IsSession (state s) f → HoldsTree (state s).books.geom f.tree (room_of (state s))
+  room_holds s f h = holds known.slots known.bytes known.names (state s) f.tree h.tree (marked_in_use (state s) (known.agrees s).bits h.tree.sound f.tree ∙ known.live s f h)
+
   -- the room with what may be taken by another bookkeeping of the same blocks
   pub room_is_with : (s : S) (f : Session) → IsSession (state s) f → (k : Bookkeeping) → IsSound k → k.geom ≡ (state s).books.geom → k.marked ≡ (state s).books.marked → k.running ≡ (state s).books.running → IsRoomOf (state s).books.geom f (room_with (state s) k)
   room_is_with s f h k behind geom marked running =
-      is_room (state s) f (known.agrees s).bits (known.sound s) h.tree (known.live s f h) (holds known.slots known.bytes known.names (state s) f.tree h.tree) k behind geom marked running
+      is_room (state s) f (known.agrees s).bits (known.sound s) h.tree (room_holds s f h) k behind geom marked running
 
   -- the room of a session
   pub room_is : (s : S) (f : Session) → IsSession (state s) f → IsRoomOf (state s).books.geom f (room_of (state s))
@@ -106,7 +114,7 @@ module _ {S : Type 0} (tells : Bool) (state : S → State) (known : Known tells 
 
   -- a call that keeps the map and what may be taken keeps the room
   pub keeps_room : (s t : S) → (state t).books.geom ≡ (state s).books.geom → (state t).map ≡ (state s).map → ((b : ℕ) → IsReusable (state s).books.geom (state s).books.reusable b → (state t).books.reusable b ≡ true) → KeepsRoom (room_of (state s)) (room_of (state t))
-  keeps_room s t geom map still = record { places = places_same (state s) (state t) geom map; takeable = still_takeable (state s).books (state t).books geom still }
+  keeps_room s t geom map still = record { places = places_same (state s) (state t) geom map; kept = refl; takeable = still_takeable (state s).books (state t).books geom still }
 
   -- and one that keeps the transaction as well brings it back
   pub brings_back : (s t : S) (f : Session) → IsSession (state t) f → (state t).books.geom ≡ (state s).books.geom → (state t).map ≡ (state s).map → (state t).books.running ≡ (state s).books.running

@@ -5,7 +5,7 @@ use Rattle.std.proofs.lemmas.Bool.{cases_Bool, cases_eq, eq-eqb, ne_eqb, or_left
 use Rattle.std.specs.List.{range_with_len}
 use Rattle.engine_blocks.specs.Ranges.{counted, same_from, first_passes, first_fails}
 use Rattle.engine_blocks.specs.Running.{has}
-use Rattle.fs_session.specs.Room.{node_blocks}
+use Rattle.fs_session.specs.Lists.{node_blocks}
 use Rattle.fs_session.proofs.standing.Lists.{has_append, in_append, is_kept, kept_is}
 
 -- a test keeps fewer than one that passes what it passes, or the same

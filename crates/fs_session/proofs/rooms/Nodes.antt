@@ -1,6 +1,6 @@
 -- The blocks of nodes where a tree stands: as many as the tree says, in few runs, and marked where a node has them.
-use Rattle.std.proofs.Common.{◌≡◌, ◌⊎◌, inl, inr, ℕ, ◌+◌, ◌<◌, ◌≤◌, true, false, List, [], ◌∷◌, length, Option, Some, None, option_map, option_and_then, refl, sym, ap, ◌∙◌, arith}
-use Rattle.std.specs.FinMap.{get}
+use Rattle.std.proofs.Common.{◌≡◌, ◌⊎◌, inl, inr, ℕ, ◌+◌, ◌-◌, ◌<◌, ◌≤◌, true, false, List, [], ◌∷◌, length, Option, Some, None, option_map, option_and_then, refl, sym, ap, ◌∙◌, arith}
+use Rattle.std.specs.FinMap.{get, keys}
 use Rattle.std.proofs.lemmas.Bool.{cases_Bool, true≢false, false≢true}
 use Rattle.std.proofs.lemmas.List.{nil_from_length}
 use Rattle.std.proofs.lemmas.Option.{none-some}
@@ -12,12 +12,13 @@ use Rattle.layout_bytes.specs.declared.node.Node.{Node}
 use Rattle.layout_bytes.specs.Bitmap.{is_set}
 use Rattle.layout_bytes.specs.Node.{runs_fit}
 use Rattle.layout_extent.specs.Runs.{AreTidy, runs_of, stretches}
-use Rattle.lang_tree.specs.Figures.{blocks_for, directory_blocks}
+use Rattle.lang_tree.specs.Figures.{blocks, blocks_for, directory_blocks}
 use Rattle.lang_tree.specs.Names.{names_in}
 use Rattle.lang_tree.specs.Tree.{Tree, Dir as DirThing, File as FileThing}
 use Rattle.lang_tree.specs.Walk.{bytes_in, is_dir}
 use Rattle.engine_blocks.specs.Running.{has}
-use Rattle.engine_blocks.specs.State.{State}
+use Rattle.engine_blocks.specs.Ranges.{same_from}
+use Rattle.engine_blocks.specs.State.{State, live_blocks}
 use Rattle.crash_stands.specs.Files.{used_node}
 use Rattle.crash_stands.specs.Inodes.{Inode, Inodes, ADir, AFile, thing_of}
 use Rattle.crash_stands.specs.Maps.{IsMapOf}
@@ -26,8 +27,10 @@ use Rattle.fs_inodes.specs.Figures.{inode_blocks}
 use Rattle.fs_inodes.specs.Lookups.{inode_at, number_at, slots_of}
 use Rattle.fs_files.specs.Calls.{places_or_none}
 use Rattle.fs_session.specs.Commands.{places_of}
+use Rattle.fs_session.specs.Lists.{node_blocks}
 use Rattle.fs_session.specs.Memory.{room_of}
-use Rattle.fs_session.specs.Room.{HoldsTree, node_blocks}
+use Rattle.fs_session.specs.NothingKept.{listed_of_nodes}
+use Rattle.fs_session.specs.Room.{HoldsTree, blocks_in_use, is_in_use}
 use Rattle.fs_session.proofs.standing.Lists.{has_place}
 use Rattle.fs_session.proofs.standing.Marks.{HasSlots, HasItsBytes, inode_has, place_marked}
 use Rattle.fs_session.proofs.standing.Nodes.{block_place, first_fits, place_data, places_at, used_fits, used_number}
@@ -83,14 +86,15 @@ module _ (slots_law : HasSlots) (bytes_law : HasItsBytes) (names_law : HasSlotsF
   as_many : (k : ℕ) → length (places_of s k) ≡ inode_blocks (stands.inodes k)
   as_many k = sym (inode_has slots_law bytes_law s.books.geom s.map stands.sound k (used_node s.books.geom s.map k) (stands.inodes k) refl (stands.read k))
 
-  -- the room holds the tree
-  pub holds : HoldsTree t (room_of s)
-  holds = record {
+  -- the room holds the tree, where as many blocks are in use as it has
+  pub holds : blocks_in_use s.books.geom t (room_of s) ≡ blocks t → HoldsTree s.books.geom t (room_of s)
+  holds count = record {
     files = λ k bytes is. as_many k ∙ file_blocks (stands.inodes k) bytes (sym (stands.map.shows.nodes k) ∙ is);
     directories = λ path k at is.
         as_many k ∙ dir_blocks (stands.inodes k) (sym (stands.map.shows.nodes k) ∙ is)
         ∙ ap directory_blocks (sym (names_law s.books.geom.i stands.inodes t path stands.map ∙ ap (λ o. length (slots_of (option_and_then stands.inodes o))) (sym (stands.map.shows.names path) ∙ at)));
-    unused = λ k is. nil_from_length (places_of s k) (as_many k ∙ no_blocks (stands.inodes k) (sym (stands.map.shows.nodes k) ∙ is));
+    unused = λ k is other. nil_from_length (places_of s k) (as_many k ∙ no_blocks (stands.inodes k) (sym (stands.map.shows.nodes k) ∙ is));
+    alone = λ none. count;
   }
 
 -- Which blocks are marked.
@@ -118,6 +122,15 @@ module _ (s : State) (bits : (b : ℕ) → b < s.books.geom.n → s.books.marked
       by (inl is) held = is ∙ sym (there is)
       by (inr isnt) (inl held) = absurd (true≢false (sym (back held) ∙ isnt))
       by (inr isnt) (inr other) = isnt ∙ sym other
+
+  -- so it is in use exactly where it is marked
+  pub in_use_is : (t : Tree) (b : ℕ) → data_start s.books.geom ≤ b → b < s.books.geom.n → s.books.marked b ≡ is_in_use s.books.geom t (room_of s) b
+  in_use_is t b from below = marked_is b from below ∙ sym (listed_of_nodes s.books.geom.i (places_of s) (keys t.snapshots) b)
+
+  pub marked_in_use : (t : Tree) → blocks_in_use s.books.geom t (room_of s) ≡ length (live_blocks s.books)
+  marked_in_use t =
+      ap (λ (xs : List ℕ). length xs)
+      (same_from (is_in_use s.books.geom t (room_of s)) s.books.marked (data_start s.books.geom) (s.books.geom.n - data_start s.books.geom) (λ b from below. sym (in_use_is t b from (omega (arith, from, below)))))
 
 -- The node that a command may grow.
 

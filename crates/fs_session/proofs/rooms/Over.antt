@@ -45,8 +45,8 @@ answers_on g f r cmd reply next room good x = x
 -- the disk failed in the tick
 pub tick_failed : (g : Geometry) (f : Session) (r : Room) (cmd : Cmd) → cmd ≢ Bad → AnswersOver g f r cmd (Refused because.DiskFault) f r
 tick_failed g f r Bad good = absurd (good refl)
-tick_failed g f r Osync good = inr (inr (refl, refl, record { places = refl; takeable = λ b may. may }))
-tick_failed g f r Dsync good = inr (inr (refl, refl, record { places = refl; takeable = λ b may. may }))
+tick_failed g f r Osync good = inr (inr (refl, refl, record { places = refl; kept = refl; takeable = λ b may. may }))
+tick_failed g f r Dsync good = inr (inr (refl, refl, record { places = refl; kept = refl; takeable = λ b may. may }))
 tick_failed g f r cmd good = inr (because.DiskFault, inl refl, refl, refl, refl)
 
 -- what a sync leaves of the weight and the held blocks
@@ -63,7 +63,7 @@ held_after r = ⊎_elim
 module _ {S : Type 0} (tells : Bool) (state : S → State) (known : Known tells state) where
   -- a session's room came back to itself
   pub itself : (f : Session) (s : S) → IsSession (state s) f → ComesBack (state s).books.geom f (room_of (state s)) (room_of (state s))
-  itself f s h = record { weight = refl; held = refl; keeps = record { places = refl; takeable = λ b may. may }; is_room = room_is tells state known s f h }
+  itself f s h = record { weight = refl; held = refl; keeps = record { places = refl; kept = refl; takeable = λ b may. may }; is_room = room_is tells state known s f h }
 
   -- a sync
   pub synced_over : (orders : Bool) (f : Session) (cmd : Cmd) (result : Result Reply Refusal) (old new : S) → IsSession (state old) f → SyncsSession tells orders cmd result (state old) (state new)

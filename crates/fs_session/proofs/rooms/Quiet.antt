@@ -32,7 +32,7 @@ osync_tree f false = refl
 
 module _ (g : Geometry) (f : Session) (r : Room) (is : IsRoomOf g f r) where
   begins : (cmd : Cmd) (reply : Reply) (next : Session) → AnswersOver g f r cmd reply next r → IsRoomOf g next r → BeginsOver g f r cmd reply next r
-  begins cmd reply next answers same = record { back = r; comes_back = record { weight = refl; held = refl; keeps = record { places = refl; takeable = λ b may. may }; is_room = is }; answers = answers; is_room = same }
+  begins cmd reply next answers same = record { back = r; comes_back = record { weight = refl; held = refl; keeps = record { places = refl; kept = refl; takeable = λ b may. may }; is_room = is }; answers = answers; is_room = same }
 
   -- a sync, done where it has nothing to commit, and else out of memory
   quiet_sync : (cmd : Cmd) → (step f cmd).0.tree ≡ f.tree
@@ -45,7 +45,7 @@ module _ (g : Geometry) (f : Session) (r : Room) (is : IsRoomOf g f r) where
           record {
             weight = eqb-true r.weight 0 none;
             held = sym (cond-true (r.weight == 0) r.held 0 none);
-            keeps = record { places = refl; takeable = λ b may. may };
+            keeps = record { places = refl; kept = refl; takeable = λ b may. may };
           },
         ),
         other_session g f (step f cmd).0 r tree is,

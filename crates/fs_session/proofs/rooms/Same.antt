@@ -10,15 +10,18 @@ use Rattle.engine_blocks.specs.Ranges.{counted, same_from}
 use Rattle.engine_blocks.specs.Running.{Running}
 use Rattle.engine_blocks.specs.State.{State, IsReusable, data_blocks, live_blocks, reusable_blocks}
 use Rattle.fs_session.specs.Commands.{places_of}
+use Rattle.fs_session.specs.Lists.{KeptLists}
 use Rattle.fs_session.specs.Memory.{room_of}
 use Rattle.fs_session.specs.Room.{Room}
 use Rattle.fs_session.proofs.standing.Nodes.{places_at}
 use Rattle.fs_session.proofs.rooms.Lists.{kept_same}
 
 -- two rooms are the same where their parts are
-pub rooms : (r s : Room) → r.weight ≡ s.weight → r.held ≡ s.held → r.takeable ≡ s.takeable → r.places ≡ s.places → r ≡ s
-rooms r s weight held takeable places =
-    ap₂ (λ w h. record r { weight = w; held = h }) weight held ∙ ap₂ (λ (xs : List ℕ) (f : ℕ → List ℕ). record s { takeable = xs; places = f }) takeable places
+pub rooms : (r s : Room) → r.weight ≡ s.weight → r.held ≡ s.held → r.takeable ≡ s.takeable → r.places ≡ s.places → r.kept ≡ s.kept → r ≡ s
+rooms r s weight held takeable places kept =
+    ap₂ (λ w h. record r { weight = w; held = h }) weight held
+    ∙ ap₂ (λ (xs : List ℕ) (f : ℕ → List ℕ). record s { takeable = xs; places = f; kept = r.kept }) takeable places
+    ∙ ap (λ (k : KeptLists). record s { kept = k }) kept
 
 -- a call that failed would have been counted
 pub never_failed : (failed : Bool) (old new : ℕ) → new ≡ after_call failed old → new ≡ 0 → failed ≡ false
@@ -57,4 +60,4 @@ module _ (s t : State) (before : IsTold s) (after : IsTold t) (geom : t.books.ge
       → room_of t ≡ room_of s
   room_same sound sound_after none none_after running takeable =
       let held = ap (λ (r : Running). r.held) running in
-      rooms (room_of t) (room_of s) (ap (λ (r : Running). r.weight) running) held (takeable_same sound sound_after none none_after held takeable) (places_same s t geom map)
+      rooms (room_of t) (room_of s) (ap (λ (r : Running). r.weight) running) held (takeable_same sound sound_after none none_after held takeable) (places_same s t geom map) refl

@@ -8,30 +8,31 @@ use Rattle.lang_tree.specs.declared.command.Refusal.TheVariants as because
 use Rattle.lang_tree.specs.declared.command.Reply.{Reply}
 use Rattle.lang_tree.specs.Step.{Session, step}
 use Rattle.engine_blocks.specs.Ranges.{counted, parts_from, same_from}
-use Rattle.engine_blocks.specs.Running.{Running, has, nothing_running}
+use Rattle.engine_blocks.specs.Running.{Running, nothing_running}
 use Rattle.engine_blocks.specs.State.{Bookkeeping, State, data_blocks, reusable_blocks}
 use Rattle.fs_session.specs.Applying.{reply_for}
-use Rattle.fs_session.specs.Commands.{is_disk_fault, places_of}
+use Rattle.fs_session.specs.Commands.{is_disk_fault}
 use Rattle.fs_session.specs.Memory.{room_of}
-use Rattle.fs_session.specs.Room.{RefusesIn, RenewsRoom, SyncsRoom, node_blocks}
+use Rattle.fs_session.specs.Room.{RefusesIn, RenewsRoom, SyncsRoom, is_in_use}
 use Rattle.fs_session.specs.Sessions.{IsSession}
 use Rattle.fs_session.specs.Syncs.{SyncsSession}
 use Rattle.fs_session.proofs.rooms.Carried.{InMemory, stays}
 use Rattle.fs_session.proofs.rooms.Known.{LeavesSession}
 use Rattle.fs_session.proofs.rooms.Lists.{kept_same}
-use Rattle.fs_session.proofs.rooms.Nodes.{marked_is}
+use Rattle.fs_session.proofs.rooms.Nodes.{in_use_is}
 use Rattle.fs_session.proofs.rooms.Same.{live_same, marks_same, never_failed, places_same}
 
 module _ {S : Type 0} (tells : Bool) (state : S → State) (here : InMemory tells state) where
   -- What a sync of some weight leaves: as many data blocks may be taken as aren't marked, and none that is.
-  renewed : (f : Session) (s t : S) → IsSession (state s) f → (state t).books.geom ≡ (state s).books.geom → (state t).map ≡ (state s).map → (state t).books.running ≡ nothing_running → RenewsRoom (state s).books.geom (room_of (state s)) (room_of (state t))
+  renewed : (f : Session) (s t : S) → IsSession (state s) f → (state t).books.geom ≡ (state s).books.geom → (state t).map ≡ (state s).map → (state t).books.running ≡ nothing_running → RenewsRoom (state s).books.geom f.tree (room_of (state s)) (room_of (state t))
   renewed f s t h geom map running = record {
     weight = ap (λ (r : Running). r.weight) running;
     held = held;
     takeable = moved ∙ kept_same (state t).books.reusable (λ b. not ((state s).books.marked b)) first count unmarked long
-        ∙ same_from (λ b. not ((state s).books.marked b)) (λ b. not (has (node_blocks (places_of (state s)) (state s).books.geom.i) b)) first count
-        (λ b from below. ap not (marked_is (state s) (here.known.agrees s).bits h.tree.sound b from (omega (arith, from, below))));
+        ∙ same_from (λ b. not ((state s).books.marked b)) (λ b. not (is_in_use (state s).books.geom f.tree (room_of (state s)) b)) first count
+        (λ b from below. ap not (in_use_is (state s) (here.known.agrees s).bits h.tree.sound f.tree b from (omega (arith, from, below))));
     places = places_same (state s) (state t) geom map;
+    kept = refl;
   }
     where
       first : ℕ
@@ -66,7 +67,7 @@ module _ {S : Type 0} (tells : Bool) (state : S → State) (here : InMemory tell
         parts_from (state s).books.marked first count,
       )
 
-  syncs_room : (f : Session) (s t : S) → IsSession (state s) f → (orders : Bool) (cmd : Cmd) (reply : Reply) → SyncsSession tells orders cmd (Ok reply) (state s) (state t) → SyncsRoom (state s).books.geom (room_of (state s)) (room_of (state t))
+  syncs_room : (f : Session) (s t : S) → IsSession (state s) f → (orders : Bool) (cmd : Cmd) (reply : Reply) → SyncsSession tells orders cmd (Ok reply) (state s) (state t) → SyncsRoom (state s).books.geom f.tree (room_of (state s)) (room_of (state t))
   syncs_room f s t h orders cmd reply syncs = (
     λ none. stays tells state here s t syncs.geom (syncs.map here.known.told) (syncs.ends ∙ cond-true (running.weight == 0) running nothing_running (eq-eqb running.weight 0 none)) syncs.takeable,
     λ some. renewed f s t h syncs.geom (syncs.map here.known.told) (syncs.ends ∙ cond-false (running.weight == 0) running nothing_running (ne_eqb running.weight 0 (λ e. absurd (omega (arith, e, some))))),
@@ -77,7 +78,7 @@ module _ {S : Type 0} (tells : Bool) (state : S → State) (here : InMemory tell
 
   -- a sync
   pub synced_in : (orders : Bool) (f : Session) (cmd : Cmd) (result : Result Reply Refusal) (old new : S) → IsSession (state old) f → SyncsSession tells orders cmd result (state old) (state new)
-      → LeavesSession state old new (λ next. ((step f cmd ≡ (next, reply_for result)) × SyncsRoom (state old).books.geom (room_of (state old)) (room_of (state new)))
+      → LeavesSession state old new (λ next. ((step f cmd ≡ (next, reply_for result)) × SyncsRoom (state old).books.geom f.tree (room_of (state old)) (room_of (state new)))
       ⊎ RefusesIn (λ why. (why ≡ because.NoMemory) × (0 < (room_of (state old)).weight)) f (room_of (state old)) (reply_for result) next (room_of (state new)))
   synced_in orders f cmd (Ok reply) old new h syncs =
       let d = syncs.done here.known.told f h in

@@ -9,7 +9,8 @@ use Rattle.lang_tree.specs.declared.command.Refusal.{Refusal}
 use Rattle.lang_tree.specs.declared.command.Reply.{Reply}
 use Rattle.lang_tree.specs.declared.command.Reply.TheVariants.{Ok as Done}
 use Rattle.lang_tree.specs.Conditions.{refusal}
-use Rattle.lang_tree.specs.Figures.{accepted_figures, figures_by}
+use Rattle.lang_tree.specs.Figures.{Figures}
+use Rattle.lang_tree.specs.Sharing.{SharedNodes, accepted_over, figures_over_by}
 use Rattle.lang_tree.specs.Points.{is_refusal}
 use Rattle.lang_tree.specs.Step.{Session, accepted, answered, changed_to, step}
 use Rattle.lang_tree.specs.Tree.{Tree}
@@ -18,7 +19,8 @@ use Rattle.engine_blocks.specs.Ranges.{fewer_from}
 use Rattle.engine_blocks.specs.Running.{has}
 use Rattle.engine_blocks.specs.State.{data_blocks}
 use Rattle.fs_session.specs.DiskRoom.{AnswersOn, AnswersOver, BeginsOver, KeepsRoom, SyncsOver}
-use Rattle.fs_session.specs.Room.{IsDoneIn, RefusesIn, Room, figures_in}
+use Rattle.fs_session.specs.Room.{IsDoneIn, RefusesIn, Room, figures_in, shared_by}
+use Rattle.fs_session.specs.Staying.{figures_stay}
 
 -- What the tree refuses needs no block.
 
@@ -26,9 +28,9 @@ changed_or_not : (t : Bool) (f : Session) (tree : Tree) → is_refusal (if t the
 changed_or_not true f tree = refl
 changed_or_not false f tree = refl
 
-module _ (bitmap : ℕ) (f : Session) where
+module _ (bitmap : ℕ) (shared : SharedNodes) (f : Session) where
   abbrev NeedsNone : Cmd → Type 0
-  NeedsNone cmd = (accepted_figures bitmap f.tree cmd).need ≡ 0
+  NeedsNone cmd = (accepted_over bitmap shared f.tree cmd).need ≡ 0
 
   accepted_none : (cmd : Cmd) → is_refusal (accepted f cmd).1 ≡ true → NeedsNone cmd
   accepted_none (Mkdir path) e = absurd (false≢true e)
@@ -40,12 +42,12 @@ module _ (bitmap : ℕ) (f : Session) where
   accepted_none (Rename from to) e = absurd (false≢true (sym (changed_or_not (is_same_node f.tree from to) f _) ∙ e))
   accepted_none cmd e = refl
 
-  answered_none : (cmd : Cmd) (why : Option Refusal) → is_refusal (answered f cmd why).1 ≡ true → (figures_by bitmap f.tree cmd why).need ≡ 0
+  answered_none : (cmd : Cmd) (why : Option Refusal) → is_refusal (answered f cmd why).1 ≡ true → (figures_over_by bitmap shared f.tree cmd why).need ≡ 0
   answered_none cmd None e = accepted_none cmd e
   answered_none cmd (Some why) e = refl
 
-refused_none : (g : Geometry) (f : Session) (cmd : Cmd) → is_refusal (step f cmd).1 ≡ true → (figures_in g f cmd).need ≡ 0
-refused_none g f cmd e = answered_none (bitmap_blocks g) f cmd (refusal f.limit f.tree cmd) e
+refused_none : (g : Geometry) (f : Session) (r : Room) (cmd : Cmd) → is_refusal (step f cmd).1 ≡ true → (figures_in g f r cmd).need ≡ 0
+refused_none g f r cmd e = answered_none (bitmap_blocks g) (shared_by g f.tree r) f cmd (refusal f.limit f.tree cmd) e
 
 -- So many blocks may be taken still.
 
@@ -59,16 +61,16 @@ as_many g old new before after keeps =
     omega (arith, ap (λ (xs : List ℕ). length xs) before, ap (λ (xs : List ℕ). length xs) after, fewer_from (has new.takeable) (has old.takeable) (data_start g) (g.n - data_start g) (λ b from may. keeps.takeable b may))
 
 -- what the command takes: what it needs, or nothing where it is refused
-abbrev taken_at_most : Geometry → Session → Cmd → Reply → ℕ
-taken_at_most g f cmd reply = if is_refusal reply then 0 else (figures_in g f cmd).need
+abbrev taken_at_most : Geometry → Session → Room → Cmd → Reply → ℕ
+taken_at_most g f r cmd reply = if is_refusal reply then 0 else (figures_in g f r cmd).need
 
 module _ (g : Geometry) (f : Session) (reply : Reply) (next : Session) where
   -- no more than that many fewer
   abbrev Leaves : Cmd → Room → Room → Type 0
-  Leaves cmd old new = length old.takeable ≤ length new.takeable + taken_at_most g f cmd reply
+  Leaves cmd old new = length old.takeable ≤ length new.takeable + taken_at_most g f old cmd reply
 
   no_fewer : (cmd : Cmd) (old new : Room) → length old.takeable ≤ length new.takeable → Leaves cmd old new
-  no_fewer cmd old new h = by (taken_at_most g f cmd reply)
+  no_fewer cmd old new h = by (taken_at_most g f old cmd reply)
     where
       by : (n : ℕ) → length old.takeable ≤ length new.takeable + n
       by n = omega (arith, h)
@@ -82,11 +84,11 @@ module _ (g : Geometry) (f : Session) (reply : Reply) (next : Session) where
   of_done : (cmd : Cmd) (old new : Room) → IsDoneIn g f old cmd reply next new → Leaves cmd old new
   of_done cmd old new x = by (is_refusal reply) refl
     where
-      drops : length old.takeable ≤ length new.takeable + (figures_in g f cmd).need
-      drops = omega (arith, ap (λ (xs : List ℕ). length xs) x.spends.takeable, length-drop (figures_in g f cmd).need old.takeable)
+      drops : length old.takeable ≤ length new.takeable + (figures_in g f old cmd).need
+      drops = omega (arith, ap (λ (xs : List ℕ). length xs) x.spends.takeable, length-drop (figures_in g f old cmd).need old.takeable)
 
-      by : (t : Bool) → is_refusal reply ≡ t → length old.takeable ≤ length new.takeable + (if t then 0 else (figures_in g f cmd).need)
-      by true refused = omega (arith, drops, refused_none g f cmd (ap (λ (r : Session × Reply). is_refusal r.1) x.answer ∙ refused))
+      by : (t : Bool) → is_refusal reply ≡ t → length old.takeable ≤ length new.takeable + (if t then 0 else (figures_in g f old cmd).need)
+      by true refused = omega (arith, drops, refused_none g f old cmd (ap (λ (r : Session × Reply). is_refusal r.1) x.answer ∙ refused))
       by false done = drops
 
   of_sync : (cmd : Cmd) (old new : Room) → TakesData g old → TakesData g new → SyncsOver f old cmd reply next new → Leaves cmd old new
@@ -126,7 +128,7 @@ module _ (g : Geometry) (f : Session) (reply : Reply) (next : Session) where
   began P cmd old new before (inr b) =
       let back = b.comes_back in (
         b.is_room.takeable,
-        omega (arith, as_many g old b.back before back.is_room.takeable back.keeps, over cmd b.back new back.is_room.takeable b.is_room.takeable b.answers),
+        omega (arith, as_many g old b.back before back.is_room.takeable back.keeps, over cmd b.back new back.is_room.takeable b.is_room.takeable b.answers, ap (λ (n : Figures). if is_refusal reply then 0 else n.need) (figures_stay g f old b.back cmd back.keeps)),
       )
 
   pub takes : (cmd : Cmd) (old new : Room) → TakesData g old → AnswersOn g f old cmd reply next new → Takes cmd old new

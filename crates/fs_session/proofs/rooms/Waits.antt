@@ -2,6 +2,7 @@
 use Rattle.std.proofs.Common.{◌≡◌, ◌⊎◌, inl, inr, ℕ, ◌-◌, ◌<◌, ◌≤◌, Bool, not, ◌&&◌, ◌||◌, filter, is_some, Some, sym, subst, ap, ap₂, ◌∙◌, refl, arith}
 use Rattle.std.proofs.lemmas.Bool.{cases_lt, le-leb, lt-ltb}
 use Rattle.layout_geometry.specs.Geometry.{Geometry, data_start}
+use Rattle.lang_tree.specs.Tree.{Tree}
 use Rattle.engine_blocks.specs.Calls.{commit_places}
 use Rattle.engine_blocks.specs.Puts.{IsData}
 use Rattle.engine_blocks.specs.Ranges.{same_from}
@@ -9,7 +10,8 @@ use Rattle.engine_blocks.specs.Running.{has}
 use Rattle.engine_blocks.specs.Serving.{EndsFrees, LetsGo, SameFreed, ServesSure, Waits, is_held, is_sure_in, with_all_served}
 use Rattle.engine_blocks.specs.State.{Bookkeeping, State, data_blocks, reusable_blocks}
 use Rattle.fs_files.specs.Effects.{ServesAllOrNone}
-use Rattle.fs_session.specs.Room.{node_blocks}
+use Rattle.fs_session.specs.Room.{is_in_use}
+use Rattle.fs_session.specs.Memory.{room_of}
 use Rattle.fs_session.specs.Serving.{LetsGoIn, RoomOn, SameWait, ServesRoom, SyncsRoomOn, WaitsFor, is_held_in, moment_of, room_on, with_all_serving}
 use Rattle.fs_session.proofs.rooms.Known.{room_with}
 use Rattle.fs_session.proofs.rooms.Lists.{kept_where}
@@ -65,18 +67,18 @@ serves_room s t geom x = record {
 
 -- what was held by the bookkeeping was so in a room with the same blocks
 module _ (k : Bookkeeping) (r : RoomOn) (t : State) (geom : t.books.geom ≡ k.geom) (takeable : (b : ℕ) → IsData k.geom b → has r.room.takeable b ≡ k.reusable b) (since : (b : ℕ) → r.since b ≡ k.since b)
-    (marked : (b : ℕ) → IsData k.geom b → k.marked b ≡ has (node_blocks r.room.places k.geom.i) b) where
-  held_is : (b : ℕ) → IsData k.geom b → is_held k b ≡ is_held_in k.geom r b
+    (tree : Tree) (marked : (b : ℕ) → IsData k.geom b → k.marked b ≡ is_in_use k.geom tree r.room b) where
+  held_is : (b : ℕ) → IsData k.geom b → is_held k b ≡ is_held_in k.geom tree r b
   held_is b at =
       ap₂ (λ from below. from && (below && not (k.marked b || (k.reusable b || is_some (k.since b))))) (le-leb (data_start k.geom) b at.from) (lt-ltb b k.geom.n at.below)
       ∙ ap₂ (λ m u. not (m || (u || is_some (k.since b)))) (marked b at) (sym (takeable b at))
-      ∙ ap (λ o. not (has (node_blocks r.room.places k.geom.i) b || (has r.room.takeable b || is_some o))) (sym (since b))
+      ∙ ap (λ o. not (is_in_use k.geom tree r.room b || (has r.room.takeable b || is_some o))) (sym (since b))
 
   waits_for : (point b : ℕ) → t.books.point ≡ point → IsData k.geom b → Waits t b → WaitsFor (moment_of t) point (room_on t) b
   waits_for point b is at (inl waits) = inl (takeable_in k t.books geom b at ∙ waits.0, waits.1 ∙ ap Some is)
   waits_for point b is at (inr sure) = inr (subst (λ p. is_sure_in t p) is sure.0, takeable_in k t.books geom b at ∙ sure.1, sure.2)
 
-  lets_go : (point : ℕ) → t.books.point ≡ point → LetsGo k t → LetsGoIn k.geom (moment_of t) point r (room_on t)
+  lets_go : (point : ℕ) → t.books.point ≡ point → LetsGo k t → LetsGoIn k.geom (moment_of t) tree point r (room_on t)
   lets_go point is x = record {
     held = λ b at held. waits_for point b is at (x.held b (held_is b at ∙ held));
     takeable = λ b at free. takeable_in k t.books geom b at ∙ x.reusable b at (held_is b at ∙ free) ∙ sym (takeable b at);
@@ -84,18 +86,18 @@ module _ (k : Bookkeeping) (r : RoomOn) (t : State) (geom : t.books.geom ≡ k.g
   }
 
 -- the room behind a sync that is done
-module _ (s t : State) (geom : t.books.geom ≡ s.books.geom) (marked : (b : ℕ) → IsData s.books.geom b → s.books.marked b ≡ has (node_blocks (room_on s).room.places s.books.geom.i) b) (point : ℕ) (is : t.books.point ≡ point) where
-  those_wait : LetsGo s.books t → LetsGoIn s.books.geom (moment_of t) point (room_on s) (room_on t)
-  those_wait x = lets_go s.books (room_on s) t geom (λ b at. takeable_is s.books b at) (λ b. refl) marked point is x
+module _ (s t : State) (geom : t.books.geom ≡ s.books.geom) (tree : Tree) (marked : (b : ℕ) → IsData s.books.geom b → s.books.marked b ≡ is_in_use s.books.geom tree (room_of s) b) (point : ℕ) (is : t.books.point ≡ point) where
+  those_wait : LetsGo s.books t → LetsGoIn s.books.geom (moment_of t) tree point (room_on s) (room_on t)
+  those_wait x = lets_go s.books (room_on s) t geom (λ b at. takeable_is s.books b at) (λ b. refl) tree marked point is x
 
-  all_serve : LetsGo (with_all_served s.books) t → LetsGoIn s.books.geom (moment_of t) point (with_all_serving s.books.geom (room_on s)) (room_on t)
+  all_serve : LetsGo (with_all_served s.books) t → LetsGoIn s.books.geom (moment_of t) tree point (with_all_serving s.books.geom (room_on s)) (room_on t)
   all_serve x =
       lets_go (with_all_served s.books) (with_all_serving s.books.geom (room_on s)) t geom
       (λ b at. kept_where (λ b. has (reusable_blocks s.books) b || is_some (s.books.since b)) (data_start s.books.geom) (s.books.geom.n - data_start s.books.geom) b at.from (omega (arith, at.from, at.below))
       ∙ ap (λ x. x || is_some (s.books.since b)) (takeable_is s.books b at))
-      (λ b. refl) marked point is x
+      (λ b. refl) tree marked point is x
 
-  pub syncs_room_on : EndsFrees s t → SyncsRoomOn s.books.geom (moment_of s) (moment_of t) point (room_on s) (room_on t)
+  pub syncs_room_on : EndsFrees s t → SyncsRoomOn s.books.geom (moment_of s) (moment_of t) tree point (room_on s) (room_on t)
   syncs_room_on x = record {
     idle = λ none. same_wait s.books t.books geom s t (x.idle none);
     some = λ some. by some (cases_lt s.books.free_places (commit_places s.books));
@@ -103,6 +105,6 @@ module _ (s t : State) (geom : t.books.geom ≡ s.books.geom) (marked : (b : ℕ
   }
     where
       by : 0 < s.books.running.weight → (s.books.free_places < commit_places s.books) ⊎ (commit_places s.books ≤ s.books.free_places)
-          → LetsGoIn s.books.geom (moment_of t) point (room_on s) (room_on t) ⊎ LetsGoIn s.books.geom (moment_of t) point (with_all_serving s.books.geom (room_on s)) (room_on t)
+          → LetsGoIn s.books.geom (moment_of t) tree point (room_on s) (room_on t) ⊎ LetsGoIn s.books.geom (moment_of t) tree point (with_all_serving s.books.geom (room_on s)) (room_on t)
       by some (inl short) = inr (all_serve (x.drains some (λ fits. absurd (omega (arith, short, fits)))))
       by some (inr fits) = inl (those_wait (x.fits some fits))

@@ -15,6 +15,7 @@ use Rattle.lang_tree.specs.Conditions.{refusal}
 use Rattle.fs_session.specs.Commands.{figures_on}
 use Rattle.fs_commands.proofs.fills.fill_found.Goals as goal
 use Rattle.fs_commands.proofs.fills.fill_found.Goals.{After-overwrite_figures-figures}
+use Rattle.fs_session.specs.NothingKept.{figures_are}
 
 -- the tree accepts the command, and it is weighed by its figures
 weighed : (g : given.Over) (c : goal.After-overwrite_figures-figures g) → c.is_too_large.result ≡ false → (path : List (List ℕ)) → IsTrue g.S.Blocks.tells → walk_on (inodes (g.S.Blocks.state c.args.blocks.now)) 1 path ≡ Ok c.args.found.now.number → (f : Session) → IsSession (g.S.Blocks.state c.args.blocks.now) f
@@ -36,7 +37,8 @@ returns-then-is_too_large-clause-plans g c = λ path walk.
 pub returns-then-count-eq0-clause-plans : goal.returns-then-count-eq0-clause-plans
 returns-then-count-eq0-clause-plans g c = λ path walk.
     done_plan g.S.Blocks.tells g.S.Blocks.state c.calls_compose.ensures.rests g.met.S.Blocks.is_sound (Fill path c.args.offset c.args.count c.args.byte) c.args.blocks.now c.args.blocks.now c.requires.may.begin.going
-    (λ told f h. nothing_filled f path c.args.offset c.args.count c.args.byte (bitmap_blocks (g.S.Blocks.state c.args.blocks.now).books.geom) (refusal_is (inodes (g.S.Blocks.state c.args.blocks.now)) f (Fill path c.args.offset c.args.count c.args.byte) path c.args.offset c.args.count c.the_map_gives_the_refusal.ensures.refusal (λ limit. refl) c.args.found.now (c.a_file_is_at_its_path.ensures told f path c.args.found.now h (c.requires.file told) (walk told)) false (ends_past c.args.offset c.from.result c.args.count c.is_too_large.result false c.from.ensures c.is_too_large.ensures c.if-is_too_large.false)) c.if-count-eq0.true) (no_look g.S.Blocks.tells (g.S.Blocks.state c.args.blocks.now))
+    (λ told f h. let same = nothing_filled f path c.args.offset c.args.count c.args.byte (bitmap_blocks (g.S.Blocks.state c.args.blocks.now).books.geom) (refusal_is (inodes (g.S.Blocks.state c.args.blocks.now)) f (Fill path c.args.offset c.args.count c.args.byte) path c.args.offset c.args.count c.the_map_gives_the_refusal.ensures.refusal (λ limit. refl) c.args.found.now (c.a_file_is_at_its_path.ensures told f path c.args.found.now h (c.requires.file told) (walk told)) false (ends_past c.args.offset c.from.result c.args.count c.is_too_large.result false c.from.ensures c.is_too_large.ensures c.if-is_too_large.false)) c.if-count-eq0.true in
+    (same.0, figures_are (g.S.Blocks.state c.args.blocks.now) f c.nothing_shared_costs_nothing.ensures.commands (Fill path c.args.offset c.args.count c.args.byte) ∙ same.1)) (no_look g.S.Blocks.tells (g.S.Blocks.state c.args.blocks.now))
 
 pub returns-in-Err-clause-plans : goal.returns-in-Err-clause-plans
 returns-in-Err-clause-plans g c = λ path walk.

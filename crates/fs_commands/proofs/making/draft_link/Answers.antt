@@ -5,7 +5,7 @@ use Rattle.crash_stands.specs.Files.{FileNode}
 use Rattle.crash_stands.specs.Inodes.{Inode, ADir, AFile, inode_of}
 use Rattle.engine_blocks.specs.State.{reusable_blocks}
 use Rattle.fs_files.specs.Calls.{files_in, places_in, IsUsed, IsWithPlaces, GrowthRefused, with_links}
-use Rattle.fs_files.specs.Drafts.{nothing_drafted}
+use Rattle.fs_files.specs.Drafts.{DraftState, nothing_drafted}
 use Rattle.fs_dirs.specs.Changing.{Alters, HasCount, IsWithSlots}
 use Rattle.fs_dirs.specs.Directories.{inodes_in}
 use Rattle.fs_session.specs.Sessions.{inodes}
@@ -20,7 +20,7 @@ pub returns-in-Err-clause-refused : goal.returns-in-Err-clause-refused
 returns-in-Err-clause-refused g c = λ told slots at.
     let s = g.S.Blocks.state c.args.blocks.now in
     let mid = g.S.Blocks.state c.add_slot.new.blocks in
-    subst (λ d. inodes_in s d c.args.dir ≡ Some (ADir slots) → GrowthRefused (growth (length slots)) (places_in s d c.args.dir) s.books mid.books c.in-Err.why) c.new-draft.ensures (c.in-Err.ensures.refused told slots) at
+    subst (λ d. inodes_in s d c.args.dir ≡ Some (ADir slots) → GrowthRefused (growth (length slots)) (λ more. places_in s d c.args.dir ++ more) s.books mid.books c.in-Err.why) c.new-draft.ensures (c.in-Err.ensures.refused told slots) at
 
 pub set_links-requires-clause-used : goal.set_links-requires-clause-used
 set_links-requires-clause-used g c = λ told.
@@ -36,11 +36,14 @@ returns-in-Ok-set_links-clause-used g c = λ told l used.
     still_used (files_in mid c.add_slot.new.draft) (files_in new c.set_links.new.self) c.args.slot.now.node (with_links there.0 c.args.links) (c.in-Ok-set_links.ensures.file told there.0 there.1) l
     (c.in-Ok.ensures.used told l (subst (λ d. IsUsed (files_in s d) l) (sym c.new-draft.ensures) used))
 
+pub returns-in-Ok-set_links-clause-kept : goal.returns-in-Ok-set_links-clause-kept
+returns-in-Ok-set_links-clause-kept g c = c.in-Ok-set_links.ensures.kept ∙ c.in-Ok.ensures.kept ∙ ap (λ (d : DraftState). d.kept) c.new-draft.ensures
+
 pub returns-in-Ok-set_links-clause-settles : goal.returns-in-Ok-set_links-clause-settles
 returns-in-Ok-set_links-clause-settles g c = settled_then g.S.Blocks.tells g.S.Blocks.state c.calls_compose.ensures.rests c.calls_compose.ensures.advances c.args.blocks.now c.add_slot.new.blocks c.set_links.new.blocks c.in-Ok.ensures.settles false c.in-Ok-set_links.ensures.looks
 
-pub returns-in-Err-set_links-clause-settles : goal.returns-in-Err-set_links-clause-settles
-returns-in-Err-set_links-clause-settles g c =
+pub returns-clause-settles : goal.returns-clause-settles
+returns-clause-settles g c =
     settled_cut g.S.Blocks.tells g.S.Blocks.state c.calls_compose.ensures.rests c.calls_compose.ensures.advances c.args.blocks.now c.add_slot.new.blocks c.set_links.new.blocks c.in-Ok.ensures.settles c.in-Err-set_links.why c.in-Err-set_links.ensures.refused c.in-Err-set_links.ensures.looks
 
 pub returns-in-Ok-set_links-clause-names : goal.returns-in-Ok-set_links-clause-names
@@ -76,8 +79,8 @@ pub returns-in-Ok-set_links-clause-quiet : goal.returns-in-Ok-set_links-clause-q
 returns-in-Ok-set_links-clause-quiet g c = λ told slots at enough.
     calm_on (g.S.Blocks.state c.args.blocks.now) (g.S.Blocks.state c.add_slot.new.blocks) (g.S.Blocks.state c.set_links.new.blocks) (looked_calmly g.S.Blocks.tells _ (g.S.Blocks.state c.args.blocks.now) (g.S.Blocks.state c.add_slot.new.blocks) (c.in-Ok.ensures.looks told slots (ap (λ d. inodes_in (g.S.Blocks.state c.args.blocks.now) d c.args.dir) c.new-draft.ensures ∙ at) enough) told) (looked_calmly g.S.Blocks.tells _ (g.S.Blocks.state c.add_slot.new.blocks) (g.S.Blocks.state c.set_links.new.blocks) c.in-Ok-set_links.ensures.looks told)
 
-pub returns-in-Err-set_links-clause-quiet : goal.returns-in-Err-set_links-clause-quiet
-returns-in-Err-set_links-clause-quiet g c = λ told slots at enough.
+pub returns-clause-quiet : goal.returns-clause-quiet
+returns-clause-quiet g c = λ told slots at enough.
     calm_on (g.S.Blocks.state c.args.blocks.now) (g.S.Blocks.state c.add_slot.new.blocks) (g.S.Blocks.state c.set_links.new.blocks) (looked_calmly g.S.Blocks.tells _ (g.S.Blocks.state c.args.blocks.now) (g.S.Blocks.state c.add_slot.new.blocks) (c.in-Ok.ensures.looks told slots (ap (λ d. inodes_in (g.S.Blocks.state c.args.blocks.now) d c.args.dir) c.new-draft.ensures ∙ at) enough) told) (looked_calmly g.S.Blocks.tells _ (g.S.Blocks.state c.add_slot.new.blocks) (g.S.Blocks.state c.set_links.new.blocks) c.in-Err-set_links.ensures.looks told)
 
 pub add_slot-requires-clause-there : goal.add_slot-requires-clause-there

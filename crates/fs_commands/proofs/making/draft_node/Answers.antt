@@ -8,7 +8,7 @@ use Rattle.crash_stands.specs.Inodes.{Inode, ADir, inode_of}
 use Rattle.fs_inodes.specs.Changes.{new_inode}
 use Rattle.engine_blocks.specs.State.{reusable_blocks}
 use Rattle.fs_files.specs.Calls.{files_in, places_in, IsUsed, IsWithPlaces, GrowthRefused, SetsNode}
-use Rattle.fs_files.specs.Drafts.{ChangesSome, nothing_drafted}
+use Rattle.fs_files.specs.Drafts.{DraftState, ChangesSome, nothing_drafted}
 use Rattle.fs_dirs.specs.Changing.{Alters, HasCount, IsWithSlots}
 use Rattle.fs_dirs.specs.Directories.{inodes_in}
 use Rattle.fs_commands.specs.Making.{first_thing}
@@ -23,7 +23,7 @@ pub returns-in-Err-clause-refused : goal.returns-in-Err-clause-refused
 returns-in-Err-clause-refused g c = λ told slots at.
     let s = g.S.Blocks.state c.args.blocks.now in
     let mid = g.S.Blocks.state c.add_slot.new.blocks in
-    subst (λ d. inodes_in s d c.args.dir ≡ Some (ADir slots) → GrowthRefused (growth (length slots)) (places_in s d c.args.dir) s.books mid.books c.in-Err.why) c.new-draft.ensures (c.in-Err.ensures.refused told slots) at
+    subst (λ d. inodes_in s d c.args.dir ≡ Some (ADir slots) → GrowthRefused (growth (length slots)) (λ more. places_in s d c.args.dir ++ more) s.books mid.books c.in-Err.why) c.new-draft.ensures (c.in-Err.ensures.refused told slots) at
 
 pub new_node-requires-clause-below : goal.new_node-requires-clause-below
 new_node-requires-clause-below g c = λ told l above below.
@@ -70,11 +70,14 @@ returns-in-Ok-new_node-clause-names g c = λ told t slots h unused at.
     (subst (λ b. inodes_in s b c.args.dir ≡ Some (ADir slots) → stretches (places_in s b c.args.dir ++ take (growth (length slots)) (reusable_blocks mid.books)) ≤ 28) c.new-draft.ensures (c.in-Ok.ensures.runs told slots) at)
     c.alterations_add_up.ensures.both c.alterations_add_up.ensures.price c.files_have_one_map.ensures.read
 
+pub returns-in-Ok-new_node-clause-kept : goal.returns-in-Ok-new_node-clause-kept
+returns-in-Ok-new_node-clause-kept g c = c.in-Ok-new_node.ensures.kept ∙ c.in-Ok.ensures.kept ∙ ap (λ (d : DraftState). d.kept) c.new-draft.ensures
+
 pub returns-in-Ok-new_node-clause-settles : goal.returns-in-Ok-new_node-clause-settles
 returns-in-Ok-new_node-clause-settles g c = settled_then g.S.Blocks.tells g.S.Blocks.state c.calls_compose.ensures.rests c.calls_compose.ensures.advances c.args.blocks.now c.add_slot.new.blocks c.new_node.new.blocks c.in-Ok.ensures.settles false c.in-Ok-new_node.ensures.looks
 
-pub returns-in-Err-new_node-clause-settles : goal.returns-in-Err-new_node-clause-settles
-returns-in-Err-new_node-clause-settles g c =
+pub returns-clause-settles : goal.returns-clause-settles
+returns-clause-settles g c =
     settled_cut g.S.Blocks.tells g.S.Blocks.state c.calls_compose.ensures.rests c.calls_compose.ensures.advances c.args.blocks.now c.add_slot.new.blocks c.new_node.new.blocks c.in-Ok.ensures.settles c.in-Err-new_node.why c.in-Err-new_node.ensures.refused c.in-Err-new_node.ensures.looks
 
 pub returns-in-Err-clause-quiet : goal.returns-in-Err-clause-quiet
@@ -85,8 +88,8 @@ pub returns-in-Ok-new_node-clause-quiet : goal.returns-in-Ok-new_node-clause-qui
 returns-in-Ok-new_node-clause-quiet g c = λ told slots at enough.
     calm_on (g.S.Blocks.state c.args.blocks.now) (g.S.Blocks.state c.add_slot.new.blocks) (g.S.Blocks.state c.new_node.new.blocks) (looked_calmly g.S.Blocks.tells _ (g.S.Blocks.state c.args.blocks.now) (g.S.Blocks.state c.add_slot.new.blocks) (c.in-Ok.ensures.looks told slots (ap (λ d. inodes_in (g.S.Blocks.state c.args.blocks.now) d c.args.dir) c.new-draft.ensures ∙ at) enough) told) (looked_calmly g.S.Blocks.tells _ (g.S.Blocks.state c.add_slot.new.blocks) (g.S.Blocks.state c.new_node.new.blocks) c.in-Ok-new_node.ensures.looks told)
 
-pub returns-in-Err-new_node-clause-quiet : goal.returns-in-Err-new_node-clause-quiet
-returns-in-Err-new_node-clause-quiet g c = λ told slots at enough.
+pub returns-clause-quiet : goal.returns-clause-quiet
+returns-clause-quiet g c = λ told slots at enough.
     calm_on (g.S.Blocks.state c.args.blocks.now) (g.S.Blocks.state c.add_slot.new.blocks) (g.S.Blocks.state c.new_node.new.blocks) (looked_calmly g.S.Blocks.tells _ (g.S.Blocks.state c.args.blocks.now) (g.S.Blocks.state c.add_slot.new.blocks) (c.in-Ok.ensures.looks told slots (ap (λ d. inodes_in (g.S.Blocks.state c.args.blocks.now) d c.args.dir) c.new-draft.ensures ∙ at) enough) told) (looked_calmly g.S.Blocks.tells _ (g.S.Blocks.state c.add_slot.new.blocks) (g.S.Blocks.state c.new_node.new.blocks) c.in-Err-new_node.ensures.looks told)
 
 pub add_slot-requires-clause-there : goal.add_slot-requires-clause-there

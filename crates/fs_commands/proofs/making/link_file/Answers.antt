@@ -35,6 +35,7 @@ returns-in-Ok-draft_link-clause-made g c =
     let settles = c.in-Ok-draft_link.ensures.settles in
     record {
       draft = c.in-Ok-draft_link.ensures.draft;
+      kept = c.in-Ok-draft_link.ensures.kept;
       weight = omega (arith, c.in-Ok.ensures.room.weight, ap (λ (r : Running). r.weight) settles.pipeline.running, settles.pipeline.room);
       used = λ told. uses_of Stays (g.S.Blocks.state c.args.blocks.now) (g.S.Blocks.state c.draft_link.new.blocks) c.in-Ok-draft_link.draft (settled_files g.S.Blocks.tells false false _ _ settles told) (c.in-Ok-draft_link.ensures.used told);
     }

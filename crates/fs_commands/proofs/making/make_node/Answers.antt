@@ -49,6 +49,7 @@ returns-in-Ok-draft_node-clause-made g c =
     let settles = c.in-Ok-draft_node.ensures.settles in
     record {
       draft = c.in-Ok-draft_node.ensures.draft;
+      kept = c.in-Ok-draft_node.ensures.kept;
       weight = omega (arith, c.in-Ok.ensures.room.weight, ap (λ (r : Running). r.weight) settles.pipeline.running, settles.pipeline.room);
       used = λ told. uses_of (Taken c.args.node) (g.S.Blocks.state c.args.blocks.now) (g.S.Blocks.state c.draft_node.new.blocks) c.in-Ok-draft_node.draft (settled_files g.S.Blocks.tells false false _ _ settles told) (c.in-Ok-draft_node.ensures.used told);
     }

@@ -14,7 +14,7 @@ returns g c =
     record {
       refused = λ s f kind path why h e. node_refused (g.S.Blocks.state s) f h (map (g.S.Blocks.state s) f h) law kind path why e;
       no_node = λ s f kind path v h e least. no_node_left (g.S.Blocks.state s) f h (map (g.S.Blocks.state s) f h) law kind path comes.parent comes.number v e least;
-      accepted = λ s f kind path v node h e least. node_accepted (g.S.Blocks.state s) f h (map (g.S.Blocks.state s) f h) law kind path comes.parent comes.number v e c.the_map_gives_the_figures.ensures.figures ends comes.slots node least;
+      accepted = λ s f kind path v node h e least. node_accepted (g.S.Blocks.state s) f h (map (g.S.Blocks.state s) f h) law kind path comes.parent comes.number v e c.the_map_gives_the_costs.ensures ends comes.slots node least;
       map = λ s new f kind path v node h e least adds. node_mapped (g.S.Blocks.state s) f h (map (g.S.Blocks.state s) f h) law kind path comes.parent comes.number v e ends c.a_new_node_is_mapped.ensures.mkdir c.a_new_node_is_mapped.ensures.create new node
-          (node_accepted (g.S.Blocks.state s) f h (map (g.S.Blocks.state s) f h) law kind path comes.parent comes.number v e c.the_map_gives_the_figures.ensures.figures ends comes.slots node least).accepted least adds;
+          (node_accepted (g.S.Blocks.state s) f h (map (g.S.Blocks.state s) f h) law kind path comes.parent comes.number v e c.the_map_gives_the_costs.ensures ends comes.slots node least).accepted least adds;
     }

@@ -7,17 +7,19 @@ use Rattle.crash_stands.specs.Files.{files_of}
 use Rattle.fs_inodes.specs.Changes.{slot_of}
 use Rattle.engine_blocks.specs.State.{Bookkeeping, reusable_blocks}
 use Rattle.fs_files.specs.Calls.{GrowthRefused, IsWithPlaces, files_in, places_in}
-use Rattle.fs_files.specs.Drafts.{nothing_drafted}
+use Rattle.fs_files.specs.Drafts.{DraftState, nothing_drafted}
 use Rattle.fs_dirs.specs.Changing.{Alters, IsWithSlots}
 use Rattle.fs_dirs.specs.Directories.{inodes_in}
 use Rattle.fs_session.specs.Commands.{GrowsInRuns, places_of}
-use Rattle.fs_session.specs.Space.{ArePlaced}
+use Rattle.fs_session.specs.Space.{ArePlaced, none_renewed}
 use Rattle.fs_commands.proofs.Placing.{placed_cut, placed_grown, placed_then}
 use Rattle.fs_commands.proofs.planning.Looking.{cut_growth, settled_then, settled_cut, calm_on, looked_calmly}
 use Rattle.fs_commands.proofs.moved.Free.{moves_across, used_across}
 use Rattle.fs_commands.proofs.moved.Onto.{place_within}
 use Rattle.fs_commands.proofs.looking.Found.{look_begins}
 use Rattle.fs_commands.proofs.moving.draft_across.Goals as goal
+use Rattle.lang_tree.specs.Sharing.{none_shared}
+use Rattle.fs_session.specs.NothingKept.{runs_behind}
 
 pub take_slot-requires-clause-there : goal.take_slot-requires-clause-there
 take_slot-requires-clause-there g c = λ told.
@@ -33,30 +35,31 @@ returns-in-Err-clause-refused g c = λ told name may.
     let s = g.S.Blocks.state c.args.blocks.now in
     let t = g.S.Blocks.state c.add_slot.new.blocks in
     let at = ap (λ d. inodes_in s d c.args.into) c.new-draft.ensures ∙ may.into.dir_is in
-    subst (λ n. GrowthRefused (growth n) (places_of s c.args.into) s.books t.books c.in-Err.why) (sym may.into.many_are)
-    (subst (λ d. GrowthRefused (growth (length may.into.slots)) (places_in s d c.args.into) s.books t.books c.in-Err.why) c.new-draft.ensures (c.in-Err.ensures.refused told may.into.slots at))
+    subst (λ n. GrowthRefused (growth n) (λ more. places_of s c.args.into ++ more) s.books t.books c.in-Err.why) (sym may.into.many_are)
+    (subst (λ d. GrowthRefused (growth (length may.into.slots)) (λ more. places_in s d c.args.into ++ more) s.books t.books c.in-Err.why) c.new-draft.ensures (c.in-Err.ensures.refused told may.into.slots at))
+
+pub returns-in-Ok-take_slot-clause-kept : goal.returns-in-Ok-take_slot-clause-kept
+returns-in-Ok-take_slot-clause-kept g c = c.in-Ok-take_slot.ensures.kept ∙ c.in-Ok.ensures.kept ∙ ap (λ (d : DraftState). d.kept) c.new-draft.ensures
 
 pub returns-in-Ok-take_slot-clause-settles : goal.returns-in-Ok-take_slot-clause-settles
 returns-in-Ok-take_slot-clause-settles g c = settled_then g.S.Blocks.tells g.S.Blocks.state c.calls_compose.ensures.rests c.calls_compose.ensures.advances c.args.blocks.now c.add_slot.new.blocks c.take_slot.new.blocks c.in-Ok.ensures.settles false c.in-Ok-take_slot.ensures.looks
 
-pub returns-in-Err-take_slot-clause-settles : goal.returns-in-Err-take_slot-clause-settles
-returns-in-Err-take_slot-clause-settles g c =
+pub returns-clause-settles : goal.returns-clause-settles
+returns-clause-settles g c =
     settled_cut g.S.Blocks.tells g.S.Blocks.state c.calls_compose.ensures.rests c.calls_compose.ensures.advances c.args.blocks.now c.add_slot.new.blocks c.take_slot.new.blocks c.in-Ok.ensures.settles c.in-Err-take_slot.why c.in-Err-take_slot.ensures.refused c.in-Err-take_slot.ensures.looks
 
-pub returns-in-Err-take_slot-clause-refused : goal.returns-in-Err-take_slot-clause-refused
-returns-in-Err-take_slot-clause-refused g c = λ told name may.
-    cut_growth (growth c.args.count) (places_of (g.S.Blocks.state c.args.blocks.now) c.args.into) (g.S.Blocks.state c.args.blocks.now).books (g.S.Blocks.state c.take_slot.new.blocks).books c.in-Err-take_slot.why c.in-Err-take_slot.ensures.refused
+pub returns-clause-refused : goal.returns-clause-refused
+returns-clause-refused g c = λ told name may.
+    cut_growth (growth c.args.count) (λ more. places_of (g.S.Blocks.state c.args.blocks.now) c.args.into ++ more) (g.S.Blocks.state c.args.blocks.now).books (g.S.Blocks.state c.take_slot.new.blocks).books c.in-Err-take_slot.why c.in-Err-take_slot.ensures.refused
 
 pub returns-in-Ok-take_slot-clause-grows : goal.returns-in-Ok-take_slot-clause-grows
 returns-in-Ok-take_slot-clause-grows g c = λ told name may.
     let s = g.S.Blocks.state c.args.blocks.now in
     let t = g.S.Blocks.state c.add_slot.new.blocks in
     let at = ap (λ d. inodes_in s d c.args.into) c.new-draft.ensures ∙ may.into.dir_is in
-    subst (λ (k : Bookkeeping). GrowsInRuns s k c.args.into (growth c.args.count)) (sym c.in-Ok-take_slot.ensures.looks.books)
-    (subst (λ n. GrowsInRuns s t.books c.args.into (growth n)) (sym may.into.many_are) (record {
-      enough = c.in-Ok.ensures.room told may.into.slots at;
-      runs = subst (λ d. stretches (places_in s d c.args.into ++ take (growth (length may.into.slots)) (reusable_blocks t.books)) ≤ 28) c.new-draft.ensures (c.in-Ok.ensures.runs told may.into.slots at);
-    }))
+    subst (λ (k : Bookkeeping). GrowsInRuns none_shared s k c.args.into (growth c.args.count)) (sym c.in-Ok-take_slot.ensures.looks.books)
+    (subst (λ n. GrowsInRuns none_shared s t.books c.args.into (growth n)) (sym may.into.many_are) (runs_behind s t.books c.args.into (growth (length may.into.slots)) (c.in-Ok.ensures.room told may.into.slots at)
+    (subst (λ d. stretches (places_in s d c.args.into ++ take (growth (length may.into.slots)) (reusable_blocks t.books)) ≤ 28) c.new-draft.ensures (c.in-Ok.ensures.runs told may.into.slots at))))
 
 pub returns-in-Ok-take_slot-clause-rests : goal.returns-in-Ok-take_slot-clause-rests
 returns-in-Ok-take_slot-clause-rests g c = λ told name may enough.
@@ -93,13 +96,13 @@ returns-in-Ok-take_slot-clause-moves g c = λ told name may.
     let p2 = places_in u c.take_slot.new.draft in
     let grown = placed_grown p0 p1 c.args.into takes (subst (λ d. IsWithPlaces (places_in s d) p1 c.args.into (places_in s d c.args.into ++ takes)) c.new-draft.ensures (c.in-Ok.ensures.places told may.into.slots at)) in
     let cut = placed_cut p1 p2 c.args.source.now.dir (directory_blocks (length may.from.slots - 1)) [] (c.in-Ok-take_slot.ensures.places told may.from.slots from_at) in
-    let placed = subst (λ n. ArePlaced p0 p2 (take (growth n) (reusable_blocks t.books))) (sym may.into.many_are) (placed_then p0 p1 p2 takes grown cut) in
+    let placed = subst (λ n. ArePlaced none_renewed p0 p2 (take (growth n) (reusable_blocks t.books))) (sym may.into.many_are) (placed_then p0 p1 p2 takes grown cut) in
     record {
       moves = moves_across f0 f1 f2 c.args.source.now c.args.into c.args.count name c.args.other.now may.from may.into may.apart named two;
       reads = c.directories_are_read.ensures f1 f2 c.args.source.now.dir (without_at c.args.source.now.entry.place may.from.slots) two
           (c.directories_are_read.ensures f0 f1 c.args.into (may.into.slots ++ slot_of c.args.source.now.entry.node.number c.args.other.now ∷ []) named reads);
       alters = subst (λ (k : Bookkeeping). Alters 5 (take (growth c.args.count) (reusable_blocks k)) (release c.args.source.now.count) nothing_drafted c.take_slot.new.draft) (sym c.in-Ok-take_slot.ensures.looks.books) counted;
-      placed = subst (λ (k : Bookkeeping). ArePlaced p0 p2 (take (growth c.args.count) (reusable_blocks k))) (sym c.in-Ok-take_slot.ensures.looks.books) placed;
+      placed = subst (λ (k : Bookkeeping). ArePlaced none_renewed p0 p2 (take (growth c.args.count) (reusable_blocks k))) (sym c.in-Ok-take_slot.ensures.looks.books) placed;
       used = used_across f0 f1 f2 c.args.source.now c.args.into c.args.count name c.args.other.now may.from may.into may.apart named two;
     }
 
@@ -113,8 +116,8 @@ returns-in-Ok-take_slot-clause-quiet g c = λ told name may enough.
     calm_on (g.S.Blocks.state c.args.blocks.now) (g.S.Blocks.state c.add_slot.new.blocks) (g.S.Blocks.state c.take_slot.new.blocks) (looked_calmly g.S.Blocks.tells _ (g.S.Blocks.state c.args.blocks.now) (g.S.Blocks.state c.add_slot.new.blocks) (c.in-Ok.ensures.looks told may.into.slots (ap (λ d. inodes_in (g.S.Blocks.state c.args.blocks.now) d c.args.into) c.new-draft.ensures ∙ may.into.dir_is)
     (subst (λ n. growth n ≤ length (reusable_blocks (g.S.Blocks.state c.args.blocks.now).books)) may.into.many_are enough)) told) (looked_calmly g.S.Blocks.tells _ (g.S.Blocks.state c.add_slot.new.blocks) (g.S.Blocks.state c.take_slot.new.blocks) c.in-Ok-take_slot.ensures.looks told)
 
-pub returns-in-Err-take_slot-clause-quiet : goal.returns-in-Err-take_slot-clause-quiet
-returns-in-Err-take_slot-clause-quiet g c = λ told name may enough.
+pub returns-clause-quiet : goal.returns-clause-quiet
+returns-clause-quiet g c = λ told name may enough.
     calm_on (g.S.Blocks.state c.args.blocks.now) (g.S.Blocks.state c.add_slot.new.blocks) (g.S.Blocks.state c.take_slot.new.blocks) (looked_calmly g.S.Blocks.tells _ (g.S.Blocks.state c.args.blocks.now) (g.S.Blocks.state c.add_slot.new.blocks) (c.in-Ok.ensures.looks told may.into.slots (ap (λ d. inodes_in (g.S.Blocks.state c.args.blocks.now) d c.args.into) c.new-draft.ensures ∙ may.into.dir_is)
     (subst (λ n. growth n ≤ length (reusable_blocks (g.S.Blocks.state c.args.blocks.now).books)) may.into.many_are enough)) told) (looked_calmly g.S.Blocks.tells _ (g.S.Blocks.state c.add_slot.new.blocks) (g.S.Blocks.state c.take_slot.new.blocks) c.in-Err-take_slot.ensures.looks told)
 

@@ -4,7 +4,7 @@ use Rattle.crash_stands.specs.Files.{files_of}
 use Rattle.fs_inodes.specs.Changes.{slot_of}
 use Rattle.fs_files.specs.Calls.{IsWithPlaces, files_in, places_in}
 use Rattle.fs_files.specs.Content.{fails_reading}
-use Rattle.fs_files.specs.Drafts.{nothing_drafted}
+use Rattle.fs_files.specs.Drafts.{DraftState, nothing_drafted}
 use Rattle.fs_dirs.specs.Changing.{Alters, IsWithSlots}
 use Rattle.fs_dirs.specs.Directories.{inodes_in}
 use Rattle.fs_session.specs.Commands.{places_of}
@@ -54,6 +54,9 @@ lose_link-requires-clause-found g c = λ told.
     found2 (files_in s nothing_drafted) (files_in (g.S.Blocks.state c.set_slot.new.blocks) c.set_slot.new.draft) (files_in u c.take_slot.new.draft) (files_in u c.take_slot.new.draft) c.args.source.now c.args.target.now moves.0 c.args.other.now may.from may.onto may.not_node may.not_from may.not_into may.found reads (set_so g p told moves.0 may) mid
     (c.in-Ok-take_slot.ensures.slots told mid.slots mid.is) c.directories_are_read.ensures
 
+pub returns-in-Ok-lose_link-clause-kept : goal.returns-in-Ok-lose_link-clause-kept
+returns-in-Ok-lose_link-clause-kept g c = c.in-Ok-lose_link.ensures.kept ∙ c.in-Ok-take_slot.ensures.kept ∙ c.in-Ok.ensures.kept ∙ ap (λ (d : DraftState). d.kept) c.new-draft.ensures
+
 pub returns-in-Ok-lose_link-clause-moves : goal.returns-in-Ok-lose_link-clause-moves
 returns-in-Ok-lose_link-clause-moves g c = λ told name may.
     let s = g.S.Blocks.state c.args.blocks.now in
@@ -75,7 +78,7 @@ returns-in-Ok-lose_link-clause-moves g c = λ told name may.
     let both = c.alterations_add_up.ensures.both in
     let a1 = subst (λ d. Alters 1 [] 0 d c.set_slot.new.draft) c.new-draft.ensures (c.in-Ok.ensures.alters told) in
     let a2 = c.in-Ok-take_slot.ensures.alters told mid.slots mid.is in
-    let a3 = c.in-Ok-lose_link.ensures.alters told in
+    let a3 = c.in-Ok-lose_link.ensures.alters told (c.in-Ok-take_slot.ensures.kept ∙ c.in-Ok.ensures.kept ∙ ap (λ (d : DraftState). d.kept) c.new-draft.ensures) in
     let a12 = subst (λ n. Alters 4 [] n nothing_drafted c.take_slot.new.draft) {x = 0 + release (length mid.slots)} {y = release (length mid.slots)} (omega arith) (both 1 3 0 (release (length mid.slots)) [] [] nothing_drafted c.set_slot.new.draft c.take_slot.new.draft a1 a2) in
     let all = both 4 1 (release (length mid.slots)) (blocks_gone c.args.target.now.entry.node.facts) [] [] nothing_drafted c.take_slot.new.draft c.lose_link.new.draft a12 a3 in
     let p0 = places_of s in
@@ -101,7 +104,7 @@ returns-in-Ok-lose_link-clause-looks g c =
     let first = looks_more g.S.Blocks.tells false _ _ _ c.in-Ok.ensures.looks c.in-Ok-take_slot.ensures.looks in
     looks_more g.S.Blocks.tells false (g.S.Blocks.state c.args.blocks.now) (g.S.Blocks.state c.take_slot.new.blocks) (g.S.Blocks.state c.lose_link.new.blocks) first c.in-Ok-lose_link.ensures.looks
 
-pub returns-in-Err-lose_link-clause-looks : goal.returns-in-Err-lose_link-clause-looks
-returns-in-Err-lose_link-clause-looks g c =
+pub returns-clause-looks : goal.returns-clause-looks
+returns-clause-looks g c =
     let first = looks_more g.S.Blocks.tells false _ _ _ c.in-Ok.ensures.looks c.in-Ok-take_slot.ensures.looks in
     looks_more g.S.Blocks.tells (fails_reading {T = ℕ} (Err c.in-Err-lose_link.why)) (g.S.Blocks.state c.args.blocks.now) (g.S.Blocks.state c.take_slot.new.blocks) (g.S.Blocks.state c.lose_link.new.blocks) first c.in-Err-lose_link.ensures.looks

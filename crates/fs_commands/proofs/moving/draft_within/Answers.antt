@@ -2,7 +2,7 @@ use Rattle.std.proofs.Common.{ℕ, [], List, set, subst, ap, ◌∙◌}
 use Rattle.crash_stands.specs.Files.{files_of}
 use Rattle.fs_inodes.specs.Changes.{slot_of}
 use Rattle.fs_files.specs.Calls.{IsWithPlaces, files_in, places_in}
-use Rattle.fs_files.specs.Drafts.{nothing_drafted}
+use Rattle.fs_files.specs.Drafts.{DraftState, nothing_drafted}
 use Rattle.fs_dirs.specs.Changing.{Alters, IsWithSlots}
 use Rattle.fs_dirs.specs.Directories.{inodes_in}
 use Rattle.fs_session.specs.Commands.{places_of}
@@ -17,6 +17,9 @@ set_slot-requires-clause-there g c = λ told.
     let name = (c.requires.moves told).0 in
     let may = (c.requires.moves told).1 in
     (may.from.slots, ap (λ d. inodes_in s d c.args.source.now.dir) c.new-draft.ensures ∙ may.from.dir, place_within (inodes_in s nothing_drafted) name c.args.source.now may.from)
+
+pub returns-in-Ok-clause-kept : goal.returns-in-Ok-clause-kept
+returns-in-Ok-clause-kept g c = c.in-Ok.ensures.kept ∙ ap (λ (d : DraftState). d.kept) c.new-draft.ensures
 
 pub returns-in-Ok-clause-moves : goal.returns-in-Ok-clause-moves
 returns-in-Ok-clause-moves g c = λ told name may.

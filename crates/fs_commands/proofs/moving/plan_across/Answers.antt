@@ -1,4 +1,4 @@
-use Rattle.std.proofs.Common.{false, take, None, Err, refl, sym, subst, ap, ◌∙◌, arith, IsTrue, ℕ, List}
+use Rattle.std.proofs.Common.{◌++◌, false, take, None, Err, refl, sym, subst, ap, ◌∙◌, arith, IsTrue, ℕ, List}
 use Rattle.std.proofs.lemmas.Option.{same_Some}
 use Rattle.layout_geometry.specs.Geometry.{Geometry, bitmap_blocks}
 use Rattle.lang_tree.specs.declared.command.Cmd.TheVariants.{Rename}
@@ -24,6 +24,8 @@ use Rattle.fs_files.specs.Drafts.{nothing_drafted}
 use Rattle.fs_session.specs.Space.{HasRoom}
 use Rattle.fs_commands.proofs.moving.plan_across.Goals as goal
 use Rattle.fs_commands.proofs.moving.plan_across.Goals.{After-moving-figures}
+use Rattle.lang_tree.specs.Sharing.{none_shared}
+use Rattle.fs_session.specs.NothingKept.{grows_so_far}
 
 -- what is known of the rename, and that it is weighed by its figures
 weighed : (g : given.Over) (c : goal.After-moving-figures g) (from to : List (List ℕ)) → IsTrue g.S.Blocks.tells → IsMove (files_in (g.S.Blocks.state c.args.blocks.now) nothing_drafted) from to c.args.source.now c.args.into c.args.count None c.args.other.now → (f : Session) → IsSession (g.S.Blocks.state c.args.blocks.now) f
@@ -33,7 +35,7 @@ weighed g c from to told move f h =
     let map = session_map c.blocks_have_the_map_of_their_tree.ensures.map s f h in
     let known = c.a_move_is_known.ensures.knows told from to c.args.source.now c.args.into c.args.count None c.args.other.now move in
     move_is s f from to c.args.source.now c.args.into c.args.count None c.args.other.now (growth c.args.count) (release c.args.source.now.count) _ known map move.accepted c.the_map_gives_the_refusal.ensures.refusal
-    (across_counted s f from to c.args.source.now c.args.other.now map move.accepted c.the_map_gives_the_figures.ensures.figures c.args.into c.args.count known c.paths_lead_to_inodes.ensures.in_one c.requires.apart)
+    (across_counted s f from to c.args.source.now c.args.other.now map move.accepted c.the_map_gives_the_costs.ensures c.args.into c.args.count known c.paths_lead_to_inodes.ensures.in_one c.requires.apart)
     (counted_as c.bitmap_blocks-bitmap.result c.growth.result c.release.result (bitmap_blocks s.books.geom) (growth c.args.count) (release c.args.source.now.count) _ c.moving-figures.ensures
     (c.bitmap_blocks-bitmap.ensures ∙ ap (λ (k : Geometry). bitmap_blocks k) c.geom.ensures) (c.growth.ensures.value ∙ ap growth c.from.ensures) (c.release.ensures.value ∙ ap release c.from-2.ensures))
 
@@ -64,8 +66,8 @@ returns-in-Ok-draft_across-clause-plans g c = λ from to move.
           planned_move s now f from to source c.args.into c.args.count None c.args.other.now 5 (release source.count) (growth c.args.count) fs (take (growth c.args.count) (reusable_blocks now.books)) c.in-Ok-draft_across.draft Stays a
           (c.in-Ok-draft_across.ensures.moves told a.known.name may) c.in-Ok.ensures.room
           (omega arith) refl grows.enough (c.in-Ok-draft_across.ensures.rests told a.known.name may) settles.pipeline.geom
-          (λ k some grown. subst (λ n. GrowsInRuns s now.books k n) (sym (ap (λ (n : Figures). n.need) a.counted))
-          (subst (λ l. GrowsInRuns s now.books l (growth c.args.count)) (same_Some c.args.into k (sym (grown_into (inodes s) from to source.dir c.args.into a.known.name c.args.other.now a.known.paths) ∙ grown)) grows))
+          (λ k some grown. grows_so_far s f (Rename from to) now.books k _ (subst (λ n. GrowsInRuns none_shared s now.books k n) (sym (ap (λ (n : Figures). n.need) a.counted))
+          (subst (λ l. GrowsInRuns none_shared s now.books l (growth c.args.count)) (same_Some c.args.into k (sym (grown_into (inodes s) from to source.dir c.args.into a.known.name c.args.other.now a.known.paths) ∙ grown)) grows)))
           c.a_move_is_mapped.ensures.rename c.the_map_gives_the_reply.ensures.reply c.alterations_add_up.ensures.price;
       going = c.requires.may.begin.going;
       quiet = λ told f h.
@@ -79,7 +81,7 @@ returns-in-Ok-draft_across-clause-made g c =
     let s = g.S.Blocks.state c.args.blocks.now in
     let source = c.args.source.now in
     let pipeline = c.in-Ok-draft_across.ensures.settles.pipeline in
-    move_made g.S.Blocks.tells s (g.S.Blocks.state c.draft_across.new.blocks) c.in-Ok-draft_across.draft (value_of c.moving-figures.result) c.in-Ok-draft_across.ensures.draft
+    move_made g.S.Blocks.tells s (g.S.Blocks.state c.draft_across.new.blocks) c.in-Ok-draft_across.draft (value_of c.moving-figures.result) c.in-Ok-draft_across.ensures.draft c.in-Ok-draft_across.ensures.kept
     (ap (λ (r : Running). r.weight) pipeline.running) pipeline.room c.in-Ok.ensures.room (settled_files g.S.Blocks.tells false false _ _ c.in-Ok-draft_across.ensures.settles)
     (λ told.
     let m = c.requires.known told in
@@ -99,7 +101,7 @@ returns-in-Err-draft_across-clause-plans g c = λ from to move.
     let a = weighs told f h in
     growth_refused s now f (Rename from to) c.args.into (g.met.S.Blocks.is_sound c.draft_across.new.blocks) c.in-Err-draft_across.ensures.settles.pipeline c.a_disk_is_small.ensures.disk a.accepted (subst (λ (n : Figures). HasRoom s.books n) (sym a.figures) c.in-Ok.ensures.room)
     (grown_into (inodes s) from to source.dir c.args.into a.known.name c.args.other.now a.known.paths) (c.a_disk_is_small.ensures.places told c.requires.may.begin c.args.into) why
-    (subst (λ n. GrowthRefused n (places_of s c.args.into) s.books now.books why) (sym (ap (λ (n : Figures). n.need) a.counted))
+    (subst (λ n. GrowthRefused n (λ more. places_of s c.args.into ++ more) s.books now.books why) (sym (ap (λ (n : Figures). n.need) a.counted))
     (c.in-Err-draft_across.ensures.refused told a.known.name (may_move_away s from to source c.args.into c.args.count c.args.other.now c.requires.apart a.known))))
     (λ told f h.
     let a = weighs told f h in

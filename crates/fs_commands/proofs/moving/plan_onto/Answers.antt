@@ -27,7 +27,7 @@ weighed g c from to told move f h =
     let known = c.a_move_is_known.ensures.knows told from to c.args.source.now c.args.target.now.dir c.args.target.now.count (Some c.args.target.now.entry) c.args.other.now move in
     let onto = c.a_move_is_known.ensures.onto told f.tree from to c.args.source.now c.args.target.now c.args.other.now h.tree move known in
     move_is s f from to c.args.source.now c.args.target.now.dir c.args.target.now.count (Some c.args.target.now.entry) c.args.other.now 0 (release c.args.source.now.count + blocks_gone c.args.target.now.entry.node.facts) _ known map move.accepted c.the_map_gives_the_refusal.ensures.refusal
-    (onto_counted s f from to c.args.source.now c.args.other.now map move.accepted c.the_map_gives_the_figures.ensures.figures c.args.target.now known onto.1)
+    (onto_counted s f from to c.args.source.now c.args.other.now map move.accepted c.the_map_gives_the_costs.ensures c.args.target.now known onto.1)
     (counted_as c.bitmap_blocks-bitmap.result 0 (c.release.result + c.blocks_gone_with.result) (bitmap_blocks s.books.geom) 0 (release c.args.source.now.count + blocks_gone c.args.target.now.entry.node.facts) _ c.moving-figures.ensures
     (c.bitmap_blocks-bitmap.ensures ∙ ap (λ (k : Geometry). bitmap_blocks k) c.geom.ensures) refl (ap₂ (λ a b. a + b) (c.release.ensures.value ∙ ap release c.from.ensures) (c.blocks_gone_with.ensures.value onto.2)))
 
@@ -64,7 +64,7 @@ returns-in-Ok-draft_onto-clause-plans g c = λ from to move.
 pub returns-in-Ok-draft_onto-clause-made : goal.returns-in-Ok-draft_onto-clause-made
 returns-in-Ok-draft_onto-clause-made g c =
     let target = c.args.target.now in
-    loss_made g.S.Blocks.tells (g.S.Blocks.state c.args.blocks.now) (g.S.Blocks.state c.draft_onto.new.blocks) c.in-Ok-draft_onto.draft target (value_of c.moving-figures.result) c.use_after.result c.in-Ok-draft_onto.ensures.draft c.in-Ok-draft_onto.ensures.looks c.in-Ok.ensures.room
+    loss_made g.S.Blocks.tells (g.S.Blocks.state c.args.blocks.now) (g.S.Blocks.state c.draft_onto.new.blocks) c.in-Ok-draft_onto.draft target (value_of c.moving-figures.result) c.use_after.result c.in-Ok-draft_onto.ensures.draft c.in-Ok-draft_onto.ensures.kept c.in-Ok-draft_onto.ensures.looks c.in-Ok.ensures.room
     c.use_after.ensures
     (λ told.
     let t = c.requires.may.stands told in

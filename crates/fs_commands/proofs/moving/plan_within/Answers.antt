@@ -25,7 +25,7 @@ weighed g c from to told move f h =
     let map = session_map c.blocks_have_the_map_of_their_tree.ensures.map s f h in
     let known = c.a_move_is_known.ensures.knows told from to c.args.source.now c.args.source.now.dir c.args.source.now.count None c.args.other.now move in
     move_is s f from to c.args.source.now c.args.source.now.dir c.args.source.now.count None c.args.other.now 0 0 _ known map move.accepted c.the_map_gives_the_refusal.ensures.refusal
-    (within_counted s f from to c.args.source.now c.args.other.now map move.accepted c.the_map_gives_the_figures.ensures.figures c.args.source.now.dir c.args.source.now.count known c.paths_lead_to_inodes.ensures.in_one refl)
+    (within_counted s f from to c.args.source.now c.args.other.now map move.accepted c.the_map_gives_the_costs.ensures c.args.source.now.dir c.args.source.now.count known c.paths_lead_to_inodes.ensures.in_one refl)
     (counted_as c.bitmap_blocks.result 0 0 (bitmap_blocks s.books.geom) 0 0 _ c.moving-figures.ensures (c.bitmap_blocks.ensures ∙ ap (λ (k : Geometry). bitmap_blocks k) c.geom.ensures) refl refl)
 
 pub draft_within-requires-clause-moves : goal.draft_within-requires-clause-moves
@@ -60,7 +60,7 @@ returns-in-Ok-draft_within-clause-made g c =
     let s = g.S.Blocks.state c.args.blocks.now in
     let source = c.args.source.now in
     let looks = c.in-Ok-draft_within.ensures.looks in
-    move_made g.S.Blocks.tells s (g.S.Blocks.state c.draft_within.new.blocks) c.in-Ok-draft_within.draft (value_of c.moving-figures.result) c.in-Ok-draft_within.ensures.draft
+    move_made g.S.Blocks.tells s (g.S.Blocks.state c.draft_within.new.blocks) c.in-Ok-draft_within.draft (value_of c.moving-figures.result) c.in-Ok-draft_within.ensures.draft c.in-Ok-draft_within.ensures.kept
     (ap (λ (b : Bookkeeping). b.running.weight) looks.books) (ap (λ (b : Bookkeeping). b.room) looks.books) c.in-Ok.ensures.room (same_files g.S.Blocks.tells false _ _ nothing_drafted looks)
     (λ told.
     let m = c.requires.known told in

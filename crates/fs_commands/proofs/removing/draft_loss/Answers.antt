@@ -4,6 +4,7 @@ use Rattle.lang_tree.specs.Figures.{directory_blocks, release}
 use Rattle.crash_stands.specs.Files.{files_of}
 use Rattle.fs_files.specs.Calls.{files_in, places_in, IsWithPlaces}
 use Rattle.fs_files.specs.Content.{fails_reading}
+use Rattle.fs_files.specs.Drafts.{DraftState}
 use Rattle.fs_dirs.specs.Changing.{Alters, IsWithSlots}
 use Rattle.fs_dirs.specs.Directories.{inodes_in}
 use Rattle.fs_commands.proofs.looking.Found.{looks_more}
@@ -42,16 +43,19 @@ returns-in-Ok-lose_link-clause-loses g c = λ told name named.
     let blocks = directory_blocks (length named.slots - 1) in
     name_lost s mid d name n named taken now e (c.in-Ok-lose_link.ensures.link told x.0 x.1) reads c.directories_are_read.ensures c.alterations_add_up.ensures.both
     (subst (λ b. Alters 3 [] (release (length named.slots)) b d) c.new-draft.ensures (c.in-Ok.ensures.alters told named.slots at))
-    (c.in-Ok-lose_link.ensures.alters told) blocks
+    (c.in-Ok-lose_link.ensures.alters told (c.in-Ok.ensures.kept ∙ ap (λ (b : DraftState). b.kept) c.new-draft.ensures)) blocks
     (subst (λ b. IsWithPlaces (places_in s b) (places_in mid d) n.dir (take blocks (places_in s b n.dir))) c.new-draft.ensures (c.in-Ok.ensures.places told named.slots at))
     (c.in-Ok-lose_link.ensures.placed told)
+
+pub returns-in-Ok-lose_link-clause-kept : goal.returns-in-Ok-lose_link-clause-kept
+returns-in-Ok-lose_link-clause-kept g c = c.in-Ok-lose_link.ensures.kept ∙ c.in-Ok.ensures.kept ∙ ap (λ (b : DraftState). b.kept) c.new-draft.ensures
 
 pub returns-in-Ok-lose_link-clause-looks : goal.returns-in-Ok-lose_link-clause-looks
 returns-in-Ok-lose_link-clause-looks g c =
     looks_more g.S.Blocks.tells false (g.S.Blocks.state c.args.blocks.now) (g.S.Blocks.state c.take_slot.new.blocks) (g.S.Blocks.state c.lose_link.new.blocks) c.in-Ok.ensures.looks c.in-Ok-lose_link.ensures.looks
 
-pub returns-in-Err-lose_link-clause-looks : goal.returns-in-Err-lose_link-clause-looks
-returns-in-Err-lose_link-clause-looks g c =
+pub returns-clause-looks : goal.returns-clause-looks
+returns-clause-looks g c =
     let s = g.S.Blocks.state c.args.blocks.now in
     let mid = g.S.Blocks.state c.take_slot.new.blocks in
     let now = g.S.Blocks.state c.lose_link.new.blocks in

@@ -20,7 +20,7 @@ weighed : (g : given.Over) (c : goal.After-loss_figures-figures g) (path : List 
 weighed g c path told loss f h =
     let s = g.S.Blocks.state c.args.blocks.now in
     let known = c.what_goes_is_known.ensures told f.tree c.args.kind path c.args.named.now h.tree loss in
-    loss_is c.args.kind s path c.args.named.now f _ c.bitmap_blocks-bitmap.result known (session_map c.blocks_have_the_map_of_their_tree.ensures.map s f h) c.the_map_gives_the_refusal.ensures.refusal c.the_map_gives_the_figures.ensures.figures
+    loss_is c.args.kind s path c.args.named.now f _ c.bitmap_blocks-bitmap.result known (session_map c.blocks_have_the_map_of_their_tree.ensures.map s f h) c.the_map_gives_the_refusal.ensures.refusal c.the_map_gives_the_costs.ensures
     (c.bitmap_blocks-bitmap.ensures ∙ ap (λ (k : Geometry). bitmap_blocks k) c.geom.ensures) (c.loss_figures-figures.ensures (inodes s) path known.above known.facts known.small)
 
 pub draft_loss-requires-clause-named : goal.draft_loss-requires-clause-named
@@ -50,7 +50,7 @@ returns-in-Ok-draft_loss-clause-made g c =
     let s = g.S.Blocks.state c.args.blocks.now in
     let now = g.S.Blocks.state c.draft_loss.new.blocks in
     let n = c.args.named.now in
-    loss_made g.S.Blocks.tells s now c.in-Ok-draft_loss.draft n (value_of c.loss_figures-figures.result) c.use_after.result c.in-Ok-draft_loss.ensures.draft c.in-Ok-draft_loss.ensures.looks c.in-Ok.ensures.room
+    loss_made g.S.Blocks.tells s now c.in-Ok-draft_loss.draft n (value_of c.loss_figures-figures.result) c.use_after.result c.in-Ok-draft_loss.ensures.draft c.in-Ok-draft_loss.ensures.kept c.in-Ok-draft_loss.ensures.looks c.in-Ok.ensures.room
     c.use_after.ensures
     (λ told.
     let t = c.requires.may.stands told in

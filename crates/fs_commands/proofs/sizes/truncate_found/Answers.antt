@@ -17,6 +17,7 @@ use Rattle.lang_tree.specs.Conditions.{refusal}
 use Rattle.fs_session.specs.Commands.{figures_on}
 use Rattle.fs_commands.proofs.sizes.truncate_found.Goals as goal
 use Rattle.fs_commands.proofs.sizes.truncate_found.Goals.{After-resize_figures-figures}
+use Rattle.fs_session.specs.NothingKept.{figures_are}
 
 -- the tree accepts the command, and it is weighed by its figures
 weighed : (g : given.Over) (c : goal.After-resize_figures-figures g) → c.is_past_the_most.result ≡ false → (path : List (List ℕ)) → IsTrue g.S.Blocks.tells → walk_on (inodes (g.S.Blocks.state c.args.blocks.now)) 1 path ≡ Ok c.args.found.now.number → (f : Session) → IsSession (g.S.Blocks.state c.args.blocks.now) f
@@ -37,8 +38,9 @@ returns-then-is_past_the_most-clause-plans g c = λ path walk.
 pub returns-then-from-found-clause-plans : goal.returns-then-from-found-clause-plans
 returns-then-from-found-clause-plans g c = λ path walk.
     done_plan g.S.Blocks.tells g.S.Blocks.state c.calls_compose.ensures.rests g.met.S.Blocks.is_sound (Truncate path c.args.size) c.args.blocks.now c.args.blocks.now c.requires.may.begin.going
-    (λ told f h. nothing_resized (inodes (g.S.Blocks.state c.args.blocks.now)) f path c.args.size c.the_map_gives_the_refusal.ensures.refusal c.args.found.now (c.a_file_is_at_its_path.ensures told f path c.args.found.now h (c.requires.file told) (walk told))
-    (bitmap_blocks (g.S.Blocks.state c.args.blocks.now).books.geom) (sym c.is_past_the_most.ensures ∙ c.if-is_past_the_most.false) (sym c.from.ensures ∙ c.if-from-found.true)) (no_look g.S.Blocks.tells (g.S.Blocks.state c.args.blocks.now))
+    (λ told f h. let same = nothing_resized (inodes (g.S.Blocks.state c.args.blocks.now)) f path c.args.size c.the_map_gives_the_refusal.ensures.refusal c.args.found.now (c.a_file_is_at_its_path.ensures told f path c.args.found.now h (c.requires.file told) (walk told))
+    (bitmap_blocks (g.S.Blocks.state c.args.blocks.now).books.geom) (sym c.is_past_the_most.ensures ∙ c.if-is_past_the_most.false) (sym c.from.ensures ∙ c.if-from-found.true) in
+    (same.0, figures_are (g.S.Blocks.state c.args.blocks.now) f c.nothing_shared_costs_nothing.ensures.commands (Truncate path c.args.size) ∙ same.1)) (no_look g.S.Blocks.tells (g.S.Blocks.state c.args.blocks.now))
 
 pub returns-in-Err-clause-plans : goal.returns-in-Err-clause-plans
 returns-in-Err-clause-plans g c = λ path walk.

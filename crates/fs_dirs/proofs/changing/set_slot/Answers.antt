@@ -4,7 +4,7 @@ use Rattle.crash_stands.specs.Inodes.{ADir}
 use Rattle.fs_files.specs.Bytes.{met}
 use Rattle.fs_files.specs.Calls.{files_in, places_in}
 use Rattle.fs_dirs.specs.Directories.{inodes_in}
-use Rattle.fs_dirs.proofs.reading.Kinds.{node_of_inode}
+use Rattle.fs_dirs.proofs.reading.Kinds.{dir_kind, node_of_inode}
 use Rattle.fs_dirs.proofs.writing.Nodes.{DirNode, dir_node, place_of_slots}
 use Rattle.fs_dirs.proofs.writing.Setting.{sets_over, one_block, alters_one}
 use Rattle.fs_dirs.proofs.changing.set_slot.Goals as goal
@@ -14,6 +14,12 @@ overwrite-requires-clause-used g c = λ told.
     let there = c.requires.there told in
     let r = node_of_inode (files_in (g.S.Blocks.state c.args.blocks.now) c.args.draft.now c.args.dir) (ADir there.0) there.1 in
     (r.file, r.is)
+
+pub overwrite-requires-clause-apart : goal.overwrite-requires-clause-apart
+overwrite-requires-clause-apart g c = λ told.
+    let there = c.requires.there told in
+    let r = node_of_inode (files_in (g.S.Blocks.state c.args.blocks.now) c.args.draft.now c.args.dir) (ADir there.0) there.1 in
+    c.a_directory_shares_no_block.ensures c.args.blocks.now c.args.draft.now c.args.dir r.file told c.requires.look.may r.is (dir_kind r.file there.0 r.reads)
 
 module _ (g : _) (c : goal.In_ok-overwrite g) where
   size : length c.as_slice.result.now ≡ 64
@@ -31,6 +37,7 @@ returns g c = record {
       (c.as_slice.ensures ∙ c.slot_text-text.ensures.text) c.slot_text-text.ensures.lawful c.slots_follow_the_bytes.ensures.over (c.in_ok-overwrite.ensures.file told);
   places = c.in_ok-overwrite.ensures.places;
   draft = c.in_ok-overwrite.ensures.draft;
+  kept = c.in_ok-overwrite.ensures.kept;
   alters = λ told.
       alters_one (met (64 * c.from.result) (64 * c.from.result + length c.as_slice.result.now) (places_in (g.S.Blocks.state c.args.blocks.now) c.args.draft.now c.args.dir)) c.args.draft.now c.overwrite.new.self
       (one_block c.args.place (64 * c.from.result) (length c.as_slice.result.now) _ (omega (arith, c.from.ensures)) (size g c) (c.bytes_lie_in_blocks.ensures.most (64 * c.from.result) (64 * c.from.result + length c.as_slice.result.now) (places_in (g.S.Blocks.state c.args.blocks.now) c.args.draft.now c.args.dir)))

@@ -1,4 +1,4 @@
-use Rattle.std.proofs.Common.{◌≡◌, ◌+◌, ◌-◌, ◌<◌, false, IsTrue, List, [], length, set, slice_get, Some, sym, subst, ap, ◌∙◌, arith, length-set, Err}
+use Rattle.std.proofs.Common.{◌≡◌, ◌+◌, ◌-◌, ◌<◌, false, IsTrue, List, [], length, set, slice_get, Some, refl, sym, subst, ap, ◌∙◌, arith, length-set, Err}
 use Rattle.std.proofs.lemmas.Option.{none-some, same_Some, slice_get-get_or}
 use Rattle.std.proofs.lemmas.Result.{err_from_is_err_and}
 use Rattle.layout_bytes.specs.declared.slot.Slot.{Slot}
@@ -25,6 +25,7 @@ returns-in_default g c = record {
   slots = λ told slots is. absurd (none-some _ (of_none _ c.in_default.is (c.in_ok-directory.ensures.none told) (ADir slots) is));
   places = λ told slots is. absurd (none-some _ (of_none _ c.in_default.is (c.in_ok-directory.ensures.none told) (ADir slots) is));
   draft = draft_stays g.S.Blocks.tells false _ _ c.args.draft.now c.in_ok-directory.ensures.looks c.requires.look.may;
+  kept = refl;
   alters = λ told slots is. absurd (none-some _ (of_none _ c.in_default.is (c.in_ok-directory.ensures.none told) (ADir slots) is));
   refused = tt;
   looks = c.in_ok-directory.ensures.looks;
@@ -58,6 +59,7 @@ returns-in_default-last_place g c =
       slots = λ told slots is. absurd (none-some _ (sym c.in_default-last_place.is ∙ c.last_place.ensures.last (some g b told slots is)));
       places = λ told slots is. absurd (none-some _ (sym c.in_default-last_place.is ∙ c.last_place.ensures.last (some g b told slots is)));
       draft = draft_stays g.S.Blocks.tells false _ _ c.args.draft.now c.in_ok-directory.ensures.looks c.requires.look.may;
+      kept = refl;
       alters = λ told slots is. absurd (none-some _ (sym c.in_default-last_place.is ∙ c.last_place.ensures.last (some g b told slots is)));
       refused = tt;
       looks = c.in_ok-directory.ensures.looks;
@@ -95,6 +97,7 @@ returns-in_default-2 g c =
       slots = λ told slots is. never _ told slots is;
       places = λ told slots is. never _ told slots is;
       draft = draft_stays g.S.Blocks.tells false (s g d) (g.S.Blocks.state c.slot_at.new.blocks) c.args.draft.now looks c.requires.look.may;
+      kept = refl;
       alters = λ told slots is. never _ told slots is;
       refused = tt;
       looks = looks;
@@ -157,6 +160,7 @@ returns g c =
           (λ l. same_places g.S.Blocks.tells false (start g b) (read g b) c.args.draft.now (looks g b) l told) (ap directory_blocks (its_last g b told slots is))
           (c.in_ok-set_slot.ensures.places told) (c.in_ok-cut_slots.ensures.places told);
       draft = c.in_ok-cut_slots.ensures.draft;
+      kept = c.in_ok-cut_slots.ensures.kept ∙ c.in_ok-set_slot.ensures.kept;
       alters = λ told slots is.
           let mine = set_is g b told slots is in
           let long = length-set slots c.args.place c.in-Some-2.moved in
@@ -178,6 +182,7 @@ returns-in_err-cut_slots g c =
       slots = λ told. tt;
       places = λ told. tt;
       draft = tt;
+      kept = tt;
       alters = λ told. tt;
       refused = c.in_err-cut_slots.ensures.refused;
       looks = looks_more g.S.Blocks.tells _ (start g b) (put g b) new (put_looks g b) c.in_err-cut_slots.ensures.looks;

@@ -1,4 +1,5 @@
-use Rattle.std.proofs.Common.{◌-◌, sym, ap, ◌∙◌}
+use Rattle.std.proofs.Common.{◌-◌, sym, ap, ◌∙◌, arith}
+use Rattle.fs_session.proofs.rooms.Nodes.{marked_in_use}
 use Rattle.fs_session.proofs.standing.Marks.{inodes_count}
 use Rattle.fs_session.proofs.live.as_many_blocks_are_marked_as_the_tree_has.Goals as goal
 
@@ -12,3 +13,7 @@ returns-clause-live g c = λ s f tells h.
 pub returns-clause-left : goal.returns-clause-left
 returns-clause-left g c = λ s f tells h.
     ap (λ n. (g.S.Blocks.state s).books.area - n - (g.S.Blocks.state s).books.running.held) (returns-clause-live g c s f tells h)
+
+pub returns-clause-room : goal.returns-clause-room
+returns-clause-room g c = λ s f tells h.
+    omega (arith, marked_in_use (g.S.Blocks.state s) (g.met.S.Blocks.is_told s tells).bits h.tree.sound f.tree, (g.met.S.Blocks.is_sound s).area)

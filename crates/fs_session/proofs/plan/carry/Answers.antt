@@ -3,7 +3,7 @@ use Rattle.lang_tree.specs.declared.command.Refusal.{Refusal}
 use Rattle.fs_session.specs.declared.plan.Plan.{Plan}
 use Rattle.fs_session.specs.declared.plan.Plan.TheVariants.{Change}
 use Rattle.fs_session.specs.Plans.{Plans, OnChange, MayBeMade}
-use Rattle.fs_session.proofs.carrying.Carried.{carried_answer, carried_change, carried_refusal, refused_plan, made_rests, kept_rests, between_made, between_kept}
+use Rattle.fs_session.proofs.carrying.Carried.{carried_answer, carried_change, carried_refusal, refused_plan, made_rests, kept_rests, sound_made, between_made, between_kept}
 use Rattle.fs_session.proofs.plan.carry.Goals as goal
 
 pub returns-in-Err-clause-carries : goal.returns-in-Err-clause-carries
@@ -24,7 +24,9 @@ returns-in-Ok-clause-carries g c = λ cmd start sync plans.
     let is : c.args.planned ≡ Ok (Change c.in-Ok-Change.draft c.in-Ok-Change.cost c.in-Ok-Change.nodes) = c.in-Ok-Change.is ∙ ap (λ (p : Plan). Ok p) c.in-Ok-Change.field-0-is in
     let plan = subst (λ (r : Result Plan Refusal). Plans tells cmd r (g.S.Blocks.state start) mid) is plans in
     let rest = made_rests tells c.in-Ok-Change.draft c.in-Ok-Change.cost mid new c.in-Ok.ensures.made in
-    carried_change tells cmd (g.S.Blocks.state start) mid new (λ bitmap s. c.a_command_changes_where_it_costs.ensures bitmap s cmd sync) sync (g.met.S.Blocks.is_sound c.args.blocks.now) c.in-Ok-Change.draft c.in-Ok-Change.cost c.in-Ok-Change.nodes plan c.in-Ok.ensures.made c.in-Ok.ensures.disk
+    let may = subst (λ (r : Result Plan Refusal). OnChange r (λ d cost nodes. MayBeMade tells d cost nodes mid)) is c.requires.may in
+    carried_change tells cmd (g.S.Blocks.state start) mid new (λ bitmap s. c.a_command_changes_where_it_costs.ensures bitmap s cmd sync) c.nothing_shared_costs_nothing.ensures.commands sync (g.met.S.Blocks.is_sound c.args.blocks.now)
+    (sound_made tells c.in-Ok-Change.draft c.in-Ok-Change.cost mid new c.sound_beside_nothing.ensures.to c.sound_beside_nothing.ensures.from may.kept c.in-Ok.ensures.made) c.in-Ok-Change.draft c.in-Ok-Change.cost c.in-Ok-Change.nodes plan c.in-Ok.ensures.made c.in-Ok.ensures.disk
     (λ told. c.calls_compose.ensures.advances start c.args.blocks.now c.carry_out.new.blocks (plan.settles.crash told) (c.calls_compose.ensures.rests told c.args.blocks.now c.carry_out.new.blocks rest.point rest.floor (c.in-Ok.ensures.disk.crash told)))
 
 pub returns-in-Ok-clause-between : goal.returns-in-Ok-clause-between
@@ -32,8 +34,10 @@ returns-in-Ok-clause-between g c =
     let tells = g.S.Blocks.tells in
     let mid = g.S.Blocks.state c.args.blocks.now in
     let is : c.args.planned ≡ Ok (Change c.in-Ok-Change.draft c.in-Ok-Change.cost c.in-Ok-Change.nodes) = c.in-Ok-Change.is ∙ ap (λ (p : Plan). Ok p) c.in-Ok-Change.field-0-is in
-    between_made tells c.in-Ok-Change.draft c.in-Ok-Change.cost c.in-Ok-Change.nodes c.args.unused.now c.follow.new.self mid (g.S.Blocks.state c.carry_out.new.blocks) c.in-Ok.ensures.made
-    (subst (λ (r : Result Plan Refusal). OnChange r (λ d cost nodes. MayBeMade tells d cost nodes mid)) is c.requires.may) c.in-Ok.ensures.goes_on c.follow.ensures c.requires.between
+    let new = g.S.Blocks.state c.carry_out.new.blocks in
+    let may = subst (λ (r : Result Plan Refusal). OnChange r (λ d cost nodes. MayBeMade tells d cost nodes mid)) is c.requires.may in
+    between_made tells c.in-Ok-Change.draft c.in-Ok-Change.cost c.in-Ok-Change.nodes c.args.unused.now c.follow.new.self mid new c.in-Ok.ensures.made may
+    (sound_made tells c.in-Ok-Change.draft c.in-Ok-Change.cost mid new c.sound_beside_nothing.ensures.to c.sound_beside_nothing.ensures.from may.kept c.in-Ok.ensures.made) c.in-Ok.ensures.goes_on c.follow.ensures c.requires.between
 
 pub returns-in-Err-carry_out-clause-carries : goal.returns-in-Err-carry_out-clause-carries
 returns-in-Err-carry_out-clause-carries g c = λ cmd start sync plans.

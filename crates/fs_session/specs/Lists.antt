@@ -1,0 +1,48 @@
+-- Which blocks the nodes of a session have and its snapshots keep, by lists. It is described in docs/SPACE.md.
+use Rattle.std.specs.Prelude.{ℕ, zero, suc, Bool, false, ◌||◌, not, List, [], ◌++◌, length, slice_get, bytes_eq, Option, None, Some}
+use Rattle.std.specs.List.{filter, list_any, range_with_len}
+use Rattle.lang_tree.specs.Sharing.{SharedNodes}
+use Rattle.engine_blocks.specs.Running.{has}
+
+-- of each snapshot, by its name, the blocks of each file that it keeps
+abbrev pub KeptLists : Type 0
+KeptLists = List ℕ → ℕ → List ℕ
+
+-- nothing is kept
+abbrev pub nothing_kept : KeptLists
+nothing_kept name k = []
+
+-- the blocks of nodes 1 to n
+abbrev pub node_blocks : (ℕ → List ℕ) → ℕ → List ℕ
+node_blocks places zero = []
+node_blocks places (suc n) = node_blocks places n ++ places (suc n)
+
+-- whether one of the snapshots of these names keeps block b as a file's, where nodes have numbers 1 to n
+abbrev pub is_kept_block : ℕ → KeptLists → List (List ℕ) → ℕ → Bool
+is_kept_block n kept names b = list_any (λ name. has (node_blocks (kept name) n) b) names
+
+-- whether the block at a place, where there is one, is kept
+abbrev pub kept_at : ℕ → KeptLists → List (List ℕ) → Option ℕ → Bool
+kept_at n kept names None = false
+kept_at n kept names (Some b) = is_kept_block n kept names b
+
+-- which blocks of each node a snapshot keeps, by its number and their places
+abbrev pub shared_in : ℕ → (ℕ → List ℕ) → KeptLists → List (List ℕ) → SharedNodes
+shared_in n places kept names k i = kept_at n kept names (slice_get (places k) i)
+
+-- the other names
+abbrev pub others : List ℕ → List (List ℕ) → List (List ℕ)
+others name names = filter (λ other. not (bytes_eq other name)) names
+
+-- how many blocks of the files of this snapshot are in no other list: no node's and of no other snapshot
+abbrev pub alone_in : ℕ → (ℕ → List ℕ) → KeptLists → List (List ℕ) → List ℕ → ℕ
+alone_in n places kept names name =
+    length (filter (λ b. not (has (node_blocks places n) b || is_kept_block n kept (others name names) b)) (node_blocks (kept name) n))
+
+-- whether block b is in some list: a node's, or of a file that a snapshot keeps
+abbrev pub is_listed : ℕ → (ℕ → List ℕ) → KeptLists → List (List ℕ) → ℕ → Bool
+is_listed n places kept names b = has (node_blocks places n) b || is_kept_block n kept names b
+
+-- how many of so many blocks from number `from` on are
+abbrev pub listed : ℕ → (ℕ → List ℕ) → KeptLists → List (List ℕ) → ℕ → ℕ → ℕ
+listed n places kept names from count = length (filter (is_listed n places kept names) (range_with_len from count))

@@ -1,0 +1,154 @@
+-- Lemmas where nothing is kept, as over blocks so far, or where no snapshot is there: no place is shared or renewed, a command needs what it needs of the tree alone, and new blocks stand behind all. They are described in docs/SPACE.md.
+use Rattle.std.proofs.Common.{◌≡◌, ℕ, zero, suc, ◌+◌, ◌-◌, ◌≤◌, ◌==◌, Bool, false, ◌&&◌, ◌||◌, min, List, [], ◌∷◌, ◌++◌, length, take, map, slice_get, Option, None, Some, refl, sym, subst, ap, ap₂, ◌∙◌}
+use Rattle.std.proofs.Math.Bool.{and-false, or-false}
+use Rattle.std.proofs.lemmas.List.{append-nil, nil_from_length}
+use Rattle.std.specs.FinMap.{empty, entries, keys, len-empty, len-entries}
+use Rattle.std.specs.List.{list_any}
+use Rattle.std.specs.Ordering.{nat_cmp}
+use Rattle.std.specs.Cmp.Lexicographic.{slice_cmp}
+use mathlib.Core.Path.{fun_ext}
+use Rattle.layout_geometry.specs.Geometry.{Geometry, bitmap_blocks, data_start}
+use Rattle.layout_extent.specs.Renew.{renew}
+use Rattle.layout_extent.specs.Runs.{stretches}
+use Rattle.lang_tree.specs.declared.command.Cmd.{Cmd}
+use Rattle.lang_tree.specs.declared.command.Cmd.TheVariants.{Write, Fill, Truncate}
+use Rattle.lang_tree.specs.Conditions.{is_snapshot}
+use Rattle.lang_tree.specs.Figures.{blocks, figures, touches}
+use Rattle.lang_tree.specs.Sharing.{SharedNodes, figures_over, none_shared}
+use Rattle.lang_tree.specs.Step.{Session}
+use Rattle.lang_tree.specs.Tree.{Kept, Snapshots, Tree}
+use Rattle.lang_tree.specs.Walk.{are_same, content}
+use Rattle.engine_blocks.specs.Running.{has}
+use Rattle.engine_blocks.specs.State.{Bookkeeping, State, reusable_blocks}
+use Rattle.fs_files.specs.Drafts.{DraftState}
+use Rattle.fs_session.specs.Changes.{Uses}
+use Rattle.fs_session.specs.Commands.{GrowsInRuns, figures_on, places_of, renewed_on, shared_on}
+use Rattle.fs_session.specs.Lists.{is_kept_block, is_listed, kept_at, node_blocks, nothing_kept, shared_in}
+use Rattle.fs_session.specs.Room.{HoldsTree, Room, figures_in, is_in_use, left_in, renewed_in, runs_with, shared_by}
+use Rattle.fs_session.specs.Space.{ArePlaced, grown_in, none_renewed, renewed_by, touched_by}
+
+-- New blocks stand behind all where no place is renewed.
+
+pub behind_all : (i : ℕ) (xs more : List ℕ) → renew none_shared i xs more ≡ xs ++ more
+behind_all i [] more = refl
+behind_all i (b ∷ bs) [] = sym (append-nil (b ∷ bs))
+behind_all i (b ∷ bs) (c ∷ more) = ap (λ (xs : List ℕ). b ∷ xs) (behind_all (i + 1) bs (c ∷ more))
+
+-- with no new blocks, none is
+pub renews_nothing : (renewed : ℕ → Bool) (i : ℕ) (xs : List ℕ) → renew renewed i xs [] ≡ xs
+renews_nothing renewed i [] = refl
+renews_nothing renewed i (b ∷ bs) = refl
+
+-- so nodes are placed where each has the first of its own blocks, and behind them the first of these
+pub placed_behind : (old new : ℕ → List ℕ) (more : List ℕ) → ((k : ℕ) → new k ≡ take (length (new k)) (old k ++ more)) → ArePlaced none_renewed old new more
+placed_behind old new more each k = each k ∙ ap (take (length (new k))) (sym (behind_all 0 (old k) more))
+
+pub behind_placed : (old new : ℕ → List ℕ) (more : List ℕ) → ArePlaced none_renewed old new more → (k : ℕ) → new k ≡ take (length (new k)) (old k ++ more)
+behind_placed old new more placed k = placed k ∙ ap (take (length (new k))) (behind_all 0 (old k) more)
+
+-- and a node has room for its runs with these behind it
+pub runs_behind : (old : State) (settled : Bookkeeping) (k need : ℕ) → need ≤ length (reusable_blocks settled) → stretches (places_of old k ++ take need (reusable_blocks settled)) ≤ 28 → GrowsInRuns none_shared old settled k need
+runs_behind old settled k need enough few = record { enough = enough; runs = subst (λ (xs : List ℕ). stretches xs ≤ 28) (sym (behind_all 0 (places_of old k) (take need (reusable_blocks settled)))) few }
+
+-- No command renews what isn't shared.
+
+touches_none : (t : Tree) (cmd : Cmd) (i : ℕ) → touched_by t cmd none_shared i ≡ false
+touches_none t (Write path offset bytes) i = and-false (touches (min offset (length (content t path))) (offset + length bytes) i)
+touches_none t (Fill path offset count byte) i = and-false (touches (min offset (length (content t path))) (offset + count) i)
+touches_none t (Truncate path size) i = and-false (touches (length (content t path)) size i)
+touches_none t cmd i = refl
+
+renews_none : (f : Session) (cmd : Cmd) → renewed_by f cmd none_renewed ≡ none_renewed
+renews_none f cmd = fun_ext (λ k. fun_ext (λ i. ap (λ b. b && are_same (grown_in f cmd) (Some k)) (touches_none f.tree cmd i)))
+
+-- Nothing is kept.
+
+no_blocks : (n : ℕ) → node_blocks (λ k. []) n ≡ []
+no_blocks zero = refl
+no_blocks (suc n) = append-nil (node_blocks (λ k. []) n) ∙ no_blocks n
+
+kept_nowhere : (n : ℕ) (names : List (List ℕ)) (b : ℕ) → is_kept_block n nothing_kept names b ≡ false
+kept_nowhere n [] b = refl
+kept_nowhere n (name ∷ names) b = ap₂ (λ x y. x || y) (ap (λ (xs : List ℕ). has xs b) (no_blocks n)) (kept_nowhere n names b)
+
+-- no place is shared
+shares_none : (n : ℕ) (places : ℕ → List ℕ) (names : List (List ℕ)) → shared_in n places nothing_kept names ≡ none_renewed
+shares_none n places names = fun_ext (λ k. fun_ext (λ i. by (slice_get (places k) i)))
+  where
+    by : (o : Option ℕ) → kept_at n nothing_kept names o ≡ false
+    by None = refl
+    by (Some b) = kept_nowhere n names b
+
+-- a block is listed where a node has it
+pub listed_of_nodes : (n : ℕ) (places : ℕ → List ℕ) (names : List (List ℕ)) (b : ℕ) → is_listed n places nothing_kept names b ≡ has (node_blocks places n) b
+listed_of_nodes n places names b = ap (λ x. has (node_blocks places n) b || x) (kept_nowhere n names b) ∙ or-false (has (node_blocks places n) b)
+
+-- what the law says of figures where nothing is shared
+abbrev pub CostsAsAlone : Type 0
+CostsAsAlone = (bitmap : ℕ) (f : Session) (cmd : Cmd) → figures_over bitmap none_renewed f cmd ≡ figures bitmap f cmd
+
+-- so far it is so of all blocks
+module _ (s : State) (f : Session) where
+  pub nothing_shared : shared_on s f ≡ none_renewed
+  nothing_shared = shares_none s.books.geom.i (places_of s) (keys f.tree.snapshots)
+
+  pub nothing_renewed : (cmd : Cmd) → renewed_on s f cmd ≡ none_renewed
+  nothing_renewed cmd = ap (renewed_by f cmd) nothing_shared ∙ renews_none f cmd
+
+  pub figures_unshared : (cmd : Cmd) → figures_on s f cmd ≡ figures_over (bitmap_blocks s.books.geom) none_renewed f cmd
+  figures_unshared cmd = ap (λ (shared : SharedNodes). figures_over (bitmap_blocks s.books.geom) shared f cmd) nothing_shared
+
+  pub figures_are : CostsAsAlone → (cmd : Cmd) → figures_on s f cmd ≡ figures (bitmap_blocks s.books.geom) f cmd
+  figures_are law cmd = figures_unshared cmd ∙ law (bitmap_blocks s.books.geom) f cmd
+
+  -- new blocks stand behind a node's own
+  pub runs_so_far : (cmd : Cmd) (k : ℕ) (more : List ℕ) → stretches (renew (renewed_on s f cmd k) 0 (places_of s k) more) ≡ stretches (places_of s k ++ more)
+  runs_so_far cmd k more = ap (λ (renewed : SharedNodes). stretches (renew (renewed k) 0 (places_of s k) more)) (nothing_renewed cmd) ∙ ap stretches (behind_all 0 (places_of s k) more)
+
+  -- what a command does that renews no place
+  pub grows_so_far : (cmd : Cmd) (settled : Bookkeeping) (k need : ℕ) → GrowsInRuns none_shared s settled k need → GrowsInRuns (renewed_on s f cmd k) s settled k need
+  grows_so_far cmd settled k need grows = subst (λ (renewed : SharedNodes). GrowsInRuns (renewed k) s settled k need) (sym (nothing_renewed cmd)) grows
+
+  pub uses_so_far : (cmd : Cmd) (need freed : ℕ) (spare : List ℕ) (old new : ℕ → List ℕ) (d : DraftState) → Uses need freed spare none_renewed old new d → Uses need freed spare (renewed_on s f cmd) old new d
+  uses_so_far cmd need freed spare old new d uses = subst (λ (renewed : SharedNodes). Uses need freed spare renewed old new d) (sym (nothing_renewed cmd)) uses
+
+-- No snapshot is there.
+
+no_entries : entries (empty {X = Kept} {R = slice_cmp nat_cmp}) ≡ []
+no_entries = nil_from_length (entries (empty {X = Kept} {R = slice_cmp nat_cmp})) (sym (len-entries (empty {X = Kept} {R = slice_cmp nat_cmp})) ∙ len-empty (slice_cmp nat_cmp) Kept)
+
+-- no number is a snapshot's
+pub no_snapshot : (t : Tree) (k : ℕ) → t.snapshots ≡ empty → is_snapshot t.snapshots k ≡ false
+no_snapshot t k none = ap (λ (m : Snapshots). is_snapshot m k) none ∙ ap (λ (es : List (List ℕ × Kept)). list_any (λ e. e.1.number == k) es) no_entries
+
+module _ (g : Geometry) (f : Session) (r : Room) (none : f.tree.snapshots ≡ empty) where
+  no_names : keys f.tree.snapshots ≡ []
+  no_names = ap (λ (m : Snapshots). keys m) none ∙ ap (λ (es : List (List ℕ × Kept)). map (λ e. e.0) es) no_entries
+
+  alone_shares : shared_by g f.tree r ≡ none_renewed
+  alone_shares = ap (λ (names : List (List ℕ)). shared_in g.i r.places r.kept names) no_names ∙ fun_ext (λ k. fun_ext (λ i. by (slice_get (r.places k) i)))
+    where
+      by : (o : Option ℕ) → kept_at g.i r.kept [] o ≡ false
+      by None = refl
+      by (Some b) = refl
+
+  pub alone_renews : (cmd : Cmd) → renewed_in g f r cmd ≡ none_renewed
+  alone_renews cmd = ap (renewed_by f cmd) alone_shares ∙ renews_none f cmd
+
+  pub alone_costs : CostsAsAlone → (cmd : Cmd) → figures_in g f r cmd ≡ figures (bitmap_blocks g) f cmd
+  alone_costs law cmd = ap (λ (shared : SharedNodes). figures_over (bitmap_blocks g) shared f cmd) alone_shares ∙ law (bitmap_blocks g) f cmd
+
+  -- the blocks in use are those of nodes
+  pub alone_uses : (b : ℕ) → is_in_use g f.tree r b ≡ has (node_blocks r.places g.i) b
+  alone_uses b = ap (λ (names : List (List ℕ)). is_listed g.i r.places r.kept names b) no_names ∙ or-false (has (node_blocks r.places g.i) b)
+
+  -- in a room that holds the tree as many are left as the tree doesn't need
+  pub alone_left : HoldsTree g f.tree r → left_in g f r ≡ (g.n - data_start g) - blocks f.tree - r.held
+  alone_left holds = ap (λ n. (g.n - data_start g) - n - r.held) (holds.alone none)
+
+  -- and new blocks stand behind a node's own
+  pub alone_runs : (cmd : Cmd) (k need : ℕ) → runs_with g f r cmd k need ≡ stretches (r.places k ++ take need r.takeable)
+  alone_runs cmd k need = ap (λ (renewed : SharedNodes). stretches (renew (renewed k) 0 (r.places k) (take need r.takeable))) (alone_renews cmd) ∙ ap stretches (behind_all 0 (r.places k) (take need r.takeable))
+
+  pub alone_placed : (cmd : Cmd) (old new : ℕ → List ℕ) (more : List ℕ) → ArePlaced (renewed_in g f r cmd) old new more → (k : ℕ) → new k ≡ take (length (new k)) (old k ++ more)
+  alone_placed cmd old new more placed = behind_placed old new more (subst (λ (renewed : SharedNodes). ArePlaced renewed old new more) (alone_renews cmd) placed)
