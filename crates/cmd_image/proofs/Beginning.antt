@@ -1,5 +1,5 @@
 -- How a run begins: over a store that was just mounted, whose file system was opened.
-use Rattle.std.proofs.Common.{◌≡◌, ℕ, ◌+◌, ◌-◌, Bool, false, true, true≢false, IsTrue, List, [], ◌∷◌, length, take, take_all, Option, None, sym, ap, ap₂, ◌∙◌, subst, arith}
+use Rattle.std.proofs.Common.{◌≡◌, ℕ, ◌+◌, Bool, false, true, true≢false, IsTrue, List, [], ◌∷◌, length, take, take_all, Option, None, refl, sym, ap, ap₂, ◌∙◌, subst, arith}
 use mathlib.Core.Path.{fun_ext}
 use Rattle.base_types.specs.Seal.{Blocks}
 use Rattle.disk_contract.specs.declared.bay.Mark.{Mark}
@@ -8,9 +8,8 @@ use Rattle.disk_contract.specs.Cell.{has_lost}
 use Rattle.disk_contract.specs.Disk as disk
 use Rattle.disk_contract.specs.Disk.{writes_in}
 use Rattle.disk_contract.specs.Manner.{Manner}
-use Rattle.layout_geometry.specs.Geometry.{Geometry, IsGeometry, data_start}
+use Rattle.layout_geometry.specs.Geometry.{Geometry, IsGeometry}
 use Rattle.crash_argument.specs.Points.{MountedSession}
-use Rattle.lang_tree.specs.Figures.{blocks}
 use Rattle.lang_tree.specs.Step.{Session, session_on}
 use Rattle.lang_tree.specs.Tree.{Tree}
 use Rattle.crash_stands.specs.Stands.{IsTreeOf}
@@ -21,6 +20,7 @@ use Rattle.fs_files.specs.Calls.{places_of}
 use Rattle.fs_files.specs.Effects.{LooksOnly}
 use Rattle.fs_session.specs.DiskRoom.{IsRoomOf}
 use Rattle.fs_session.specs.Memory.{room_of}
+use Rattle.fs_session.specs.Room.{left_in}
 use Rattle.fs_session.specs.Serving.{room_on}
 use Rattle.fs_session.specs.Sessions.{IsSession}
 use Rattle.fs_session.specs.Space.{left_of}
@@ -36,7 +36,7 @@ use Rattle.cmd_image.proofs.Rooms.{mount_stays}
 
 -- The room of a session that begins over such a store is that of its tree.
 module _ (tells : Bool) (told : IsTrue tells) (first : disk.State) (s : State) (h : IsJustMounted tells first s) (u : State) (t : Tree) (begun : IsBegun s) (looks : LooksOnly tells false s u) (session : IsSession u (session_on s.books.geom.i t))
-    (room : (f : Session) → IsSession u f → IsRoomOf u.books.geom f (room_of u)) (left : (f : Session) → IsSession u f → left_of u.books ≡ u.books.area - blocks f.tree - u.books.running.held) (takeable : left_of u.books ≡ length (reusable_blocks u.books) + u.books.waiting) (sound : IsSound u.books) where
+    (room : (f : Session) → IsSession u f → IsRoomOf u.books.geom f (room_of u)) (left : (f : Session) → IsSession u f → left_of u.books ≡ left_in u.books.geom f (room_of u)) (takeable : left_of u.books ≡ length (reusable_blocks u.books) + u.books.waiting) where
   abbrev shape : Geometry
   shape = s.books.geom
 
@@ -44,11 +44,10 @@ module _ (tells : Bool) (told : IsTrue tells) (first : disk.State) (s : State) (
   root = session_on shape.i t
 
   -- no block waits, so that as many may be taken as the tree leaves
-  all : length (reusable_blocks u.books) ≡ (shape.n - data_start shape) - blocks t - u.books.running.held
+  all : length (reusable_blocks u.books) ≡ left_in shape root (room_of u)
   all =
       omega (arith, ap (λ (k : Bookkeeping). k.waiting) looks.books, (h.begins told).waiting, takeable)
-      ∙ left root session
-      ∙ ap (λ (n : ℕ). n - blocks t - u.books.running.held) (sound.area ∙ ap (λ (k : Bookkeeping). k.geom.n - data_start k.geom) looks.books)
+      ∙ left root session ∙ ap (λ (k : Bookkeeping). left_in k.geom root (room_of u)) looks.books
 
   pub begins_room : IsRoomAtMount shape s.map root (room_of u)
   begins_room = record {
@@ -56,6 +55,7 @@ module _ (tells : Bool) (told : IsTrue tells) (first : disk.State) (s : State) (
     held = ap (λ (k : Bookkeeping). k.running.held) looks.books ∙ begun.held;
     is_room = subst (λ (k : Geometry). IsRoomOf k root (room_of u)) (ap (λ (k : Bookkeeping). k.geom) looks.books) (room root session);
     places = λ k. ap (λ (m : Blocks). places_of u.books.geom m k) (looks.map told) ∙ ap (λ (b : Bookkeeping). places_of b.geom s.map k) looks.books;
+    kept = λ name k. refl;
     all = all;
   }
 
@@ -63,7 +63,7 @@ module _ (tells : Bool) (told : IsTrue tells) (first : disk.State) (s : State) (
   -- What is said of the blocks once the file system was opened.
   module _ (u : State) (t : Tree) (mark : Mark) (begun : IsBegun s) (looks : LooksOnly tells false s u) (tree : IsTreeOf s.books.geom s.map t)
       (served : HasServed s.books.geom t (length s.crash.log) [] [] [] u) (budget : KeepsBudget s.books.geom t (writes_in s.crash.log + s.books.owed) [] [] u)
-      (room : (f : Session) → IsSession u f → IsRoomOf u.books.geom f (room_of u)) (left : (f : Session) → IsSession u f → left_of u.books ≡ u.books.area - blocks f.tree - u.books.running.held) (takeable : left_of u.books ≡ length (reusable_blocks u.books) + u.books.waiting)
+      (room : (f : Session) → IsSession u f → IsRoomOf u.books.geom f (room_of u)) (left : (f : Session) → IsSession u f → left_of u.books ≡ left_in u.books.geom f (room_of u)) (takeable : left_of u.books ≡ length (reusable_blocks u.books) + u.books.waiting)
       (sound : IsSound u.books) (limits : IsGeometry s.books.geom) (goes : (m : MountedSession) (base : Blocks) (how : Manner) (tree : Tree) → BeginsByLog m base how u → GoesByLog m base how (pace_of (nothing_taken (session_at m tree)) u) tree [] [] [] u) (counted : s.counts.ticks.manner.waits_alone ≡ true → s.counts.faults ≡ 0 → has_lost s.crash.log ≡ false) (is_mark : mark ≡ mark_in s) (spends : SpendsByMarks s.books.geom (session_on s.books.geom.i t) (length u.crash.log) u.crash.log [] [] []) where
     abbrev g : Geometry
     g = s.books.geom
@@ -72,7 +72,7 @@ module _ (tells : Bool) (told : IsTrue tells) (first : disk.State) (s : State) (
     f = session_on g.i t
 
     room_first : IsRoomAtMount g s.map f (room_of u)
-    room_first = begins_room tells told first s h u t begun looks served.goes_on.session room left takeable sound
+    room_first = begins_room tells told first s h u t begun looks served.goes_on.session room left takeable
 
     same_log : u.crash.log ≡ s.crash.log
     same_log = (looks.crash told).log

@@ -18,7 +18,6 @@ ghost use Rattle.cmd_image.specs.Refusals.{CountsByReply};
 ghost use Rattle.cmd_image.specs.Runs.{IsRoomAtMount, RunsDisk};
 ghost use Rattle.cmd_image.specs.Steps.{IsJustMounted};
 
-use crate::store_laws::books_are_sound;
 use cmd_session::what_was_issued_was_accepted;
 use engine_blocks::Blocks;
 use fs_session::{
@@ -41,7 +40,6 @@ pub fn a_session_begins_in_the_room_of_its_tree<S: Blocks>()
 {
     a_command_is_answered_in_a_room_that_came_back::<S>();
     as_many_blocks_are_marked_as_the_tree_has::<S>();
-    books_are_sound::<S>();
 }
 
 /// On a disk whose waits bring the notice of their own ticket alone, a run on an image loses no write before any fault

@@ -1,6 +1,7 @@
 -- A command that was answered in the room of a load's disk is answered as the load's definition has it, and leaves what that says.
 use Rattle.std.proofs.Common.{◌≡◌, ◌⊎◌, inl, inr, sym, refl, ap, ◌∙◌, subst, arith, ℕ, ◌+◌, ◌-◌, ◌≤◌, ◌==◌, nat_lt, Bool, true, false, if◌then◌else◌, List, [], ◌∷◌, Option, Some, None, length, min}
 use Rattle.std.proofs.lemmas.Bool.{cases_eq, cond-true, cond-false, eq-eqb, false≢true, le-ltb, lt-ltb, ne_eqb}
+use Rattle.std.specs.FinMap.{empty}
 use Rattle.layout_geometry.specs.Geometry.{bitmap_blocks, data_start}
 use Rattle.lang_tree.specs.declared.command.Cmd.{Cmd}
 use Rattle.lang_tree.specs.declared.command.Cmd.TheVariants.{Read, Stat, List as ListNames, Osync, Dsync, Durable, Dwait, Poll, Bad, Write, Fill, Truncate, Rename}
@@ -15,7 +16,8 @@ use Rattle.lang_tree.specs.Step.{Session, accepted, answered}
 use Rattle.lang_tree.specs.Tree.{Tree}
 use Rattle.fs_session.specs.Commands.{is_on_tree}
 use Rattle.fs_session.specs.DiskRoom.{AnswersOn, BeginsOver, ClearsRoom, SyncsOver}
-use Rattle.fs_session.specs.Room.{HoldsTree, IsDoneIn, IsRefusedIn, RefusesIn, Room, left_in, most_weight}
+use Rattle.fs_session.specs.NothingKept.{CostsAsAlone, alone_costs, alone_left}
+use Rattle.fs_session.specs.Room.{HoldsTree, IsDoneIn, IsRefusedIn, RefusesIn, Room, figures_in, left_in, most_weight}
 use Rattle.fs_session.specs.Space.{FailsToFit, FitsIn}
 use Rattle.cmd_load.specs.Summary.{Progress, after, answer_to, blocks_left, done_by, figures_of, load_refusal, room_refusals, shape}
 use Rattle.cmd_load.specs.Trees.{IsLoadTree}
@@ -89,7 +91,7 @@ pub record Comes (p : Progress) (cmd : Cmd) (reply : Reply) (next : Session) (ro
   pub refused : (after p cmd).refused ≡ p.refused + (if is_refusal reply then 1 else 0)
 
 -- In what follows, the room weighs and holds as much as the load does.
-module _ (p : Progress) (cmd : Cmd) (law : IsLoadCommand cmd) where
+module _ (p : Progress) (cmd : Cmd) (law : IsLoadCommand cmd) (alone : p.session.tree.snapshots ≡ empty) (unshared : CostsAsAlone) where
   abbrev f : Session
   f = p.session
 
@@ -125,24 +127,31 @@ module _ (p : Progress) (cmd : Cmd) (law : IsLoadCommand cmd) where
 
   -- Whether there is room for it.
 
-  module _ (back : Room) (weight : back.weight ≡ p.weight) (held : back.held ≡ p.held) where
+  module _ (back : Room) (holds : HoldsTree shape f.tree back) (weight : back.weight ≡ p.weight) (held : back.held ≡ p.held) where
     left_same : left_in shape f back ≡ blocks_left p
-    left_same = ap (λ h. (shape.n - data_start shape) - blocks f.tree - h) held
+    left_same = alone_left shape f back alone holds ∙ ap (λ h. (shape.n - data_start shape) - blocks f.tree - h) held
 
-    fits_none : (o : Option Refusal) → FitsIn (left_in shape f back) back.weight (most_weight shape) (figures_of p cmd) → first_reason (o ∷ room_refusals p (figures_of p cmd)) ≡ o
+    figures_same : figures_in shape f back cmd ≡ figures_of p cmd
+    figures_same = alone_costs shape f back alone unshared cmd
+
+    fits_none : (o : Option Refusal) → FitsIn (left_in shape f back) back.weight (most_weight shape) (figures_in shape f back cmd) → first_reason (o ∷ room_refusals p (figures_of p cmd)) ≡ o
     fits_none o fits = no_reason o _ _ _ _
-        (le-ltb (blocks_left p) (figures_of p cmd).need (omega (arith, fits.blocks, left_same)))
-        (le-ltb (most_weight shape) (p.weight + (figures_of p cmd).cost) (omega (arith, fits.weight, weight)))
+        (le-ltb (blocks_left p) (figures_of p cmd).need (omega (arith, fits.blocks, left_same, ap (λ (k : Figures). k.need) figures_same)))
+        (le-ltb (most_weight shape) (p.weight + (figures_of p cmd).cost) (omega (arith, fits.weight, weight, ap (λ (k : Figures). k.cost) figures_same)))
 
-    fails_so : (why : Refusal) → refusal f.limit f.tree cmd ≡ None → FailsToFit (left_in shape f back) back.weight (most_weight shape) (figures_of p cmd) why → load_refusal p cmd ≡ Some why
-    fails_so why none (inl full) =
+    -- by the figures of the tree alone
+    fails_by : (why : Refusal) → refusal f.limit f.tree cmd ≡ None → FailsToFit (left_in shape f back) back.weight (most_weight shape) (figures_of p cmd) why → load_refusal p cmd ≡ Some why
+    fails_by why none (inl full) =
         second_reason (refusal f.limit f.tree cmd) (nat_lt (blocks_left p) (figures_of p cmd).need) _ _ _ none (lt-ltb (blocks_left p) (figures_of p cmd).need (omega (arith, full.blocks, left_same)))
         ∙ ap (λ n. Some (Full (figures_of p cmd).need n)) (sym left_same) ∙ ap Some (sym full.is)
-    fails_so why none (inr big) =
+    fails_by why none (inr big) =
         third_reason (refusal f.limit f.tree cmd) (nat_lt (blocks_left p) (figures_of p cmd).need) _ _ _ none
         (le-ltb (blocks_left p) (figures_of p cmd).need (omega (arith, big.blocks, left_same)))
         (lt-ltb (most_weight shape) (p.weight + (figures_of p cmd).cost) (omega (arith, big.weight, weight)))
         ∙ ap (λ n. Some (TooBig n (figures_of p cmd).cost (most_weight shape))) (sym weight) ∙ ap Some (sym big.is)
+
+    fails_so : (why : Refusal) → refusal f.limit f.tree cmd ≡ None → FailsToFit (left_in shape f back) back.weight (most_weight shape) (figures_in shape f back cmd) why → load_refusal p cmd ≡ Some why
+    fails_so why none fails = fails_by why none (subst (λ (k : Figures). FailsToFit (left_in shape f back) back.weight (most_weight shape) k why) figures_same fails)
 
     -- A command that isn't a sync.
 
@@ -160,31 +169,31 @@ module _ (p : Progress) (cmd : Cmd) (law : IsLoadCommand cmd) where
           by None at = comes_done reply next room
               (fits_none (refusal f.limit f.tree cmd) done.fits ∙ at)
               (ap (answered f cmd) (sym at) ∙ done.answer)
-              (omega (arith, done.spends.weight, weight, done_weight next))
-              (omega (arith, done.spends.held, held, done_held next))
+              (omega (arith, done.spends.weight, weight, done_weight next, ap (λ (k : Figures). k.cost) figures_same))
+              (omega (arith, done.spends.held, held, done_held next, ap (λ (k : Figures). k.freed) figures_same))
           by (Some why) at =
               let figures : figures_of p cmd ≡ nothing = ap (λ (o : Option Refusal). figures_by (bitmap_blocks shape) f.tree cmd o) at in
-              let weighs : room.weight ≡ p.weight = omega (arith, done.spends.weight, weight, ap (λ (k : Figures). k.cost) figures) in
-              let holds : room.held ≡ p.held = omega (arith, done.spends.held, held, ap (λ (k : Figures). k.freed) figures) in
+              let weighs : room.weight ≡ p.weight = omega (arith, done.spends.weight, weight, ap (λ (k : Figures). k.cost) (figures_same ∙ figures)) in
+              let holds : room.held ≡ p.held = omega (arith, done.spends.held, held, ap (λ (k : Figures). k.freed) (figures_same ∙ figures)) in
               let same : (f, Refused why) ≡ (next, reply) = ap (answered f cmd) (sym at) ∙ done.answer in
               subst (λ (a : Session × Reply). Comes p cmd a.1 a.0 room) same (comes_refused why room (fits_none (refusal f.limit f.tree cmd) done.fits ∙ at) weighs holds)
 
-      of_refused : (reply : Reply) (next : Session) (room : Room) → IsLoadTree f.tree → HoldsTree f.tree back → has_run_out reply ≡ false → RefusesIn (IsRefusedIn shape f back cmd) f back reply next room → Comes p cmd reply next room
-      of_refused reply next room tree holds calm (why, because, is, same, still) =
+      of_refused : (reply : Reply) (next : Session) (room : Room) → IsLoadTree f.tree → has_run_out reply ≡ false → RefusesIn (IsRefusedIn shape f back cmd) f back reply next room → Comes p cmd reply next room
+      of_refused reply next room tree calm (why, because, is, same, still) =
           subst (λ (x : Reply). Comes p cmd x next room) (sym is) (subst (λ (x : Session). Comes p cmd (Refused why) x room) (sym same)
           (comes_refused why room (reason because) (ap (λ (r : Room). r.weight) still ∙ weight) (ap (λ (r : Room). r.held) still ∙ held)))
         where
           reason : IsRefusedIn shape f back cmd why → load_refusal p cmd ≡ Some why
           reason (inl (free, fails)) = fails_so why free fails
-          reason (inr (inl (free, fits, scatters))) = absurd (never_scattered f back cmd why law tree holds scatters)
+          reason (inr (inl (free, fits, scatters))) = absurd (never_scattered unshared f back cmd why law tree alone holds scatters)
           reason (inr (inr memory)) = absurd (false≢true (sym calm ∙ ap has_run_out (is ∙ ap Refused memory)))
 
-      of_tree : (reply : Reply) (next : Session) (room : Room) → IsLoadTree f.tree → HoldsTree f.tree back → has_run_out reply ≡ false → (reply ≡ Refused ReadFault → ⊥)
+      of_tree : (reply : Reply) (next : Session) (room : Room) → IsLoadTree f.tree → has_run_out reply ≡ false → (reply ≡ Refused ReadFault → ⊥)
           → (IsDoneIn shape f back cmd reply next room ⊎ RefusesIn (IsRefusedIn shape f back cmd) f back reply next room)
           ⊎ RefusesIn (λ why. (why ≡ DiskFault) ⊎ ((is_on_tree cmd ≡ true) × (why ≡ ReadFault))) f back reply next room → Comes p cmd reply next room
-      of_tree reply next room tree holds calm read (inl (inl done)) = of_done reply next room done
-      of_tree reply next room tree holds calm read (inl (inr refused)) = of_refused reply next room tree holds calm refused
-      of_tree reply next room tree holds calm read (inr (why, because, is, same, still)) = absurd (elim because as (λ _. ⊥) [
+      of_tree reply next room tree calm read (inl (inl done)) = of_done reply next room done
+      of_tree reply next room tree calm read (inl (inr refused)) = of_refused reply next room tree calm refused
+      of_tree reply next room tree calm read (inr (why, because, is, same, still)) = absurd (elim because as (λ _. ⊥) [
         | inl fault ↦ false≢true (sym calm ∙ ap has_run_out (is ∙ ap Refused fault))
         | inr unread ↦ read (is ∙ ap Refused unread.1)
       ])
@@ -192,10 +201,10 @@ module _ (p : Progress) (cmd : Cmd) (law : IsLoadCommand cmd) where
     -- A sync.
 
     module _ (sync : is_sync cmd ≡ true) (free : refusal f.limit f.tree cmd ≡ None) (costs : figures_of p cmd ≡ nothing) (low : p.weight ≤ most_weight shape) (empty : p.weight ≡ 0 → p.held ≡ 0) where
-      fits_nothing : FitsIn (left_in shape f back) back.weight (most_weight shape) (figures_of p cmd)
+      fits_nothing : FitsIn (left_in shape f back) back.weight (most_weight shape) (figures_in shape f back cmd)
       fits_nothing = record {
-        blocks = omega (arith, ap (λ (k : Figures). k.need) costs);
-        weight = omega (arith, ap (λ (k : Figures). k.cost) costs, weight, low);
+        blocks = omega (arith, ap (λ (k : Figures). k.need) (figures_same ∙ costs));
+        weight = omega (arith, ap (λ (k : Figures). k.cost) (figures_same ∙ costs), weight, low);
       }
 
       cleared : (room : Room) → ClearsRoom back room → room.held ≡ 0
@@ -221,7 +230,7 @@ pub record IsCalm (reply : Reply) : Type 0 where
   pub unspent : reply ≡ Refused Spent → ⊥
 
 -- Each command of a load that was answered so.
-module _ (p : Progress) (r : Room) (reply : Reply) (next : Session) (room : Room) (weight : r.weight ≡ p.weight) (held : r.held ≡ p.held) (low : p.weight ≤ most_weight shape) (empty : p.weight ≡ 0 → p.held ≡ 0) (tree : IsLoadTree p.session.tree) (calm : IsCalm reply) where
+module _ (p : Progress) (r : Room) (reply : Reply) (next : Session) (room : Room) (alone : p.session.tree.snapshots ≡ empty) (unshared : CostsAsAlone) (weight : r.weight ≡ p.weight) (held : r.held ≡ p.held) (low : p.weight ≤ most_weight shape) (empty : p.weight ≡ 0 → p.held ≡ 0) (tree : IsLoadTree p.session.tree) (calm : IsCalm reply) where
   never_at_once : RefusesIn (λ why. (why ≡ Stopped) ⊎ (why ≡ Spent)) p.session r reply next room → ⊥
   never_at_once (why, inl stopped, is, same, still) = calm.going (is ∙ ap Refused stopped)
   never_at_once (why, inr spent, is, same, still) = calm.unspent (is ∙ ap Refused spent)
@@ -230,10 +239,10 @@ module _ (p : Progress) (r : Room) (reply : Reply) (next : Session) (room : Room
     tree_began : is_sync cmd ≡ false → (b : BeginsOver shape p.session r cmd reply next room)
         → (IsDoneIn shape p.session b.back cmd reply next room ⊎ RefusesIn (IsRefusedIn shape p.session b.back cmd) p.session b.back reply next room)
         ⊎ RefusesIn (λ why. (why ≡ DiskFault) ⊎ ((is_on_tree cmd ≡ true) × (why ≡ ReadFault))) p.session b.back reply next room → Comes p cmd reply next room
-    tree_began none b answers = of_tree p cmd law b.back (b.comes_back.weight ∙ weight) (b.comes_back.held ∙ held) none reply next room tree b.comes_back.is_room.holds calm.memory calm.read answers
+    tree_began none b answers = of_tree p cmd law alone unshared b.back b.comes_back.is_room.holds (b.comes_back.weight ∙ weight) (b.comes_back.held ∙ held) none reply next room tree calm.memory calm.read answers
 
     sync_began : is_sync cmd ≡ true → refusal p.session.limit p.session.tree cmd ≡ None → figures_of p cmd ≡ nothing → (b : BeginsOver shape p.session r cmd reply next room) → SyncsOver p.session b.back cmd reply next room → Comes p cmd reply next room
-    sync_began sync free costs b answers = of_sync p cmd law b.back (b.comes_back.weight ∙ weight) (b.comes_back.held ∙ held) sync free costs low empty reply next room calm.memory answers
+    sync_began sync free costs b answers = of_sync p cmd law alone unshared b.back b.comes_back.is_room.holds (b.comes_back.weight ∙ weight) (b.comes_back.held ∙ held) sync free costs low empty reply next room calm.memory answers
 
   pub comes : (cmd : Cmd) → IsLoadCommand cmd → AnswersOn shape p.session r cmd reply next room → Comes p cmd reply next room
   comes (Read path offset count) law answers = absurd law

@@ -11,6 +11,7 @@ use Rattle.engine_blocks.specs.State.{State}
 use Rattle.fs_session.specs.Sessions.{IsSession}
 use Rattle.cmd_load.specs.Summary.{Progress, Totals, after, after_all, at_first, summary_of}
 use Rattle.cmd_load.specs.Serving.{IsAnswered, Serves, has_run_out}
+use Rattle.fs_session.specs.NothingKept.{CostsAsAlone}
 use Rattle.cmd_load.proofs.Steps.{refused_on, serves_on}
 use Rattle.cmd_load.proofs.Trees.{IsLoadCommand, next_is_load}
 
@@ -34,20 +35,20 @@ begins seed count load s same serves = record {
     all : (n : ℕ) → n - 0 ≡ n
     all n = omega arith
 
-pub one_more : (seed count made load refused behind n : ℕ) (cmd : Cmd) (reply : Reply) (old new : State) → made < count → count ≤ 2000 → ServesTo seed count made load refused old
+pub one_more : CostsAsAlone → (seed count made load refused behind n : ℕ) (cmd : Cmd) (reply : Reply) (old new : State) → made < count → count ≤ 2000 → ServesTo seed count made load refused old
     → cmd ≡ next_command load → behind ≡ state_behind load → IsAnswered cmd reply old new → has_run_out reply ≡ false → n ≡ (if is_refusal reply then 1 else 0) → ServesTo seed count (made + 1) behind (refused + n) new
-one_more seed count made load refused behind n cmd reply old new low most to is state answered calm counts =
+one_more unshared seed count made load refused behind n cmd reply old new low most to is state answered calm counts =
     let law : IsLoadCommand cmd = subst IsLoadCommand (sym is) (next_is_load load) in
     let few : made < 2000 = omega (arith, low, most) in
     let left : count - made ≡ suc (count - (made + 1)) = omega (arith, low) in
     record {
       progress = after to.progress cmd;
-      serves = serves_on to.progress made cmd reply old new law few to.serves answered calm;
+      serves = serves_on to.progress made cmd reply old new unshared law few to.serves answered calm;
       rest = ap (λ x. after_all (after to.progress cmd) (load_commands (count - (made + 1)) x)) state
           ∙ ap (λ c. after_all (after to.progress c) (load_commands (count - (made + 1)) (state_behind load))) is
           ∙ ap (λ k. after_all to.progress (load_commands k load)) (sym left)
           ∙ to.rest;
-      counted = omega (arith, to.counted, counts, refused_on to.progress made cmd reply old new law few to.serves answered calm);
+      counted = omega (arith, to.counted, counts, refused_on to.progress made cmd reply old new unshared law few to.serves answered calm);
       upto = omega (arith, low);
     }
 

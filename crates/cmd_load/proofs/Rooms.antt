@@ -1,7 +1,7 @@
 -- No command of a load would scatter a node: neither a node nor what it grows by has more than 13 blocks.
 use Rattle.std.proofs.Common.{◌≡◌, sym, refl, subst, arith, ℕ, ◌+◌, ◌-◌, ◌≤◌, ◌==◌, max, min, Bool, if◌then◌else◌, List, [], ◌∷◌, ◌++◌, length, take, Option, Some, None, nat_lt, true, false}
 use Rattle.std.specs.Prelude.{option_and_then}
-use Rattle.std.specs.FinMap.{get}
+use Rattle.std.specs.FinMap.{empty, get}
 use Rattle.std.specs.List.{zip}
 use Rattle.std.proofs.lemmas.List.{length-append, length-take}
 use Rattle.std.proofs.lemmas.List.Sums.{count_by-le-length}
@@ -11,11 +11,12 @@ use Rattle.lang_tree.specs.declared.command.Cmd.{Cmd}
 use Rattle.lang_tree.specs.declared.command.Cmd.TheVariants.{Write, Fill, Truncate, Rename}
 use Rattle.lang_tree.specs.declared.command.Refusal.{Refusal}
 use Rattle.lang_tree.specs.Conditions.{refusal}
-use Rattle.lang_tree.specs.Figures.{accepted_figures, blocks_for, directory_blocks, figures_by, growth, move_figures, nothing, truncate_figures, write_figures, are_in_one, blocks_gone, moving, release, shrinking, siblings, writing}
+use Rattle.lang_tree.specs.Figures.{Figures, accepted_figures, blocks_for, directory_blocks, figures_by, growth, move_figures, nothing, truncate_figures, write_figures, are_in_one, blocks_gone, moving, release, shrinking, siblings, writing}
 use Rattle.lang_tree.specs.Names.{names_in}
 use Rattle.lang_tree.specs.Step.{Session}
 use Rattle.lang_tree.specs.Tree.{Tree, Thing, Dir, File}
 use Rattle.layout_geometry.specs.Geometry.{bitmap_blocks}
+use Rattle.fs_session.specs.NothingKept.{CostsAsAlone, alone_costs, alone_runs, no_snapshot}
 use Rattle.fs_session.specs.Room.{HoldsTree, Room, Scatters, figures_in}
 use Rattle.fs_session.specs.Space.{grown_path}
 use Rattle.cmd_load.specs.Summary.{shape}
@@ -38,11 +39,11 @@ file_low size low = omega (arith, low)
 directory_low : (count : ℕ) → count ≤ 8 → directory_blocks count ≤ 12
 directory_low count low = omega (arith, low)
 
-few_places : (t : Tree) (r : Room) (path : List (List ℕ)) (k : ℕ) → IsLoadTree t → HoldsTree t r → get t.names path ≡ Some k → length (r.places k) ≤ 12
-few_places t r path k is holds at = by (get t.nodes k) refl
+few_places : (t : Tree) (r : Room) (path : List (List ℕ)) (k : ℕ) → IsLoadTree t → t.snapshots ≡ empty → HoldsTree shape t r → get t.names path ≡ Some k → length (r.places k) ≤ 12
+few_places t r path k is alone holds at = by (get t.nodes k) refl
   where
     by : (o : Option Thing) → get t.nodes k ≡ o → length (r.places k) ≤ 12
-    by None none = subst (λ (xs : List ℕ). length xs ≤ 12) (sym (holds.unused k none)) (omega arith)
+    by None none = subst (λ (xs : List ℕ). length xs ≤ 12) (sym (holds.unused k none (no_snapshot t k alone))) (omega arith)
     by (Some Dir) dir = subst (λ (n : ℕ). n ≤ 12) (sym (holds.directories path k at dir)) (directory_low (length (names_in t.names path)) (few_names t path is))
     by (Some (File bytes)) file = subst (λ (n : ℕ). n ≤ 12) (sym (holds.files k bytes file)) (file_low (length bytes) (is.files k bytes file))
 
@@ -95,8 +96,8 @@ need_by : (bitmap : ℕ) (t : Tree) (cmd : Cmd) (o : Option Refusal) → IsLoadC
 need_by bitmap t cmd (Some why) is = omega arith
 need_by bitmap t cmd None is = accepted_need bitmap t cmd is
 
-few_needed : (f : Session) (cmd : Cmd) → IsLoadCommand cmd → (figures_in shape f cmd).need ≤ 13
-few_needed f cmd is = need_by (bitmap_blocks shape) f.tree cmd (refusal f.limit f.tree cmd) is
+few_needed : CostsAsAlone → (f : Session) (r : Room) (cmd : Cmd) → f.tree.snapshots ≡ empty → IsLoadCommand cmd → (figures_in shape f r cmd).need ≤ 13
+few_needed unshared f r cmd alone is = subst (λ (n : Figures). n.need ≤ 13) (sym (alone_costs shape f r alone unshared cmd)) (need_by (bitmap_blocks shape) f.tree cmd (refusal f.limit f.tree cmd) is)
 
 -- Its node is at some path.
 
@@ -104,19 +105,20 @@ grown_at : (f : Session) (k : ℕ) (o : Option (List (List ℕ))) → option_and
 grown_at f k None e = cc e
 grown_at f k (Some path) e = (path, e)
 
-pub never_scattered : (f : Session) (r : Room) (cmd : Cmd) (why : Refusal) → IsLoadCommand cmd → IsLoadTree f.tree → HoldsTree f.tree r → Scatters f r cmd (figures_in shape f cmd).need why → ⊥
-never_scattered f r cmd why law is holds s =
+pub never_scattered : CostsAsAlone → (f : Session) (r : Room) (cmd : Cmd) (why : Refusal) → IsLoadCommand cmd → IsLoadTree f.tree → f.tree.snapshots ≡ empty → HoldsTree shape f.tree r → Scatters shape f r cmd (figures_in shape f r cmd).need why → ⊥
+never_scattered unshared f r cmd why law is alone holds s =
     let at = grown_at f s.node (grown_path cmd) s.grows in
-    let own = few_places f.tree r at.0 s.node is holds at.1 in
-    let need = (figures_in shape f cmd).need in
+    let own = few_places f.tree r at.0 s.node is alone holds at.1 in
+    let need = (figures_in shape f r cmd).need in
     omega (
       arith,
       s.past,
+      alone_runs shape f r alone cmd s.node need,
       few_stretches (r.places s.node ++ take need r.takeable),
       length-append (r.places s.node) (take need r.takeable),
       length-take need r.takeable,
       own,
-      few_needed f cmd law,
+      few_needed unshared f r cmd alone law,
       at_most need (length r.takeable),
     )
   where

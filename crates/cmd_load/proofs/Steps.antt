@@ -10,6 +10,7 @@ use Rattle.lang_tree.specs.Step.{Session}
 use Rattle.engine_blocks.specs.State.{State}
 use Rattle.fs_session.specs.DiskRoom.{AnswersOn}
 use Rattle.fs_session.specs.Memory.{room_of}
+use Rattle.fs_session.specs.NothingKept.{CostsAsAlone}
 use Rattle.fs_session.specs.Room.{most_weight}
 use Rattle.fs_session.specs.Sessions.{IsSession}
 use Rattle.cmd_load.specs.Summary.{Progress, after, answer_to, done_by, figures_of, load_refusal, shape}
@@ -30,7 +31,7 @@ none_behind p cmd law none = by (is_refusal (answer_to p cmd).1)
     by true e = none e
     by false e = synced (is_sync cmd) e
 
-module _ (p : Progress) (made : ℕ) (cmd : Cmd) (reply : Reply) (old new : State) (law : IsLoadCommand cmd) (few : made < 2000) (s : Serves p made old) (a : IsAnswered cmd reply old new) (run_on : has_run_out reply ≡ false) where
+module _ (p : Progress) (made : ℕ) (cmd : Cmd) (reply : Reply) (old new : State) (unshared : CostsAsAlone) (law : IsLoadCommand cmd) (few : made < 2000) (s : Serves p made old) (a : IsAnswered cmd reply old new) (run_on : has_run_out reply ≡ false) where
   calm : IsCalm reply
   calm = record {
     memory = run_on;
@@ -46,7 +47,7 @@ module _ (p : Progress) (made : ℕ) (cmd : Cmd) (reply : Reply) (old new : Stat
   next = (a.answers p.session s.session).0
 
   came : Comes p cmd reply next (room_of new)
-  came = comes p (room_of old) reply next (room_of new) s.weight s.held low s.none s.tree calm cmd law
+  came = comes p (room_of old) reply next (room_of new) s.session.tree.map.shows.alone unshared s.weight s.held low s.none s.tree calm cmd law
       (subst (λ (g : Geometry). AnswersOn g p.session (room_of old) cmd reply next (room_of new)) s.geom (a.answers p.session s.session).3)
 
   counted : (n : ℕ) (b : Bool) → p.refused ≤ n → p.refused + (if b then 1 else 0) ≤ n + 1

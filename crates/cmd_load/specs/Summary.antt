@@ -2,17 +2,17 @@
 use Rattle.std.specs.Prelude.{ℕ, ◌+◌, ◌-◌, nat_lt, if◌then◌else◌, List, [], ◌∷◌, ◌++◌, codes, decimal, Option}
 use Rattle.hex.specs.Hex.{encode_lower}
 use Rattle.base_types.specs.Seal.{sha256}
-use Rattle.layout_geometry.specs.Geometry.{Geometry, data_start}
+use Rattle.layout_geometry.specs.Geometry.{Geometry, bitmap_blocks, data_start}
 use Rattle.lang_tree.specs.declared.command.Cmd.{Cmd}
 use Rattle.lang_tree.specs.declared.command.Refusal.{Refusal}
 use Rattle.lang_tree.specs.declared.command.Refusal.TheVariants.{Full, TooBig}
 use Rattle.lang_tree.specs.declared.command.Reply.{Reply}
 use Rattle.lang_tree.specs.Conditions.{first_reason, refusal, when}
-use Rattle.lang_tree.specs.Figures.{Figures, blocks}
+use Rattle.lang_tree.specs.Figures.{Figures, blocks, figures}
 use Rattle.lang_tree.specs.Listing.{listing}
 use Rattle.lang_tree.specs.Points.{is_refusal, is_sync}
 use Rattle.lang_tree.specs.Step.{Session, answered, start}
-use Rattle.fs_session.specs.Room.{figures_in, most_weight}
+use Rattle.fs_session.specs.Room.{most_weight}
 use Rattle.lang_load.specs.Load.{load_commands}
 
 -- the geometry of the disk
@@ -32,7 +32,7 @@ at_first = record { session = start shape.i; weight = 0; held = 0; refused = 0 }
 
 -- need, cost and blocks freed of a command
 abbrev pub figures_of : Progress → Cmd → Figures
-figures_of p cmd = figures_in shape p.session cmd
+figures_of p cmd = figures (bitmap_blocks shape) p.session cmd
 
 -- how many data blocks neither the tree has nor the transaction holds
 abbrev pub blocks_left : Progress → ℕ

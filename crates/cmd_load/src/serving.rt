@@ -13,6 +13,7 @@ use crate::answering::{answer, refusals_in};
 use crate::mounting::System;
 use base_types::NoMemory;
 use lang_load::Load;
+use lang_tree::nothing_shared_costs_nothing;
 use std::alloc::Global;
 
 /// Answers the first `count` commands of the seed on a file system that was just opened. How many were refused.
@@ -28,6 +29,7 @@ pub(crate) fn serve(alloc: Global, fs: &mut System, seed: u32, count: u32) -> Re
         × (refused ≡ (after_all at_first (load_commands count seed)).refused)) }
     ensures between { IfOk result (λ _. IsBetween true (state_of disk_state (blocks_in fs.new)) (unused_in fs.new)) }
 {
+    nothing_shared_costs_nothing();
     let mut load = Load::new(seed);
     let mut refused = 0;
     for _ in 0..count {

@@ -130,10 +130,10 @@ module _ (g : Geometry) (alone : AloneLaw) (need left : ℕ) (f next : Session) 
     lacks back comes why (inr (inr memory)) reply = other why (ap is_full memory) reply
     lacks back comes why (inl (accepts, fails)) reply = by fails
       where
-        by : FailsToFit (left_in g f back) back.weight (most_weight g) (figures_in g f cmd) why → LacksIn g may need left f r
+        by : FailsToFit (left_in g f back) back.weight (most_weight g) (figures_in g f back cmd) why → LacksIn g may need left f r
         by (inr big) = other why (ap is_full big.is) reply
         by (inl full) =
-            let needs : need ≡ (figures_in g f cmd).need = ap (λ (x : Reply). need_of (why_of x)) reply ∙ ap need_of full.is in
+            let needs : need ≡ (figures_in g f back cmd).need = ap (λ (x : Reply). need_of (why_of x)) reply ∙ ap need_of full.is in
             let has : left ≡ left_in g f back = ap (λ (x : Reply). left_of (why_of x)) reply ∙ ap left_of full.is in
             record { room = back; back = comes; cmd = cmd; is = is; needs = needs; has = has; few = omega (arith, needs, has, full.blocks) }
 

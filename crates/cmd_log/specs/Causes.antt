@@ -82,7 +82,7 @@ pub record LacksIn (g : Geometry) (cmds : Cmd → Type 0) (need left : ℕ) (f :
   pub back : ComesBack g f r room
   pub cmd : Cmd
   pub is : cmds cmd ⊎ IsQuestion cmd
-  pub needs : need ≡ (figures_in g f cmd).need
+  pub needs : need ≡ (figures_in g f room cmd).need
   pub has : left ≡ left_in g f room
   pub few : left < need
 

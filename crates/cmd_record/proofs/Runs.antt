@@ -30,10 +30,11 @@ use Rattle.lang_tree.specs.declared.command.Reply.{Reply}
 use Rattle.lang_tree.specs.declared.command.Reply.TheVariants.{Bad as NotUnderstood, Refused}
 use Rattle.lang_tree.specs.Step.{Session, start, session_on}
 use Rattle.lang_tree.specs.Tree.{Tree}
-use Rattle.engine_blocks.specs.State.{Bookkeeping, State}
+use Rattle.engine_blocks.specs.State.{Bookkeeping, State, data_blocks}
 use Rattle.fs_session.specs.Applying.{is_spent}
 use Rattle.fs_session.specs.Serving.{RoomOn, room_on}
 use Rattle.fs_session.specs.DiskRoom.{AnswersOn, ComesBack, IsRoomOf, KeepsRoom, RunsOn}
+use Rattle.fs_session.specs.Lists.{KeptLists}
 use Rattle.fs_session.specs.Memory.{room_of}
 use Rattle.fs_session.specs.Room.{Room, IsFirstRoom}
 use Rattle.fs_session.specs.Sessions.{IsSession}
@@ -67,11 +68,11 @@ runs_on g f t u r q v (c ∷ cmds) (x ∷ replies) more later run next = (run.0,
 -- A run that ends at once, in its room.
 
 back_at_once : (g : Geometry) (f : Session) (r : Room) → IsRoomOf g f r → ComesBack g f r r
-back_at_once g f r is = record { weight = refl; held = refl; keeps = record { places = refl; takeable = λ b h. h }; is_room = is }
+back_at_once g f r is = record { weight = refl; held = refl; keeps = record { places = refl; kept = refl; takeable = λ b h. h }; is_room = is }
 
 module _ (g : Geometry) (f : Session) (r : Room) (is : IsRoomOf g f r) where
   kept : KeepsRoom r r
-  kept = record { places = refl; takeable = λ b h. h }
+  kept = record { places = refl; kept = refl; takeable = λ b h. h }
 
   -- a command is refused as the disk fails, or as it failed before; a line that is none is told to be so
   ends_in_room : (over : Bool) (cmd : Cmd) → AnswersOn g f r cmd (ending_reply over cmd) f r
@@ -386,8 +387,9 @@ records_on cmd reply old new a laws known lawful set past text r =
 
 first_room : (g : Geometry) (r : Room) → IsFirstRoom g r → r ≡ (room_at_first g).room
 first_room g r is =
-    ap₂ (λ (w h : ℕ). record { weight = w; held = h; takeable = r.takeable; places = r.places }) is.weight is.held
-    ∙ ap₂ (λ (xs : List ℕ) (at : ℕ → List ℕ). record { weight = 0; held = 0; takeable = xs; places = at }) is.takeable (fun_ext is.places)
+    ap₂ (λ (w h : ℕ). record { weight = w; held = h; takeable = r.takeable; places = r.places; kept = r.kept }) is.weight is.held
+    ∙ ap₂ (λ (xs : List ℕ) (at : ℕ → List ℕ). record { weight = 0; held = 0; takeable = xs; places = at; kept = r.kept }) is.takeable (fun_ext is.places)
+    ∙ ap (λ (k : KeptLists). record { weight = 0; held = 0; takeable = data_blocks g; places = λ n. []; kept = k }) (fun_ext (λ name. fun_ext (is.kept name)))
 
 room_first : (g : Geometry) (s : State) → IsFirstRoom g (room_of s) → ((b : ℕ) → s.books.since b ≡ None) → room_on s ≡ room_at_first g
 room_first g s room since = ap₂ (λ (r : Room) (of : ℕ → Option ℕ). record { room = r; since = of }) (first_room g (room_of s) room) (fun_ext since)

@@ -1,11 +1,12 @@
 -- What a run has taken by its log, and what it may have taken by its weights and needs.
-use Rattle.std.proofs.Common.{◌≡◌, ◌≢◌, ◌⊎◌, inl, inr, ℕ, zero, suc, ◌+◌, ◌-◌, ◌≤◌, ◌==◌, ◌&&◌, not, nat_le, if◌then◌else◌, Bool, true, false, List, [], ◌∷◌, ◌++◌, length, take, drop, refl, sym, ap, ◌∙◌, arith}
+use Rattle.std.proofs.Common.{◌≡◌, ◌≢◌, ◌⊎◌, inl, inr, ℕ, zero, suc, ◌+◌, ◌-◌, ◌≤◌, ◌==◌, ◌&&◌, not, nat_le, if◌then◌else◌, Bool, true, false, List, [], ◌∷◌, ◌++◌, length, take, drop, refl, sym, subst, ap, ◌∙◌, arith}
 use Rattle.std.proofs.Math.Logic.{∥∥₁_map}
 use Rattle.std.proofs.Math.Seq.{take-take}
 use Rattle.std.proofs.lemmas.Bool.Decides.{nat_tests}
 use Rattle.std.proofs.lemmas.Bool.{cases_Bool, cond-true, cond-false, eq-eqb, false≢true, or_left, or_parts, or_right}
 use Rattle.std.proofs.lemmas.List.{take-append-drop}
 use Rattle.std.proofs.lemmas.List.FromFn.{length-range_with_len}
+use Rattle.std.specs.FinMap.{empty}
 use Rattle.std.specs.List.{filter}
 use Rattle.base_types.specs.Seal.{Blocks}
 use Rattle.disk_contract.specs.declared.event.Event.{Event}
@@ -26,17 +27,19 @@ use Rattle.lang_tree.specs.declared.command.Cmd.TheVariants.{Bad}
 use Rattle.lang_tree.specs.declared.command.Refusal.TheVariants.{DiskFault, Spent}
 use Rattle.lang_tree.specs.declared.command.Reply.{Reply}
 use Rattle.lang_tree.specs.declared.command.Reply.TheVariants.{Refused}
-use Rattle.lang_tree.specs.Points.{is_refusal, is_sync}
-use Rattle.lang_tree.specs.Step.{Session, start}
+use Rattle.lang_tree.specs.Figures.{Figures}
+use Rattle.lang_tree.specs.Points.{after_reply, is_refusal, is_sync}
+use Rattle.lang_tree.specs.Step.{Session, start, step}
 use Rattle.engine_blocks.specs.Running.{has}
 use Rattle.engine_blocks.specs.State.{data_blocks}
 use Rattle.fs_session.specs.DiskRoom.{AnswersOn}
 use Rattle.fs_session.specs.Moments.{answer_in_room}
+use Rattle.fs_session.specs.NothingKept.{CostsAsAlone, alone_costs}
 use Rattle.fs_session.specs.Room.{Room, figures_in}
 use Rattle.cmd_session.specs.Budget.{sync_places}
 use Rattle.cmd_session.specs.Pacing.{OrdersAtOnce, Pace, PacesBy, StepsBy, TellsRing, is_fault}
 use Rattle.cmd_session.specs.Records.{own_records}
-use Rattle.cmd_session.specs.Taking.{is_done_sync, places_wanted}
+use Rattle.cmd_session.specs.Taking.{Taken, is_done_sync, places_wanted}
 use Rattle.cmd_host.specs.Behaving.{session_by}
 use Rattle.cmd_record.specs.Behaving.{pace_at_first}
 use Rattle.cmd_record.specs.Weights.{blocks_needed, places_by_weight}
@@ -202,24 +205,33 @@ module _ (g : Geometry) (m : Manner) (log : List Event) (mounted : ℕ) where
 
   -- what is said of one command
   abbrev pub TakesFew : Type 0
-  TakesFew = (f next : Session) (old new : Room) (cmd : Cmd) (reply : Reply) → AnswersOn g f old cmd reply next new → IsAscending old → IsAscending new × (length old.takeable ≤ length new.takeable + (if is_refusal reply then 0 else (figures_in g f cmd).need))
+  TakesFew = (f next : Session) (old new : Room) (cmd : Cmd) (reply : Reply) → AnswersOn g f old cmd reply next new → IsAscending old → IsAscending new × (length old.takeable ≤ length new.takeable + (if is_refusal reply then 0 else (figures_in g f old cmd).need))
 
-  blocks_within : TakesFew → (cmds : List Cmd) (replies : List Reply) (marks : List ℕ) (p last : Pace) → PacesBy ses (formatted g) m log p cmds replies marks last → IsAscending p.room.room
+  -- no command makes a snapshot
+  abbrev pub KeepsSnapshots : Type 0
+  KeepsSnapshots = (f : Session) (cmd : Cmd) → (step f cmd).0.tree.snapshots ≡ f.tree.snapshots
+
+  still_alone : KeepsSnapshots → (f : Session) (cmd : Cmd) (reply : Reply) → f.tree.snapshots ≡ empty → (after_reply f cmd reply).tree.snapshots ≡ empty
+  still_alone keeps f cmd reply alone = elim (is_refusal reply) as (λ b. (if b then f else (step f cmd).0).tree.snapshots ≡ empty) [ true ↦ alone | false ↦ keeps f cmd ∙ alone ]
+
+  blocks_within : TakesFew → CostsAsAlone → KeepsSnapshots → (cmds : List Cmd) (replies : List Reply) (marks : List ℕ) (p last : Pace) → PacesBy ses (formatted g) m log p cmds replies marks last → IsAscending p.room.room → p.taken.session.tree.snapshots ≡ empty
       → length p.room.room.takeable ≤ length last.room.room.takeable + blocks_needed g p.taken.session cmds replies
-  blocks_within few [] [] [] p last paces up = omega (arith, ap (λ (x : Pace). length x.room.room.takeable) paces)
-  blocks_within few [] [] (k ∷ marks) p last paces up = absurd paces
-  blocks_within few [] (r ∷ replies) marks p last paces up = absurd paces
-  blocks_within few (c ∷ cmds) [] marks p last paces up = absurd paces
-  blocks_within few (c ∷ cmds) (r ∷ replies) [] p last paces up = absurd paces
-  blocks_within few (c ∷ cmds) (r ∷ replies) (k ∷ marks) p last paces up =
+  blocks_within few unshared keeps [] [] [] p last paces up alone = omega (arith, ap (λ (x : Pace). length x.room.room.takeable) paces)
+  blocks_within few unshared keeps [] [] (k ∷ marks) p last paces up alone = absurd paces
+  blocks_within few unshared keeps [] (r ∷ replies) marks p last paces up alone = absurd paces
+  blocks_within few unshared keeps (c ∷ cmds) [] marks p last paces up alone = absurd paces
+  blocks_within few unshared keeps (c ∷ cmds) (r ∷ replies) [] p last paces up alone = absurd paces
+  blocks_within few unshared keeps (c ∷ cmds) (r ∷ replies) (k ∷ marks) p last paces up alone =
       let next = paces.0 in
       let one = few p.taken.session next.taken.session p.room.room next.room.room c r (answer_in_room g _ _ p.taken.session p.room c r next.taken.session next.room paces.2.room.answers) up in
-      omega (arith, one.1, blocks_within few cmds replies marks next last paces.3 one.0, ap (λ t. blocks_needed g t.session cmds replies) paces.2.does.taken)
+      let still = subst (λ (t : Taken). t.session.tree.snapshots ≡ empty) (sym paces.2.does.taken) (still_alone keeps p.taken.session c r alone) in
+      let costs = ap (λ (n : Figures). if is_refusal r then 0 else n.need) (alone_costs g p.taken.session p.room.room alone unshared c) in
+      omega (arith, one.1, costs, blocks_within few unshared keeps cmds replies marks next last paces.3 one.0 still, ap (λ (t : Taken). blocks_needed g t.session cmds replies) paces.2.does.taken)
 
-  pub finds_enough : TakesFew → (cmds : List Cmd) (replies : List Reply) (marks : List ℕ) (last : Pace) (need : ℕ) → PacesBy ses (formatted g) m log (pace_at_first g mounted) cmds replies marks last
+  pub finds_enough : TakesFew → CostsAsAlone → KeepsSnapshots → (start g.i).tree.snapshots ≡ empty → (cmds : List Cmd) (replies : List Reply) (marks : List ℕ) (last : Pace) (need : ℕ) → PacesBy ses (formatted g) m log (pace_at_first g mounted) cmds replies marks last
       → blocks_needed g (start g.i) cmds replies + need ≤ g.n - data_start g → need ≤ length last.room.room.takeable
-  finds_enough few cmds replies marks last need paces enough =
-      omega (arith, enough, blocks_within few cmds replies marks (pace_at_first g mounted) last paces all_data, length-range_with_len (data_start g) (g.n - data_start g))
+  finds_enough few unshared keeps alone cmds replies marks last need paces enough =
+      omega (arith, enough, blocks_within few unshared keeps cmds replies marks (pace_at_first g mounted) last paces all_data alone, length-range_with_len (data_start g) (g.n - data_start g))
     where
       all_data : data_blocks g ≡ filter (has (data_blocks g)) (data_blocks g)
       all_data = sym (keeps_all (has (data_blocks g)) (data_blocks g) (λ b is. is))

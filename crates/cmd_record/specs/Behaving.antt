@@ -13,6 +13,7 @@ use Rattle.lang_tree.specs.declared.command.Refusal.TheVariants.{Spent}
 use Rattle.lang_tree.specs.declared.command.Reply.{Reply}
 use Rattle.lang_tree.specs.declared.command.Reply.TheVariants.{Refused}
 use Rattle.lang_tree.specs.Step.{start}
+use Rattle.fs_session.specs.Lists.{nothing_kept}
 use Rattle.fs_session.specs.Serving.{RoomOn}
 use Rattle.cmd_session.specs.Pacing.{Pace, PacesBy}
 use Rattle.cmd_session.specs.Taking.{nothing_taken}
@@ -33,7 +34,7 @@ pub record IsSureBy (g : Geometry) (front : List Event) (p : ℕ) : Type 0 where
 
 -- the room of a disk that was just formatted: each data block may be taken, and none waits
 abbrev pub room_at_first : Geometry → RoomOn
-room_at_first g = record { room = record { weight = 0; held = 0; takeable = data_blocks g; places = λ k. [] }; since = λ b. None }
+room_at_first g = record { room = record { weight = 0; held = 0; takeable = data_blocks g; places = λ k. []; kept = nothing_kept }; since = λ b. None }
 
 -- as a mount ends that brought so many events: no poll was made yet, nothing is taken, and the room is that of a formatted disk
 abbrev pub pace_at_first : Geometry → ℕ → Pace

@@ -34,6 +34,7 @@ use cmd_session::what_was_issued_was_accepted;
 use cmd_trace::equal_traces_have_equal_contents;
 use crash_stands::images_alike_below_n_stand_for_the_same;
 use fs_session::a_command_takes_no_more_blocks_than_it_needs;
+use lang_tree::{commands_keep_snapshots, nothing_shared_costs_nothing};
 
 /// Whoever has the text has the geometry, the events of the disk and how many of them are the mount's, the
 /// commands, the replies and their marks: they are the same in all that a text begins a trace of. So it is
@@ -84,6 +85,8 @@ pub fn what_need_not_come_back_is_there()
         → blocks_needed g (start g.i) cmds replies + need ≤ g.n - data_start g → need ≤ length last.room.room.takeable }
 {
     a_command_takes_no_more_blocks_than_it_needs();
+    commands_keep_snapshots();
+    nothing_shared_costs_nothing();
 }
 
 /// Traces that a wrong program could write are refused, each by a field of the clause. A command that lost a write is

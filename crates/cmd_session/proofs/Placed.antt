@@ -4,7 +4,7 @@ use Rattle.std.proofs.Math.Logic.{∥∥₁_map}
 use Rattle.std.proofs.Math.Seq.{take-append_seam}
 use Rattle.std.proofs.lemmas.List.{length-append}
 use Rattle.std.proofs.lemmas.Bool.{and_from, and_parts, cases_Bool, cases_lt, false≢true, leb-true, le-leb, lt-ltb, true≢false}
-use Rattle.std.specs.FinMap.{get}
+use Rattle.std.specs.FinMap.{empty, get}
 use Rattle.base_types.specs.Seal.{Blocks}
 use Rattle.layout_geometry.specs.Geometry.{Geometry, IsGeometry, bitmap_start, data_start}
 use Rattle.layout_bytes.specs.Bitmap.{is_set}
@@ -27,6 +27,7 @@ use Rattle.fs_files.specs.Calls.{places_of, places_or_none}
 use Rattle.fs_session.specs.Commands.{is_on_tree}
 use Rattle.fs_session.specs.DiskRoom.{AnswersOn, AnswersOver, BeginsOver, IsRoomOf, SyncsOver}
 use Rattle.fs_session.specs.Memory.{room_of}
+use Rattle.fs_session.specs.NothingKept.{alone_placed, no_snapshot}
 use Rattle.fs_session.specs.Room.{HoldsTree, IsDoneIn, RefusesIn, Room, figures_in}
 use Rattle.fs_session.specs.Sessions.{IsSession}
 use Rattle.cmd_session.specs.Answered.{PassesPoints, PlaceLaws, StaysPlaced}
@@ -83,12 +84,12 @@ waited_changed f n false = refl
 
 -- Rooms that hold the same tree have as many blocks of each node.
 
-module _ (limit : ℕ) (t : Tree) (sound : IsSound limit t) (r q : Room) (holds : HoldsTree t r) (again : HoldsTree t q) where
+module _ (g : Geometry) (limit : ℕ) (t : Tree) (sound : IsSound limit t) (alone : t.snapshots ≡ empty) (r q : Room) (holds : HoldsTree g t r) (again : HoldsTree g t q) where
   same_length : (k : ℕ) → length (q.places k) ≡ length (r.places k)
   same_length k = by (get t.nodes k) refl
     where
       by : (x : Option Thing) → get t.nodes k ≡ x → length (q.places k) ≡ length (r.places k)
-      by None is = ap length (again.unused k is ∙ sym (holds.unused k is))
+      by None is = ap length (again.unused k is (no_snapshot t k alone) ∙ sym (holds.unused k is (no_snapshot t k alone)))
       by (Some (File bytes)) is = again.files k bytes is ∙ sym (holds.files k bytes is)
       by (Some Dir) is = let path = sound.reached k Dir is in again.directories path.0 k path.1 is ∙ sym (holds.directories path.0 k path.1 is)
 
@@ -98,7 +99,7 @@ same_front xs ys more long is = is ∙ ap (λ (n : ℕ). take n (ys ++ more)) lo
 
 -- One command that makes no point and leaves nothing changed: nothing was changed before it, and each node keeps its blocks.
 
-module _ (g : Geometry) (f : Session) (reply : Reply) (next : Session) (clean : next.changed ≡ false) (limit : ℕ) (sound : IsSound limit f.tree) (r room : Room) (holds : HoldsTree f.tree r) where
+module _ (g : Geometry) (f : Session) (reply : Reply) (next : Session) (clean : next.changed ≡ false) (limit : ℕ) (sound : IsSound limit f.tree) (alone : f.tree.snapshots ≡ empty) (r room : Room) (holds : HoldsTree g f.tree r) where
   abbrev Keeps : Type 0
   Keeps = (f.changed ≡ false) × ((k : ℕ) → room.places k ≡ r.places k)
 
@@ -119,8 +120,8 @@ module _ (g : Geometry) (f : Session) (reply : Reply) (next : Session) (clean : 
       same = sym after ∙ same_session f cmd of_tree (ap (λ (x : Session). x.changed) after ∙ clean)
 
       kept : (k : ℕ) → room.places k ≡ r.places k
-      kept k = same_front (room.places k) (r.places k) (take (figures_in g f cmd).need back.takeable) (same_length limit f.tree sound r room holds (subst (λ (x : Session). HoldsTree x.tree room) same d.holds) k)
-          (subst (λ (at : ℕ → List ℕ). room.places k ≡ take (length (room.places k)) (at k ++ take (figures_in g f cmd).need back.takeable)) places (d.spends.placed k))
+      kept k = same_front (room.places k) (r.places k) (take (figures_in g f back cmd).need back.takeable) (same_length g limit f.tree sound alone r room holds (subst (λ (x : Session). HoldsTree g x.tree room) same d.holds) k)
+          (subst (λ (at : ℕ → List ℕ). room.places k ≡ take (length (room.places k)) (at k ++ take (figures_in g f back cmd).need back.takeable)) places (alone_placed g f back alone cmd back.places room.places (take (figures_in g f back cmd).need back.takeable) d.spends.placed k))
 
   synced : (cmd : Cmd) (back : Room) → back.places ≡ r.places → (step f cmd ≡ (next, reply) → f.changed ≡ false) → SyncsOver f back cmd reply next room → Keeps
   synced cmd back h1 h2 h3 = grind (arith, refused, rests)
@@ -182,9 +183,9 @@ module _ (g : Geometry) (laws : PlaceLaws g) (base : Blocks) (f : Session) (cmd 
   came : old.books.point < new.books.point → (m : Blocks) → new.crash.is_point new.books.point m → (k : ℕ) → places_of g m k ≡ (room_of new).places k
   came up m is k = places_same g laws.limits new.map m (subst (λ (x : Geometry). HasLiveBlocks x new.map m) geom (p.time.made up m is)) k ∙ ap (λ (x : Geometry). places_of x new.map k) (sym geom)
 
-  keeps_on : IsSound g.i f.tree → HoldsTree f.tree (room_of old) → (new.books.stopped ≡ false → old.books.stopped ≡ false) → (new.books.stopped ≡ false → makes_point f cmd reply ≡ true → old.books.point < new.books.point)
+  keeps_on : IsSound g.i f.tree → f.tree.snapshots ≡ empty → HoldsTree g f.tree (room_of old) → (new.books.stopped ≡ false → old.books.stopped ≡ false) → (new.books.stopped ≡ false → makes_point f cmd reply ≡ true → old.books.point < new.books.point)
       → AnswersOn g f (room_of old) cmd reply (after_reply f cmd reply) (room_of new) → KeepsPlaces g f old → KeepsPlaces g (after_reply f cmd reply) new
-  keeps_on sound holds before makes answers was going clean m is k = ⊎_elim (λ up. came up m is k) stayed (cases_lt old.books.point new.books.point)
+  keeps_on sound alone holds before makes answers was going clean m is k = ⊎_elim (λ up. came up m is k) stayed (cases_lt old.books.point new.books.point)
     where
       stayed : new.books.point ≤ old.books.point → places_of g m k ≡ (room_of new).places k
       stayed low = was (before going) same.0 m point k ∙ sym (same.1 k)
@@ -193,7 +194,7 @@ module _ (g : Geometry) (laws : PlaceLaws g) (base : Blocks) (f : Session) (cmd 
           none = ⊎_elim (λ made. absurd (omega (arith, low, makes going made))) (λ not. not) (cases_Bool (makes_point f cmd reply))
 
           same : (f.changed ≡ false) × ((j : ℕ) → (room_of new).places j ≡ (room_of old).places j)
-          same = keeps g f reply (after_reply f cmd reply) clean g.i sound (room_of old) (room_of new) holds cmd none answers
+          same = keeps g f reply (after_reply f cmd reply) clean g.i sound alone (room_of old) (room_of new) holds cmd none answers
 
           number : new.books.point ≡ old.books.point
           number = omega (arith, low, p.time.advances.last)
@@ -219,10 +220,10 @@ module _ (g : Geometry) (laws : PlaceLaws g) (base : Blocks) (f : Session) (cmd 
         nodes = keeps going clean one.0 (last.each one.0 one.1);
       }
 
-  pub placed_on : IsSound g.i f.tree → HoldsTree f.tree (room_of old) → (new.books.stopped ≡ false → old.books.stopped ≡ false) → (new.books.stopped ≡ false → makes_point f cmd reply ≡ true → old.books.point < new.books.point)
+  pub placed_on : IsSound g.i f.tree → f.tree.snapshots ≡ empty → HoldsTree g f.tree (room_of old) → (new.books.stopped ≡ false → old.books.stopped ≡ false) → (new.books.stopped ≡ false → makes_point f cmd reply ≡ true → old.books.point < new.books.point)
       → AnswersOn g f (room_of old) cmd reply (after_reply f cmd reply) (room_of new) → ((b : ℕ) → b < g.n → new.crash.base b ≡ base b) → KeepsPlaces g f old → StaysPlaced g base (after_reply f cmd reply) new
-  placed_on sound holds before makes answers same was =
-      let now = keeps_on sound holds before makes answers was in
+  placed_on sound alone holds before makes answers same was =
+      let now = keeps_on sound alone holds before makes answers was in
       record { keeps = now; lies = lies_now (after_reply f cmd reply) same now }
 
 -- The same by what is known of a run so far: this is its session, and so many of its commands made a point.
@@ -231,7 +232,7 @@ pub placed_in : (g : Geometry) (laws : PlaceLaws g) (base : Blocks) (f : Session
     → (new.books.stopped ≡ false → old.books.stopped ≡ false) → (old.books.stopped ≡ false → made ≡ old.books.point) → (new.books.stopped ≡ false → made + (if makes_point f cmd reply then 1 else 0) ≡ new.books.point)
     → ((b : ℕ) → b < g.n → new.crash.base b ≡ base b) → KeepsPlaces g f old → StaysPlaced g base (after_reply f cmd reply) new
 placed_in g laws base f made cmd reply old new p geom session room given before had has same was =
-    placed_on g laws base f cmd reply old new p (p.time.geom ∙ geom) (subst (λ (k : Geometry). IsSound k.i f.tree) geom (laws.sound old.books.geom old.map f.tree session.tree)) room.holds before makes answers same was
+    placed_on g laws base f cmd reply old new p (p.time.geom ∙ geom) (subst (λ (k : Geometry). IsSound k.i f.tree) geom (laws.sound old.books.geom old.map f.tree session.tree)) session.tree.map.shows.alone (subst (λ (k : Geometry). HoldsTree k f.tree (room_of old)) geom room.holds) before makes answers same was
   where
     makes : new.books.stopped ≡ false → makes_point f cmd reply ≡ true → old.books.point < new.books.point
     makes going is = omega (arith, had (before going), has going, ap {B = ℕ} (λ (c : Bool). if c then 1 else 0) is)

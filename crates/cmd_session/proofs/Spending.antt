@@ -18,6 +18,7 @@ use Rattle.engine_blocks.specs.Crashes.{WritesAtMost}
 use Rattle.engine_blocks.specs.State.{Bookkeeping, State}
 use Rattle.fs_session.specs.Applying.{Ticks, Runs, Began, Applies, reply_for, is_spent}
 use Rattle.fs_session.specs.Commands.{Carries}
+use Rattle.fs_session.specs.NothingKept.{CostsAsAlone}
 use Rattle.fs_session.specs.Sessions.{IsSession, Stands}
 use Rattle.fs_session.specs.Staying.{session_ticks}
 use Rattle.fs_session.specs.Syncs.{SyncsSession}
@@ -133,7 +134,7 @@ budget_more bitmap s w (c ∷ cmds) (r ∷ replies) cmd reply e = omega (arith, 
 if_at_most : (c : Bool) (m n : ℕ) → (c ≡ true → m ≤ n) → (if c then m else 0) ≤ (if c then n else 0)
 if_at_most c m n h1 = grind arith
 
-module _ {S : Type 0} (tells : Bool) (state : S → State) (told : IsTrue tells) (g : Geometry) (t : Tree) (mounted begun : ℕ) (cmds : List Cmd) (replies : List Reply) (marks : List ℕ) (old new : S) (cmd : Cmd) (reply : Reply)
+module _ {S : Type 0} (tells : Bool) (state : S → State) (told : IsTrue tells) (unshared : CostsAsAlone) (g : Geometry) (t : Tree) (mounted begun : ℕ) (cmds : List Cmd) (replies : List Reply) (marks : List ℕ) (old new : S) (cmd : Cmd) (reply : Reply)
     (served : HasServed g t mounted cmds replies marks (state old)) (keeps : KeepsBudget g t begun cmds replies (state old)) (applies : Applies tells state cmd reply old new)
     (stands : Stands (state old)) (may : MaySync (state old).books) where
   abbrev first : Session
@@ -149,4 +150,4 @@ module _ {S : Type 0} (tells : Bool) (state : S → State) (told : IsTrue tells)
   within is = omega (arith, within_weight (state old).books may, ap sync_budget (keeps.weight (commits_going tells state told cmd reply old new applies is)))
 
   pub keeps_more : KeepsBudget g t begun (cmds ++ cmd ∷ []) (replies ++ reply ∷ []) (state new)
-  keeps_more = grind (arith, weighs, served.geom, served.goes_on.session, keeps.weight, awake, weight_more, served.answered, writes_more, keeps.writes, budget_more, if_at_most, within)
+  keeps_more = grind (arith, weighs tells state told unshared, served.geom, served.goes_on.session, keeps.weight, awake, weight_more, served.answered, writes_more, keeps.writes, budget_more, if_at_most, within)

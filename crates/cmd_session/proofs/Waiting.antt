@@ -29,7 +29,6 @@ use Rattle.lang_tree.specs.declared.command.Refusal.TheVariants as because
 use Rattle.lang_tree.specs.declared.command.Reply.{Reply}
 use Rattle.lang_tree.specs.declared.command.Reply.TheVariants as replied
 use Rattle.lang_tree.specs.declared.command.Reply.TheVariants.{Known, Refused}
-use Rattle.lang_tree.specs.Figures.{figures}
 use Rattle.lang_tree.specs.Points.{Point, after_reply, is_refusal, is_sync, made_by, may_have_written, points_after}
 use Rattle.lang_tree.specs.Step.{Session}
 use Rattle.lang_tree.specs.Tree.{Tree}
@@ -676,10 +675,10 @@ module _ (cmd : Cmd) (reply : Reply) (old new : State) (w : WaitsOn cmd reply ol
 
   -- A command with no reason to wait.
 
-  need_same : (c : Cmd) → (figures_on old f c).need ≡ (figures_in g t.session c).need
-  need_same c = ap (λ (k : Geometry). (figures (bitmap_blocks k) f c).need) before.geom ∙ ap (λ (s : Session). (figures (bitmap_blocks g) s c).need) (sym keeps.session)
+  need_same : (c : Cmd) → (figures_on old f c).need ≡ (figures_in g t.session (room_of old) c).need
+  need_same c = ap (λ (k : Geometry). (figures_in k f (room_of old) c).need) before.geom ∙ ap (λ (s : Session). (figures_in g s (room_of old) c).need) (sym keeps.session)
 
-  finds_blocks : (c : Cmd) → (figures_in g t.session c).need ≤ length (room_of old).takeable → (figures_on old f c).need ≤ length (reusable_blocks old.books)
+  finds_blocks : (c : Cmd) → (figures_in g t.session (room_of old) c).need ≤ length (room_of old).takeable → (figures_on old f c).need ≤ length (reusable_blocks old.books)
   finds_blocks c finds = omega (arith, finds, need_same c)
 
   needs_none : (c : Cmd) → old.books.stopped ≡ false → FindsRoom ses base behind t (room_of old) old.books.floor wanted c → (c ≡ cmds.Osync) ⊎ NeedsNoWait old f c

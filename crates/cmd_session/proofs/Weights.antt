@@ -9,7 +9,7 @@ use Rattle.lang_tree.specs.declared.command.Refusal.TheVariants as because
 use Rattle.lang_tree.specs.declared.command.Reply.{Reply}
 use Rattle.lang_tree.specs.declared.command.Reply.TheVariants.{Ok as Done}
 use Rattle.lang_tree.specs.Conditions.{refusal}
-use Rattle.lang_tree.specs.Figures.{figures, figures_by}
+use Rattle.lang_tree.specs.Figures.{Figures, figures, figures_by}
 use Rattle.lang_tree.specs.Points.{is_refusal, is_sync}
 use Rattle.lang_tree.specs.Step.{Session, step, answered, osync}
 use Rattle.engine_blocks.specs.Running.{Running, payloads, fresh_blocks, nothing_running}
@@ -17,6 +17,7 @@ use Rattle.engine_blocks.specs.Calls.{MaySync, commit_places, commit_writes, if_
 use Rattle.engine_blocks.specs.State.{Bookkeeping, State}
 use Rattle.fs_session.specs.Applying.{Ticks, Runs, Began, Applies, reply_for, is_spent}
 use Rattle.fs_session.specs.Commands.{Carries, is_disk_fault}
+use Rattle.fs_session.specs.NothingKept.{CostsAsAlone, figures_are}
 use Rattle.fs_session.specs.Sessions.{IsSession}
 use Rattle.fs_session.specs.Staying.{session_ticks}
 use Rattle.fs_session.specs.Syncs.{SyncsSession, WaitsSession}
@@ -64,7 +65,7 @@ module _ (bitmap : ℕ) (f : Session) (w : ℕ) (cmd : Cmd) where
 emptied : (r : Running) → (if_changed r nothing_running r).weight ≡ 0
 emptied r = grind (arith, cases_eq r.weight 0, r.weight, cond-true, eq-eqb, cond-false, ne_eqb)
 
-module _ {S : Type 0} (tells : Bool) (state : S → State) (told : IsTrue tells) (g : Geometry) (f : Session) where
+module _ {S : Type 0} (tells : Bool) (state : S → State) (told : IsTrue tells) (unshared : CostsAsAlone) (g : Geometry) (f : Session) where
   -- what the weight comes to, where no call of the disk failed
   abbrev pub Weighs : Cmd → Reply → State → State → Type 0
   Weighs cmd reply old new = new.books.stopped ≡ false → new.books.running.weight ≡ weight_by (bitmap_blocks g) f old.books.running.weight cmd reply
@@ -72,7 +73,7 @@ module _ {S : Type 0} (tells : Bool) (state : S → State) (told : IsTrue tells)
   of_carried : (cmd : Cmd) (result : Result Reply Refusal) (mid new : S) → is_sync cmd ≡ false → (state mid).books.geom ≡ g → IsSession (state mid) f → Carries tells cmd result (state mid) (state new) → Weighs cmd (reply_for result) (state mid) (state new)
   of_carried cmd (Ok reply) mid new none geom h c going =
       let is = c.done told f h in
-      omega (arith, is.spends.weight, ap (λ (k : Geometry). (figures (bitmap_blocks k) f cmd).cost) geom, weight_answered (bitmap_blocks g) f (state mid).books.running.weight cmd reply is.answer none)
+      omega (arith, is.spends.weight, ap (λ (n : Figures). n.cost) (figures_are (state mid) f unshared cmd), ap (λ (k : Geometry). (figures (bitmap_blocks k) f cmd).cost) geom, weight_answered (bitmap_blocks g) f (state mid).books.running.weight cmd reply is.answer none)
   of_carried cmd (Err why) mid new none geom h c going = ap (λ (r : Running). r.weight) c.unspent.running
 
   of_synced : (orders : Bool) (cmd : Cmd) (result : Result Reply Refusal) (mid new : S) → is_sync cmd ≡ true → is_refusal (step f cmd).1 ≡ false → IsSession (state mid) f → SyncsSession tells orders cmd result (state mid) (state new) → Weighs cmd (reply_for result) (state mid) (state new)

@@ -47,7 +47,7 @@ FindsRoom s base behind t r known wanted Durable = ⊤
 FindsRoom s base behind t r known wanted (Dwait n) = (n ≤ known) ⊎ (t.session.points < n)
 FindsRoom s base behind t r known wanted Poll = ⊤
 FindsRoom s base behind t r known wanted Bad = ⊤
-FindsRoom s base behind t r known wanted cmd = (figures_in s.geom t.session cmd).need ≤ length r.takeable
+FindsRoom s base behind t r known wanted cmd = (figures_in s.geom t.session r cmd).need ≤ length r.takeable
 
 -- each notice of the log is one of those before, or that of a write which came in one of these spans
 abbrev pub HearsIn : List Span → List Event → List Event → Type 0

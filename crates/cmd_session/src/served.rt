@@ -6,7 +6,9 @@ use engine_blocks::{Blocks, Figures};
 use fs_check::CheckRefusal;
 use fs_commands::Fs;
 use fs_session::{a_crash_leaves_the_tree_of_a_point, a_reply_tells_the_points, points_stay_known};
-use lang_tree::{Cmd, Reply, a_fault_ends_the_session, a_reply_tells_the_session};
+use lang_tree::{
+    Cmd, Reply, a_fault_ends_the_session, a_reply_tells_the_session, nothing_shared_costs_nothing,
+};
 use std::alloc::Global;
 use std::marker::Model;
 
@@ -93,6 +95,7 @@ impl<S: Blocks + Drop> Served<S> {
         ensures time { IsTrue S.tells → PassesTime (S.state (blocks_in self.old)) (S.state (blocks_in self.new)) }
     {
         a_reply_tells_the_session();
+        nothing_shared_costs_nothing();
         a_fault_ends_the_session();
         a_reply_tells_the_points::<S>();
         a_crash_leaves_the_tree_of_a_point::<S>();

@@ -10,7 +10,8 @@ use Rattle.lang_tree.specs.declared.command.Refusal.TheVariants as because
 use Rattle.lang_tree.specs.declared.command.Reply.{Reply}
 use Rattle.lang_tree.specs.declared.command.Reply.TheVariants as replies
 use Rattle.lang_tree.specs.Conditions.{refusal}
-use Rattle.lang_tree.specs.Figures.{accepted_figures, figures_by}
+use Rattle.lang_tree.specs.Figures.{Figures}
+use Rattle.lang_tree.specs.Sharing.{SharedNodes, accepted_over, figures_over_by}
 use Rattle.lang_tree.specs.Run.{Answers, is_of_disk, is_of_memory}
 use Rattle.lang_tree.specs.Step.{Session, step}
 use Rattle.lang_tree.specs.Tree.{IsSound, Tree}
@@ -21,9 +22,10 @@ use Rattle.engine_blocks.specs.Crashes.{Advances}
 use Rattle.engine_blocks.specs.State.{State}
 use Rattle.fs_session.specs.Applying.{Applies}
 use Rattle.fs_session.specs.Commands.{is_on_tree}
-use Rattle.fs_session.specs.DiskRoom.{IsRoomOf}
+use Rattle.fs_session.specs.DiskRoom.{ComesBack, IsRoomOf}
 use Rattle.fs_session.specs.Memory.{room_of}
-use Rattle.fs_session.specs.Room.{IsRefusedIn, Room, figures_in, left_in, most_weight}
+use Rattle.fs_session.specs.Room.{IsRefusedIn, Room, figures_in, left_in, most_weight, shared_by}
+use Rattle.fs_session.specs.Staying.{figures_stay}
 use Rattle.fs_session.specs.Sessions.{IsSession}
 use Rattle.fs_session.specs.Space.{FailsToFit}
 use Rattle.fs_log.specs.declared.refusal.OpenRefusal.{OpenRefusal}
@@ -60,19 +62,25 @@ tree_wants_none alone f cmd = by (step f cmd).1 refl
     by (replies.Known point) is = refl
     by replies.Bad is = refl
 
-no_need : (bitmap : ℕ) (t : Tree) (cmd : Cmd) (why : Option Refusal) → (accepted_figures bitmap t cmd).need ≡ 0 → (figures_by bitmap t cmd why).need ≡ 0
-no_need bitmap t cmd None none = none
-no_need bitmap t cmd (Some why) none = refl
+no_need : (bitmap : ℕ) (shared : SharedNodes) (t : Tree) (cmd : Cmd) (why : Option Refusal) → (accepted_over bitmap shared t cmd).need ≡ 0 → (figures_over_by bitmap shared t cmd why).need ≡ 0
+no_need bitmap shared t cmd None none = none
+no_need bitmap shared t cmd (Some why) none = refl
 
 -- A command that needs no block and costs nothing isn't refused for want of any, and weighs nothing.
-module _ (g : Geometry) (f next : Session) (r room : Room) (reply : Reply) (cmd : Cmd) (by_itself : wants_blocks (step f cmd).1 ≡ false) (none : (figures_in g f cmd).need ≡ 0) (free : (figures_in g f cmd).cost ≤ 0) (fits : r.weight ≤ most_weight g) where
-  refused_so : (back : Room) → back.weight ≡ r.weight → (why : Refusal) → IsRefusedIn g f back cmd why → wants_blocks (replies.Refused why) ≡ false
+module _ (g : Geometry) (f next : Session) (r room : Room) (reply : Reply) (cmd : Cmd) (by_itself : wants_blocks (step f cmd).1 ≡ false) (none : (figures_in g f r cmd).need ≡ 0) (free : (figures_in g f r cmd).cost ≤ 0) (fits : r.weight ≤ most_weight g) where
+  -- in a room that came back it needs and costs no more
+  needs_back : (back : Room) → ComesBack g f r back → ((figures_in g f back cmd).need ≡ 0) × ((figures_in g f back cmd).cost ≤ 0)
+  needs_back back same =
+      let figures = figures_stay g f r back cmd same.keeps in
+      (ap (λ (n : Figures). n.need) figures ∙ none, omega (arith, ap (λ (n : Figures). n.cost) figures, free))
+
+  refused_so : (back : Room) → ComesBack g f r back → (why : Refusal) → IsRefusedIn g f back cmd why → wants_blocks (replies.Refused why) ≡ false
   refused_so back same why (inl lacks) = by lacks.1
     where
-      by : FailsToFit (left_in g f back) back.weight (most_weight g) (figures_in g f cmd) why → wants_blocks (replies.Refused why) ≡ false
-      by (inl full) = absurd (omega (arith, full.blocks, none))
-      by (inr big) = absurd (omega (arith, big.weight, same, fits, free))
-  refused_so back same why (inr (inl scatters)) = absurd (omega (arith, scatters.2.some, none))
+      by : FailsToFit (left_in g f back) back.weight (most_weight g) (figures_in g f back cmd) why → wants_blocks (replies.Refused why) ≡ false
+      by (inl full) = absurd (omega (arith, full.blocks, (needs_back back same).0))
+      by (inr big) = absurd (omega (arith, big.weight, same.weight, fits, (needs_back back same).1))
+  refused_so back same why (inr (inl scatters)) = absurd (omega (arith, scatters.2.some, (needs_back back same).0))
   refused_so back same why (inr (inr lacking)) = ap (λ (w : Refusal). wants_blocks (replies.Refused w)) lacking
 
   ended : (why : Refusal) → (why ≡ because.Stopped) ⊎ (why ≡ because.Spent) → wants_blocks (replies.Refused why) ≡ false
@@ -91,9 +99,9 @@ module _ (g : Geometry) (f next : Session) (r room : Room) (reply : Reply) (cmd 
 
   weighs_none : AnswersTree g f r cmd reply next room → room.weight ≡ r.weight
   weighs_none (inl refused) = ap (λ (q : Room). q.weight) refused.4
-  weighs_none (inr (back, same, inl (inl done))) = omega (arith, done.spends.weight, same, free)
-  weighs_none (inr (back, same, inl (inr refused))) = ap (λ (q : Room). q.weight) refused.4 ∙ same
-  weighs_none (inr (back, same, inr refused)) = ap (λ (q : Room). q.weight) refused.4 ∙ same
+  weighs_none (inr (back, same, inl (inl done))) = omega (arith, done.spends.weight, same.weight, (needs_back back same).1)
+  weighs_none (inr (back, same, inl (inr refused))) = ap (λ (q : Room). q.weight) refused.4 ∙ same.weight
+  weighs_none (inr (back, same, inr refused)) = ap (λ (q : Room). q.weight) refused.4 ∙ same.weight
 
 -- So with questions.
 module _ {S : Type 0} (tells : Bool) (state : S → State) (rooms : RoomLaw tells state) (room : (s : S) (f : Session) → IsSession (state s) f → IsRoomOf (state s).books.geom f (room_of (state s))) (alone : AloneLaw)
@@ -108,30 +116,30 @@ module _ {S : Type 0} (tells : Bool) (state : S → State) (rooms : RoomLaw tell
   calm_stat path applies =
       let x = rooms old new f (Stat path) reply session applies in
       let is = stat_answers g f x.0 (room_of (state old)) (room_of (state new)) reply path x.3 in
-      let none = no_need (bitmap_blocks g) f.tree (Stat path) (refusal f.limit f.tree (Stat path)) refl in
+      let none = no_need (bitmap_blocks g) (shared_by g f.tree (room_of (state old))) f.tree (Stat path) (refusal f.limit f.tree (Stat path)) refl in
       let fits = (room old f session).fits in (
-        needs_none g f x.0 (room_of (state old)) (room_of (state new)) reply (Stat path) (tree_wants_none alone f (Stat path)) none (stat_is_free g f path) fits is,
-        weighs_none g f x.0 (room_of (state old)) (room_of (state new)) reply (Stat path) (tree_wants_none alone f (Stat path)) none (stat_is_free g f path) fits is,
+        needs_none g f x.0 (room_of (state old)) (room_of (state new)) reply (Stat path) (tree_wants_none alone f (Stat path)) none (stat_is_free g f (room_of (state old)) path) fits is,
+        weighs_none g f x.0 (room_of (state old)) (room_of (state new)) reply (Stat path) (tree_wants_none alone f (Stat path)) none (stat_is_free g f (room_of (state old)) path) fits is,
       )
 
   calm_list : (path : List (List ℕ)) → Applies tells state (ListNames path) reply old new → IsCalm
   calm_list path applies =
       let x = rooms old new f (ListNames path) reply session applies in
       let is = list_answers g f x.0 (room_of (state old)) (room_of (state new)) reply path x.3 in
-      let none = no_need (bitmap_blocks g) f.tree (ListNames path) (refusal f.limit f.tree (ListNames path)) refl in
+      let none = no_need (bitmap_blocks g) (shared_by g f.tree (room_of (state old))) f.tree (ListNames path) (refusal f.limit f.tree (ListNames path)) refl in
       let fits = (room old f session).fits in (
-        needs_none g f x.0 (room_of (state old)) (room_of (state new)) reply (ListNames path) (tree_wants_none alone f (ListNames path)) none (list_is_free g f path) fits is,
-        weighs_none g f x.0 (room_of (state old)) (room_of (state new)) reply (ListNames path) (tree_wants_none alone f (ListNames path)) none (list_is_free g f path) fits is,
+        needs_none g f x.0 (room_of (state old)) (room_of (state new)) reply (ListNames path) (tree_wants_none alone f (ListNames path)) none (list_is_free g f (room_of (state old)) path) fits is,
+        weighs_none g f x.0 (room_of (state old)) (room_of (state new)) reply (ListNames path) (tree_wants_none alone f (ListNames path)) none (list_is_free g f (room_of (state old)) path) fits is,
       )
 
   calm_read : (path : List (List ℕ)) (offset count : ℕ) → Applies tells state (Read path offset count) reply old new → IsCalm
   calm_read path offset count applies =
       let x = rooms old new f (Read path offset count) reply session applies in
       let is = read_answers g f x.0 (room_of (state old)) (room_of (state new)) reply path offset count x.3 in
-      let none = no_need (bitmap_blocks g) f.tree (Read path offset count) (refusal f.limit f.tree (Read path offset count)) refl in
+      let none = no_need (bitmap_blocks g) (shared_by g f.tree (room_of (state old))) f.tree (Read path offset count) (refusal f.limit f.tree (Read path offset count)) refl in
       let fits = (room old f session).fits in (
-        needs_none g f x.0 (room_of (state old)) (room_of (state new)) reply (Read path offset count) (tree_wants_none alone f (Read path offset count)) none (read_is_free g f path offset count) fits is,
-        weighs_none g f x.0 (room_of (state old)) (room_of (state new)) reply (Read path offset count) (tree_wants_none alone f (Read path offset count)) none (read_is_free g f path offset count) fits is,
+        needs_none g f x.0 (room_of (state old)) (room_of (state new)) reply (Read path offset count) (tree_wants_none alone f (Read path offset count)) none (read_is_free g f (room_of (state old)) path offset count) fits is,
+        weighs_none g f x.0 (room_of (state old)) (room_of (state new)) reply (Read path offset count) (tree_wants_none alone f (Read path offset count)) none (read_is_free g f (room_of (state old)) path offset count) fits is,
       )
 
   pub question_calm : (cmd : Cmd) → IsQuestion cmd → Applies tells state cmd reply old new → IsCalm
@@ -279,5 +287,5 @@ module _ {S : Type 0} (tells : Bool) (state : S → State) (rooms : RoomLaw tell
   mkdir_fits applies empty =
       let g = (state old).books.geom in
       let x = rooms old new f (Mkdir path) reply session applies in
-      fits_now g f x.0 (room_of (state old)) (room_of (state new)) reply (Mkdir path) (fits_by_itself alone f (Mkdir path)) (omega (arith, empty, mkdir_is_cheap g limits f path))
+      fits_now g f x.0 (room_of (state old)) (room_of (state new)) reply (Mkdir path) (fits_by_itself alone f (Mkdir path)) (omega (arith, empty, mkdir_is_cheap g limits f (room_of (state old)) path))
       (mkdir_answers g f x.0 (room_of (state old)) (room_of (state new)) reply path x.3)

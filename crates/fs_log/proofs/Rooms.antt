@@ -1,6 +1,7 @@
 -- What fits one record of the journal: each command that changes a log, behind a sync point.
-use Rattle.std.proofs.Common.{◌≡◌, ◌⊎◌, inl, inr, ⊎_elim, ℕ, ◌+◌, ◌-◌, ◌*◌, ◌/◌, ◌≤◌, nat_le, min, ◌==◌, Bool, true, false, if◌then◌else◌, List, length, Option, None, Some, refl, sym, ◌∙◌, ap, subst, arith}
+use Rattle.std.proofs.Common.{◌≡◌, ◌⊎◌, inl, inr, ⊎_elim, ℕ, ◌+◌, ◌-◌, ◌*◌, ◌/◌, ◌≤◌, nat_le, min, max, ◌==◌, Bool, true, false, if◌then◌else◌, List, length, Option, None, Some, refl, sym, ◌∙◌, ap, subst, arith}
 use Rattle.std.proofs.lemmas.Bool.{and_parts, cases_Bool, false≢true, leb-true, true≢false}
+use Rattle.std.specs.FinMap.{get}
 use Rattle.layout_geometry.specs.Geometry.{Geometry, IsGeometry, bitmap_blocks}
 use Rattle.lang_tree.specs.declared.command.Cmd.{Cmd}
 use Rattle.lang_tree.specs.declared.command.Cmd.TheVariants.{Create, Dsync, List as ListPath, Mkdir, Osync, Read, Stat as StatPath, Unlink, Write}
@@ -9,20 +10,23 @@ use Rattle.lang_tree.specs.declared.command.Refusal.TheVariants.{DiskFault, NoMe
 use Rattle.lang_tree.specs.declared.command.Reply.{Reply}
 use Rattle.lang_tree.specs.declared.command.Reply.TheVariants.{Ok as Done, Bytes, Stat, Names, Synced, DurableAt, Known, Bad, Refused}
 use Rattle.lang_tree.specs.Conditions.{refusal}
-use Rattle.lang_tree.specs.Figures.{accepted_figures, blocks_for, blocks_met, figures_by, nothing, write_figures, writing}
+use Rattle.lang_tree.specs.Figures.{Figures, blocks_for, blocks_met, nothing, touches}
 use Rattle.lang_tree.specs.Refusals.{refusal_number}
 use Rattle.lang_tree.specs.Run.{Answers, is_of_disk, is_of_memory}
+use Rattle.lang_tree.specs.Sharing.{SharedNodes, SharedPlaces, accepted_over, figures_over_by, is_renewed, shared_at, shared_met, write_over_figures, writing_over}
 use Rattle.lang_tree.specs.Step.{Session, osync, step}
 use Rattle.lang_tree.specs.Tree.{Tree}
 use Rattle.lang_tree.specs.Walk.{content}
+use Rattle.engine_blocks.specs.Ranges.{fewer_from}
 use Rattle.engine_blocks.specs.State.{State}
 use Rattle.fs_session.specs.Applying.{Applies}
 use Rattle.fs_session.specs.Commands.{is_on_tree}
-use Rattle.fs_session.specs.DiskRoom.{AnswersOn, SyncsOver}
+use Rattle.fs_session.specs.DiskRoom.{AnswersOn, ComesBack, SyncsOver}
 use Rattle.fs_session.specs.Memory.{room_of}
-use Rattle.fs_session.specs.Room.{IsDoneIn, IsRefusedIn, RefusesIn, Room, figures_in, left_in, most_weight}
+use Rattle.fs_session.specs.Room.{IsDoneIn, IsRefusedIn, RefusesIn, Room, figures_in, left_in, most_weight, shared_by}
 use Rattle.fs_session.specs.Sessions.{IsSession}
 use Rattle.fs_session.specs.Space.{FailsToFit}
+use Rattle.fs_session.specs.Staying.{figures_stay}
 use Rattle.fs_log.specs.Asked.{IsLate, is_durable, is_past_room, is_synced}
 use Rattle.fs_log.specs.Causes.{is_too_big}
 
@@ -105,47 +109,47 @@ fits_by_itself alone f cmd = by (step f cmd).1 refl
 abbrev pub AnswersTree : Geometry → Session → Room → Cmd → Reply → Session → Room → Type 0
 AnswersTree g f r cmd reply next room =
     RefusesIn (λ why. (why ≡ Stopped) ⊎ (why ≡ Spent)) f r reply next room
-    ⊎ ((back : Room) × (back.weight ≡ r.weight)
+    ⊎ ((back : Room) × ComesBack g f r back
     × ((IsDoneIn g f back cmd reply next room ⊎ RefusesIn (IsRefusedIn g f back cmd) f back reply next room)
     ⊎ RefusesIn (λ why. (why ≡ DiskFault) ⊎ ((is_on_tree cmd ≡ true) × (why ≡ ReadFault))) f back reply next room))
 
 module _ (g : Geometry) (f next : Session) (r room : Room) (reply : Reply) where
   pub mkdir_answers : (path : List (List ℕ)) → AnswersOn g f r (Mkdir path) reply next room → AnswersTree g f r (Mkdir path) reply next room
   mkdir_answers path (inl refused) = inl refused
-  mkdir_answers path (inr begun) = inr (begun.back, begun.comes_back.weight, begun.answers)
+  mkdir_answers path (inr begun) = inr (begun.back, begun.comes_back, begun.answers)
 
   pub create_answers : (path : List (List ℕ)) → AnswersOn g f r (Create path) reply next room → AnswersTree g f r (Create path) reply next room
   create_answers path (inl refused) = inl refused
-  create_answers path (inr begun) = inr (begun.back, begun.comes_back.weight, begun.answers)
+  create_answers path (inr begun) = inr (begun.back, begun.comes_back, begun.answers)
 
   pub write_answers : (path : List (List ℕ)) (offset : ℕ) (bytes : List ℕ) → AnswersOn g f r (Write path offset bytes) reply next room → AnswersTree g f r (Write path offset bytes) reply next room
   write_answers path offset bytes (inl refused) = inl refused
-  write_answers path offset bytes (inr begun) = inr (begun.back, begun.comes_back.weight, begun.answers)
+  write_answers path offset bytes (inr begun) = inr (begun.back, begun.comes_back, begun.answers)
 
   pub unlink_answers : (path : List (List ℕ)) → AnswersOn g f r (Unlink path) reply next room → AnswersTree g f r (Unlink path) reply next room
   unlink_answers path (inl refused) = inl refused
-  unlink_answers path (inr begun) = inr (begun.back, begun.comes_back.weight, begun.answers)
+  unlink_answers path (inr begun) = inr (begun.back, begun.comes_back, begun.answers)
 
   pub read_answers : (path : List (List ℕ)) (offset count : ℕ) → AnswersOn g f r (Read path offset count) reply next room → AnswersTree g f r (Read path offset count) reply next room
   read_answers path offset count (inl refused) = inl refused
-  read_answers path offset count (inr begun) = inr (begun.back, begun.comes_back.weight, begun.answers)
+  read_answers path offset count (inr begun) = inr (begun.back, begun.comes_back, begun.answers)
 
   pub stat_answers : (path : List (List ℕ)) → AnswersOn g f r (StatPath path) reply next room → AnswersTree g f r (StatPath path) reply next room
   stat_answers path (inl refused) = inl refused
-  stat_answers path (inr begun) = inr (begun.back, begun.comes_back.weight, begun.answers)
+  stat_answers path (inr begun) = inr (begun.back, begun.comes_back, begun.answers)
 
   pub list_answers : (path : List (List ℕ)) → AnswersOn g f r (ListPath path) reply next room → AnswersTree g f r (ListPath path) reply next room
   list_answers path (inl refused) = inl refused
-  list_answers path (inr begun) = inr (begun.back, begun.comes_back.weight, begun.answers)
+  list_answers path (inr begun) = inr (begun.back, begun.comes_back, begun.answers)
 
   -- a command whose cost fits what is weighed isn't refused for it
-  module _ (cmd : Cmd) (by_itself : is_past_room (step f cmd).1 ≡ false) (fits : r.weight + (figures_in g f cmd).cost ≤ most_weight g) where
-    fits_so : (back : Room) → back.weight ≡ r.weight → (why : Refusal) → IsRefusedIn g f back cmd why → is_too_big why ≡ false
+  module _ (cmd : Cmd) (by_itself : is_past_room (step f cmd).1 ≡ false) (fits : r.weight + (figures_in g f r cmd).cost ≤ most_weight g) where
+    fits_so : (back : Room) → ComesBack g f r back → (why : Refusal) → IsRefusedIn g f back cmd why → is_too_big why ≡ false
     fits_so back same why (inl lacks) = by lacks.1
       where
-        by : FailsToFit (left_in g f back) back.weight (most_weight g) (figures_in g f cmd) why → is_too_big why ≡ false
+        by : FailsToFit (left_in g f back) back.weight (most_weight g) (figures_in g f back cmd) why → is_too_big why ≡ false
         by (inl full) = ap is_too_big full.is
-        by (inr big) = absurd (omega (arith, big.weight, same, fits))
+        by (inr big) = absurd (omega (arith, big.weight, same.weight, ap (λ (n : Figures). n.cost) (figures_stay g f r back cmd same.keeps), fits))
     fits_so back same why (inr (inl scatters)) = ap is_too_big scatters.2.is
     fits_so back same why (inr (inr none)) = ap is_too_big none
 
@@ -165,51 +169,69 @@ module _ (g : Geometry) (f next : Session) (r room : Room) (reply : Reply) where
 
 -- Costs.
 
-no_more : (bitmap : ℕ) (t : Tree) (cmd : Cmd) (most : ℕ) (why : Option Refusal) → (accepted_figures bitmap t cmd).cost ≤ most → (figures_by bitmap t cmd why).cost ≤ most
-no_more bitmap t cmd most None upto = upto
-no_more bitmap t cmd most (Some why) upto = omega arith
+no_more : (bitmap : ℕ) (shared : SharedNodes) (t : Tree) (cmd : Cmd) (most : ℕ) (why : Option Refusal) → (accepted_over bitmap shared t cmd).cost ≤ most → (figures_over_by bitmap shared t cmd why).cost ≤ most
+no_more bitmap shared t cmd most None upto = upto
+no_more bitmap shared t cmd most (Some why) upto = omega arith
 
-module _ (g : Geometry) (f : Session) where
+module _ (g : Geometry) (f : Session) (r : Room) where
   abbrev bitmap : ℕ
   bitmap = bitmap_blocks g
 
   -- a command that asks costs nothing
-  pub read_is_free : (path : List (List ℕ)) (offset count : ℕ) → (figures_in g f (Read path offset count)).cost ≤ 0
-  read_is_free path offset count = no_more bitmap f.tree (Read path offset count) 0 (refusal f.limit f.tree (Read path offset count)) (omega arith)
+  pub read_is_free : (path : List (List ℕ)) (offset count : ℕ) → (figures_in g f r (Read path offset count)).cost ≤ 0
+  read_is_free path offset count = no_more bitmap (shared_by g f.tree r) f.tree (Read path offset count) 0 (refusal f.limit f.tree (Read path offset count)) (omega arith)
 
-  pub stat_is_free : (path : List (List ℕ)) → (figures_in g f (StatPath path)).cost ≤ 0
-  stat_is_free path = no_more bitmap f.tree (StatPath path) 0 (refusal f.limit f.tree (StatPath path)) (omega arith)
+  pub stat_is_free : (path : List (List ℕ)) → (figures_in g f r (StatPath path)).cost ≤ 0
+  stat_is_free path = no_more bitmap (shared_by g f.tree r) f.tree (StatPath path) 0 (refusal f.limit f.tree (StatPath path)) (omega arith)
 
-  pub list_is_free : (path : List (List ℕ)) → (figures_in g f (ListPath path)).cost ≤ 0
-  list_is_free path = no_more bitmap f.tree (ListPath path) 0 (refusal f.limit f.tree (ListPath path)) (omega arith)
+  pub list_is_free : (path : List (List ℕ)) → (figures_in g f r (ListPath path)).cost ≤ 0
+  list_is_free path = no_more bitmap (shared_by g f.tree r) f.tree (ListPath path) 0 (refusal f.limit f.tree (ListPath path)) (omega arith)
 
-module _ (g : Geometry) (limits : IsGeometry g) (f : Session) where
+module _ (g : Geometry) (limits : IsGeometry g) (f : Session) (r : Room) where
   abbrev bits : ℕ
   bits = bitmap_blocks g
 
   room : 25 * (7 + bits) ≤ most_weight g
   room = limits.journal_room
 
-  within : (cmd : Cmd) → (accepted_figures bits f.tree cmd).cost ≤ most_weight g → (figures_in g f cmd).cost ≤ most_weight g
-  within cmd upto = no_more bits f.tree cmd (most_weight g) (refusal f.limit f.tree cmd) upto
+  abbrev shared : SharedNodes
+  shared = shared_by g f.tree r
 
-  pub mkdir_is_cheap : (path : List (List ℕ)) → (figures_in g f (Mkdir path)).cost ≤ most_weight g
+  within : (cmd : Cmd) → (accepted_over bits shared f.tree cmd).cost ≤ most_weight g → (figures_in g f r cmd).cost ≤ most_weight g
+  within cmd upto = no_more bits shared f.tree cmd (most_weight g) (refusal f.limit f.tree cmd) upto
+
+  pub mkdir_is_cheap : (path : List (List ℕ)) → (figures_in g f r (Mkdir path)).cost ≤ most_weight g
   mkdir_is_cheap path = within (Mkdir path) (omega (arith, room))
 
-  pub create_is_cheap : (path : List (List ℕ)) → (figures_in g f (Create path)).cost ≤ most_weight g
+  pub create_is_cheap : (path : List (List ℕ)) → (figures_in g f r (Create path)).cost ≤ most_weight g
   create_is_cheap path = within (Create path) (omega (arith, room))
 
-  pub unlink_is_cheap : (path : List (List ℕ)) → (figures_in g f (Unlink path)).cost ≤ most_weight g
+  pub unlink_is_cheap : (path : List (List ℕ)) → (figures_in g f r (Unlink path)).cost ≤ most_weight g
   unlink_is_cheap path = within (Unlink path) (omega (arith, room))
 
   -- a write behind all that a file has
   pub write_is_cheap : ((size lo hi : ℕ) → min (blocks_for size) (blocks_for hi) - lo / 1024 ≡ blocks_met size lo hi) → (path : List (List ℕ)) (offset : ℕ) (bytes : List ℕ)
-      → length (content f.tree path) ≡ offset → length bytes ≤ 65540 → (figures_in g f (Write path offset bytes)).cost ≤ most_weight g
-  write_is_cheap division path offset bytes all few = within (Write path offset bytes) (cost (length (content f.tree path)) (length bytes) all few)
+      → length (content f.tree path) ≡ offset → length bytes ≤ 65540 → (figures_in g f r (Write path offset bytes)).cost ≤ most_weight g
+  write_is_cheap division path offset bytes all few = within (Write path offset bytes) (cost (shared_at shared (get f.tree.names path)) (length (content f.tree path)) (length bytes) all few)
     where
-      cost : (size count : ℕ) → size ≡ offset → count ≤ 65540 → (write_figures bits size offset count).cost ≤ most_weight g
-      cost size count all few = ⊎_elim
-          (λ none. subst (λ (b : Bool). (if b then nothing else writing bits size (min offset size) (offset + count)).cost ≤ most_weight g) (sym none) (omega arith))
-          (λ some. subst (λ (b : Bool). (if b then nothing else writing bits size (min offset size) (offset + count)).cost ≤ most_weight g) (sym some)
-          (omega (arith, division size (min offset size) (offset + count), all, few, room)))
+      -- of the blocks that it touches no more are shared than there are
+      few_shared : (kept : SharedPlaces) (size lo hi : ℕ) → shared_met kept size lo hi ≤ blocks_met size lo hi
+      few_shared kept size lo hi = fewer_from (touches lo hi) (is_renewed kept lo hi) 0 (blocks_for size) (λ i from is. (and_parts (touches lo hi i) (kept i) is).0)
+
+      least : (a b : ℕ) → min a b ≤ b
+      least a b = grind arith
+
+      cost : (kept : SharedPlaces) (size count : ℕ) → size ≡ offset → count ≤ 65540 → (write_over_figures bits kept size offset count).cost ≤ most_weight g
+      cost kept size count all few = ⊎_elim
+          (λ none. subst (λ (b : Bool). (if b then nothing else writing_over bits kept size (min offset size) (offset + count)).cost ≤ most_weight g) (sym none) (omega arith))
+          (λ some. subst (λ (b : Bool). (if b then nothing else writing_over bits kept size (min offset size) (offset + count)).cost ≤ most_weight g) (sym some)
+          (omega (
+            arith,
+            division size (min offset size) (offset + count),
+            few_shared kept size (min offset size) (offset + count),
+            least (shared_met kept size (min offset size) (offset + count) + (blocks_for (max size (offset + count)) - blocks_for size)) bits,
+            all,
+            few,
+            room,
+          )))
           (cases_Bool (count == 0))

@@ -93,7 +93,7 @@ read_late {S} tells state sound reads rooms room alone s offset count cmd reply 
         let read = Read (segment_path s.first) offset count in
         let x = rooms old new f.0 read reply f.1 (subst (λ (c : Cmd). Applies tells state c reply old new) cmd_is applies) in
         fits_now (state old).books.geom f.0 x.0 (room_of (state old)) (room_of (state new)) reply read (fits_by_itself alone f.0 read)
-        (omega (arith, (room old f.0 f.1).fits, read_is_free (state old).books.geom f.0 (segment_path s.first) offset count))
+        (omega (arith, (room old f.0 f.1).fits, read_is_free (state old).books.geom f.0 (room_of (state old)) (segment_path s.first) offset count))
         (read_answers (state old).books.geom f.0 x.0 (room_of (state old)) (room_of (state new)) reply (segment_path s.first) offset count x.3)
 
     by : Answers is_of_disk f.0 cmd reply a.next → IsLate reply

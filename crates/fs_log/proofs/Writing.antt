@@ -285,7 +285,7 @@ module _ {S : Type 0} (tells : Bool) (state : S → State) (told : IsTrue tells)
   -- a command that costs little fits behind a sync point
   fits_if : (reply : Reply) (end new : S) (stands : Stands (state end)) → (state end).books.running.weight ≡ 0 → (cmd : Cmd)
       → ((f next : Session) (room : Room) → AnswersOn (state end).books.geom f (room_of (state end)) cmd reply next room → AnswersTree (state end).books.geom f (room_of (state end)) cmd reply next room)
-      → (figures_in (state end).books.geom (session_of (state end) stands).0 cmd).cost ≤ most_weight (state end).books.geom → Applies tells state cmd reply end new → is_past_room reply ≡ false
+      → (figures_in (state end).books.geom (session_of (state end) stands).0 (room_of (state end)) cmd).cost ≤ most_weight (state end).books.geom → Applies tells state cmd reply end new → is_past_room reply ≡ false
   fits_if reply end new stands empty cmd tree cheap applies =
       let f = session_of (state end) stands in
       let x = laws.rooms end new f.0 cmd reply f.1 applies in
@@ -315,7 +315,7 @@ module _ {S : Type 0} (tells : Bool) (state : S → State) (told : IsTrue tells)
           let size = ap (λ (q : List ℕ). length q) (content_is h.0.tree s (one_of_all (LiesIn h.0.tree) before s [] (held.has h.0.tree h.1.tree).there)) in
           fits_if reply end new held.stands empty (Write (segment_path s.first) (length (spellings s.appends)) (spelling bytes))
           (λ f next room answers. write_answers (state end).books.geom f next (room_of (state end)) room reply (segment_path s.first) (length (spellings s.appends)) (spelling bytes) answers)
-          (write_is_cheap (state end).books.geom limits h.0 laws.division (segment_path s.first) (length (spellings s.appends)) (spelling bytes) size (omega (arith, may.short)))
+          (write_is_cheap (state end).books.geom limits h.0 (room_of (state end)) laws.division (segment_path s.first) (length (spellings s.appends)) (spelling bytes) size (omega (arith, may.short)))
           (subst (λ (c : Cmd). Applies tells state c reply end new) may.is applies)
 
   -- A new segment.
@@ -341,7 +341,7 @@ module _ {S : Type 0} (tells : Bool) (state : S → State) (told : IsTrue tells)
           let h = session_of (state end) held.stands in
           fits_if reply end new held.stands empty (Create (segment_path (next_of l)))
           (λ f next room answers. create_answers (state end).books.geom f next (room_of (state end)) room reply (segment_path (next_of l)) answers)
-          (create_is_cheap (state end).books.geom limits h.0 (segment_path (next_of l)))
+          (create_is_cheap (state end).books.geom limits h.0 (room_of (state end)) (segment_path (next_of l)))
           (subst (λ (c : Cmd). Applies tells state c reply end new) may.is applies)
 
   -- The first segment goes.
@@ -366,7 +366,7 @@ module _ {S : Type 0} (tells : Bool) (state : S → State) (told : IsTrue tells)
           let h = session_of (state end) held.stands in
           fits_if reply end new held.stands empty (Unlink (segment_path s.first))
           (λ f next room answers. unlink_answers (state end).books.geom f next (room_of (state end)) room reply (segment_path s.first) answers)
-          (unlink_is_cheap (state end).books.geom limits h.0 (segment_path s.first))
+          (unlink_is_cheap (state end).books.geom limits h.0 (room_of (state end)) (segment_path s.first))
           (subst (λ (c : Cmd). Applies tells state c reply end new) cmd_is applies)
 
 -- nothing is done, and time goes on

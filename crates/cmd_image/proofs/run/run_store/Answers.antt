@@ -31,7 +31,7 @@ returns-in-Ok-clause-comes g c = λ first is.
     (c.in-Ok.ensures.serves t (λ x. drawn known x) s.books.geom s.map tree.0 (mounted_with tells t first s is) tree.1)
     (c.in-Ok.ensures.budget t tree.0)
     (λ f session. c.a_command_is_answered_in_a_room_that_came_back.ensures.room t opened f session)
-    (λ f session. c.as_many_blocks_are_marked_as_the_tree_has.ensures.left opened f t session)
+    (λ f session. c.as_many_blocks_are_marked_as_the_tree_has.ensures.room opened f t session)
     (c.as_many_blocks_are_marked_as_the_tree_has.ensures.takeable opened)
     (c.books_are_sound.ensures opened)
     (subst (λ (k : Geometry). IsGeometry k) c.geom-geom.ensures c.lawful.ensures.limits)

@@ -15,7 +15,7 @@ overflow_add-refused c = omega (arith, small c.args.seed c.args.count c.loop.cou
 
 pub loop-preserved : goal.loop-preserved
 loop-preserved c = (
-  one_more c.args.seed c.args.count c.loop.counter c.loop.load c.loop.refused c.next_command.new.self c.in_ok-refused.field-0 c.in_ok-cmd.cmd c.answer-reply.result (state_of disk_state (blocks_in c.loop.fs)) (state_of disk_state (blocks_in c.answer-reply.new.fs))
+  one_more c.nothing_shared_costs_nothing.ensures.commands c.args.seed c.args.count c.loop.counter c.loop.load c.loop.refused c.next_command.new.self c.in_ok-refused.field-0 c.in_ok-cmd.cmd c.answer-reply.result (state_of disk_state (blocks_in c.loop.fs)) (state_of disk_state (blocks_in c.answer-reply.new.fs))
       c.loop-test.true c.requires.most c.loop.invariant.0 c.in_ok-cmd.ensures.command c.in_ok-cmd.ensures.state c.answer-reply.ensures.answered c.in_ok-refused.ensures.calm c.in_ok-refused.ensures.count,
   c.answer-reply.ensures.between,
   c.answer-reply.ensures.stands,

@@ -5,5 +5,5 @@ pub returns : goal.returns
 returns c = record {
   places = λ g m log mounted cmds replies marks last next cmd reply paces step. finds_places g m log mounted cmds replies marks last next cmd reply paces step;
   blocks = λ g m log mounted cmds replies marks last need paces enough.
-      finds_enough g m log mounted (λ f next old new cmd reply answers up. let few = c.a_command_takes_no_more_blocks_than_it_needs.ensures in (few.keeps g f next old new cmd reply answers up, few.few g f next old new cmd reply answers up)) cmds replies marks last need paces enough;
+      finds_enough g m log mounted (λ f next old new cmd reply answers up. let few = c.a_command_takes_no_more_blocks_than_it_needs.ensures in (few.keeps g f next old new cmd reply answers up, few.few g f next old new cmd reply answers up)) c.nothing_shared_costs_nothing.ensures.commands c.commands_keep_snapshots.ensures.same (c.commands_keep_snapshots.ensures.start g.i) cmds replies marks last need paces enough;
 }
