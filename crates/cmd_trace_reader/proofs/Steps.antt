@@ -2,14 +2,18 @@
 use Rattle.std.proofs.Common.{◌≡◌, sym, ap, refl, ◌∙◌, subst, arith, ℕ, ◌<◌, ◌^◌, nat_le, Bool, true, false, inl, inr, List, Option, Some, None}
 use Rattle.std.specs.Prelude.{◌⊎◌, replicate}
 use Rattle.lang_tree.specs.declared.command.Cmd.{Cmd}
-use Rattle.lang_tree.specs.declared.command.Cmd.TheVariants.{Write, Fill, Truncate, Rename, Stat, Osync, Dsync, Dwait}
+use Rattle.lang_tree.specs.declared.command.Cmd.TheVariants.{Write, Fill, Truncate, Rename, Stat, At, Osync, Dsync, Dwait}
+use Rattle.lang_tree.specs.declared.command.Look.{Look}
+use Rattle.lang_tree.specs.declared.command.Look.TheVariants as look
 use Rattle.lang_tree.specs.declared.command.Reply.{Reply}
 use Rattle.lang_tree.specs.declared.command.Reply.TheVariants.{Refused}
 use Rattle.lang_tree.specs.declared.command.Refusal.{Refusal}
 use Rattle.lang_tree.specs.declared.command.Refusal.TheVariants.{Full, TooBig, Scattered, DiskFault, NoMemory}
+use Rattle.lang_tree.specs.Tree.{Tree, Kept, kept_tree}
 use Rattle.lang_tree.specs.Conditions.{refusal}
-use Rattle.lang_tree.specs.Step.{Session, step, answered, write, truncate, rename, stat, osync, dsync, dwait}
+use Rattle.lang_tree.specs.Step.{Session, step, answered, write, truncate, rename, stat, seen, seen_in, osync, dsync, dwait}
 use Rattle.std.proofs.lemmas.Bool.{leb-true}
+use Rattle.std.specs.FinMap.{get}
 use Rattle.lang_tree.specs.Points.{CountsPoints}
 use Rattle.lang_tree.specs.Run.{Answers, is_of_memory, is_of_disk}
 use Rattle.cmd_trace.specs.ReadsAs.{HasSmallFigures}
@@ -20,8 +24,19 @@ pub record Counts (s : Session) (r : Session × Reply) : Type 0 where
   pub points : r.0.points ≡ points_by r.1 s.points
   pub durable : r.0.durable ≡ durable_by r.1 s.durable
 
-stat_counts : (s : Session) (path : List (List ℕ)) → Counts s (s, stat s.tree path)
-stat_counts s path = grind arith
+-- what a stat says of any tree is no point
+stat_counts : (s : Session) (t : Tree) (path : List (List ℕ)) → Counts s (s, stat t path)
+stat_counts s t path = grind arith
+
+-- nor is what a look at a snapshot shows
+look_counts : (s : Session) (t : Tree) (l : Look) → Counts s (s, seen t l)
+look_counts s t (look.Read path offset count) = record { points = refl; durable = refl }
+look_counts s t (look.Stat path) = stat_counts s t path
+look_counts s t (look.List path) = record { points = refl; durable = refl }
+
+at_counts : (s : Session) (k : Option Kept) (l : Look) → Counts s (s, seen_in k l)
+at_counts s None l = record { points = refl; durable = refl }
+at_counts s (Some k) l = look_counts s (kept_tree k) l
 
 write_counts : (s : Session) (path : List (List ℕ)) (offset : ℕ) (bytes : List ℕ) → Counts s (write s path offset bytes)
 write_counts s path offset bytes = grind arith
@@ -50,7 +65,8 @@ answered_counts s (Write path offset bytes) None ok = write_counts s path offset
 answered_counts s (Fill path offset count byte) None ok = write_counts s path offset (replicate count byte)
 answered_counts s (Truncate path size) None ok = truncate_counts s path size
 answered_counts s (Rename from to) None ok = rename_counts s from to
-answered_counts s (Stat path) None ok = stat_counts s path
+answered_counts s (Stat path) None ok = stat_counts s s.tree path
+answered_counts s (At name l) None ok = at_counts s (get s.tree.snapshots name) l
 answered_counts s Osync None ok = osync_counts s s.changed
 answered_counts s Dsync None ok = dsync_counts s s.changed ok
 answered_counts s (Dwait n) None ok = dwait_counts s n (nat_le n s.points) refl
@@ -71,7 +87,8 @@ answered_points s (Write path offset bytes) None low = (write_counts s path offs
 answered_points s (Fill path offset count byte) None low = (write_counts s path offset (replicate count byte)).points
 answered_points s (Truncate path size) None low = (truncate_counts s path size).points
 answered_points s (Rename from to) None low = (rename_counts s from to).points
-answered_points s (Stat path) None low = (stat_counts s path).points
+answered_points s (Stat path) None low = (stat_counts s s.tree path).points
+answered_points s (At name l) None low = (at_counts s (get s.tree.snapshots name) l).points
 answered_points s Osync None low = (osync_counts s s.changed).points
 answered_points s Dsync None low = dsync_points s s.changed low
 answered_points s (Dwait n) None low = (dwait_counts s n (nat_le n s.points) refl).points

@@ -24,6 +24,10 @@ pub fn is_bad(cmd: &Cmd) -> bool
         | Cmd::Rename(_, _)
         | Cmd::Stat(_)
         | Cmd::List(_)
+        | Cmd::Snap(_)
+        | Cmd::Unsnap(_)
+        | Cmd::Snaps
+        | Cmd::At(_, _)
         | Cmd::Osync
         | Cmd::Dsync
         | Cmd::Durable
@@ -50,6 +54,10 @@ pub fn is_durable(cmd: &Cmd) -> bool
         | Cmd::Rename(_, _)
         | Cmd::Stat(_)
         | Cmd::List(_)
+        | Cmd::Snap(_)
+        | Cmd::Unsnap(_)
+        | Cmd::Snaps
+        | Cmd::At(_, _)
         | Cmd::Osync
         | Cmd::Dsync
         | Cmd::Dwait(_)
@@ -80,7 +88,8 @@ pub fn is_stopped(why: Refusal) -> bool
         | Refusal::DiskFault
         | Refusal::Spent
         | Refusal::NoMemory
-        | Refusal::NoPoint { .. } => false,
+        | Refusal::NoPoint { .. }
+        | Refusal::NoSnap => false,
     }
 }
 
@@ -106,7 +115,8 @@ pub fn is_disk_fault(why: Refusal) -> bool
         | Refusal::Stopped
         | Refusal::Spent
         | Refusal::NoMemory
-        | Refusal::NoPoint { .. } => false,
+        | Refusal::NoPoint { .. }
+        | Refusal::NoSnap => false,
     }
 }
 
@@ -148,7 +158,8 @@ fn is_no_memory(why: Refusal) -> bool
         | Refusal::DiskFault
         | Refusal::Stopped
         | Refusal::Spent
-        | Refusal::NoPoint { .. } => false,
+        | Refusal::NoPoint { .. }
+        | Refusal::NoSnap => false,
     }
 }
 

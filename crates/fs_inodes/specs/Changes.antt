@@ -3,7 +3,7 @@ use Rattle.std.specs.Prelude.{◌≡◌, ◌≢◌, ◌⊎◌, ℕ, ◌-◌, ◌
 use Rattle.layout_bytes.specs.declared.slot.Slot.{Slot}
 use Rattle.layout_directory.specs.Directory.{place_of, without_at}
 use Rattle.lang_tree.specs.declared.command.Cmd.{Cmd}
-use Rattle.lang_tree.specs.declared.command.Cmd.TheVariants.{Read, Stat, List as ListNames, Osync, Dsync, Durable, Poll, Bad}
+use Rattle.lang_tree.specs.declared.command.Cmd.TheVariants.{Read, Stat, List as ListNames, Snaps, At, Osync, Dsync, Durable, Poll, Bad}
 use Rattle.lang_tree.specs.Tree.{Thing, Dir, File}
 use Rattle.crash_stands.specs.Files.{FileNode}
 use Rattle.crash_stands.specs.Inodes.{Inode, Inodes, ADir, AFile, AreDistinct}
@@ -36,6 +36,8 @@ abbrev pub looks_alone : Cmd → Bool
 looks_alone (Read path offset count) = true
 looks_alone (Stat path) = true
 looks_alone (ListNames path) = true
+looks_alone Snaps = true
+looks_alone (At name l) = true
 looks_alone Osync = true
 looks_alone Dsync = true
 looks_alone Durable = true

@@ -7,7 +7,7 @@ use Rattle.lang_tree.specs.Walk.{enter}
 use Rattle.crash_stands.specs.Inodes.{Inode, Inodes, ADir, AFile}
 use Rattle.crash_stands.specs.Walks.{entries_of, entry_in, walk}
 
--- the least number from 1 to the limit that no node has
+-- the least number from 1 to the limit that no inode has; where there is no snapshot it is the least unused one
 abbrev pub least_free : ℕ → Inodes → Option ℕ
 least_free limit m = find (λ n. is_none (m n)) (range_with_len 1 limit)
 

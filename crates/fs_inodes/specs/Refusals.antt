@@ -1,14 +1,18 @@
--- Why a command is refused, from inodes alone: the conditions of lang_tree in their order, each looked up in the inode map.
+-- Why a command is refused, from inodes: the conditions of lang_tree in their order, each looked up in the inode map. Beside it they look at the least unused number and at what snapshots keep.
 use Rattle.std.specs.Prelude.{ℕ, ◌+◌, ◌==◌, ◌&&◌, if◌then◌else◌, List, [], ◌∷◌, length, nat_lt, nat_le, is_some, is_none, Option, None, Some, Result, Ok, Err}
 use Rattle.lang_tree.specs.declared.command.Cmd.{Cmd}
-use Rattle.lang_tree.specs.declared.command.Cmd.TheVariants.{Mkdir, Create, Write, Fill, Read, Truncate, Link, Unlink, Rmdir, Rename, Stat, List as ListNames, Osync, Dsync, Durable, Dwait, Poll, Bad}
+use Rattle.lang_tree.specs.declared.command.Cmd.TheVariants.{Mkdir, Create, Write, Fill, Read, Truncate, Link, Unlink, Rmdir, Rename, Stat, List as ListNames, Snap, Unsnap, Snaps, At, Osync, Dsync, Durable, Dwait, Poll, Bad}
+use Rattle.lang_tree.specs.declared.command.Look.{Look}
+use Rattle.lang_tree.specs.declared.command.Look.TheVariants as look
 use Rattle.lang_tree.specs.declared.command.Refusal.{Refusal}
-use Rattle.lang_tree.specs.declared.command.Refusal.TheVariants.{Exists, NotDir, IsDir, NotEmpty, BelowItself, TooLarge, TooManyLinks, NoNode}
+use Rattle.lang_tree.specs.declared.command.Refusal.TheVariants.{Exists, NotDir, IsDir, NotEmpty, BelowItself, TooLarge, TooManyLinks, NoNode, NoSnap}
+use Rattle.std.specs.FinMap.{get}
+use Rattle.lang_tree.specs.Tree.{Snapshots}
 use Rattle.lang_tree.specs.Paths.{parent, is_below}
 use Rattle.lang_tree.specs.Walk.{refusal_in, are_same}
-use Rattle.lang_tree.specs.Conditions.{when, first_reason, is_too_large}
+use Rattle.lang_tree.specs.Conditions.{when, first_reason, is_too_large, at_refusal}
 use Rattle.crash_stands.specs.Inodes.{Inodes}
-use Rattle.fs_inodes.specs.Lookups.{least_free, is_dir_inode, is_file_inode, has_slots, links_in, walk_on, number_at, inode_at}
+use Rattle.fs_inodes.specs.Lookups.{is_dir_inode, is_file_inode, has_slots, links_in, walk_on, number_at, inode_at}
 
 abbrev pub walk_reason : Inodes → List (List ℕ) → Option Refusal
 walk_reason m path = refusal_in (walk_on m 1 path)
@@ -22,8 +26,9 @@ abbrev pub parent_reason : Inodes → List (List ℕ) → Option Refusal
 parent_reason m [] = None
 parent_reason m (name ∷ names) = dir_reason m (walk_on m 1 (parent (name ∷ names)))
 
-abbrev pub make_reason : ℕ → Inodes → List (List ℕ) → Option Refusal
-make_reason limit m path = first_reason (parent_reason m path ∷ when (is_some (number_at m path)) Exists ∷ when (is_none (least_free limit m)) NoNode ∷ [])
+-- of a new node, where this is the least unused number
+abbrev pub make_reason : Option ℕ → Inodes → List (List ℕ) → Option Refusal
+make_reason least m path = first_reason (parent_reason m path ∷ when (is_some (number_at m path)) Exists ∷ when (is_none least) NoNode ∷ [])
 
 abbrev pub write_reason : Inodes → List (List ℕ) → ℕ → ℕ → Option Refusal
 write_reason m path offset count =
@@ -58,23 +63,37 @@ rename_reason m from to =
 abbrev pub list_reason : Inodes → List (List ℕ) → Option Refusal
 list_reason m path = first_reason (walk_reason m path ∷ when (is_file_inode (inode_at m path)) NotDir ∷ [])
 
--- why a command is refused, with so many numbers at most
-abbrev pub reason : ℕ → Inodes → Cmd → Option Refusal
-reason limit m (Mkdir path) = make_reason limit m path
-reason limit m (Create path) = make_reason limit m path
-reason limit m (Write path offset bytes) = write_reason m path offset (length bytes)
-reason limit m (Fill path offset count byte) = write_reason m path offset count
-reason limit m (Read path offset count) = file_reason m path
-reason limit m (Truncate path size) = truncate_reason m path size
-reason limit m (Link path other) = link_reason m path other
-reason limit m (Unlink path) = file_reason m path
-reason limit m (Rmdir path) = rmdir_reason m path
-reason limit m (Rename from to) = rename_reason m from to
-reason limit m (Stat path) = walk_reason m path
-reason limit m (ListNames path) = list_reason m path
-reason limit m Osync = None
-reason limit m Dsync = None
-reason limit m Durable = None
-reason limit m (Dwait n) = None
-reason limit m Poll = None
-reason limit m Bad = None
+-- of a new snapshot, where this is the least unused number and these are there
+abbrev pub snap_reason : Option ℕ → Snapshots → List ℕ → Option Refusal
+snap_reason least kept name = first_reason (when (is_some (get kept name)) Exists ∷ when (is_none least) NoNode ∷ [])
+
+-- of a look
+abbrev pub look_reason : Inodes → Look → Option Refusal
+look_reason m (look.Read path offset count) = file_reason m path
+look_reason m (look.Stat path) = walk_reason m path
+look_reason m (look.List path) = list_reason m path
+
+-- why a command is refused, where this is the least unused number and these are the snapshots
+abbrev pub reason : Option ℕ → Snapshots → Inodes → Cmd → Option Refusal
+reason least kept m (Mkdir path) = make_reason least m path
+reason least kept m (Create path) = make_reason least m path
+reason least kept m (Write path offset bytes) = write_reason m path offset (length bytes)
+reason least kept m (Fill path offset count byte) = write_reason m path offset count
+reason least kept m (Read path offset count) = file_reason m path
+reason least kept m (Truncate path size) = truncate_reason m path size
+reason least kept m (Link path other) = link_reason m path other
+reason least kept m (Unlink path) = file_reason m path
+reason least kept m (Rmdir path) = rmdir_reason m path
+reason least kept m (Rename from to) = rename_reason m from to
+reason least kept m (Stat path) = walk_reason m path
+reason least kept m (ListNames path) = list_reason m path
+reason least kept m (Snap name) = snap_reason least kept name
+reason least kept m (Unsnap name) = when (is_none (get kept name)) NoSnap
+reason least kept m Snaps = None
+reason least kept m (At name l) = at_refusal (get kept name) l
+reason least kept m Osync = None
+reason least kept m Dsync = None
+reason least kept m Durable = None
+reason least kept m (Dwait n) = None
+reason least kept m Poll = None
+reason least kept m Bad = None

@@ -10,7 +10,7 @@ use Rattle.lang_tree.specs.Paths.{parent, is_within}
 use Rattle.lang_tree.specs.Names.{path_count, holds_names, renamed}
 use Rattle.lang_tree.specs.Walk.{is_same_node}
 use Rattle.lang_tree.specs.Conditions.{least_unused, file_refusal, rmdir_refusal, rename_refusal, refusal}
-use Rattle.lang_tree.specs.Step.{Session, step, start}
+use Rattle.lang_tree.specs.Step.{Session, step, start, changes_snapshots}
 use Rattle.lang_tree.specs.Listing.{path_lines, listing}
 use Rattle.crash_stands.specs.Inodes.{Inode, Inodes, ADir, root_alone}
 use Rattle.crash_stands.specs.Walks.{Entries, walk}
@@ -35,7 +35,7 @@ pub record TreeLaws : Type 0 where
   pub sound_path : (limit : ℕ) (t : Tree) (path : List (List ℕ)) (n k : ℕ) (bytes : List ℕ) → IsSound limit t → get t.names path ≡ None → get t.nodes n ≡ Some (File bytes)
       → get t.names (parent path) ≡ Some k → get t.nodes k ≡ Some Dir → IsSound limit (record t { names = insert t.names path n })
   -- what becomes of snapshots, and what a tree without any is
-  pub same_snapshots : (s : Session) (cmd : Cmd) → (step s cmd).0.tree.snapshots ≡ s.tree.snapshots
+  pub same_snapshots : (s : Session) (cmd : Cmd) → changes_snapshots cmd ≡ false → (step s cmd).0.tree.snapshots ≡ s.tree.snapshots
   pub unused_alone : (limit : ℕ) (t : Tree) → t.snapshots ≡ empty → least_unused limit t ≡ find (λ n. is_none (get t.nodes n)) (range_with_len 1 limit)
   pub listed_alone : (t : Tree) → t.snapshots ≡ empty → listing t ≡ path_lines t.names t.nodes
   -- what goes or moves

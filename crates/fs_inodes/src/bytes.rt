@@ -7,7 +7,7 @@ ghost use Rattle.lang_tree.specs.declared.command.Cmd.TheVariants.{Write, Fill, 
 ghost use Rattle.lang_tree.specs.declared.command.Refusal.{Refusal};
 ghost use Rattle.lang_tree.specs.Conditions.{refusal};
 ghost use Rattle.lang_tree.specs.Walk.{content, is_same_node};
-ghost use Rattle.lang_tree.specs.Step.{Session, step, written, resized};
+ghost use Rattle.lang_tree.specs.Step.{Session, step, written, resized, changes_snapshots};
 ghost use Rattle.crash_stands.specs.Inodes.{Inodes, AFile};
 ghost use Rattle.crash_stands.specs.Maps.{IsMapOf};
 ghost use Rattle.crash_stands.specs.Walks.{LeadsTo};
@@ -36,7 +36,8 @@ pub fn new_bytes_are_mapped()
 }
 
 /// The tree stays where the command is refused, where it only looks or is a sync, where no bytes are written,
-/// where a truncate is to the size that the file has, and where a move is between two paths of one node.
+/// where a truncate is to the size that the file has, and where a move is between two paths of one node. The map is
+/// that of the tree after a snap or an unsnap too.
 pub fn what_changes_nothing_keeps_the_map()
     ensures refused { (s : Session) (cmd : Cmd) (why : Refusal) → refusal s.limit s.tree cmd ≡ Some why → (step s cmd).0 ≡ s }
     ensures looked { (s : Session) (cmd : Cmd) → looks_alone cmd ≡ true → (step s cmd).0.tree ≡ s.tree }
@@ -47,4 +48,6 @@ pub fn what_changes_nothing_keeps_the_map()
         → (step s (Truncate path (length bytes))).0 ≡ s }
     ensures same_node { (s : Session) (m : Inodes) (from to : List (List ℕ)) (node : ℕ) → IsMapOf s.limit m s.tree → LeadsTo m from node
         → LeadsTo m to node → (step s (Rename from to)).0 ≡ s }
+    ensures snapshots { (s : Session) (m : Inodes) (cmd : Cmd) → changes_snapshots cmd ≡ true → IsMapOf s.limit m s.tree
+        → IsMapOf s.limit m (step s cmd).0.tree }
 {}

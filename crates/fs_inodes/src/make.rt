@@ -4,26 +4,25 @@
 ghost use Rattle.std.specs.Prelude.{◌≡◌, ◌+◌, ◌++◌, ℕ, List, [], ◌∷◌, None, Some};
 ghost use Rattle.lang_tree.specs.declared.command.Cmd.TheVariants.{Mkdir, Create, Link};
 ghost use Rattle.lang_tree.specs.Tree.{Dir, File};
-ghost use Rattle.lang_tree.specs.Conditions.{refusal};
+ghost use Rattle.lang_tree.specs.Conditions.{least_unused, refusal};
 ghost use Rattle.lang_tree.specs.Step.{Session, step};
 ghost use Rattle.crash_stands.specs.Inodes.{Inodes, AFile};
 ghost use Rattle.crash_stands.specs.Maps.{IsMapOf};
 ghost use Rattle.crash_stands.specs.Walks.{LeadsTo};
-ghost use Rattle.fs_inodes.specs.Lookups.{least_free};
 ghost use Rattle.fs_inodes.specs.Changes.{new_inode, AddsSlot};
 
 use crate::tree::the_tree_is_lawful;
 
 /// A mkdir or create that isn't refused: a slot comes behind the last one of the parent, and the least
-/// number that no node has is a directory without slots, or a file without bytes and with one link.
+/// unused number is a directory without slots, or a file without bytes and with one link.
 pub fn a_new_node_is_mapped()
     ensures mkdir { (s : Session) (m new : Inodes) (up : List (List ℕ)) (name : List ℕ) (dir node : ℕ) → IsMapOf s.limit m s.tree
         → refusal s.limit s.tree (Mkdir (up ++ name ∷ [])) ≡ None
-        → LeadsTo m up dir → least_free s.limit m ≡ Some node → AddsSlot m new dir node name (new_inode Dir)
+        → LeadsTo m up dir → least_unused s.limit s.tree ≡ Some node → AddsSlot m new dir node name (new_inode Dir)
         → IsMapOf s.limit new (step s (Mkdir (up ++ name ∷ []))).0.tree }
     ensures create { (s : Session) (m new : Inodes) (up : List (List ℕ)) (name : List ℕ) (dir node : ℕ) → IsMapOf s.limit m s.tree
         → refusal s.limit s.tree (Create (up ++ name ∷ [])) ≡ None
-        → LeadsTo m up dir → least_free s.limit m ≡ Some node → AddsSlot m new dir node name (new_inode (File []))
+        → LeadsTo m up dir → least_unused s.limit s.tree ≡ Some node → AddsSlot m new dir node name (new_inode (File []))
         → IsMapOf s.limit new (step s (Create (up ++ name ∷ []))).0.tree }
 {
     the_tree_is_lawful();

@@ -4,12 +4,11 @@
 ghost use Rattle.std.specs.Prelude.{◌≡◌, ◌+◌, ◌++◌, ℕ, List, [], ◌∷◌, None, Some};
 ghost use Rattle.lang_tree.specs.declared.command.Cmd.TheVariants.{Mkdir, Create, Link, Unlink, Rmdir, Rename};
 ghost use Rattle.lang_tree.specs.Tree.{Dir, File};
-ghost use Rattle.lang_tree.specs.Conditions.{refusal};
+ghost use Rattle.lang_tree.specs.Conditions.{least_unused, refusal};
 ghost use Rattle.lang_tree.specs.Step.{Session, step};
 ghost use Rattle.crash_stands.specs.Inodes.{Inodes, AFile};
 ghost use Rattle.crash_stands.specs.Maps.{IsMapOf};
 ghost use Rattle.crash_stands.specs.Walks.{LeadsTo};
-ghost use Rattle.fs_inodes.specs.Lookups.{least_free};
 ghost use Rattle.fs_inodes.specs.Changes.{new_inode, AddsName, TakesName, MovesName};
 
 use crate::tree::the_tree_is_lawful;
@@ -19,11 +18,11 @@ use crate::tree::the_tree_is_lawful;
 pub fn names_may_be_in_any_order()
     ensures mkdir { (s : Session) (m new : Inodes) (up : List (List ℕ)) (name : List ℕ) (dir node : ℕ) → IsMapOf s.limit m s.tree
         → refusal s.limit s.tree (Mkdir (up ++ name ∷ [])) ≡ None
-        → LeadsTo m up dir → least_free s.limit m ≡ Some node → AddsName m new dir node name (new_inode Dir)
+        → LeadsTo m up dir → least_unused s.limit s.tree ≡ Some node → AddsName m new dir node name (new_inode Dir)
         → IsMapOf s.limit new (step s (Mkdir (up ++ name ∷ []))).0.tree }
     ensures create { (s : Session) (m new : Inodes) (up : List (List ℕ)) (name : List ℕ) (dir node : ℕ) → IsMapOf s.limit m s.tree
         → refusal s.limit s.tree (Create (up ++ name ∷ [])) ≡ None
-        → LeadsTo m up dir → least_free s.limit m ≡ Some node → AddsName m new dir node name (new_inode (File []))
+        → LeadsTo m up dir → least_unused s.limit s.tree ≡ Some node → AddsName m new dir node name (new_inode (File []))
         → IsMapOf s.limit new (step s (Create (up ++ name ∷ []))).0.tree }
     ensures link { (s : Session) (m new : Inodes) (path up : List (List ℕ)) (name : List ℕ) (dir node links : ℕ) (bytes : List ℕ)
         → IsMapOf s.limit m s.tree → refusal s.limit s.tree (Link path (up ++ name ∷ [])) ≡ None

@@ -1,3 +1,5 @@
+pub mod Snapshots
+pub mod Snapped
 pub mod Changed
 pub mod Reasons
 pub mod Naming

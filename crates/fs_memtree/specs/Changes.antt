@@ -2,16 +2,16 @@
 use Rattle.std.specs.Prelude.{ℕ, ◌==◌, Bool, true, false, if◌then◌else◌, List, Option, None, Some}
 use Rattle.std.specs.FinMap.{insert}
 use Rattle.base_types.specs.Counts.{next_count}
-use Rattle.fs_inodes.specs.Lookups.{least_free, number_at}
+use Rattle.fs_inodes.specs.Lookups.{number_at}
 use Rattle.fs_memtree.specs.Kept.{Kept, KeptNodes, map_of, spot_at, changed_at, without_link, with_name, without_name, with_number, with_links}
 
 abbrev pub made_at : KeptNodes → Option (ℕ × List ℕ) → Option ℕ → Kept → KeptNodes
 made_at nodes (Some spot) (Some n) x = insert (changed_at nodes spot.0 (with_name spot.1 n)) n x
 made_at nodes _ _ x = nodes
 
--- a new node at the path, under the least number that no node has
-abbrev pub made : ℕ → KeptNodes → List (List ℕ) → Kept → KeptNodes
-made limit nodes path x = made_at nodes (spot_at (map_of nodes) path) (least_free limit (map_of nodes)) x
+-- a new node at the path, under the least unused number
+abbrev pub made : Option ℕ → KeptNodes → List (List ℕ) → Kept → KeptNodes
+made least nodes path x = made_at nodes (spot_at (map_of nodes) path) least x
 
 abbrev pub edited_by : KeptNodes → Option ℕ → (Kept → Kept) → KeptNodes
 edited_by nodes None change = nodes

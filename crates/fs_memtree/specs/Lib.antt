@@ -1,5 +1,6 @@
 pub mod Code
 pub mod Kept
+pub mod Snapshots
 pub mod Stored
 pub mod Changes
 pub mod Serving

@@ -2,12 +2,12 @@
 //! of their numbers, one small function for each family of commands. Each path is walked once, and what the
 //! walk found is returned. Nothing here changes a node or takes memory.
 
-ghost use Rattle.std.specs.Prelude.{◌≡◌, ◌+◌, ◌^◌, ◌<◌, ◌&&◌, nat_lt, Some, None, Option, IfOk, if◌then◌else◌};
+ghost use Rattle.std.specs.Prelude.{◌≡◌, ◌+◌, ◌^◌, ◌<◌, ◌&&◌, nat_lt, false, Some, None, Option, IfOk, if◌then◌else◌};
 ghost use Rattle.std.specs.Result.{result_err};
 ghost use Rattle.lang_tree.specs.Conditions.{is_too_large};
 ghost use Rattle.lang_tree.specs.Walk.{are_same};
-ghost use Rattle.fs_inodes.specs.Lookups.{least_free, number_at};
-ghost use Rattle.fs_inodes.specs.Refusals.{reason, make_reason, write_reason, file_reason, truncate_reason, link_reason, rmdir_reason, onto_reason};
+ghost use Rattle.fs_inodes.specs.Lookups.{number_at};
+ghost use Rattle.fs_inodes.specs.Refusals.{make_reason, write_reason, file_reason, truncate_reason, link_reason, rmdir_reason, onto_reason};
 ghost use Rattle.fs_inodes.specs.Refusals.{rename_reason, walk_reason, list_reason};
 ghost use Rattle.fs_memtree.specs.Trails.{IsEnd, IsUnder};
 ghost use Rattle.fs_memtree.specs.Kept.{map_of};
@@ -15,45 +15,25 @@ ghost use Rattle.fs_memtree.specs.Kept.{map_of};
 use crate::nodes::Nodes;
 use crate::walks::End;
 use base_types::limits::{LARGEST_FILE, MOST_LINKS};
-use lang_tree::{Cmd, Path, Refusal};
+use lang_tree::{Path, Refusal};
 
 impl Nodes {
-    /// Why the command is refused, with so many numbers at most.
-    pub(crate) fn refusal(&self, limit: u32, cmd: &Cmd) -> Option<Refusal>
-        ensures { result ≡ reason limit (map_of self.now) cmd.now }
-    {
-        match cmd {
-            Cmd::Mkdir(path) | Cmd::Create(path) => self.to_make(limit, path).err(),
-            Cmd::Write(path, offset, bytes) => {
-                self.to_write(path, *offset, bytes.len() as u64).err()
-            }
-            Cmd::Fill(path, offset, count, _) => {
-                self.to_write(path, *offset, u64::from(*count)).err()
-            }
-            Cmd::Read(path, _, _) => self.to_read(path).err(),
-            Cmd::Truncate(path, size) => self.to_truncate(path, *size).err(),
-            Cmd::Link(path, other) => self.to_link(path, other).err(),
-            Cmd::Unlink(path) => self.to_unlink(path).err(),
-            Cmd::Rmdir(path) => self.to_rmdir(path).err(),
-            Cmd::Rename(from, to) => self.to_rename(from, to).err(),
-            Cmd::Stat(path) => self.to_stat(path).err(),
-            Cmd::List(path) => self.to_list(path).err(),
-            Cmd::Osync | Cmd::Dsync | Cmd::Durable | Cmd::Dwait(_) | Cmd::Poll | Cmd::Bad => None,
-        }
-    }
-
-    /// A new node: the path isn't there, and a number is unused. Where it is to be, and its number.
-    pub(crate) fn to_make<'a>(&self, limit: u32, path: &'a Path) -> Result<(End<'a>, u32), Refusal>
-        ensures reason { result_err result ≡ make_reason limit (map_of self.now) path.now }
-        ensures found { IfOk result (λ found. IsEnd (map_of self.now) path.now found.0 × (found.0.number ≡ None)
-            × (least_free limit (map_of self.now) ≡ Some found.1)) }
+    /// A new node: the path isn't there, and a number is unused, of which this is the least. Where it is to be, and its
+    /// number.
+    pub(crate) fn to_make<'a>(
+        &self,
+        least: Option<u32>,
+        path: &'a Path,
+    ) -> Result<(End<'a>, u32), Refusal>
+        ensures reason { result_err result ≡ make_reason least (map_of self.now) path.now }
+        ensures found { IfOk result (λ found. IsEnd (map_of self.now) path.now found.0 × (found.0.number ≡ None) × (least ≡ Some found.1)) }
         ensures under { IfOk result (λ found. IsUnder (map_of self.now) found.0) }
     {
         let end = self.look(path.names())?;
         if end.number.is_some() {
             return Err(Refusal::Exists);
         }
-        match self.unused(limit) {
+        match least {
             None => Err(Refusal::NoNode),
             Some(number) => Ok((end, number)),
         }

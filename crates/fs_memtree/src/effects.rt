@@ -2,8 +2,8 @@
 //! paths that move. A command touches the entries that it names alone. Where no memory is found, all is as
 //! before.
 
-ghost use Rattle.std.specs.Prelude.{◌≡◌, None, Some, IfOk, OnOk, OnErr};
-ghost use Rattle.fs_inodes.specs.Lookups.{least_free};
+ghost use Rattle.std.specs.Prelude.{◌≡◌, ◌≤◌, None, Some, IfOk, OnOk, OnErr};
+ghost use Rattle.std.specs.FinMap.{get};
 ghost use Rattle.fs_memtree.specs.Changes.{made_at, linked_at, removed_at, moved_at, put_over, is_that};
 ghost use Rattle.fs_memtree.specs.Trails.{spot_of, IsUnder};
 ghost use Rattle.fs_memtree.specs.Kept.{map_of};
@@ -15,15 +15,9 @@ use crate::walks::End;
 use base_types::{Name, NoMemory};
 
 impl Nodes {
-    /// Puts a new node at the end of a path, which isn't there, under the least unused number.
-    pub(crate) fn make(
-        &mut self,
-        limit: u32,
-        end: End<'_>,
-        number: u32,
-        node: Node,
-    ) -> Result<(), NoMemory>
-        requires unused { least_free limit (map_of self.old) ≡ Some number }
+    /// Puts a new node at the end of a path, which isn't there, under an unused number.
+    pub(crate) fn make(&mut self, end: End<'_>, number: u32, node: Node) -> Result<(), NoMemory>
+        requires unused { (get self.old number ≡ None) × (1 ≤ number) }
         requires absent { end.number ≡ None }
         requires under { IsUnder (map_of self.old) end }
         ensures ok { OnOk result (self.new ≡ made_at self.old (spot_of end.entry) (Some number) (kept node)) }
@@ -33,7 +27,7 @@ impl Nodes {
             return Ok(());
         };
         self.grow(directory, Growth::Name(name, number))?;
-        if let Err(error) = self.add(number, limit, node) {
+        if let Err(error) = self.add(number, node) {
             self.settle(directory, Settling::Unname(name));
             return Err(error);
         }

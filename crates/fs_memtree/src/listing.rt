@@ -7,17 +7,21 @@ ghost use Rattle.std.specs.Io.KnownBytes.{Appends};
 ghost use Rattle.hex.specs.Hex.{encode_lower};
 ghost use Rattle.base_types.specs.Counts.{HasCause};
 ghost use Rattle.lang_tree.specs.Tree.{Dir, File};
-ghost use Rattle.lang_tree.specs.Listing.{slashed, path_text, digits_behind_blank, line_of, listing};
+ghost use Rattle.lang_tree.specs.Listing.{slashed, path_text, digits_behind_blank, line_of, path_lines, snapshot_lines, listing};
 ghost use Rattle.crash_stands.specs.Inodes.{thing_of};
 ghost use Rattle.crash_stands.specs.Maps.{IsMapOf};
 ghost use Rattle.crash_stands.specs.Walks.{LeadsTo};
 ghost use Rattle.fs_inodes.specs.Listing.{lines_below};
 ghost use Rattle.fs_memtree.specs.Kept.{map_of, tree_of, inode_of};
+ghost use Rattle.fs_memtree.specs.Snapshots.{kept_by};
+ghost use Rattle.fs_memtree.specs.Serving.{IsKept, whole_tree};
 ghost use Rattle.fs_memtree.specs.Stored.{kept};
 ghost use Rattle.fs_memtree.specs.Trails.{path_on};
 
 use crate::node::Node;
 use crate::nodes::Nodes;
+use crate::snapshots::Snapshot;
+use crate::state::State;
 use base_io::{Sink, SinkFault, prefixes_join, push_all};
 use base_types::Name;
 use base_types::limits::ROOT;
@@ -27,21 +31,62 @@ use itoa::Buffer;
 /// How many bytes of a file are written as digits at a time.
 const CHUNK: usize = 512;
 
-impl Nodes {
-    /// Writes the listing of the tree.
+impl State {
+    /// Writes the listing of the tree with its snapshots.
     ///
     /// # Errors
     /// The first fault of the sink, which by then took a prefix of the listing and nothing else.
     pub(crate) fn write_listing<K: Sink>(&self, out: &mut K) -> Result<(), SinkFault>
-        requires { (limit : ℕ) × IsMapOf limit (map_of self.now) (tree_of self.now) }
-        ensures all { OnOk result (Appends (K.taken out.old) (K.taken out.new) (listing (tree_of self.now))) }
-        ensures front { OnErr result ((n : ℕ) × Appends (K.taken out.old) (K.taken out.new) (take n (listing (tree_of self.now)))) }
+        requires { IsKept self.now }
+        ensures all { OnOk result (Appends (K.taken out.old) (K.taken out.new) (listing (whole_tree self.now))) }
+        ensures front { OnErr result ((n : ℕ) × Appends (K.taken out.old) (K.taken out.new) (take n (listing (whole_tree self.now)))) }
         ensures cause { HasCause result (K.faults out.old) (K.faults out.new) }
     {
-        a_listing_goes_down();
-        write_below(out, self, &Trail::Root, ROOT)?;
+        prefixes_join();
+        write_nodes(out, &self.nodes)?;
+        for (name, snapshot) in self.kept.entries() {
+            write_snapshot(out, name, snapshot)?;
+        }
         Ok(())
     }
+}
+
+// Writes the lines of a tree's paths.
+fn write_nodes<K: Sink>(out: &mut K, nodes: &Nodes) -> Result<(), SinkFault>
+    requires { (limit : ℕ) × IsMapOf limit (map_of nodes.now) (tree_of nodes.now) }
+    ensures all { OnOk result (Appends (K.taken out.old) (K.taken out.new) (path_lines (tree_of nodes.now).names (tree_of nodes.now).nodes)) }
+    ensures front { OnErr result ((n : ℕ) × Appends (K.taken out.old) (K.taken out.new)
+        (take n (path_lines (tree_of nodes.now).names (tree_of nodes.now).nodes))) }
+    ensures cause { HasCause result (K.faults out.old) (K.faults out.new) }
+{
+    a_listing_goes_down();
+    write_below(out, nodes, &Trail::Root, ROOT)?;
+    Ok(())
+}
+
+// Writes the line of a snapshot and those of the tree that it keeps.
+fn write_snapshot<K: Sink>(out: &mut K, name: &Name, snapshot: &Snapshot) -> Result<(), SinkFault>
+    requires { (limit : ℕ) × IsMapOf limit (map_of snapshot.now.nodes) (tree_of snapshot.now.nodes) }
+    ensures all { OnOk result (Appends (K.taken out.old) (K.taken out.new) (snapshot_lines name.now (kept_by snapshot.now))) }
+    ensures front { OnErr result ((n : ℕ) × Appends (K.taken out.old) (K.taken out.new) (take n (snapshot_lines name.now (kept_by snapshot.now)))) }
+    ensures cause { HasCause result (K.faults out.old) (K.faults out.new) }
+{
+    prefixes_join();
+    write_title(out, name)?;
+    write_nodes(out, &snapshot.nodes)?;
+    Ok(())
+}
+
+fn write_title<K: Sink>(out: &mut K, name: &Name) -> Result<(), SinkFault>
+    ensures all { OnOk result (Appends (K.taken out.old) (K.taken out.new) (codes "snap " ++ name.now ++ codes "\n")) }
+    ensures front { OnErr result ((n : ℕ) × Appends (K.taken out.old) (K.taken out.new) (take n (codes "snap " ++ name.now ++ codes "\n"))) }
+    ensures cause { HasCause result (K.faults out.old) (K.faults out.new) }
+{
+    prefixes_join();
+    push_all(out, b"snap ")?;
+    push_all(out, name.as_bytes())?;
+    push_all(out, b"\n")?;
+    Ok(())
 }
 
 /// The names from the root down to a path, each behind the ones before it.

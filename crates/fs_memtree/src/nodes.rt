@@ -3,11 +3,11 @@
 //! them as a finite map from numbers to nodes. Which of them make a tree is not said here.
 
 ghost use Rattle.std.specs.Prelude.{◌≡◌, ℕ, ◌+◌, ◌^◌, ◌<◌, ◌≤◌, ◌↔◌, false, true, None, Some, length, replicate, is_some, IsTrue, IfSome, IfNone};
-ghost use Rattle.std.specs.Prelude.{IfOk, OnOk, OnErr, option_map, nat_le, if◌then◌else◌};
+ghost use Rattle.std.specs.Prelude.{IfOk, OnOk, OnErr, option_map, is_none, find, nat_le, if◌then◌else◌};
 ghost use Rattle.std.specs.FinMap.{get, insert, remove, empty};
-ghost use Rattle.fs_inodes.specs.Lookups.{least_free};
-ghost use Rattle.fs_memtree.specs.Kept.{KeptDir, map_of, changed_at, without_link};
-ghost use Rattle.fs_memtree.specs.Stored.{kept, things, nodes_of, place, thing_in, is_gap, grown, settled, end_of};
+ghost use Rattle.std.specs.List.{range_with_len};
+ghost use Rattle.fs_memtree.specs.Kept.{KeptDir, changed_at, without_link};
+ghost use Rattle.fs_memtree.specs.Stored.{kept, things, nodes_of, place, thing_in, is_gap, AreUnused, grown, settled, end_of};
 
 use crate::directory::Directory;
 use crate::node::{Growth, Node, Settling, copied, grow, is_same, settle};
@@ -58,7 +58,7 @@ impl Nodes {
 
     /// The least number up to the limit that no node has.
     pub(crate) fn unused(&self, limit: u32) -> Option<u32>
-        ensures { result ≡ least_free limit (map_of self.now) }
+        ensures { result ≡ find (λ n. is_none (get self.now n)) (range_with_len 1 limit) }
     {
         if let Some(number) = self.unused.first() {
             return up_to(limit, *number);
@@ -73,12 +73,12 @@ impl Nodes {
         node_at(self.row.as_slice(), number)
     }
 
-    /// Puts a node under the least unused number.
+    /// Puts a node under a number that none has.
     ///
     /// # Errors
     /// Out of memory; then all is as before.
-    pub(crate) fn add(&mut self, number: u32, limit: u32, node: Node) -> Result<(), NoMemory>
-        requires { least_free limit (map_of self.old) ≡ Some number }
+    pub(crate) fn add(&mut self, number: u32, node: Node) -> Result<(), NoMemory>
+        requires { (get self.old number ≡ None) × (1 ≤ number) }
         ensures ok { OnOk result (self.new ≡ insert self.old number (kept node)) }
         ensures err { OnErr result (self.new ≡ self.old) }
     {
@@ -88,6 +88,7 @@ impl Nodes {
             self.row[index] = Some(node);
             return Ok(());
         }
+        lengthen(&mut self.row, &mut self.unused, index)?;
         self.row.push(Some(node))?;
         Ok(())
     }
@@ -162,6 +163,27 @@ impl Nodes {
     {
         are_same(self.row.as_slice(), other.row.as_slice())
     }
+}
+
+/// Makes the row so long with empty places, whose numbers are unused.
+fn lengthen(
+    row: &mut Vec<Option<Node>>,
+    unused: &mut BTreeSet<u32>,
+    len: usize,
+) -> Result<(), NoMemory>
+    requires unused { AreUnused unused.old (things row.old.items) }
+    requires fits { len < 2 ^ 32 }
+    requires longer { length row.old.items ≤ len }
+    ensures nodes { nodes_of row.new.items ≡ nodes_of row.old.items }
+    ensures unused { AreUnused unused.new (things row.new.items) }
+    ensures ok { OnOk result (length row.new.items ≡ len) }
+{
+    for index in row.len()..len {
+        row.reserve(1)?;
+        unused.insert(index as u32 + 1)?;
+        row.push_reserved(None);
+    }
+    Ok(())
 }
 
 /// The number, where it is no greater than the limit.

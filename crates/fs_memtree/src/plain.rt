@@ -1,26 +1,24 @@
 //! The tree in memory as its callers see it: one sound tree that answers commands. The work is in
 //! the module `state`; here each tree that can be is a sound one, and being out of memory becomes a reply.
 
-ghost use Rattle.std.specs.Prelude.{◌≡◌, ℕ, ◌≤◌, ◌↔◌, IsTrue, IfOk, OnOk, OnErr, take};
+ghost use Rattle.std.specs.Prelude.{◌≡◌, ℕ, ◌≤◌, ◌↔◌, false, IsTrue, IfOk, OnOk, OnErr, take};
 ghost use Rattle.std.specs.Io.KnownBytes.{Appends};
 ghost use Rattle.base_types.specs.Counts.{HasCause};
-ghost use Rattle.lang_tree.specs.Tree.{IsSound, HasSmallFiles};
+ghost use Rattle.lang_tree.specs.Tree.{IsSound, HasSoundSnapshots, HasSmallFiles};
 ghost use Rattle.lang_tree.specs.Step.{start};
 ghost use Rattle.lang_tree.specs.Run.{Answers, is_of_memory};
-ghost use Rattle.lang_tree.specs.Figures.{figures};
 ghost use Rattle.lang_tree.specs.Listing.{listing};
 
 use crate::laws::the_maps_are_lawful;
 use crate::state::State;
 use base_io::{Sink, SinkFault};
 use base_types::NoMemory;
-use fs_inodes::the_map_gives_the_figures;
 use lang_tree::{Cmd, Refusal, Reply};
 use std::alloc::Global;
 use std::marker::Model;
 
-/// A tree of names and byte files that lies in memory alone. It is sound at all times, and no file of it has
-/// more than 2^30 bytes.
+/// A tree of names and byte files that lies in memory alone. It is sound at all times with all of its snapshots, and
+/// no file of it has more than 2^30 bytes.
 #[derive(Drop)]
 pub struct PlainTree {
     state: State,
@@ -29,7 +27,7 @@ pub struct PlainTree {
 impl Model for PlainTree {
     ghost use Rattle.lang_tree.specs.Step.{Session};
     ghost use Rattle.fs_memtree.specs.Code.{coded_session};
-    ghost use Rattle.fs_memtree.specs.Serving.{session_of, IsKept};
+    ghost use Rattle.fs_memtree.specs.Serving.{session_of, IsSoundState};
 
     ghost Value = { Session };
 
@@ -37,7 +35,7 @@ impl Model for PlainTree {
 
     ghost view = { λ t. session_of t.state };
 
-    ghost invariant = { λ t. IsKept t.state };
+    ghost invariant = { λ t. IsSoundState t.state };
 }
 
 impl PlainTree {
@@ -49,6 +47,7 @@ impl PlainTree {
         requires { 1 ≤ nodes }
         ensures start { IfOk result (λ tree. tree ≡ start nodes) }
         ensures sound { IfOk result (λ tree. IsSound tree.limit tree.tree) }
+        ensures snapshots { IfOk result (λ tree. HasSoundSnapshots tree.limit tree.tree) }
         ensures small { IfOk result (λ tree. HasSmallFiles tree.tree.nodes) }
     {
         the_maps_are_lawful();
@@ -60,6 +59,7 @@ impl PlainTree {
     pub fn apply(&mut self, alloc: Global, cmd: &Cmd) -> Reply
         ensures answer { Answers is_of_memory self.old cmd.now result self.new }
         ensures sound { IsSound self.new.limit self.new.tree }
+        ensures snapshots { HasSoundSnapshots self.new.limit self.new.tree }
         ensures small { HasSmallFiles self.new.tree.nodes }
     {
         the_maps_are_lawful();
@@ -69,30 +69,9 @@ impl PlainTree {
         }
     }
 
-    /// What the command would do to the blocks of the tree on a disk whose bitmap has so many blocks: by how
-    /// many blocks its file or its target directory would grow, what it would cost in the journal, and how
-    /// many blocks it would free. All three are 0 where the tree refuses the command. docs/TREE.md has the
-    /// table.
-    ///
-    /// # Errors
-    /// Out of memory.
-    pub fn figures_of(
-        &self,
-        _alloc: Global,
-        cmd: &Cmd,
-        bitmap_blocks: u32,
-    ) -> Result<(u32, u32, u32), NoMemory>
-        ensures { IfOk result (λ f. figures bitmap_blocks self.now cmd.now ≡ record { need = f.0; cost = f.1; freed = f.2 }) }
-    {
-        the_map_gives_the_figures();
-        let nodes = &self.state.nodes;
-        let why = nodes.refusal(self.state.limit, cmd);
-        let figures = nodes.figures_by(cmd, bitmap_blocks, why);
-        Ok((figures.need, figures.cost, figures.freed))
-    }
-
     /// Writes a line for each path, the paths ascending: its kind, its number, and of a file its size and
-    /// bytes. This takes no memory.
+    /// bytes. Behind them come, for each snapshot, a line with its name and the lines of the tree that it keeps. This
+    /// takes no memory.
     ///
     /// # Errors
     /// The sink failed; then it took a prefix of the listing.
@@ -101,7 +80,7 @@ impl PlainTree {
         ensures front { OnErr result ((n : ℕ) × Appends (K.taken out.old) (K.taken out.new) (take n (listing self.now.tree))) }
         ensures cause { HasCause result (K.faults out.old) (K.faults out.new) }
     {
-        self.state.nodes.write_listing(out)
+        self.state.write_listing(out)
     }
 
     /// A copy of this tree, with the same limit and the same sync points, and changed since where this
@@ -116,12 +95,15 @@ impl PlainTree {
         Ok(PlainTree { state })
     }
 
-    /// Whether both trees are equal: the same paths lead to the same numbers, and these are the same
-    /// directories and files with the same bytes. Limits and sync points don't count. This takes no
-    /// memory.
+    /// Whether both trees are equal: the same paths lead to the same numbers, these are the same
+    /// directories and files with the same bytes, and the snapshots have the same names and numbers and keep equal
+    /// trees. Limits and sync points don't count. This takes no memory.
     pub fn equal(&self, other: &PlainTree) -> bool
         ensures { IsTrue result ↔ (self.now.tree ≡ other.now.tree) }
     {
-        self.state.nodes.is_same(&other.state.nodes)
+        if !self.state.nodes.is_same(&other.state.nodes) {
+            return false;
+        }
+        self.state.kept.is_same(&other.state.kept)
     }
 }

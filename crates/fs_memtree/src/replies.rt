@@ -6,12 +6,13 @@ ghost use Rattle.lang_tree.specs.declared.command.Reply.TheVariants.{Bytes as By
 ghost use Rattle.fs_inodes.specs.Lookups.{bytes_of, slots_of};
 ghost use Rattle.fs_inodes.specs.Names.{names_of, stat_by};
 ghost use Rattle.fs_memtree.specs.Kept.{map_of};
+ghost use Rattle.fs_memtree.specs.Serving.{looked};
 
 use crate::content::part;
 use crate::node::Node;
 use crate::nodes::Nodes;
 use base_types::{Bytes, NoMemory};
-use lang_tree::{Kind, NameList, Refusal, Reply, Stat};
+use lang_tree::{Kind, Look, NameList, Refusal, Reply, Stat};
 use std::alloc::Global;
 
 impl Nodes {
@@ -51,6 +52,29 @@ impl Nodes {
                 size: bytes.len() as u64,
                 links: *links,
             }),
+        }
+    }
+
+    /// A look at the tree of these nodes.
+    ///
+    /// # Errors
+    /// Out of memory.
+    pub(crate) fn look_at(&self, alloc: Global, look: &Look) -> Result<Reply, NoMemory>
+        ensures { IfOk result (λ reply. reply ≡ looked (map_of self.now) look.now) }
+    {
+        match look {
+            Look::Read(path, offset, count) => match self.to_read(path) {
+                Err(why) => Ok(Reply::Refused(why)),
+                Ok(number) => self.read(alloc, number, *offset, *count),
+            },
+            Look::Stat(path) => match self.to_stat(path) {
+                Err(why) => Ok(Reply::Refused(why)),
+                Ok(number) => Ok(self.stat(number)),
+            },
+            Look::List(path) => match self.to_list(path) {
+                Err(why) => Ok(Reply::Refused(why)),
+                Ok(number) => self.list(alloc, number),
+            },
         }
     }
 

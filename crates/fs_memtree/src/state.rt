@@ -2,28 +2,34 @@
 //! memory is found all stays as it was. What single commands do to the nodes is in the module `effects`, what
 //! they reply in `replies`, and why they are refused in `conditions`.
 
-ghost use Rattle.std.specs.Prelude.{◌≡◌, ◌+◌, ◌==◌, IfOk, OnErr, if◌then◌else◌, nat_le};
+ghost use Rattle.std.specs.Prelude.{◌≡◌, ◌+◌, ◌==◌, ◌&&◌, not, is_none, IfOk, OnErr, if◌then◌else◌, nat_le};
+ghost use Rattle.std.specs.FinMap.{get};
 ghost use Rattle.lang_tree.specs.declared.command.Cmd.TheVariants.{Truncate, Link, Unlink, Rmdir, Rename, Read, Stat, List as ListNames};
+ghost use Rattle.lang_tree.specs.declared.command.Cmd.TheVariants.{Unsnap, Snaps, At};
 ghost use Rattle.lang_tree.specs.declared.command.Reply.TheVariants.{Ok as Done, Synced, DurableAt};
-ghost use Rattle.fs_inodes.specs.Refusals.{make_reason, write_reason};
+ghost use Rattle.fs_inodes.specs.Refusals.{make_reason, write_reason, snap_reason};
 ghost use Rattle.fs_memtree.specs.Changes.{made, edited, removed_at};
 ghost use Rattle.fs_memtree.specs.Trails.{spot_of};
 ghost use Rattle.fs_memtree.specs.Kept.{map_of};
-ghost use Rattle.fs_memtree.specs.Serving.{served, served_by, changed_to, synced, waited, awaited, first_state};
+ghost use Rattle.fs_memtree.specs.Snapshots.{snapshots_of, has_number};
+ghost use Rattle.fs_memtree.specs.Serving.{served, served_by, changed_to, snapped, synced, waited, awaited, first_state, least};
 ghost use Rattle.fs_memtree.specs.Stored.{kept, grown, end_of};
 
 use crate::directory::Directory;
 use crate::node::{Growth, Node};
 use crate::nodes::Nodes;
+use crate::snapshots::{Snapshot, Snapshots};
 use crate::walks::End;
-use base_types::NoMemory;
-use lang_tree::{Cmd, Path, Refusal, Reply};
+use base_types::{Name, NoMemory};
+use lang_tree::{Cmd, Look, NameList, Path, Refusal, Reply};
 use std::alloc::Global;
 
-/// The nodes of a tree with the greatest number that they may have, and the session's sync points.
+/// The nodes of a tree with what its snapshots keep, the greatest number that they may have, and the session's sync
+/// points.
 #[derive(Drop)]
 pub(crate) struct State {
     pub(crate) nodes: Nodes,
+    pub(crate) kept: Snapshots,
     pub(crate) limit: u32,
     pub(crate) points: u64,
     pub(crate) changed: bool,
@@ -42,6 +48,7 @@ impl State {
         let nodes = Nodes::new(alloc)?;
         Ok(State {
             nodes,
+            kept: Snapshots::new(alloc),
             limit,
             points: 0,
             changed: false,
@@ -57,8 +64,10 @@ impl State {
         ensures { IfOk result (λ copy. copy ≡ self.now) }
     {
         let nodes = self.nodes.copy(alloc)?;
+        let kept = self.kept.copy(alloc)?;
         Ok(State {
             nodes,
+            kept,
             limit: self.limit,
             points: self.points,
             changed: self.changed,
@@ -94,6 +103,10 @@ impl State {
             Cmd::Rename(from, to) => self.rename(from, to),
             Cmd::Stat(path) => Ok(self.stat(path)),
             Cmd::List(path) => self.list(alloc, path),
+            Cmd::Snap(name) => self.snap(alloc, name),
+            Cmd::Unsnap(name) => Ok(self.unsnap(name)),
+            Cmd::Snaps => self.snaps(alloc),
+            Cmd::At(name, look) => self.look_at(alloc, name, look),
             Cmd::Osync => Ok(self.osync()),
             Cmd::Dsync => Ok(self.dsync()),
             Cmd::Durable => Ok(Reply::Known(self.durable)),
@@ -103,17 +116,87 @@ impl State {
         }
     }
 
-    /// Mkdir and create: a new node at the path.
-    fn make(&mut self, path: &Path, node: Node) -> Result<Reply, NoMemory>
-        ensures ok { IfOk result (λ reply. served_by self.old (make_reason self.old.limit (map_of self.old.nodes) path.now)
-            (changed_to self.old (made self.old.limit self.old.nodes path.now (kept node))) ≡ (self.new, reply)) }
+    /// The least number up to the limit that no node and no snapshot has.
+    pub(crate) fn least(&self) -> Option<u32>
+        ensures { result ≡ least self.now }
+    {
+        if self.kept.is_empty() {
+            return self.nodes.unused(self.limit);
+        }
+        for used in 0..self.limit {
+            if self.is_unused(used + 1) {
+                return Some(used + 1);
+            }
+        }
+        None
+    }
+
+    /// Whether no node and no snapshot has the number.
+    fn is_unused(&self, number: u32) -> bool
+        ensures { result ≡ (is_none (get self.now.nodes number) && not (has_number self.now.kept number)) }
+    {
+        self.nodes.at(number).is_none() && !self.kept.has_number(number)
+    }
+
+    /// Snap: what there is is kept under this name.
+    fn snap(&mut self, alloc: Global, name: &Name) -> Result<Reply, NoMemory>
+        ensures ok { IfOk result (λ reply. served_by self.old (snap_reason (least self.old) (snapshots_of self.old.kept) name.now)
+            (snapped self.old name.now (least self.old)) ≡ (self.new, reply)) }
         ensures err { OnErr result (self.new ≡ self.old) }
     {
-        let (end, number) = match self.nodes.to_make(self.limit, path) {
+        if self.kept.get(name).is_some() {
+            return Ok(Reply::Refused(Refusal::Exists));
+        }
+        let Some(number) = self.least() else {
+            return Ok(Reply::Refused(Refusal::NoNode));
+        };
+        let nodes = self.nodes.copy(alloc)?;
+        self.kept.insert(name, Snapshot { number, nodes })?;
+        self.changed = true;
+        Ok(Reply::Ok)
+    }
+
+    /// Unsnap: what is kept under this name goes.
+    fn unsnap(&mut self, name: &Name) -> Reply
+        ensures { served self.old (Unsnap name.now) ≡ (self.new, result) }
+    {
+        if self.kept.get(name).is_none() {
+            return Reply::Refused(Refusal::NoSnap);
+        }
+        self.kept.remove(name);
+        self.changed = true;
+        Reply::Ok
+    }
+
+    /// Snaps: the names of the snapshots.
+    fn snaps(&self, alloc: Global) -> Result<Reply, NoMemory>
+        ensures { IfOk result (λ reply. served self.now Snaps ≡ (self.now, reply)) }
+    {
+        let names = self.kept.names(alloc)?;
+        Ok(Reply::Names(NameList::from_names(names)))
+    }
+
+    /// At: a look at what is kept under this name.
+    fn look_at(&self, alloc: Global, name: &Name, look: &Look) -> Result<Reply, NoMemory>
+        ensures { IfOk result (λ reply. served self.now (At name.now look.now) ≡ (self.now, reply)) }
+    {
+        match self.kept.get(name) {
+            None => Ok(Reply::Refused(Refusal::NoSnap)),
+            Some(snapshot) => snapshot.nodes.look_at(alloc, look),
+        }
+    }
+
+    /// Mkdir and create: a new node at the path.
+    fn make(&mut self, path: &Path, node: Node) -> Result<Reply, NoMemory>
+        ensures ok { IfOk result (λ reply. served_by self.old (make_reason (least self.old) (map_of self.old.nodes) path.now)
+            (changed_to self.old (made (least self.old) self.old.nodes path.now (kept node))) ≡ (self.new, reply)) }
+        ensures err { OnErr result (self.new ≡ self.old) }
+    {
+        let (end, number) = match self.nodes.to_make(self.least(), path) {
             Err(why) => return Ok(Reply::Refused(why)),
             Ok(found) => found,
         };
-        self.nodes.make(self.limit, end, number, node)?;
+        self.nodes.make(end, number, node)?;
         self.changed = true;
         Ok(Reply::Ok)
     }

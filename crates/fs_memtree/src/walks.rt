@@ -65,7 +65,7 @@ impl Nodes {
     }
 
     /// How many names the directory with this number holds; none where it is no directory.
-    pub(crate) fn held(&self, number: u32) -> u64
+    fn held(&self, number: u32) -> u64
         ensures value { result ≡ length (slots_of (map_of self.now number)) }
         ensures bound { result < 2 ^ 57 }
     {
@@ -120,13 +120,6 @@ impl Nodes {
             }
         }
         Ok(number)
-    }
-
-    /// The number at the path, where it is there.
-    pub(crate) fn find(&self, path: &[Name]) -> Option<u32>
-        ensures { result ≡ number_at (map_of self.now) path.now }
-    {
-        self.walk(path).ok()
     }
 
     /// The names of the directory with this number, in order; none where it is no directory.

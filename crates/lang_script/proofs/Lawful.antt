@@ -9,9 +9,11 @@ use Rattle.hex.specs.Hex.{decode_of, decode_pairs, digit_or_error, hex_digit_val
 use Rattle.hex.specs.declared.error.FromHexError.{FromHexError}
 use Rattle.base_types.specs.Name.{is_name}
 use Rattle.lang_tree.specs.declared.command.Cmd.{Cmd}
-use Rattle.lang_tree.specs.declared.command.Cmd.TheVariants.{Mkdir, Create, Write, Fill, Read, Truncate, Link, Unlink, Rmdir, Rename, Stat, List as ListNames, Osync, Dsync, Durable, Dwait, Poll, Bad}
+use Rattle.lang_tree.specs.declared.command.Cmd.TheVariants.{Mkdir, Create, Write, Fill, Read, Truncate, Link, Unlink, Rmdir, Rename, Stat, List as ListNames, Snap, Unsnap, Snaps, At, Osync, Dsync, Durable, Dwait, Poll, Bad}
+use Rattle.lang_tree.specs.declared.command.Look.{Look}
+use Rattle.lang_tree.specs.declared.command.Look.TheVariants as look
 use Rattle.lang_script.specs.Values.{IsCommand}
-use Rattle.lang_script.specs.Grammar.{command_of, command_of_parts, path_of, names_of, small_number_of, bytes_of, some_bytes, path_command, paths_command, truncate_of, dwait_of, write_of, read_of, fill_of, is_in_grammar}
+use Rattle.lang_script.specs.Grammar.{command_of, command_of_parts, command_on_tree, path_of, names_of, name_of, small_number_of, bytes_of, some_bytes, path_command, paths_command, truncate_of, dwait_of, snap_of, unsnap_of, write_of, read_of, fill_of, look_of, at_of, is_lawful_look, is_in_grammar}
 
 abbrev Lawful : Cmd → Type 0
 Lawful cmd = (cmd ≡ Bad) ⊎ (is_in_grammar cmd ≡ true)
@@ -45,6 +47,13 @@ root_or false path h = h
 
 path_lawful : (part : List ℕ) → IfSome (path_of part) lawful_path
 path_lawful part = root_or (bytes_eq part (codes "/")) (names_of (slice_split (λ b. b == 47) part)) (names_lawful (slice_split (λ b. b == 47) part))
+
+kept_name : (test : Bool) (name : List ℕ) → is_name name ≡ test → IfSome (if test then Some name else None) (λ name. is_name name ≡ true)
+kept_name true name h = h
+kept_name false name h = tt
+
+name_lawful : (part : List ℕ) → IfSome (name_of part) (λ name. is_name name ≡ true)
+name_lawful part = kept_name (is_name part) part refl
 
 -- ---- numbers
 
@@ -134,6 +143,14 @@ dwait_lawful : (point : Option ℕ) → IfSome point small → Lawful (dwait_of 
 dwait_lawful None h = inl refl
 dwait_lawful (Some point) h = inr h
 
+snap_lawful : (name : Option (List ℕ)) → IfSome name (λ name. is_name name ≡ true) → Lawful (snap_of name)
+snap_lawful None h = inl refl
+snap_lawful (Some name) h = inr h
+
+unsnap_lawful : (name : Option (List ℕ)) → IfSome name (λ name. is_name name ≡ true) → Lawful (unsnap_of name)
+unsnap_lawful None h = inl refl
+unsnap_lawful (Some name) h = inr h
+
 write_lawful : (path : Option (List (List ℕ))) (offset : Option ℕ) (bytes : Option (List ℕ))
     → IfSome path lawful_path → IfSome offset small → IfSome bytes some_of_them → Lawful (write_of path offset bytes)
 write_lawful None offset bytes h k m = inl refl
@@ -166,18 +183,21 @@ fill_lawful (Some path) (Some offset) None byte h k m = inl refl
 fill_lawful (Some path) (Some offset) (Some count) None h k m = inl refl
 fill_lawful (Some path) (Some offset) (Some count) (Some byte) h k m = kept_fill (nat_le byte 255) path offset count byte h k m refl
 
-parts_lawful : (parts : List (List ℕ)) → Lawful (command_of_parts parts)
-parts_lawful [] = inl refl
-parts_lawful (word ∷ []) =
-    either _ Osync _ (inr refl) (either _ Dsync _ (inr refl) (either _ Durable _ (inr refl) (either _ Poll Bad (inr refl) (inl refl))))
-parts_lawful (word ∷ last ∷ []) =
-    either (bytes_eq word (codes "dwait")) (dwait_of (small_number_of last)) (path_command word (path_of last))
-    (dwait_lawful (small_number_of last) (number_small last)) (path_command_lawful word (path_of last) (path_lawful last))
-parts_lawful (word ∷ path ∷ last ∷ []) =
+on_tree_lawful : (parts : List (List ℕ)) → Lawful (command_on_tree parts)
+on_tree_lawful [] = inl refl
+on_tree_lawful (word ∷ []) =
+    either _ Osync _ (inr refl)
+    (either _ Dsync _ (inr refl) (either _ Durable _ (inr refl) (either _ Poll _ (inr refl) (either _ Snaps Bad (inr refl) (inl refl)))))
+on_tree_lawful (word ∷ last ∷ []) =
+    either _ (dwait_of (small_number_of last)) _ (dwait_lawful (small_number_of last) (number_small last))
+    (either _ (snap_of (name_of last)) _ (snap_lawful (name_of last) (name_lawful last))
+    (either _ (unsnap_of (name_of last)) (path_command word (path_of last)) (unsnap_lawful (name_of last) (name_lawful last))
+    (path_command_lawful word (path_of last) (path_lawful last))))
+on_tree_lawful (word ∷ path ∷ last ∷ []) =
     either (bytes_eq word (codes "truncate")) (truncate_of (path_of path) (small_number_of last)) (paths_command word (path_of path) (path_of last))
     (truncate_lawful (path_of path) (small_number_of last) (path_lawful path) (number_small last))
     (paths_command_lawful word (path_of path) (path_of last) (path_lawful path) (path_lawful last))
-parts_lawful (word ∷ path ∷ offset ∷ last ∷ []) =
+on_tree_lawful (word ∷ path ∷ offset ∷ last ∷ []) =
     let p = path_lawful path in
     let n = number_small offset in
     either (bytes_eq word (codes "write")) (write_of (path_of path) (small_number_of offset) (bytes_of last))
@@ -185,11 +205,33 @@ parts_lawful (word ∷ path ∷ offset ∷ last ∷ []) =
     (write_lawful (path_of path) (small_number_of offset) (bytes_of last) p n (kept_bytes (decode_of last) (decoded_small last)))
     (either (bytes_eq word (codes "read")) (read_of (path_of path) (small_number_of offset) (small_number_of last)) Bad
     (read_lawful (path_of path) (small_number_of offset) (small_number_of last) p n) (inl refl))
-parts_lawful (word ∷ path ∷ offset ∷ count ∷ byte ∷ []) =
+on_tree_lawful (word ∷ path ∷ offset ∷ count ∷ byte ∷ []) =
     either (bytes_eq word (codes "fill")) (fill_of (path_of path) (small_number_of offset) (small_number_of count) (small_number_of byte)) Bad
     (fill_lawful (path_of path) (small_number_of offset) (small_number_of count) (small_number_of byte) (path_lawful path) (number_small offset) (number_small count))
     (inl refl)
-parts_lawful (word ∷ path ∷ offset ∷ count ∷ byte ∷ one ∷ more) = inl refl
+on_tree_lawful (word ∷ path ∷ offset ∷ count ∷ byte ∷ one ∷ more) = inl refl
+
+lawful_look : (cmd : Cmd) → Lawful cmd → IfSome (look_of cmd) (λ l. is_lawful_look l ≡ true)
+lawful_look (Read path offset count) (inl bad) = absurd cc
+lawful_look (Read path offset count) (inr h) = h
+lawful_look (Stat path) (inl bad) = absurd cc
+lawful_look (Stat path) (inr h) = h
+lawful_look (ListNames path) (inl bad) = absurd cc
+lawful_look (ListNames path) (inr h) = h
+lawful_look cmd h = tt
+
+at_lawful : (name : Option (List ℕ)) (l : Option Look) → IfSome name (λ name. is_name name ≡ true) → IfSome l (λ l. is_lawful_look l ≡ true) → Lawful (at_of name l)
+at_lawful None l h k = inl refl
+at_lawful (Some name) None h k = inl refl
+at_lawful (Some name) (Some l) h k = inr (rw h k)
+
+parts_lawful : (parts : List (List ℕ)) → Lawful (command_of_parts parts)
+parts_lawful [] = inl refl
+parts_lawful (word ∷ []) = on_tree_lawful (word ∷ [])
+parts_lawful (word ∷ name ∷ parts) =
+    either (bytes_eq word (codes "at")) (at_of (name_of name) (look_of (command_on_tree parts))) (command_on_tree (word ∷ name ∷ parts))
+    (at_lawful (name_of name) (look_of (command_on_tree parts)) (name_lawful name) (lawful_look (command_on_tree parts) (on_tree_lawful parts)))
+    (on_tree_lawful (word ∷ name ∷ parts))
 
 -- what a line reads as is `Bad` or in the grammar
 pub line_lawful : (line : List ℕ) → (command_of line ≡ Bad) ⊎ (is_in_grammar (command_of line) ≡ true)
@@ -209,6 +251,10 @@ in_grammar_lawful (Rmdir path) h = h
 in_grammar_lawful (Rename path other) h = h
 in_grammar_lawful (Stat path) h = h
 in_grammar_lawful (ListNames path) h = h
+in_grammar_lawful (Snap name) h = h
+in_grammar_lawful (Unsnap name) h = h
+in_grammar_lawful Snaps h = refl
+in_grammar_lawful (At name l) h = h
 in_grammar_lawful Osync h = refl
 in_grammar_lawful Dsync h = refl
 in_grammar_lawful Durable h = refl

@@ -12,18 +12,20 @@ use Rattle.std.proofs.lemmas.List.Sums.{AllPass-from_list_all}
 use Rattle.hex.specs.Hex.{encode_lower, encode_with, lower_digits}
 use Rattle.base_types.specs.Name.{is_name, is_name_byte}
 use Rattle.lang_tree.specs.declared.command.Cmd.{Cmd}
-use Rattle.lang_tree.specs.declared.command.Cmd.TheVariants.{Mkdir, Create, Write, Fill, Read, Truncate, Link, Unlink, Rmdir, Rename, Stat, List as ListNames, Osync, Dsync, Durable, Dwait, Poll, Bad}
+use Rattle.lang_tree.specs.declared.command.Cmd.TheVariants.{Mkdir, Create, Write, Fill, Read, Truncate, Link, Unlink, Rmdir, Rename, Stat, List as ListNames, Snap, Unsnap, Snaps, At, Osync, Dsync, Durable, Dwait, Poll, Bad}
+use Rattle.lang_tree.specs.declared.command.Look.{Look}
+use Rattle.lang_tree.specs.declared.command.Look.TheVariants as look
 use Rattle.lang_tree.specs.declared.command.Kind.{Kind}
 use Rattle.lang_tree.specs.declared.command.Kind.TheVariants.{Dir, File}
 use Rattle.lang_tree.specs.declared.command.Reply.{Reply}
 use Rattle.lang_tree.specs.declared.command.Reply.TheVariants.{Ok as Done, Bytes, Stat as StatReply, Names, Synced, DurableAt, Known, Bad as NotUnderstood, Refused}
 use Rattle.lang_tree.specs.declared.command.Refusal.{Refusal}
-use Rattle.lang_tree.specs.declared.command.Refusal.TheVariants.{NotFound, Exists, NotDir, IsDir, NotEmpty, BelowItself, TooLarge, TooManyLinks, NoNode, Full, TooBig, Scattered, ReadFault, DiskFault, Stopped, Spent, NoMemory, NoPoint}
+use Rattle.lang_tree.specs.declared.command.Refusal.TheVariants.{NotFound, Exists, NotDir, IsDir, NotEmpty, BelowItself, TooLarge, TooManyLinks, NoNode, Full, TooBig, Scattered, ReadFault, DiskFault, Stopped, Spent, NoMemory, NoPoint, NoSnap}
 use Rattle.lang_tree.specs.Refusals.{refusal_number, refusal_name}
 use Rattle.lang_tree.specs.Listing.{slashed, path_text, digits_behind_blank}
 use Rattle.lang_script.specs.Shared.{name_bytes, own, weaker}
-use Rattle.lang_script.specs.Text.{command_text, text_of_reply, kind_text, names_behind_blanks, refusal_text}
-use Rattle.lang_script.specs.Grammar.{command_of, bytes_of}
+use Rattle.lang_script.specs.Text.{command_text, look_text, text_of_reply, kind_text, names_behind_blanks, refusal_text}
+use Rattle.lang_script.specs.Grammar.{command_of, bytes_of, is_lawful_look}
 use Rattle.lang_script.specs.Values.{IsCommand, IsReply, HasFigures, has_no_feed}
 use Rattle.lang_script.proofs.RoundTrip.{both, bytes_of-encode_lower, round_trip, regroup_three}
 
@@ -198,6 +200,7 @@ refusal_joined DiskFault = reason_text DiskFault
 refusal_joined Stopped = reason_text Stopped
 refusal_joined Spent = reason_text Spent
 refusal_joined NoMemory = reason_text NoMemory
+refusal_joined NoSnap = reason_text NoSnap
 
 bytes_joined : (bytes : List ℕ) → codes "hex" ++ digits_behind_blank bytes ≡ joined (codes "hex" ∷ bytes_parts bytes)
 bytes_joined [] = refl
@@ -238,6 +241,7 @@ refusal_are_parts DiskFault h = reason_parts (codes "refused") DiskFault refl re
 refusal_are_parts Stopped h = reason_parts (codes "refused") Stopped refl refl (omega arith)
 refusal_are_parts Spent h = reason_parts (codes "refused") Spent refl refl (omega arith)
 refusal_are_parts NoMemory h = reason_parts (codes "refused") NoMemory refl refl (omega arith)
+refusal_are_parts NoSnap h = reason_parts (codes "refused") NoSnap refl refl (omega arith)
 
 kind_part : (kind : Kind) → Part (kind_text kind)
 kind_part Dir = refl
@@ -279,7 +283,7 @@ reason_in n =
     if n == 1 then NotFound else if n == 2 then Exists else if n == 3 then NotDir else if n == 4 then IsDir
     else if n == 5 then NotEmpty else if n == 6 then BelowItself else if n == 7 then TooLarge else if n == 8 then TooManyLinks
     else if n == 9 then NoNode else if n == 13 then ReadFault else if n == 14 then DiskFault else if n == 15 then Stopped
-    else if n == 16 then Spent else NoMemory
+    else if n == 16 then Spent else if n == 17 then NoMemory else NoSnap
 
 abbrev reply_with : List ℕ → List (List ℕ) → Reply
 reply_with word parts =
@@ -335,6 +339,7 @@ refusal_back DiskFault h = reason_back DiskFault (omega arith) refl
 refusal_back Stopped h = reason_back Stopped (omega arith) refl
 refusal_back Spent h = reason_back Spent (omega arith) refl
 refusal_back NoMemory h = reason_back NoMemory (omega arith) refl
+refusal_back NoSnap h = reason_back NoSnap (omega arith) refl
 
 reply_back : (reply : Reply) → IsReply reply → reply_in (reply_parts reply) ≡ reply
 reply_back Done h = refl
@@ -382,6 +387,7 @@ first_part (Refused why) = first_of why
     first_of Stopped = (codes "refused", _, refl)
     first_of Spent = (codes "refused", _, refl)
     first_of NoMemory = (codes "refused", _, refl)
+    first_of NoSnap = (codes "refused", _, refl)
 
 pub one_reply : (reply other : Reply) → IsReply reply → IsReply other → text_of_reply reply ≡ text_of_reply other → reply ≡ other
 one_reply reply other h k e =
@@ -410,6 +416,10 @@ read_back (Rmdir path) h = round_trip (Rmdir path) h
 read_back (Rename path second) h = round_trip (Rename path second) h
 read_back (Stat path) h = round_trip (Stat path) h
 read_back (ListNames path) h = round_trip (ListNames path) h
+read_back (Snap name) h = round_trip (Snap name) h
+read_back (Unsnap name) h = round_trip (Unsnap name) h
+read_back Snaps h = refl
+read_back (At name l) h = round_trip (At name l) h
 read_back Osync h = refl
 read_back Dsync h = refl
 read_back Durable h = refl
@@ -424,11 +434,14 @@ one_command cmd other h k e = sym (read_back cmd h) ∙ ap command_of e ∙ read
 beside : (xs ys : List ℕ) → has_no_feed xs ≡ true → has_no_feed ys ≡ true → has_no_feed (xs ++ ys) ≡ true
 beside xs ys h k = both (past 10) xs ys h k
 
+name_no_feed : (name : List ℕ) → is_name name ≡ true → has_no_feed name ≡ true
+name_no_feed name h = no_feed name (name_part name h)
+
 slashed_no_feed : (names : List (List ℕ)) → list_all is_name names ≡ true → has_no_feed (slashed names) ≡ true
 slashed_no_feed [] h = refl
 slashed_no_feed (name ∷ names) h =
     let parts = and_parts (is_name name) (list_all is_name names) h in
-    beside name (slashed names) (no_feed name (name_part name parts.0)) (slashed_no_feed names parts.1)
+    beside name (slashed names) (name_no_feed name parts.0) (slashed_no_feed names parts.1)
 
 path_no_feed : (path : List (List ℕ)) → list_all is_name path ≡ true → has_no_feed (path_text path) ≡ true
 path_no_feed [] h = refl
@@ -445,6 +458,17 @@ behind_blank text more h k = beside (text ++ codes " ") more (beside text (codes
 
 fitting : (n : ℕ) → nat_lt n 4294967296 ≡ true → n < 4294967296
 fitting n h = (Decides-ltb n 4294967296).0 h
+
+look_no_feed : (l : Look) → is_lawful_look l ≡ true → has_no_feed (look_text l) ≡ true
+look_no_feed (look.Read path offset count) h =
+    let first = and_parts (list_all is_name path) _ h in
+    let second = and_parts (nat_lt offset 4294967296) (nat_le count 1048576) first.1 in
+    let below : count ≤ 1048576 = search (rules, tests, second.1) in
+    behind_blank (codes "read " ++ path_text path ++ codes " " ++ decimal offset) (decimal count)
+    (behind_blank (codes "read " ++ path_text path) (decimal offset) (behind_word (codes "read ") path refl first.0) (number_no_feed offset (fitting offset second.0)))
+    (number_no_feed count (omega (arith, below)))
+look_no_feed (look.Stat path) h = behind_word (codes "stat ") path refl h
+look_no_feed (look.List path) h = behind_word (codes "list ") path refl h
 
 pub command_no_feed : (cmd : Cmd) → IsCommand cmd → has_no_feed (command_text cmd) ≡ true
 command_no_feed (Mkdir path) h = behind_word (codes "mkdir ") path refl h
@@ -466,13 +490,7 @@ command_no_feed (Fill path offset count byte) h =
     (behind_blank (codes "fill " ++ path_text path) (decimal offset) (behind_word (codes "fill ") path refl first.0) (number_no_feed offset (fitting offset second.0)))
     (number_no_feed count (fitting count third.0)))
     (number_no_feed byte (omega (arith, below)))
-command_no_feed (Read path offset count) h =
-    let first = and_parts (list_all is_name path) _ h in
-    let second = and_parts (nat_lt offset 4294967296) (nat_le count 1048576) first.1 in
-    let below : count ≤ 1048576 = search (rules, tests, second.1) in
-    behind_blank (codes "read " ++ path_text path ++ codes " " ++ decimal offset) (decimal count)
-    (behind_blank (codes "read " ++ path_text path) (decimal offset) (behind_word (codes "read ") path refl first.0) (number_no_feed offset (fitting offset second.0)))
-    (number_no_feed count (omega (arith, below)))
+command_no_feed (Read path offset count) h = look_no_feed (look.Read path offset count) h
 command_no_feed (Truncate path size) h =
     let parts = and_parts (list_all is_name path) (nat_lt size 4294967296) h in
     behind_blank (codes "truncate " ++ path_text path) (decimal size) (behind_word (codes "truncate ") path refl parts.0) (number_no_feed size (fitting size parts.1))
@@ -484,8 +502,14 @@ command_no_feed (Rmdir path) h = behind_word (codes "rmdir ") path refl h
 command_no_feed (Rename path second) h =
     let parts = and_parts (list_all is_name path) (list_all is_name second) h in
     behind_blank (codes "rename " ++ path_text path) (path_text second) (behind_word (codes "rename ") path refl parts.0) (path_no_feed second parts.1)
-command_no_feed (Stat path) h = behind_word (codes "stat ") path refl h
-command_no_feed (ListNames path) h = behind_word (codes "list ") path refl h
+command_no_feed (Stat path) h = look_no_feed (look.Stat path) h
+command_no_feed (ListNames path) h = look_no_feed (look.List path) h
+command_no_feed (Snap name) h = beside (codes "snap ") name refl (name_no_feed name h)
+command_no_feed (Unsnap name) h = beside (codes "unsnap ") name refl (name_no_feed name h)
+command_no_feed Snaps h = refl
+command_no_feed (At name l) h =
+    let parts = and_parts (is_name name) (is_lawful_look l) h in
+    behind_blank (codes "at " ++ name) (look_text l) (beside (codes "at ") name refl (name_no_feed name parts.0)) (look_no_feed l parts.1)
 command_no_feed Osync h = refl
 command_no_feed Dsync h = refl
 command_no_feed Durable h = refl

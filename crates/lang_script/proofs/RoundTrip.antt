@@ -1,7 +1,9 @@
 -- A command's text reads as that command.
-use Rattle.std.proofs.Common.{◌≡◌, sym, ap, refl, ◌∙◌, arith, rules, tests, ℕ, zero, suc, ◌/◌, ◌%◌, ◌<◌, ◌≤◌, ◌==◌, Bool, true, false, not, List, [], ◌∷◌, ◌++◌, length, Some, decimal, nat_lt, nat_le, bytes_eq, codes, slice_index, append_assoc}
+use Rattle.std.proofs.Common.{◌≡◌, sym, ap, refl, ◌∙◌, arith, rules, tests, ℕ, zero, suc, ◌/◌, ◌%◌, ◌<◌, ◌≤◌, ◌==◌, Bool, true, false, not, List, [], ◌∷◌, ◌++◌, length, Option, Some, None, decimal, nat_lt, nat_le, bytes_eq, codes, slice_index, append_assoc}
 use Rattle.std.proofs.lemmas.Bool.{and_parts, false≢true}
 use Rattle.std.proofs.lemmas.Bool.Decides.{Decides-ltb}
+use Rattle.std.specs.Prelude.{if◌then◌else◌}
+use Rattle.std.proofs.lemmas.Option.{none-some}
 use Rattle.std.proofs.lemmas.List.{append-nil}
 use Rattle.std.proofs.lemmas.List.Splits.{slice_split_at, slice_split_none}
 use Rattle.std.proofs.lemmas.List.Sums.{AllPass-from_list_all}
@@ -13,11 +15,14 @@ use Rattle.hex.specs.Hex.{encode_lower, encode_with, lower_digits}
 use Rattle.hex.proofs.HexLemmas.{decode_of-encode_lower}
 use Rattle.base_types.specs.Name.{is_name, is_name_byte}
 use Rattle.lang_tree.specs.declared.command.Cmd.{Cmd}
-use Rattle.lang_tree.specs.declared.command.Cmd.TheVariants.{Mkdir, Create, Write, Fill, Read, Truncate, Link, Unlink, Rmdir, Rename, Stat, List as ListNames, Osync, Dsync, Durable, Dwait, Poll, Bad}
+use Rattle.lang_tree.specs.declared.command.Cmd.TheVariants.{Mkdir, Create, Write, Fill, Read, Truncate, Link, Unlink, Rmdir, Rename, Stat, List as ListNames, Snap, Unsnap, Snaps, At, Osync, Dsync, Durable, Dwait, Poll, Bad}
+use Rattle.lang_tree.specs.declared.command.Look.{Look}
+use Rattle.lang_tree.specs.declared.command.Look.TheVariants as look
 use Rattle.lang_tree.specs.Listing.{slashed, path_text}
+use Rattle.lang_tree.specs.Step.{look_command}
 use Rattle.lang_script.specs.Shared.{name_bytes, own, weaker}
-use Rattle.lang_script.specs.Text.{command_text}
-use Rattle.lang_script.specs.Grammar.{command_of, command_of_parts, path_of, small_number_of, bytes_of, some_bytes, path_command, paths_command, truncate_of, dwait_of, write_of, read_of, fill_of, fits, is_in_grammar}
+use Rattle.lang_script.specs.Text.{command_text, look_text}
+use Rattle.lang_script.specs.Grammar.{command_of, command_of_parts, command_on_tree, path_of, name_of, small_number_of, bytes_of, some_bytes, path_command, paths_command, truncate_of, dwait_of, snap_of, unsnap_of, write_of, read_of, fill_of, look_of, at_of, is_lawful_look, fits, is_in_grammar}
 
 -- ---- lists without a byte
 
@@ -142,37 +147,52 @@ regroup_four a p d e f =
     ∙ append_assoc (a ++ p ++ codes " " ++ d ++ codes " ") e (32 ∷ f)
     ∙ regroup_three a p d (e ++ 32 ∷ f)
 
--- a word, which isn't `dwait`, a blank and a path read as the command of the word and the path
-path_reads : (word : List ℕ) (path : List (List ℕ)) → list_all (other 32) word ≡ true → bytes_eq word (codes "dwait") ≡ false → list_all is_name path ≡ true
+-- a word that takes a path, a blank and a path read as the command of the word and the path
+path_reads : (word : List ℕ) (path : List (List ℕ)) → list_all (other 32) word ≡ true
+    → ((last : List ℕ) → command_of_parts (word ∷ last ∷ []) ≡ path_command word (path_of last)) → list_all is_name path ≡ true
     → command_of (word ++ 32 ∷ path_text path) ≡ path_command word (Some path)
-path_reads word path w off h =
+path_reads word path w takes h =
     ap command_of_parts (split_two word (path_text path) w (path_lacks path h))
-    ∙ rw off (ap (λ p. path_command word p) (path_of-path_text path h))
+    ∙ takes (path_text path)
+    ∙ ap (λ p. path_command word p) (path_of-path_text path h)
 
--- a word, which isn't `truncate`, and two paths read as the command of the word and the paths
-paths_read : (word : List ℕ) (path second : List (List ℕ)) → list_all (other 32) word ≡ true → bytes_eq word (codes "truncate") ≡ false
+-- a word that takes two paths, and these read as the command of the word and the paths
+paths_read : (word : List ℕ) (path second : List (List ℕ)) → list_all (other 32) word ≡ true
+    → ((first last : List ℕ) → command_of_parts (word ∷ first ∷ last ∷ []) ≡ paths_command word (path_of first) (path_of last))
     → list_all is_name path ≡ true → list_all is_name second ≡ true
     → command_of (word ++ 32 ∷ (path_text path ++ 32 ∷ path_text second)) ≡ paths_command word (Some path) (Some second)
-paths_read word path second w off h k =
+paths_read word path second w takes h k =
     ap command_of_parts (split_three word (path_text path) (path_text second) w (path_lacks path h) (path_lacks second k))
-    ∙ rw off
-    (ap (λ p. paths_command word p (path_of (path_text second))) (path_of-path_text path h)
-    ∙ ap (λ p. paths_command word (Some path) p) (path_of-path_text second k))
+    ∙ takes (path_text path) (path_text second)
+    ∙ ap (λ p. paths_command word p (path_of (path_text second))) (path_of-path_text path h)
+    ∙ ap (λ p. paths_command word (Some path) p) (path_of-path_text second k)
 
 link_reads : (path second : List (List ℕ)) → list_all is_name path ≡ true → list_all is_name second ≡ true
     → command_of (command_text (Link path second)) ≡ Link path second
 link_reads path second h k =
-    ap command_of (regroup_two (codes "link ") (path_text path) (path_text second)) ∙ paths_read (codes "link") path second refl refl h k
+    ap command_of (regroup_two (codes "link ") (path_text path) (path_text second)) ∙ paths_read (codes "link") path second refl (λ first last. refl) h k
 
 rename_reads : (path second : List (List ℕ)) → list_all is_name path ≡ true → list_all is_name second ≡ true
     → command_of (command_text (Rename path second)) ≡ Rename path second
 rename_reads path second h k =
-    ap command_of (regroup_two (codes "rename ") (path_text path) (path_text second)) ∙ paths_read (codes "rename") path second refl refl h k
+    ap command_of (regroup_two (codes "rename ") (path_text path) (path_text second)) ∙ paths_read (codes "rename") path second refl (λ first last. refl) h k
 
 dwait_reads : (point : ℕ) → point < 4294967296 → command_of (command_text (Dwait point)) ≡ Dwait point
 dwait_reads point small =
     ap command_of_parts (split_two (codes "dwait") (decimal point) refl (decimal_lacks point small))
     ∙ ap dwait_of (small_number_of-decimal point small)
+
+name_lacks : (name : List ℕ) → is_name name ≡ true → list_all (other 32) name ≡ true
+name_lacks name h = weaker is_name_byte (other 32) no_blank name (name_bytes name h)
+
+name_of-name : (name : List ℕ) → is_name name ≡ true → name_of name ≡ Some name
+name_of-name name h = rw h refl
+
+snap_reads : (name : List ℕ) → is_name name ≡ true → command_of (command_text (Snap name)) ≡ Snap name
+snap_reads name h = ap command_of_parts (split_two (codes "snap") name refl (name_lacks name h)) ∙ ap snap_of (name_of-name name h)
+
+unsnap_reads : (name : List ℕ) → is_name name ≡ true → command_of (command_text (Unsnap name)) ≡ Unsnap name
+unsnap_reads name h = ap command_of_parts (split_two (codes "unsnap") name refl (name_lacks name h)) ∙ ap unsnap_of (name_of-name name h)
 
 truncate_reads : (path : List (List ℕ)) (size : ℕ) → list_all is_name path ≡ true → size < 4294967296
     → command_of (command_text (Truncate path size)) ≡ Truncate path size
@@ -220,10 +240,46 @@ fill_reads path offset count byte h small low lower k =
 fitting : (n : ℕ) → fits n ≡ true → n < 4294967296
 fitting n h = (Decides-ltb n 4294967296).0 h
 
+look_reads : (l : Look) → is_lawful_look l ≡ true → command_of (look_text l) ≡ look_command l
+look_reads (look.Read path offset count) h =
+    let first = and_parts (list_all is_name path) _ h in
+    let second = and_parts (fits offset) (nat_le count 1048576) first.1 in
+    let below : count ≤ 1048576 = search (rules, tests, second.1) in
+    read_reads path offset count first.0 (fitting offset second.0) (omega (arith, below)) second.1
+look_reads (look.Stat path) h = path_reads (codes "stat") path refl (λ last. refl) h
+look_reads (look.List path) h = path_reads (codes "list") path refl (λ last. refl) h
+
+look_back : (l : Look) → look_of (look_command l) ≡ Some l
+look_back (look.Read path offset count) = refl
+look_back (look.Stat path) = refl
+look_back (look.List path) = refl
+
+at_is_no_look : (name : Option (List ℕ)) (l : Option Look) → look_of (at_of name l) ≡ None
+at_is_no_look None l = refl
+at_is_no_look (Some name) None = refl
+at_is_no_look (Some name) (Some l) = refl
+
+-- parts that read as a look read so on the tree itself
+on_tree_look : (parts : List (List ℕ)) (l : Look) → command_of_parts parts ≡ look_command l → look_of (command_on_tree parts) ≡ Some l
+on_tree_look [] l h = ap look_of h ∙ look_back l
+on_tree_look (word ∷ []) l h = ap look_of h ∙ look_back l
+on_tree_look (word ∷ name ∷ parts) l h = by (bytes_eq word (codes "at")) (name_of name) (look_of (command_on_tree parts)) (command_on_tree (word ∷ name ∷ parts)) h
+  where
+    by : (b : Bool) (called : Option (List ℕ)) (seen : Option Look) (cmd : Cmd) → (if b then at_of called seen else cmd) ≡ look_command l → look_of cmd ≡ Some l
+    by true called seen cmd e = absurd (none-some l (sym (at_is_no_look called seen) ∙ ap look_of e ∙ look_back l))
+    by false called seen cmd e = ap look_of e ∙ look_back l
+
+at_reads : (name : List ℕ) (l : Look) → is_name name ≡ true → is_lawful_look l ≡ true → command_of (command_text (At name l)) ≡ At name l
+at_reads name l h k =
+    ap command_of (regroup_two (codes "at ") name (look_text l))
+    ∙ ap (λ rest. command_of_parts (codes "at" ∷ rest)) (split_at 32 name (look_text l) (name_lacks name h))
+    ∙ ap (λ n. at_of n (look_of (command_on_tree (slice_split (λ b. b == 32) (look_text l))))) (name_of-name name h)
+    ∙ ap (λ x. at_of (Some name) x) (on_tree_look (slice_split (λ b. b == 32) (look_text l)) l (look_reads l k))
+
 -- a command that some line asks for is what its text reads as
 pub round_trip : (cmd : Cmd) → is_in_grammar cmd ≡ true → command_of (command_text cmd) ≡ cmd
-round_trip (Mkdir path) h = path_reads (codes "mkdir") path refl refl h
-round_trip (Create path) h = path_reads (codes "create") path refl refl h
+round_trip (Mkdir path) h = path_reads (codes "mkdir") path refl (λ last. refl) h
+round_trip (Create path) h = path_reads (codes "create") path refl (λ last. refl) h
 round_trip (Write path offset []) h =
     let first = and_parts (list_all is_name path) _ h in
     let second = and_parts (fits offset) false first.1 in
@@ -239,24 +295,26 @@ round_trip (Fill path offset count byte) h =
     let third = and_parts (fits count) (nat_le byte 255) second.1 in
     let below : byte ≤ 255 = search (rules, tests, third.1) in
     fill_reads path offset count byte first.0 (fitting offset second.0) (fitting count third.0) (omega (arith, below)) third.1
-round_trip (Read path offset count) h =
-    let first = and_parts (list_all is_name path) _ h in
-    let second = and_parts (fits offset) (nat_le count 1048576) first.1 in
-    let below : count ≤ 1048576 = search (rules, tests, second.1) in
-    read_reads path offset count first.0 (fitting offset second.0) (omega (arith, below)) second.1
+round_trip (Read path offset count) h = look_reads (look.Read path offset count) h
 round_trip (Truncate path size) h =
     let parts = and_parts (list_all is_name path) (fits size) h in
     truncate_reads path size parts.0 (fitting size parts.1)
 round_trip (Link path second) h =
     let parts = and_parts (list_all is_name path) (list_all is_name second) h in
     link_reads path second parts.0 parts.1
-round_trip (Unlink path) h = path_reads (codes "unlink") path refl refl h
-round_trip (Rmdir path) h = path_reads (codes "rmdir") path refl refl h
+round_trip (Unlink path) h = path_reads (codes "unlink") path refl (λ last. refl) h
+round_trip (Rmdir path) h = path_reads (codes "rmdir") path refl (λ last. refl) h
 round_trip (Rename path second) h =
     let parts = and_parts (list_all is_name path) (list_all is_name second) h in
     rename_reads path second parts.0 parts.1
-round_trip (Stat path) h = path_reads (codes "stat") path refl refl h
-round_trip (ListNames path) h = path_reads (codes "list") path refl refl h
+round_trip (Stat path) h = look_reads (look.Stat path) h
+round_trip (ListNames path) h = look_reads (look.List path) h
+round_trip (Snap name) h = snap_reads name h
+round_trip (Unsnap name) h = unsnap_reads name h
+round_trip Snaps h = refl
+round_trip (At name l) h =
+    let parts = and_parts (is_name name) (is_lawful_look l) h in
+    at_reads name l parts.0 parts.1
 round_trip Osync h = refl
 round_trip Dsync h = refl
 round_trip Durable h = refl

@@ -12,11 +12,11 @@ use Rattle.std.specs.Char.{is_ascii_digit}
 use Rattle.std.specs.List.{list_all}
 use Rattle.std.specs.Str.Parse.{digits_value, ParsesUnsigned}
 use Rattle.lang_script.specs.Shared.{own}
-use Rattle.lang_script.specs.Grammar.{small_number_of, command_of_parts}
+use Rattle.lang_script.specs.Grammar.{small_number_of, command_on_tree}
 use Rattle.lang_tree.specs.declared.command.Cmd.TheVariants.{Bad}
 
 -- six parts or more are no command
-pub many_parts : (parts : List (List ℕ)) → 6 ≤ length parts → Bad ≡ command_of_parts parts
+pub many_parts : (parts : List (List ℕ)) → 6 ≤ length parts → Bad ≡ command_on_tree parts
 many_parts [] h = absurd (omega (arith, h))
 many_parts (a ∷ []) h = absurd (omega (arith, h))
 many_parts (a ∷ b ∷ []) h = absurd (omega (arith, h))

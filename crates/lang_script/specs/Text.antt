@@ -4,7 +4,9 @@ use Rattle.std.specs.Prelude.{ℕ, List, ◌∷◌, ◌++◌, codes, decimal}
 use Rattle.std.specs.List.{flat_map}
 use Rattle.hex.specs.Hex.{encode_lower}
 use Rattle.lang_tree.specs.declared.command.Cmd.{Cmd}
-use Rattle.lang_tree.specs.declared.command.Cmd.TheVariants.{Mkdir, Create, Write, Fill, Read, Truncate, Link, Unlink, Rmdir, Rename, Stat, List as ListNames, Osync, Dsync, Durable, Dwait, Poll, Bad}
+use Rattle.lang_tree.specs.declared.command.Cmd.TheVariants.{Mkdir, Create, Write, Fill, Read, Truncate, Link, Unlink, Rmdir, Rename, Stat, List as ListNames, Snap, Unsnap, Snaps, At, Osync, Dsync, Durable, Dwait, Poll, Bad}
+use Rattle.lang_tree.specs.declared.command.Look.{Look}
+use Rattle.lang_tree.specs.declared.command.Look.TheVariants as look
 use Rattle.lang_tree.specs.declared.command.Kind.{Kind}
 use Rattle.lang_tree.specs.declared.command.Kind.TheVariants.{Dir, File}
 use Rattle.lang_tree.specs.declared.command.Reply.{Reply}
@@ -14,6 +16,12 @@ use Rattle.lang_tree.specs.declared.command.Refusal.TheVariants.{Full, TooBig, S
 use Rattle.lang_tree.specs.Listing.{path_text, digits_behind_blank}
 use Rattle.lang_tree.specs.Refusals.{refusal_number, refusal_name}
 
+-- how a look at a tree is asked for
+abbrev pub look_text : Look → List ℕ
+look_text (look.Read path offset length) = codes "read " ++ path_text path ++ codes " " ++ decimal offset ++ codes " " ++ decimal length
+look_text (look.Stat path) = codes "stat " ++ path_text path
+look_text (look.List path) = codes "list " ++ path_text path
+
 -- the line that asks for a command; `?`, which is no command, for `Bad`
 abbrev pub command_text : Cmd → List ℕ
 command_text (Mkdir path) = codes "mkdir " ++ path_text path
@@ -22,15 +30,18 @@ command_text (Write path offset bytes) =
     codes "write " ++ path_text path ++ codes " " ++ decimal offset ++ codes " " ++ encode_lower bytes
 command_text (Fill path offset length byte) =
     codes "fill " ++ path_text path ++ codes " " ++ decimal offset ++ codes " " ++ decimal length ++ codes " " ++ decimal byte
-command_text (Read path offset length) =
-    codes "read " ++ path_text path ++ codes " " ++ decimal offset ++ codes " " ++ decimal length
+command_text (Read path offset length) = look_text (look.Read path offset length)
 command_text (Truncate path size) = codes "truncate " ++ path_text path ++ codes " " ++ decimal size
 command_text (Link path other) = codes "link " ++ path_text path ++ codes " " ++ path_text other
 command_text (Unlink path) = codes "unlink " ++ path_text path
 command_text (Rmdir path) = codes "rmdir " ++ path_text path
 command_text (Rename path other) = codes "rename " ++ path_text path ++ codes " " ++ path_text other
-command_text (Stat path) = codes "stat " ++ path_text path
-command_text (ListNames path) = codes "list " ++ path_text path
+command_text (Stat path) = look_text (look.Stat path)
+command_text (ListNames path) = look_text (look.List path)
+command_text (Snap name) = codes "snap " ++ name
+command_text (Unsnap name) = codes "unsnap " ++ name
+command_text Snaps = codes "snaps"
+command_text (At name l) = codes "at " ++ name ++ codes " " ++ look_text l
 command_text Osync = codes "osync"
 command_text Dsync = codes "dsync"
 command_text Durable = codes "durable"

@@ -4,13 +4,14 @@
 
 ghost use Rattle.std.specs.Prelude.{◌≡◌, List, [], ◌∷◌, IfOk, ◌⊎◌, map, true, Some};
 ghost use Rattle.lang_tree.specs.declared.command.Cmd.TheVariants.{Bad};
-ghost use Rattle.lang_script.specs.Grammar.{command_of, command_of_parts, is_in_grammar, word_command, path_command, paths_command, truncate_of, dwait_of};
-ghost use Rattle.lang_script.specs.Grammar.{write_of, read_of, fill_of, path_of, small_number_of, bytes_of};
+ghost use Rattle.lang_script.specs.Grammar.{command_of, command_of_parts, command_on_tree, is_in_grammar, word_command, path_command, paths_command};
+ghost use Rattle.lang_script.specs.Grammar.{truncate_of, dwait_of, snap_of, unsnap_of, write_of, read_of, fill_of, at_of, look_of};
+ghost use Rattle.lang_script.specs.Grammar.{path_of, name_of, small_number_of, bytes_of};
 
 use crate::arguments::{bytes, number, parts, path};
-use base_types::NoMemory;
 use base_types::limits::LONGEST_READ;
-use lang_tree::{Cmd, Path};
+use base_types::{Name, NoMemory};
+use lang_tree::{Cmd, Look, Path};
 use std::alloc::Global;
 
 /// The command that this line is, which is given without its line feed.
@@ -28,6 +29,67 @@ pub fn parse_line(alloc: Global, line: &[u8]) -> Result<Cmd, NoMemory>
 
 fn cmd_of_parts(alloc: Global, parts: &[&[u8]]) -> Result<Cmd, NoMemory>
     ensures { IfOk result (λ cmd. cmd ≡ command_of_parts (map (λ part. part.now) parts.now)) }
+{
+    match parts {
+        [] => Ok(Cmd::Bad),
+        [word] => Ok(cmd_of_word(word)),
+        [word, name, look @ ..] => {
+            if *word == b"at".as_slice() {
+                let cmd = look_at(alloc, name, look)?;
+                return Ok(cmd);
+            }
+            let cmd = cmd_on_tree(alloc, parts)?;
+            Ok(cmd)
+        }
+    }
+}
+
+// A look at the snapshot of this name.
+fn look_at(alloc: Global, name: &[u8], parts: &[&[u8]]) -> Result<Cmd, NoMemory>
+    ensures { IfOk result (λ cmd. cmd ≡ at_of (name_of name.now) (look_of (command_on_tree (map (λ part. part.now) parts.now)))) }
+{
+    let Some(name) = Name::new(name) else {
+        return Ok(Cmd::Bad);
+    };
+    let cmd = cmd_on_tree(alloc, parts)?;
+    match look(cmd) {
+        Some(look) => Ok(Cmd::At(name, look)),
+        None => Ok(Cmd::Bad),
+    }
+}
+
+fn look(cmd: Cmd) -> Option<Look>
+    ensures { result ≡ look_of cmd }
+{
+    match cmd {
+        Cmd::Read(path, offset, length) => Some(Look::Read(path, offset, length)),
+        Cmd::Stat(path) => Some(Look::Stat(path)),
+        Cmd::List(path) => Some(Look::List(path)),
+        Cmd::Mkdir(_)
+        | Cmd::Create(_)
+        | Cmd::Write(..)
+        | Cmd::Fill(..)
+        | Cmd::Truncate(..)
+        | Cmd::Link(..)
+        | Cmd::Unlink(_)
+        | Cmd::Rmdir(_)
+        | Cmd::Rename(..)
+        | Cmd::Snap(_)
+        | Cmd::Unsnap(_)
+        | Cmd::Snaps
+        | Cmd::At(..)
+        | Cmd::Osync
+        | Cmd::Dsync
+        | Cmd::Durable
+        | Cmd::Dwait(_)
+        | Cmd::Poll
+        | Cmd::Bad => None,
+    }
+}
+
+// A command on the tree itself.
+fn cmd_on_tree(alloc: Global, parts: &[&[u8]]) -> Result<Cmd, NoMemory>
+    ensures { IfOk result (λ cmd. cmd ≡ command_on_tree (map (λ part. part.now) parts.now)) }
 {
     match parts {
         [word] => Ok(cmd_of_word(word)),
@@ -68,15 +130,24 @@ fn cmd_of_word(word: &[u8]) -> Cmd
     if word == b"poll".as_slice() {
         return Cmd::Poll;
     }
+    if word == b"snaps".as_slice() {
+        return Cmd::Snaps;
+    }
     Cmd::Bad
 }
 
 // A word and one argument.
 fn with_one(alloc: Global, word: &[u8], last: &[u8]) -> Result<Cmd, NoMemory>
-    ensures { IfOk result (λ cmd. cmd ≡ command_of_parts (word.now ∷ last.now ∷ [])) }
+    ensures { IfOk result (λ cmd. cmd ≡ command_on_tree (word.now ∷ last.now ∷ [])) }
 {
     if word == b"dwait".as_slice() {
         return Ok(dwait(last));
+    }
+    if word == b"snap".as_slice() {
+        return Ok(snap(last));
+    }
+    if word == b"unsnap".as_slice() {
+        return Ok(unsnap(last));
     }
     let cmd = with_path(alloc, word, last)?;
     Ok(cmd)
@@ -87,6 +158,24 @@ fn dwait(point: &[u8]) -> Cmd
 {
     match number(point) {
         Some(point) => Cmd::Dwait(point),
+        None => Cmd::Bad,
+    }
+}
+
+fn snap(name: &[u8]) -> Cmd
+    ensures { result ≡ snap_of (name_of name.now) }
+{
+    match Name::new(name) {
+        Some(name) => Cmd::Snap(name),
+        None => Cmd::Bad,
+    }
+}
+
+fn unsnap(name: &[u8]) -> Cmd
+    ensures { result ≡ unsnap_of (name_of name.now) }
+{
+    match Name::new(name) {
+        Some(name) => Cmd::Unsnap(name),
         None => Cmd::Bad,
     }
 }
@@ -127,7 +216,7 @@ fn cmd_of_path(word: &[u8], path: Path) -> Cmd
 
 // A word, a path and one argument more.
 fn with_two(alloc: Global, word: &[u8], part: &[u8], last: &[u8]) -> Result<Cmd, NoMemory>
-    ensures { IfOk result (λ cmd. cmd ≡ command_of_parts (word.now ∷ part.now ∷ last.now ∷ [])) }
+    ensures { IfOk result (λ cmd. cmd ≡ command_on_tree (word.now ∷ part.now ∷ last.now ∷ [])) }
 {
     if word == b"truncate".as_slice() {
         let cmd = truncate(alloc, part, last)?;
@@ -181,7 +270,7 @@ fn with_three(
     offset: &[u8],
     last: &[u8],
 ) -> Result<Cmd, NoMemory>
-    ensures { IfOk result (λ cmd. cmd ≡ command_of_parts (word.now ∷ part.now ∷ offset.now ∷ last.now ∷ [])) }
+    ensures { IfOk result (λ cmd. cmd ≡ command_on_tree (word.now ∷ part.now ∷ offset.now ∷ last.now ∷ [])) }
 {
     if word == b"write".as_slice() {
         let cmd = write(alloc, part, offset, last)?;
@@ -236,7 +325,7 @@ fn with_four(
     length: &[u8],
     byte: &[u8],
 ) -> Result<Cmd, NoMemory>
-    ensures { IfOk result (λ cmd. cmd ≡ command_of_parts (word.now ∷ part.now ∷ offset.now ∷ length.now ∷ byte.now ∷ [])) }
+    ensures { IfOk result (λ cmd. cmd ≡ command_on_tree (word.now ∷ part.now ∷ offset.now ∷ length.now ∷ byte.now ∷ [])) }
 {
     if word == b"fill".as_slice() {
         let cmd = fill(alloc, part, offset, length, byte)?;

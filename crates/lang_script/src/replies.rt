@@ -172,7 +172,8 @@ fn push_refusal(text: &mut Vec<u8>, why: Refusal) -> Result<(), NoMemory>
         | Refusal::DiskFault
         | Refusal::Stopped
         | Refusal::Spent
-        | Refusal::NoMemory => push_reason(text, why)?,
+        | Refusal::NoMemory
+        | Refusal::NoSnap => push_reason(text, why)?,
     }
     Ok(())
 }

@@ -1,15 +1,16 @@
 -- Where no snapshot keeps a block of a file, the figures are those of a tree without snapshots.
-use Rattle.std.proofs.Common.{◌≡◌, ℕ, suc, ◌+◌, ◌-◌, ◌*◌, min, max, Bool, true, false, not, ◌&&◌, ◌==◌, nat_lt, List, [], ◌∷◌, length, if◌then◌else◌, Option, None, Some, refl, ap, ap₂, ◌∙◌, arith}
+use Rattle.std.proofs.Common.{◌≡◌, ℕ, suc, ◌+◌, ◌-◌, ◌*◌, min, max, Bool, true, false, not, ◌&&◌, ◌==◌, nat_lt, ◌<◌, List, [], ◌∷◌, length, if◌then◌else◌, Option, None, Some, refl, sym, ap, ap₂, ◌∙◌, arith}
 use Rattle.std.specs.List.{filter, range_with_len}
 use Rattle.std.specs.FinMap.{get}
+use Rattle.std.proofs.lemmas.Bool.{lt-ltb}
 use Rattle.std.proofs.lemmas.List.FromFn.{length-range_with_len}
 use Rattle.lang_tree.specs.declared.command.Cmd.{Cmd}
 use Rattle.lang_tree.specs.declared.command.Cmd.TheVariants as cmds
 use Rattle.lang_tree.specs.declared.command.Refusal.{Refusal}
 use Rattle.lang_tree.specs.Tree.{Tree}
-use Rattle.lang_tree.specs.Figures.{Figures, blocks_for, touches, blocks_met, nothing, moving, growth, release, siblings, are_in_one, writing, shrinking, removing, figures_by, accepted_figures, move_figures, write_figures, truncate_figures, blocks_gone}
+use Rattle.lang_tree.specs.Figures.{Figures, blocks_for, touches, blocks_met, kept_blocks, nothing, moving, growth, release, siblings, are_in_one, writing, shrinking, removing, figures_by, accepted_figures, move_figures, write_figures, truncate_figures, blocks_gone}
 use Rattle.lang_tree.specs.Walk.{content, links, is_there, is_same_node}
-use Rattle.lang_tree.specs.Sharing.{SharedNodes, none_shared, is_renewed, shared_met, alone_from, writing_over, cutting, shared_at, alone_gone, write_over_figures, truncate_over_figures, move_over_figures, accepted_over, figures_over_by}
+use Rattle.lang_tree.specs.Sharing.{BlocksAlone, SharedNodes, none_shared, none_alone, is_renewed, shared_met, alone_from, writing_over, cutting, shared_at, alone_gone, write_over_figures, truncate_over_figures, move_over_figures, accepted_over, figures_over_by}
 
 none_left : (lo hi : ℕ) (is : List ℕ) → filter (is_renewed none_shared lo hi) is ≡ []
 none_left lo hi [] = refl
@@ -76,17 +77,71 @@ move_as_before bitmap t from to =
     else if are_in_one from to then moving bitmap 0 0
     else moving bitmap (growth (siblings t.names to)) (release (siblings t.names from))) (gone_as_before t to)
 
-accepted_as_before : (bitmap : ℕ) (t : Tree) (cmd : Cmd) → accepted_over bitmap none_at_all t cmd ≡ accepted_figures bitmap t cmd
-accepted_as_before bitmap t (cmds.Unlink path) = ap (λ n. removing bitmap (release (siblings t.names path) + n)) (gone_as_before t path)
-accepted_as_before bitmap t (cmds.Rename from to) = ap (λ f. if is_same_node t from to then nothing else f) (move_as_before bitmap t from to)
-accepted_as_before bitmap t (cmds.Write path offset bytes) =
+accepted_as_before : (bitmap limit : ℕ) (t : Tree) (cmd : Cmd) → accepted_over bitmap none_at_all none_alone limit t cmd ≡ accepted_figures bitmap limit t cmd
+accepted_as_before bitmap limit t (cmds.Unlink path) = ap (λ n. removing bitmap (release (siblings t.names path) + n)) (gone_as_before t path)
+accepted_as_before bitmap limit t (cmds.Rename from to) = ap (λ f. if is_same_node t from to then nothing else f) (move_as_before bitmap t from to)
+accepted_as_before bitmap limit t (cmds.Write path offset bytes) =
     ap (λ shared. write_over_figures bitmap shared (length (content t path)) offset (length bytes)) (at_none (get t.names path)) ∙ write_as_before bitmap (length (content t path)) offset (length bytes)
-accepted_as_before bitmap t (cmds.Fill path offset count byte) =
+accepted_as_before bitmap limit t (cmds.Fill path offset count byte) =
     ap (λ shared. write_over_figures bitmap shared (length (content t path)) offset count) (at_none (get t.names path)) ∙ write_as_before bitmap (length (content t path)) offset count
-accepted_as_before bitmap t (cmds.Truncate path size) =
+accepted_as_before bitmap limit t (cmds.Truncate path size) =
     ap (λ shared. truncate_over_figures bitmap shared (length (content t path)) size) (at_none (get t.names path)) ∙ truncate_as_before bitmap (length (content t path)) size
-accepted_as_before bitmap t cmd = refl
+accepted_as_before bitmap limit t (cmds.Unsnap name) =
+    ap (shrinking bitmap) {x = kept_blocks limit (get t.snapshots name) + 0} {y = kept_blocks limit (get t.snapshots name)} (omega arith)
+accepted_as_before bitmap limit t cmd = refl
 
-pub figures_as_before : (bitmap : ℕ) (t : Tree) (cmd : Cmd) (why : Option Refusal) → figures_over_by bitmap none_at_all t cmd why ≡ figures_by bitmap t cmd why
-figures_as_before bitmap t cmd (Some why) = refl
-figures_as_before bitmap t cmd None = accepted_as_before bitmap t cmd
+pub figures_as_before : (bitmap limit : ℕ) (t : Tree) (cmd : Cmd) (why : Option Refusal)
+    → figures_over_by bitmap none_at_all none_alone limit t cmd why ≡ figures_by bitmap limit t cmd why
+figures_as_before bitmap limit t cmd (Some why) = refl
+figures_as_before bitmap limit t cmd None = accepted_as_before bitmap limit t cmd
+
+-- What costs something with sharing costs something without, and the other way.
+
+abbrev CostAlike : Figures → Figures → Type 0
+CostAlike f g = nat_lt 0 f.cost ≡ nat_lt 0 g.cost
+
+both_cost : (f g : Figures) → 0 < f.cost → 0 < g.cost → CostAlike f g
+both_cost f g one other = lt-ltb 0 f.cost one ∙ sym (lt-ltb 0 g.cost other)
+
+alike_if : (t : Bool) (a b c d : Figures) → CostAlike a b → CostAlike c d → CostAlike (if t then a else c) (if t then b else d)
+alike_if true a b c d one other = one
+alike_if false a b c d one other = other
+
+writes_alike : (bitmap : ℕ) (shared : ℕ → Bool) (size lo hi : ℕ) → CostAlike (writing_over bitmap shared size lo hi) (writing bitmap size lo hi)
+writes_alike bitmap shared size lo hi = both_cost (writing_over bitmap shared size lo hi) (writing bitmap size lo hi) (omega arith) (omega arith)
+
+write_alike : (bitmap : ℕ) (shared : ℕ → Bool) (size offset count : ℕ) → CostAlike (write_over_figures bitmap shared size offset count) (write_figures bitmap size offset count)
+write_alike bitmap shared size offset count =
+    alike_if (count == 0) nothing nothing (writing_over bitmap shared size (min offset size) (offset + count)) (writing bitmap size (min offset size) (offset + count)) refl (writes_alike bitmap shared size (min offset size) (offset + count))
+
+cuts_alike : (bitmap : ℕ) (shared : ℕ → Bool) (count kept freed : ℕ) → CostAlike (cutting bitmap shared count kept) (shrinking bitmap freed)
+cuts_alike bitmap shared count kept freed = both_cost (cutting bitmap shared count kept) (shrinking bitmap freed) (omega arith) (omega arith)
+
+truncate_alike : (bitmap : ℕ) (shared : ℕ → Bool) (old new : ℕ) → CostAlike (truncate_over_figures bitmap shared old new) (truncate_figures bitmap old new)
+truncate_alike bitmap shared old new =
+    alike_if (nat_lt old new) (writing_over bitmap shared old old new) (writing bitmap old old new) _ _ (writes_alike bitmap shared old old new)
+    (alike_if (nat_lt new old) (cutting bitmap shared (blocks_for old) (blocks_for new)) (shrinking bitmap (blocks_for old - blocks_for new)) nothing nothing (cuts_alike bitmap shared (blocks_for old) (blocks_for new) (blocks_for old - blocks_for new)) refl)
+
+moves_alike : (bitmap : ℕ) (shared : SharedNodes) (t : Tree) (from to : List (List ℕ)) → CostAlike (move_over_figures bitmap shared t from to) (move_figures bitmap t from to)
+moves_alike bitmap shared t from to =
+    let gone = release (siblings t.names from) in
+    alike_if (is_there t to) (moving bitmap 0 (gone + alone_gone shared t to)) (moving bitmap 0 (gone + blocks_gone t to)) _ _
+    (both_cost (moving bitmap 0 (gone + alone_gone shared t to)) (moving bitmap 0 (gone + blocks_gone t to)) (omega arith) (omega arith)) refl
+
+accepted_alike : (bitmap : ℕ) (shared : SharedNodes) (alone : BlocksAlone) (limit : ℕ) (t : Tree) (cmd : Cmd) → CostAlike (accepted_over bitmap shared alone limit t cmd) (accepted_figures bitmap limit t cmd)
+accepted_alike bitmap shared alone limit t (cmds.Unlink path) =
+    let gone = release (siblings t.names path) in
+    both_cost (removing bitmap (gone + alone_gone shared t path)) (removing bitmap (gone + blocks_gone t path)) (omega arith) (omega arith)
+accepted_alike bitmap shared alone limit t (cmds.Rename from to) =
+    alike_if (is_same_node t from to) nothing nothing (move_over_figures bitmap shared t from to) (move_figures bitmap t from to) refl (moves_alike bitmap shared t from to)
+accepted_alike bitmap shared alone limit t (cmds.Write path offset bytes) = write_alike bitmap (shared_at shared (get t.names path)) (length (content t path)) offset (length bytes)
+accepted_alike bitmap shared alone limit t (cmds.Fill path offset count byte) = write_alike bitmap (shared_at shared (get t.names path)) (length (content t path)) offset count
+accepted_alike bitmap shared alone limit t (cmds.Truncate path size) = truncate_alike bitmap (shared_at shared (get t.names path)) (length (content t path)) size
+accepted_alike bitmap shared alone limit t (cmds.Unsnap name) =
+    both_cost (shrinking bitmap (kept_blocks limit (get t.snapshots name) + alone name)) (shrinking bitmap (kept_blocks limit (get t.snapshots name))) (omega arith) (omega arith)
+accepted_alike bitmap shared alone limit t cmd = refl
+
+pub costs_alike : (bitmap : ℕ) (shared : SharedNodes) (alone : BlocksAlone) (limit : ℕ) (t : Tree) (cmd : Cmd) (why : Option Refusal)
+    → nat_lt 0 (figures_over_by bitmap shared alone limit t cmd why).cost ≡ nat_lt 0 (figures_by bitmap limit t cmd why).cost
+costs_alike bitmap shared alone limit t cmd (Some why) = refl
+costs_alike bitmap shared alone limit t cmd None = accepted_alike bitmap shared alone limit t cmd

@@ -1,12 +1,14 @@
 -- Why a command is refused: first the walks, and then the other conditions in the order of their numbers. They are the table in docs/TREE.md.
-use Rattle.std.specs.Prelude.{ℕ, ◌+◌, ◌==◌, Bool, not, ◌&&◌, if◌then◌else◌, List, [], ◌∷◌, length, nat_lt, nat_le, is_none, Option, None, Some, find}
+use Rattle.std.specs.Prelude.{ℕ, ◌+◌, ◌==◌, Bool, not, ◌&&◌, if◌then◌else◌, List, [], ◌∷◌, length, nat_lt, nat_le, is_none, is_some, Option, None, Some, find}
 use Rattle.std.specs.List.{range_with_len, list_any}
 use Rattle.std.specs.FinMap.{get, entries}
 use Rattle.lang_tree.specs.declared.command.Cmd.{Cmd}
-use Rattle.lang_tree.specs.declared.command.Cmd.TheVariants.{Mkdir, Create, Write, Fill, Read, Truncate, Link, Unlink, Rmdir, Rename, Stat, List as ListNames, Osync, Dsync, Durable, Dwait, Poll, Bad}
+use Rattle.lang_tree.specs.declared.command.Cmd.TheVariants.{Mkdir, Create, Write, Fill, Read, Truncate, Link, Unlink, Rmdir, Rename, Stat, List as ListNames, Snap, Unsnap, Snaps, At, Osync, Dsync, Durable, Dwait, Poll, Bad}
+use Rattle.lang_tree.specs.declared.command.Look.{Look}
+use Rattle.lang_tree.specs.declared.command.Look.TheVariants as look
 use Rattle.lang_tree.specs.declared.command.Refusal.{Refusal}
-use Rattle.lang_tree.specs.declared.command.Refusal.TheVariants.{Exists, NotDir, IsDir, NotEmpty, BelowItself, TooLarge, TooManyLinks, NoNode}
-use Rattle.lang_tree.specs.Tree.{Tree, Snapshots}
+use Rattle.lang_tree.specs.declared.command.Refusal.TheVariants.{Exists, NotDir, IsDir, NotEmpty, BelowItself, TooLarge, TooManyLinks, NoNode, NoSnap}
+use Rattle.lang_tree.specs.Tree.{Tree, Snapshots, Kept, kept_tree}
 use Rattle.lang_tree.specs.Paths.{is_below}
 use Rattle.lang_tree.specs.Names.{holds_names}
 use Rattle.lang_tree.specs.Walk.{walk_refusal, parent_refusal, thing_at, is_there, is_dir, is_file, is_same_node, links}
@@ -77,6 +79,21 @@ rename_refusal t from to =
 abbrev pub list_refusal : Tree → List (List ℕ) → Option Refusal
 list_refusal t path = first_reason (walk_refusal t path ∷ when (is_file (thing_at t path)) NotDir ∷ [])
 
+-- a new snapshot: no other has its name, and a number is unused
+abbrev pub snap_refusal : ℕ → Tree → List ℕ → Option Refusal
+snap_refusal limit t name = first_reason (when (is_some (get t.snapshots name)) Exists ∷ when (is_none (least_unused limit t)) NoNode ∷ [])
+
+-- a look at a tree
+abbrev pub look_refusal : Tree → Look → Option Refusal
+look_refusal t (look.Read path offset count) = file_refusal t path
+look_refusal t (look.Stat path) = walk_refusal t path
+look_refusal t (look.List path) = list_refusal t path
+
+-- a look at what a snapshot keeps, where there is one
+abbrev pub at_refusal : Option Kept → Look → Option Refusal
+at_refusal None l = Some NoSnap
+at_refusal (Some k) l = look_refusal (kept_tree k) l
+
 -- why the tree, with so many numbers at most, refuses the command
 abbrev pub refusal : ℕ → Tree → Cmd → Option Refusal
 refusal limit t (Mkdir path) = make_refusal limit t path
@@ -91,6 +108,10 @@ refusal limit t (Rmdir path) = rmdir_refusal t path
 refusal limit t (Rename from to) = rename_refusal t from to
 refusal limit t (Stat path) = walk_refusal t path
 refusal limit t (ListNames path) = list_refusal t path
+refusal limit t (Snap name) = snap_refusal limit t name
+refusal limit t (Unsnap name) = when (is_none (get t.snapshots name)) NoSnap
+refusal limit t Snaps = None
+refusal limit t (At name l) = at_refusal (get t.snapshots name) l
 refusal limit t Osync = None
 refusal limit t Dsync = None
 refusal limit t Durable = None

@@ -1,11 +1,11 @@
 -- How many blocks trees and commands take, from sizes and numbers of names alone, and what a command costs in the journal. They are the table in docs/TREE.md.
 use Rattle.std.specs.Prelude.{ℕ, ◌+◌, ◌-◌, ◌*◌, ◌/◌, ◌==◌, min, max, Bool, ◌&&◌, if◌then◌else◌, List, [], ◌∷◌, length, nat_lt, is_some, Option, None, Some}
 use Rattle.std.specs.List.{filter, range_with_len}
-use Rattle.std.specs.FinMap.{entries}
+use Rattle.std.specs.FinMap.{get, entries}
 use Rattle.lang_tree.specs.declared.command.Cmd.{Cmd}
-use Rattle.lang_tree.specs.declared.command.Cmd.TheVariants.{Mkdir, Create, Write, Fill, Truncate, Link, Unlink, Rmdir, Rename}
+use Rattle.lang_tree.specs.declared.command.Cmd.TheVariants.{Mkdir, Create, Write, Fill, Truncate, Link, Unlink, Rmdir, Rename, Snap, Unsnap}
 use Rattle.lang_tree.specs.declared.command.Refusal.{Refusal}
-use Rattle.lang_tree.specs.Tree.{Tree, Names, Thing, Dir, File}
+use Rattle.lang_tree.specs.Tree.{Tree, Names, Kept, Thing, Dir, File}
 use Rattle.lang_tree.specs.Paths.{parent, name_in}
 use Rattle.lang_tree.specs.Names.{names_in}
 use Rattle.lang_tree.specs.Walk.{content, links, is_there, is_same_node}
@@ -43,6 +43,15 @@ all_directory_blocks names (e ∷ es) = directory_blocks (length (names_in names
 -- the blocks of each file, and of what each path holds: a file's path holds nothing, and a directory has one path
 abbrev pub blocks : Tree → ℕ
 blocks t = file_blocks (entries t.nodes) + all_directory_blocks t.names (entries t.names)
+
+-- blocks of a snapshot of these paths, where there are so many numbers of nodes: one for its name, one for each four nodes, and those of all directories
+abbrev pub snapshot_blocks : ℕ → Names → ℕ
+snapshot_blocks limit names = 1 + (limit / 4 + all_directory_blocks names (entries names))
+
+-- blocks of a snapshot, where there is one
+abbrev pub kept_blocks : ℕ → Option Kept → ℕ
+kept_blocks limit None = 0
+kept_blocks limit (Some k) = snapshot_blocks limit k.names
 
 -- Directories.
 
@@ -101,6 +110,10 @@ writing bitmap size lo hi =
 abbrev pub shrinking : ℕ → ℕ → Figures
 shrinking bitmap freed = record { need = 0; cost = 25 * (1 + min freed bitmap); freed = freed }
 
+-- a snapshot of so many blocks is made
+abbrev pub snapping : ℕ → ℕ → Figures
+snapping bitmap count = record { need = count; cost = 25 * (1 + min count bitmap) + count; freed = 0 }
+
 abbrev pub write_figures : ℕ → ℕ → ℕ → ℕ → Figures
 write_figures bitmap size offset count = if count == 0 then nothing else writing bitmap size (min offset size) (offset + count)
 
@@ -117,22 +130,24 @@ move_figures bitmap t from to =
     else if are_in_one from to then moving bitmap 0 0
     else moving bitmap (growth (siblings t.names to)) (release (siblings t.names from))
 
-abbrev pub accepted_figures : ℕ → Tree → Cmd → Figures
-accepted_figures bitmap t (Mkdir path) = adding (growth (siblings t.names path))
-accepted_figures bitmap t (Create path) = adding (growth (siblings t.names path))
-accepted_figures bitmap t (Link path other) = adding (growth (siblings t.names other))
-accepted_figures bitmap t (Unlink path) = removing bitmap (release (siblings t.names path) + blocks_gone t path)
-accepted_figures bitmap t (Rmdir path) = removing bitmap (release (siblings t.names path))
-accepted_figures bitmap t (Rename from to) = if is_same_node t from to then nothing else move_figures bitmap t from to
-accepted_figures bitmap t (Write path offset bytes) = write_figures bitmap (length (content t path)) offset (length bytes)
-accepted_figures bitmap t (Fill path offset count byte) = write_figures bitmap (length (content t path)) offset count
-accepted_figures bitmap t (Truncate path size) = truncate_figures bitmap (length (content t path)) size
-accepted_figures bitmap t _ = nothing
+abbrev pub accepted_figures : ℕ → ℕ → Tree → Cmd → Figures
+accepted_figures bitmap limit t (Mkdir path) = adding (growth (siblings t.names path))
+accepted_figures bitmap limit t (Create path) = adding (growth (siblings t.names path))
+accepted_figures bitmap limit t (Link path other) = adding (growth (siblings t.names other))
+accepted_figures bitmap limit t (Unlink path) = removing bitmap (release (siblings t.names path) + blocks_gone t path)
+accepted_figures bitmap limit t (Rmdir path) = removing bitmap (release (siblings t.names path))
+accepted_figures bitmap limit t (Rename from to) = if is_same_node t from to then nothing else move_figures bitmap t from to
+accepted_figures bitmap limit t (Write path offset bytes) = write_figures bitmap (length (content t path)) offset (length bytes)
+accepted_figures bitmap limit t (Fill path offset count byte) = write_figures bitmap (length (content t path)) offset count
+accepted_figures bitmap limit t (Truncate path size) = truncate_figures bitmap (length (content t path)) size
+accepted_figures bitmap limit t (Snap name) = snapping bitmap (snapshot_blocks limit t.names)
+accepted_figures bitmap limit t (Unsnap name) = shrinking bitmap (kept_blocks limit (get t.snapshots name))
+accepted_figures bitmap limit t _ = nothing
 
-abbrev pub figures_by : ℕ → Tree → Cmd → Option Refusal → Figures
-figures_by bitmap t cmd (Some why) = nothing
-figures_by bitmap t cmd None = accepted_figures bitmap t cmd
+abbrev pub figures_by : ℕ → ℕ → Tree → Cmd → Option Refusal → Figures
+figures_by bitmap limit t cmd (Some why) = nothing
+figures_by bitmap limit t cmd None = accepted_figures bitmap limit t cmd
 
 -- need, cost and blocks freed of a command; nothing where the tree refuses it
 abbrev pub figures : ℕ → Session → Cmd → Figures
-figures bitmap s cmd = figures_by bitmap s.tree cmd (refusal s.limit s.tree cmd)
+figures bitmap s cmd = figures_by bitmap s.limit s.tree cmd (refusal s.limit s.tree cmd)

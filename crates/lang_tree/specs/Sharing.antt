@@ -1,12 +1,12 @@
 -- What commands need, cost and free where snapshots keep blocks of files beside the tree. Where nothing is shared it is what `Figures` says.
-use Rattle.std.specs.Prelude.{ℕ, ◌+◌, ◌-◌, ◌*◌, ◌/◌, ◌==◌, min, max, Bool, false, ◌&&◌, not, if◌then◌else◌, List, length, nat_lt, Option, None, Some}
+use Rattle.std.specs.Prelude.{ℕ, ◌+◌, ◌-◌, ◌*◌, ◌==◌, min, max, Bool, false, ◌&&◌, not, if◌then◌else◌, List, length, nat_lt, Option, None, Some}
 use Rattle.std.specs.List.{filter, range_with_len}
-use Rattle.std.specs.FinMap.{get, entries}
+use Rattle.std.specs.FinMap.{get}
 use Rattle.lang_tree.specs.declared.command.Cmd.{Cmd}
-use Rattle.lang_tree.specs.declared.command.Cmd.TheVariants.{Write, Fill, Truncate, Unlink, Rename}
+use Rattle.lang_tree.specs.declared.command.Cmd.TheVariants.{Write, Fill, Truncate, Unlink, Rename, Unsnap}
 use Rattle.lang_tree.specs.declared.command.Refusal.{Refusal}
-use Rattle.lang_tree.specs.Tree.{Tree, Names}
-use Rattle.lang_tree.specs.Figures.{Figures, blocks_for, touches, blocks_met, nothing, removing, moving, growth, release, siblings, are_in_one, all_directory_blocks, accepted_figures}
+use Rattle.lang_tree.specs.Tree.{Tree}
+use Rattle.lang_tree.specs.Figures.{Figures, blocks_for, kept_blocks, touches, blocks_met, nothing, removing, moving, shrinking, growth, release, siblings, are_in_one, accepted_figures}
 use Rattle.lang_tree.specs.Walk.{content, links, is_there, is_same_node}
 use Rattle.lang_tree.specs.Conditions.{refusal}
 use Rattle.lang_tree.specs.Step.{Session}
@@ -22,6 +22,14 @@ none_shared i = false
 -- which blocks of each node a snapshot keeps, by its number and their places
 abbrev pub SharedNodes : Type 0
 SharedNodes = ℕ → SharedPlaces
+
+-- how many blocks of its files each snapshot alone has, by its name: neither the tree nor another snapshot has them
+abbrev pub BlocksAlone : Type 0
+BlocksAlone = List ℕ → ℕ
+
+-- no snapshot has a block alone
+abbrev pub none_alone : BlocksAlone
+none_alone name = 0
 
 -- a block of the file that the bytes from lo up to hi touch and a snapshot keeps
 abbrev pub is_renewed : SharedPlaces → ℕ → ℕ → ℕ → Bool
@@ -47,17 +55,9 @@ cutting bitmap shared count kept =
     let freed = alone_from shared kept (count - kept) in
     record { need = 0; cost = 25 * (1 + min freed bitmap); freed = freed }
 
--- a snapshot of so many blocks is made
-abbrev pub snapping : ℕ → ℕ → Figures
-snapping bitmap count = record { need = count; cost = 25 * (1 + min count bitmap) + count; freed = 0 }
-
 -- a snapshot of so many blocks goes, and so many blocks of its files that nothing else has
 abbrev pub unsnapping : ℕ → ℕ → ℕ → Figures
-unsnapping bitmap count alone = record { need = 0; cost = 25 * (1 + min (count + alone) bitmap); freed = count + alone }
-
--- the blocks of a snapshot of these names on a disk of so many nodes: one with its name, the node table, and those of the directories
-abbrev pub snapshot_blocks : ℕ → Names → ℕ
-snapshot_blocks limit names = 1 + (limit / 4 + all_directory_blocks names (entries names))
+unsnapping bitmap count alone = shrinking bitmap (count + alone)
 
 -- The figures of the commands, with what is shared.
 
@@ -86,19 +86,22 @@ move_over_figures bitmap shared t from to =
     else if are_in_one from to then moving bitmap 0 0
     else moving bitmap (growth (siblings t.names to)) (release (siblings t.names from))
 
--- of an accepted command: those that write, cut or drop a file's blocks look at what is shared, all others don't
-abbrev pub accepted_over : ℕ → SharedNodes → Tree → Cmd → Figures
-accepted_over bitmap shared t (Unlink path) = removing bitmap (release (siblings t.names path) + alone_gone shared t path)
-accepted_over bitmap shared t (Rename from to) = if is_same_node t from to then nothing else move_over_figures bitmap shared t from to
-accepted_over bitmap shared t (Write path offset bytes) = write_over_figures bitmap (shared_at shared (get t.names path)) (length (content t path)) offset (length bytes)
-accepted_over bitmap shared t (Fill path offset count byte) = write_over_figures bitmap (shared_at shared (get t.names path)) (length (content t path)) offset count
-accepted_over bitmap shared t (Truncate path size) = truncate_over_figures bitmap (shared_at shared (get t.names path)) (length (content t path)) size
-accepted_over bitmap shared t cmd = accepted_figures bitmap t cmd
+-- of an accepted command: those that write, cut or drop a file's blocks look at what is shared, a snapshot that goes frees what it has alone, and all others have their figures without sharing
+abbrev pub accepted_over : ℕ → SharedNodes → BlocksAlone → ℕ → Tree → Cmd → Figures
+accepted_over bitmap shared alone limit t (Unlink path) = removing bitmap (release (siblings t.names path) + alone_gone shared t path)
+accepted_over bitmap shared alone limit t (Rename from to) = if is_same_node t from to then nothing else move_over_figures bitmap shared t from to
+accepted_over bitmap shared alone limit t (Write path offset bytes) =
+    write_over_figures bitmap (shared_at shared (get t.names path)) (length (content t path)) offset (length bytes)
+accepted_over bitmap shared alone limit t (Fill path offset count byte) =
+    write_over_figures bitmap (shared_at shared (get t.names path)) (length (content t path)) offset count
+accepted_over bitmap shared alone limit t (Truncate path size) = truncate_over_figures bitmap (shared_at shared (get t.names path)) (length (content t path)) size
+accepted_over bitmap shared alone limit t (Unsnap name) = unsnapping bitmap (kept_blocks limit (get t.snapshots name)) (alone name)
+accepted_over bitmap shared alone limit t cmd = accepted_figures bitmap limit t cmd
 
-abbrev pub figures_over_by : ℕ → SharedNodes → Tree → Cmd → Option Refusal → Figures
-figures_over_by bitmap shared t cmd (Some why) = nothing
-figures_over_by bitmap shared t cmd None = accepted_over bitmap shared t cmd
+abbrev pub figures_over_by : ℕ → SharedNodes → BlocksAlone → ℕ → Tree → Cmd → Option Refusal → Figures
+figures_over_by bitmap shared alone limit t cmd (Some why) = nothing
+figures_over_by bitmap shared alone limit t cmd None = accepted_over bitmap shared alone limit t cmd
 
 -- need, cost and blocks freed of a command; nothing where the tree refuses it
-abbrev pub figures_over : ℕ → SharedNodes → Session → Cmd → Figures
-figures_over bitmap shared s cmd = figures_over_by bitmap shared s.tree cmd (refusal s.limit s.tree cmd)
+abbrev pub figures_over : ℕ → SharedNodes → BlocksAlone → Session → Cmd → Figures
+figures_over bitmap shared alone s cmd = figures_over_by bitmap shared alone s.limit s.tree cmd (refusal s.limit s.tree cmd)

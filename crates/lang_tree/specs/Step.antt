@@ -1,14 +1,16 @@
 -- What each command does to the tree, and its reply. It is described in docs/TREE.md.
 use Rattle.std.specs.Prelude.{ℕ, ◌+◌, ◌-◌, ◌*◌, ◌^◌, ◌==◌, min, max, nat_le, Bool, true, false, if◌then◌else◌, List, [], ◌++◌, length, take, drop, replicate, Option, None, Some}
-use Rattle.std.specs.FinMap.{get, insert, remove, empty}
+use Rattle.std.specs.FinMap.{get, insert, remove, keys, empty}
 use Rattle.lang_tree.specs.declared.command.Cmd.{Cmd}
-use Rattle.lang_tree.specs.declared.command.Cmd.TheVariants.{Mkdir, Create, Write, Fill, Read, Truncate, Link, Unlink, Rmdir, Rename, Stat, List as ListNames, Osync, Dsync, Durable, Dwait, Poll, Bad}
+use Rattle.lang_tree.specs.declared.command.Cmd.TheVariants.{Mkdir, Create, Write, Fill, Read, Truncate, Link, Unlink, Rmdir, Rename, Stat, List as ListNames, Snap, Unsnap, Snaps, At, Osync, Dsync, Durable, Dwait, Poll, Bad}
+use Rattle.lang_tree.specs.declared.command.Look.{Look}
+use Rattle.lang_tree.specs.declared.command.Look.TheVariants as look
 use Rattle.lang_tree.specs.declared.command.Kind.TheVariants.{Dir as DirKind, File as FileKind}
 use Rattle.lang_tree.specs.declared.command.Reply.{Reply}
 use Rattle.lang_tree.specs.declared.command.Reply.TheVariants.{Ok as Done, Bytes, Stat as StatReply, Names as NamesReply, Synced, DurableAt, Known, Bad as NotUnderstood, Refused}
 use Rattle.lang_tree.specs.declared.command.Refusal.{Refusal}
-use Rattle.lang_tree.specs.declared.command.Refusal.TheVariants.{NotFound, NoPoint}
-use Rattle.lang_tree.specs.Tree.{Tree, Names, Nodes, Thing, Dir, File, alone}
+use Rattle.lang_tree.specs.declared.command.Refusal.TheVariants.{NotFound, NoPoint, NoSnap}
+use Rattle.lang_tree.specs.Tree.{Tree, Names, Nodes, Kept, Thing, Dir, File, alone, kept_tree}
 use Rattle.lang_tree.specs.Names.{path_count, names_in, renamed}
 use Rattle.lang_tree.specs.Walk.{content, is_same_node}
 use Rattle.lang_tree.specs.Conditions.{least_unused, refusal}
@@ -81,6 +83,28 @@ removed t path = removed_by t path (get t.names path)
 abbrev pub moved : Tree → List (List ℕ) → List (List ℕ) → Tree
 moved t from to = record t { names = renamed t.names from to }
 
+-- what a snapshot of this number keeps of the tree
+abbrev pub kept_of : ℕ → Tree → Kept
+kept_of n t = record { number = n; names = t.names; nodes = t.nodes }
+
+abbrev pub snapped_by : Tree → List ℕ → Option ℕ → Tree
+snapped_by t name None = t
+snapped_by t name (Some n) = record t { snapshots = insert t.snapshots name (kept_of n t) }
+
+-- a snapshot of this name keeps the tree as it is, under the least unused number
+abbrev pub snapped : ℕ → Tree → List ℕ → Tree
+snapped limit t name = snapped_by t name (least_unused limit t)
+
+-- the snapshot of this name is gone
+abbrev pub unsnapped : Tree → List ℕ → Tree
+unsnapped t name = record t { snapshots = remove t.snapshots name }
+
+-- whether the command makes a snapshot or takes one away
+abbrev pub changes_snapshots : Cmd → Bool
+changes_snapshots (Snap name) = true
+changes_snapshots (Unsnap name) = true
+changes_snapshots _ = false
+
 -- What the commands answer and leave, where nothing refuses them.
 
 -- done, with this tree
@@ -110,6 +134,22 @@ stat_by t path (Some n) = stat_of t path n (get t.nodes n)
 -- kind, number, size and links of what is at the path. A directory has 64 bytes for each name in it, and one link
 abbrev pub stat : Tree → List (List ℕ) → Reply
 stat t path = stat_by t path (get t.names path)
+
+-- the command that looks so
+abbrev pub look_command : Look → Cmd
+look_command (look.Read path offset count) = Read path offset count
+look_command (look.Stat path) = Stat path
+look_command (look.List path) = ListNames path
+
+-- what a look at a tree shows
+abbrev pub seen : Tree → Look → Reply
+seen t (look.Read path offset count) = Bytes (take count (drop offset (content t path)))
+seen t (look.Stat path) = stat t path
+seen t (look.List path) = NamesReply (names_in t.names path)
+
+abbrev pub seen_in : Option Kept → Look → Reply
+seen_in None l = Refused NoSnap
+seen_in (Some k) l = seen (kept_tree k) l
 
 -- the number after this one. Like every count it stops at 2^64 - 1
 abbrev pub next_point : ℕ → ℕ
@@ -146,6 +186,10 @@ accepted s (Rmdir path) = changed_to s (removed s.tree path)
 accepted s (Rename from to) = rename s from to
 accepted s (Stat path) = (s, stat s.tree path)
 accepted s (ListNames path) = (s, NamesReply (names_in s.tree.names path))
+accepted s (Snap name) = changed_to s (snapped s.limit s.tree name)
+accepted s (Unsnap name) = changed_to s (unsnapped s.tree name)
+accepted s Snaps = (s, NamesReply (keys s.tree.snapshots))
+accepted s (At name l) = (s, seen_in (get s.tree.snapshots name) l)
 accepted s Osync = osync s s.changed
 accepted s Dsync = dsync s s.changed
 accepted s Durable = (s, Known s.durable)

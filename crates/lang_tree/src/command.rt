@@ -5,7 +5,7 @@ ghost use Rattle.std.specs.Prelude.{◌≡◌};
 ghost use Rattle.lang_tree.specs.Refusals.{refusal_number, refusal_name};
 
 use crate::{NameList, Path};
-use base_types::Bytes;
+use base_types::{Bytes, Name};
 use std::error::Error;
 use std::fmt;
 
@@ -36,6 +36,14 @@ pub enum Cmd {
     Stat(Path),
     /// Asks for the names in the directory.
     List(Path),
+    /// Keeps the tree as it is under this name.
+    Snap(Name),
+    /// Takes the snapshot of this name away.
+    Unsnap(Name),
+    /// Asks for the names of the snapshots.
+    Snaps,
+    /// Looks at what the snapshot of this name keeps.
+    At(Name, Look),
     /// Makes a sync point, where something changed since the last one.
     Osync,
     /// Does so too, and answers once the last sync point is on the disk.
@@ -48,6 +56,17 @@ pub enum Cmd {
     Poll,
     /// A line outside the grammar.
     Bad,
+}
+
+/// A look at a tree, which changes nothing.
+#[derive(Drop)]
+pub enum Look {
+    /// As `Cmd::Read`.
+    Read(Path, u32, u32),
+    /// As `Cmd::Stat`.
+    Stat(Path),
+    /// As `Cmd::List`.
+    List(Path),
 }
 
 /// The answer to one command.
@@ -93,7 +112,7 @@ pub struct Stat {
 }
 
 /// Why a command was refused. Each has a number, by which the trace names it. The tree alone refuses with 1 to
-/// 9, 17 and 19; the others come from a file system over a disk.
+/// 9, 17, 19 and 20; the others come from a file system over a disk.
 #[derive(Clone, Copy, Debug)]
 pub enum Refusal {
     /// 1: a name on the way isn't there.
@@ -132,6 +151,8 @@ pub enum Refusal {
     NoMemory,
     /// 19: there is no such sync point.
     NoPoint { last: u64 },
+    /// 20: there is no snapshot of this name.
+    NoSnap,
 }
 
 impl Refusal {
@@ -158,6 +179,7 @@ impl Refusal {
             Refusal::Spent => 16,
             Refusal::NoMemory => 17,
             Refusal::NoPoint { .. } => 19,
+            Refusal::NoSnap => 20,
         }
     }
 
@@ -184,6 +206,7 @@ impl Refusal {
             Refusal::Spent => "Spent",
             Refusal::NoMemory => "NoMemory",
             Refusal::NoPoint { .. } => "NoPoint",
+            Refusal::NoSnap => "NoSnap",
         }
     }
 }
@@ -229,6 +252,7 @@ impl fmt::Display for Refusal {
             Refusal::NoPoint { last } => {
                 write!(f, "there is no such sync point, and the last one is {last}")
             }
+            Refusal::NoSnap => write!(f, "there is no snapshot of this name"),
         }
     }
 }

@@ -16,7 +16,7 @@ ghost use Rattle.lang_tree.specs.Paths.{is_within};
 ghost use Rattle.lang_tree.specs.Names.{path_count};
 ghost use Rattle.lang_tree.specs.Walk.{is_same_node};
 ghost use Rattle.lang_tree.specs.Conditions.{refusal};
-ghost use Rattle.lang_tree.specs.Step.{Session, step, start, session_on};
+ghost use Rattle.lang_tree.specs.Step.{Session, step, start, session_on, changes_snapshots};
 ghost use Rattle.lang_tree.specs.Run.{Answers, Run, StopsAfterFault, is_of_memory, is_of_disk};
 ghost use Rattle.lang_tree.specs.Points.{CountsPoints, after_reply, is_sync, asks_for_durability, promised_by, points_after, top, floor};
 ghost use Rattle.lang_tree.specs.Figures.{blocks, growth, release, figures, write_figures, truncate_figures};
@@ -57,12 +57,12 @@ pub fn a_command_changes_where_it_costs()
     ensures { (bitmap : ℕ) (s : Session) (cmd : Cmd) → is_sync cmd ≡ false → (step s cmd).0.changed ≡ (s.changed || nat_lt 0 (figures bitmap s cmd).cost) }
 {}
 
-/// A command changes the blocks of a sound tree by its figures, for every number of bitmap
-/// blocks: after it the tree has so many more as it needs, and so many fewer as it frees. A refused one
+/// A command that is no snap or unsnap changes the blocks of a sound tree by its figures, for every number of
+/// bitmap blocks: after it the tree has so many more as it needs, and so many fewer as it frees. A refused one
 /// changes nothing and has no figures.
 #[tactic(auto, using(crate::proofs::blocks::BlockLaws::figures_tell))]
 pub fn the_figures_are_the_blocks()
-    ensures { (bitmap : ℕ) (s : Session) (cmd : Cmd) → IsSound s.limit s.tree
+    ensures { (bitmap : ℕ) (s : Session) (cmd : Cmd) → changes_snapshots cmd ≡ false → IsSound s.limit s.tree
         → blocks (step s cmd).0.tree + (figures bitmap s cmd).freed ≡ blocks s.tree + (figures bitmap s cmd).need }
 {}
 
@@ -116,7 +116,7 @@ pub fn a_reply_tells_the_session()
 {}
 
 /// A tree in memory answers as `step` says, or refuses as it is out of memory. So it refuses by its own
-/// reasons, 1 to 9 and 19, or by that one. What it answers, a file system over a disk may answer too, and so with
+/// reasons, 1 to 9, 19 and 20, or by that one. What it answers, a file system over a disk may answer too, and so with
 /// whole runs.
 #[tactic(auto, using(crate::proofs::runs::Outside::run_more))]
 pub fn a_tree_in_memory_refuses_for_no_disk()

@@ -15,7 +15,7 @@ mod sharing_laws;
 mod sizes;
 mod snapshot_laws;
 
-pub use command::{Cmd, Kind, Refusal, Reply, Stat};
+pub use command::{Cmd, Kind, Look, Refusal, Reply, Stat};
 pub use figures::{Figures, NOTHING, adding, moving, removing, truncate_figures, write_figures};
 pub use laws::{
     a_command_changes_where_it_costs, a_dsync_raises_the_floor, a_fault_ends_the_session,
@@ -31,6 +31,11 @@ pub use path_laws::{
     new_paths_keep_a_tree_sound, paths_are_counted, what_goes_holds_nothing,
     what_is_held_has_a_name,
 };
-pub use sharing_laws::{nothing_shared_costs_nothing, small_snapshots_cost_so};
+pub use sharing_laws::{
+    nothing_shared_costs_nothing, sharing_costs_where_all_costs, small_snapshots_cost_so,
+};
 pub use sizes::{blocks_for, growth, release, touched_blocks_are_counted_by_division};
-pub use snapshot_laws::{commands_keep_snapshots, without_snapshots_there_are_paths_and_nodes};
+pub use snapshot_laws::{
+    a_snapshot_keeps_its_tree, commands_keep_snapshots, numbers_of_snapshots_are_in_the_map,
+    without_snapshots_there_are_paths_and_nodes,
+};

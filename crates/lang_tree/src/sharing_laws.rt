@@ -1,17 +1,23 @@
 //! Laws on the figures of commands where snapshots keep blocks of files. They run nothing.
 
-ghost use Rattle.std.specs.Prelude.{◌≡◌, ℕ, ◌-◌, ◌==◌, true};
+ghost use Rattle.std.specs.Prelude.{◌≡◌, ℕ, ◌-◌, ◌==◌, nat_lt, true};
 ghost use Rattle.lang_tree.specs.declared.command.Cmd.{Cmd};
-ghost use Rattle.lang_tree.specs.Figures.{Figures, blocks_for, figures, shrinking, writing};
-ghost use Rattle.lang_tree.specs.Sharing.{cutting, figures_over, none_shared, snapping, unsnapping, writing_over};
+ghost use Rattle.lang_tree.specs.Figures.{Figures, blocks_for, figures, shrinking, snapping, writing};
+ghost use Rattle.lang_tree.specs.Sharing.{BlocksAlone, SharedNodes, cutting, figures_over, none_alone, none_shared, unsnapping, writing_over};
 ghost use Rattle.lang_tree.specs.Step.{Session};
 
-/// Where no snapshot keeps a block, a write, a cut and each command need, cost and free what they do in a tree
-/// without snapshots.
+/// Where no snapshot keeps a block of a file, a write, a cut and each command need, cost and free what they do
+/// without sharing: a snapshot that goes frees its own blocks alone.
 pub fn nothing_shared_costs_nothing()
     ensures writes { (bitmap size lo hi : ℕ) → writing_over bitmap none_shared size lo hi ≡ writing bitmap size lo hi }
     ensures cuts { (bitmap old new : ℕ) → cutting bitmap none_shared (blocks_for old) (blocks_for new) ≡ shrinking bitmap (blocks_for old - blocks_for new) }
-    ensures commands { (bitmap : ℕ) (s : Session) (cmd : Cmd) → figures_over bitmap (λ k. none_shared) s cmd ≡ figures bitmap s cmd }
+    ensures commands { (bitmap : ℕ) (s : Session) (cmd : Cmd) → figures_over bitmap (λ k. none_shared) none_alone s cmd ≡ figures bitmap s cmd }
+{}
+
+/// Whatever is shared, a command costs something exactly where it does without sharing.
+pub fn sharing_costs_where_all_costs()
+    ensures { (bitmap : ℕ) (shared : SharedNodes) (alone : BlocksAlone) (s : Session) (cmd : Cmd)
+        → nat_lt 0 (figures_over bitmap shared alone s cmd).cost ≡ nat_lt 0 (figures bitmap s cmd).cost }
 {}
 
 /// With one bitmap block: a snapshot of 6 blocks costs 56 and one of 7 blocks 57. A byte over a file's one block,

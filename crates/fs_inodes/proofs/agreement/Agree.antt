@@ -1,6 +1,6 @@
--- An inode map and its tree, in the form in which each change is proved: the tree is sound and has no snapshot, its paths go on as the map's entries do, and nodes and links are those of the map.
+-- An inode map and its tree, in the form in which each change is proved: the tree is sound, its paths go on as the map's entries do, and nodes and links are those of the map.
 use Rattle.std.proofs.Common.{◌≡◌, ℕ, List, [], ◌∷◌, ◌++◌, Option, Some, None, option_map, option_and_then, sym, ap, ◌∙◌, append_assoc, append-nil, arith}
-use Rattle.std.specs.FinMap.{get, empty}
+use Rattle.std.specs.FinMap.{get}
 use Rattle.std.proofs.lemmas.Option.{none-some}
 use Rattle.layout_bytes.specs.declared.slot.Slot.{Slot}
 use Rattle.lang_tree.specs.Tree.{Tree, IsSound}
@@ -22,7 +22,6 @@ pub record Agrees (limit : ℕ) (m : Inodes) (t : Tree) : Type 0 where
   pub nodes : (k : ℕ) → get t.nodes k ≡ option_map thing_of (m k)
   pub links : (k links : ℕ) (bytes : List ℕ) → m k ≡ Some (AFile links bytes) → path_count t.names k ≡ links
   pub distinct : (k : ℕ) (slots : List Slot) → m k ≡ Some (ADir slots) → AreDistinct slots
-  pub alone : t.snapshots ≡ empty
 
 -- behind a path that isn't there, none is
 pub nowhere : (e : Entries) (names : Path → Option ℕ) → GoesOn e names → (here rest : Path) → names here ≡ None → names (here ++ rest) ≡ None
@@ -61,7 +60,6 @@ module _ (limit : ℕ) (m : Inodes) (t : Tree) (a : Agrees limit m t) where
       only = λ k slots p e at q at_q. a.sound.one_path k q p (a.nodes k ∙ ap (option_map thing_of) e) (walked q ∙ at_q) (walked p ∙ at);
       reached = λ k x e. let p = a.sound.reached k (thing_of x) (a.nodes k ∙ ap (option_map thing_of) e) in (p.0, sym (walked p.0) ∙ p.1);
       used = λ p k at. inode_named p k (walked p ∙ at);
-      alone = a.alone;
     };
   }
 
@@ -73,5 +71,4 @@ agrees laws limit m t is = record {
   nodes = is.shows.nodes;
   links = is.shows.links;
   distinct = is.distinct;
-  alone = is.shows.alone;
 }

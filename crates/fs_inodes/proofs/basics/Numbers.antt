@@ -1,11 +1,12 @@
--- The least unused number of the tree is the least free one of the inode map.
-use Rattle.std.proofs.Common.{◌≡◌, ℕ, zero, suc, ◌+◌, ◌≤◌, ◌<◌, Bool, true, Option, Some, None, option_map, is_none, find, ◌∙◌, arith}
+-- The least unused number: no inode has it, and in a tree without snapshots it is the least that none has.
+use Rattle.std.proofs.Common.{◌≡◌, ℕ, zero, suc, ◌+◌, ◌≤◌, ◌<◌, Bool, true, not, ◌&&◌, Option, Some, None, option_map, is_none, find, refl, sym, ap, ◌∙◌, arith}
 use Rattle.std.specs.List.{range_with_len}
 use Rattle.std.specs.FinMap.{get, empty}
+use Rattle.std.proofs.lemmas.Bool.{and_parts}
 use Rattle.std.proofs.lemmas.Option.{same_Some, none-some}
 use Rattle.lang_tree.specs.Tree.{Tree, Nodes}
-use Rattle.lang_tree.specs.Conditions.{least_unused}
-use Rattle.crash_stands.specs.Inodes.{Inodes, thing_of}
+use Rattle.lang_tree.specs.Conditions.{is_snapshot, least_unused}
+use Rattle.crash_stands.specs.Inodes.{Inode, Inodes, thing_of}
 use Rattle.fs_inodes.specs.Lookups.{least_free}
 use Rattle.fs_inodes.specs.TreeLaws.{TreeLaws}
 
@@ -26,10 +27,19 @@ found_in : (test : ℕ → Bool) (a n m : ℕ) → find test (range_with_len a n
 found_in test a zero m e = absurd (none-some m e)
 found_in test a (suc n) m e = grind (arith, found_in test (a + 1) n m, test a, same_Some)
 
+-- what is no thing is no inode
+none_alike : (o : Option Inode) → is_none (option_map thing_of o) ≡ is_none o
+none_alike None = refl
+none_alike (Some x) = refl
+
 -- what is none is none
 none_of : {A : Type 0} (o : Option A) → is_none o ≡ true → o ≡ None
 none_of o h1 = grind arith
 
--- it is unused and within the limit
-pub free_is : (limit n : ℕ) (m : Inodes) → least_free limit m ≡ Some n → (m n ≡ None) × (1 ≤ n) × (n ≤ limit)
-free_is limit n m e = let r = found_in (λ n. is_none (m n)) 1 limit n e in (none_of _ r.0, r.1, omega (arith, r.2))
+-- no inode has it, and it is within the limit
+pub unused_is : (limit n : ℕ) (m : Inodes) (t : Tree) → ((k : ℕ) → get t.nodes k ≡ option_map thing_of (m k)) → least_unused limit t ≡ Some n → (m n ≡ None) × (1 ≤ n) × (n ≤ limit)
+unfolding least_unused
+unused_is limit n m t same e =
+    let r = found_in (λ n. is_none (get t.nodes n) && not (is_snapshot t.snapshots n)) 1 limit n e in
+    let free = and_parts (is_none (get t.nodes n)) (not (is_snapshot t.snapshots n)) r.0 in
+    (none_of _ (sym (none_alike (m n)) ∙ ap is_none (sym (same n)) ∙ free.0), r.1, omega (arith, r.2))

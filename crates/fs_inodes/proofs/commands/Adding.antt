@@ -139,7 +139,6 @@ module _ (laws : TreeLaws) (limit : ℕ) (m new : Inodes) (t : Tree) (a : Agrees
       nodes = new_nodes;
       links = new_links;
       distinct = added_slots_distinct (λ slots e. new_distinct thing slots (sym is_new ∙ e));
-      alone = a.alone;
     }
 
   -- Another path of a file.
@@ -170,5 +169,4 @@ module _ (laws : TreeLaws) (limit : ℕ) (m new : Inodes) (t : Tree) (a : Agrees
       nodes = link_nodes;
       links = link_links;
       distinct = added_slots_distinct (λ slots e. absurd (dir_file slots (links + 1) bytes (ap Some e) (ap Some more)));
-      alone = a.alone;
     }

@@ -15,11 +15,10 @@ use Rattle.lang_tree.specs.Step.{Session, step, answered, accepted, changed_to, 
 use Rattle.crash_stands.specs.Inodes.{Inodes, AFile, thing_of}
 use Rattle.crash_stands.specs.Maps.{IsMapOf}
 use Rattle.crash_stands.specs.Walks.{LeadsTo}
-use Rattle.fs_inodes.specs.Lookups.{least_free}
 use Rattle.fs_inodes.specs.Changes.{new_inode, Sets, AddsSlot, AddsName, TakesSlot, TakesName, MovesSlot, MovesName}
 use Rattle.fs_inodes.specs.TreeLaws.{TreeLaws}
 use Rattle.fs_inodes.proofs.basics.Paths.{Path}
-use Rattle.fs_inodes.proofs.basics.Numbers.{unused_is_free, free_is}
+use Rattle.fs_inodes.proofs.basics.Numbers.{unused_is}
 use Rattle.fs_inodes.proofs.agreement.Agree.{Agrees, agrees, is_map}
 use Rattle.fs_inodes.proofs.commands.Adding.{adds_name, node_agrees, link_agrees}
 use Rattle.fs_inodes.proofs.commands.Taking.{takes_name, taken_agrees}
@@ -61,23 +60,23 @@ module _ (laws : TreeLaws) (s : Session) (m new : Inodes) (is : IsMapOf s.limit 
   at p k leads = is.shows.names p ∙ leads
 
   -- A new node.
-  module _ (up : Path) (name : List ℕ) (d n : ℕ) (leads : LeadsTo m up d) (free : least_free s.limit m ≡ Some n) (thing : Thing) (ch : AddsName m new d n name (new_inode thing))
+  module _ (up : Path) (name : List ℕ) (d n : ℕ) (leads : LeadsTo m up d) (free : least_unused s.limit s.tree ≡ Some n) (thing : Thing) (ch : AddsName m new d n name (new_inode thing))
       (accepts : make_refusal s.limit s.tree (up ++ name ∷ []) ≡ None) where
-    -- a new node comes under the least number that no node has
+    -- a new node comes under the least unused number
     made_tree : added s.limit s.tree (up ++ name ∷ []) thing ≡ record s.tree { names = insert s.tree.names (up ++ name ∷ []) n; nodes = insert s.tree.nodes n thing }
-    made_tree = ap (with_node s.tree (up ++ name ∷ []) thing) (unused_is_free laws s.limit m s.tree a.alone a.nodes ∙ free)
+    made_tree = ap (with_node s.tree (up ++ name ∷ []) thing) free
 
     -- the map with the new node is that of the tree with it
     made_agrees : Agrees s.limit new (record s.tree { names = insert s.tree.names (up ++ name ∷ []) n; nodes = insert s.tree.nodes n thing })
     made_agrees =
         let one = no_reason (parent_refusal s.tree (up ++ name ∷ [])) (when (is_there s.tree (up ++ name ∷ [])) Exists ∷ when (is_none (least_unused s.limit s.tree)) NoNode ∷ []) accepts in
         let two = no_reason (when (is_there s.tree (up ++ name ∷ [])) Exists) (when (is_none (least_unused s.limit s.tree)) NoNode ∷ []) one.1 in
-        let number = free_is s.limit n m free in
+        let number = unused_is s.limit n m s.tree a.nodes free in
         node_agrees laws s.limit m new s.tree a up name d n (new_inode thing) (at up d leads) (grind (arith, get s.tree.names (up ++ name ∷ []), not_so (is_there s.tree (up ++ name ∷ [])) Exists two.0)) ch
         thing refl number.0 number.1 number.2
 
   -- a mkdir or a create
-  pub made_named : (cmd : Cmd) (up : Path) (name : List ℕ) (d n : ℕ) (thing : Thing) → Makes s cmd (up ++ name ∷ []) thing → refusal s.limit s.tree cmd ≡ None → LeadsTo m up d → least_free s.limit m ≡ Some n
+  pub made_named : (cmd : Cmd) (up : Path) (name : List ℕ) (d n : ℕ) (thing : Thing) → Makes s cmd (up ++ name ∷ []) thing → refusal s.limit s.tree cmd ≡ None → LeadsTo m up d → least_unused s.limit s.tree ≡ Some n
       → AddsName m new d n name (new_inode thing) → IsMapOf s.limit new (step s cmd).0.tree
   made_named cmd up name d n thing makes accepts leads free ch =
       by_tree s cmd new _ (done s cmd accepts ∙ makes.1 ∙ made_tree up name d n leads free thing ch (sym makes.0 ∙ accepts)) (made_agrees up name d n leads free thing ch (sym makes.0 ∙ accepts))
@@ -174,7 +173,7 @@ module _ (laws : TreeLaws) (s : Session) (m new : Inodes) (is : IsMapOf s.limit 
   free_to_link path p accepts = grind (arith, s.tree, s.tree.names)
 
   -- a mkdir or a create
-  pub made_shown : (cmd : Cmd) (up : Path) (name : List ℕ) (d n : ℕ) (thing : Thing) → Makes s cmd (up ++ name ∷ []) thing → refusal s.limit s.tree cmd ≡ None → LeadsTo m up d → least_free s.limit m ≡ Some n
+  pub made_shown : (cmd : Cmd) (up : Path) (name : List ℕ) (d n : ℕ) (thing : Thing) → Makes s cmd (up ++ name ∷ []) thing → refusal s.limit s.tree cmd ≡ None → LeadsTo m up d → least_unused s.limit s.tree ≡ Some n
       → AddsSlot m new d n name (new_inode thing) → IsMapOf s.limit new (step s cmd).0.tree
   made_shown cmd up name d n thing makes accepts leads free ch =
       made_named cmd up name d n thing makes accepts leads free (adds_name s.limit m new s.tree a up name d n (new_inode thing) (at up d leads) (free_to_make (up ++ name ∷ []) (sym makes.0 ∙ accepts)) ch)

@@ -30,4 +30,4 @@ module _ (limit : ℕ) (m new : Inodes) (t : Tree) (a : Agrees limit m t) (k lin
 
   -- the new map is that of the tree with the new bytes
   pub edited_agrees : IsSound limit (record t { nodes = insert t.nodes k (File bytes) }) → Agrees limit new (record t { nodes = insert t.nodes k (File bytes) })
-  edited_agrees sound = grind (arith, t.names, same_entries, a.goes, edited_nodes, a.alone)
+  edited_agrees sound = grind (arith, t.names, same_entries, a.goes, edited_nodes)

@@ -73,5 +73,4 @@ module _ (laws : TreeLaws) (s : Session) (m new : Inodes) (a : Agrees s.limit m 
     nodes = λ k. ap (λ t. get t.nodes k) moved_tree ∙ nodes k;
     links = λ k l bytes is. moved_count k ∙ links k l bytes is;
     distinct = distinct;
-    alone = laws.same_snapshots s (Rename (up ++ name ∷ []) (to ++ other ∷ [])) ∙ a.alone;
   }

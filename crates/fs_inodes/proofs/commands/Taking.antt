@@ -101,5 +101,4 @@ module _ (laws : TreeLaws) (limit : ℕ) (m new : Inodes) (t : Tree) (a : Agrees
     nodes = taken_nodes;
     links = taken_links;
     distinct = taken_slots_distinct;
-    alone = a.alone;
   }

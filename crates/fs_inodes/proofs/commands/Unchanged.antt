@@ -1,10 +1,12 @@
--- Commands that leave the tree as it was.
-use Rattle.std.proofs.Common.{◌≡◌, ℕ, true, List, [], length, Some, None, refl, ap, eq-eqb, arith}
+-- Commands that leave the tree as it was, but for its snapshots.
+use Rattle.std.proofs.Common.{◌≡◌, ℕ, true, List, [], length, Option, Some, None, refl, ap, eq-eqb, arith}
+use Rattle.std.proofs.lemmas.Bool.{false≢true}
 use Rattle.lang_tree.specs.declared.command.Cmd.{Cmd}
-use Rattle.lang_tree.specs.declared.command.Cmd.TheVariants.{Write, Fill, Truncate, Rename}
+use Rattle.lang_tree.specs.declared.command.Cmd.TheVariants.{Write, Fill, Truncate, Rename, Snap, Unsnap}
 use Rattle.lang_tree.specs.declared.command.Refusal.{Refusal}
-use Rattle.lang_tree.specs.Conditions.{refusal}
-use Rattle.lang_tree.specs.Step.{Session, step, answered}
+use Rattle.lang_tree.specs.Tree.{Tree, Snapshots}
+use Rattle.lang_tree.specs.Conditions.{refusal, least_unused}
+use Rattle.lang_tree.specs.Step.{Session, step, answered, snapped_by, changes_snapshots}
 use Rattle.crash_stands.specs.Inodes.{Inodes, AFile}
 use Rattle.crash_stands.specs.Maps.{IsMapOf}
 use Rattle.crash_stands.specs.Walks.{LeadsTo}
@@ -38,3 +40,26 @@ same_size s m path n links bytes is leads file = grind (arith, s.tree.names, is.
 -- a move between two paths of one node
 pub same_node : (s : Session) (m : Inodes) (from to : Path) (n : ℕ) → IsMapOf s.limit m s.tree → LeadsTo m from n → LeadsTo m to n → (step s (Rename from to)).0 ≡ s
 same_node s m from to n is leads leads_to = grind (arith, s.tree, is.shows.names, eq-eqb)
+
+-- what is the map of a tree is that of one with other snapshots
+pub snapshots_aside : (limit : ℕ) (m : Inodes) (t : Tree) (snapshots : Snapshots) → IsMapOf limit m t → IsMapOf limit m (record t { snapshots = snapshots })
+snapshots_aside limit m t snapshots is = record {
+  root = is.root;
+  distinct = is.distinct;
+  within = is.within;
+  shows = record { names = is.shows.names; nodes = is.shows.nodes; links = is.shows.links; only = is.shows.only; reached = is.shows.reached; used = is.shows.used };
+}
+
+snapped_aside : (limit : ℕ) (m : Inodes) (t : Tree) (name : List ℕ) (o : Option ℕ) → IsMapOf limit m t → IsMapOf limit m (snapped_by t name o)
+snapped_aside limit m t name None is = is
+snapped_aside limit m t name (Some n) is = snapshots_aside limit m t _ is
+
+answered_aside : (s : Session) (m : Inodes) (cmd : Cmd) (r : Option Refusal) → changes_snapshots cmd ≡ true → IsMapOf s.limit m s.tree → IsMapOf s.limit m (answered s cmd r).0.tree
+answered_aside s m cmd (Some why) changes is = is
+answered_aside s m (Snap name) None changes is = snapped_aside s.limit m s.tree name (least_unused s.limit s.tree) is
+answered_aside s m (Unsnap name) None changes is = snapshots_aside s.limit m s.tree _ is
+answered_aside s m cmd None changes is = absurd (false≢true changes)
+
+-- a snap or an unsnap
+pub changed_aside : (s : Session) (m : Inodes) (cmd : Cmd) → changes_snapshots cmd ≡ true → IsMapOf s.limit m s.tree → IsMapOf s.limit m (step s cmd).0.tree
+changed_aside s m cmd changes is = answered_aside s m cmd (refusal s.limit s.tree cmd) changes is

@@ -4,7 +4,7 @@ use Rattle.std.proofs.lemmas.Grind.{flat_map-append}
 use Rattle.std.specs.List.{flat_map}
 use Rattle.std.specs.FinMap.{get, empty, entries, entries_sorted, get-entries}
 use Rattle.lang_tree.specs.Tree.{Tree}
-use Rattle.lang_tree.specs.Listing.{line_of, listing}
+use Rattle.lang_tree.specs.Listing.{line_of, path_lines, listing}
 use Rattle.crash_stands.specs.Inodes.{Inodes, thing_of}
 use Rattle.crash_stands.specs.Walks.{entries_of}
 use Rattle.fs_inodes.specs.Lookups.{slots_of}
@@ -38,6 +38,10 @@ module _ (limit : ℕ) (m : Inodes) (t : Tree) (a : Agrees limit m t) where
       ap (flat_map (λ e. line_of e.0 e.1 (get t.nodes e.1))) (paths_down p k at)
       ∙ ap₂ (λ x y. x ++ y) (ap (line_of p k) (a.nodes k)) (mapped_twice (λ e. line_of e.0 e.1 (get t.nodes e.1)) (λ b. at_and_below t (p ++ b ∷ [])) (names_of (slots_of (m k))))
 
--- the listing of a tree without snapshots has the lines at and below the root
+-- the lines of all paths are those at and below the root
+pub root_lines : (t : Tree) → path_lines t.names t.nodes ≡ lines_below t []
+root_lines t = ap (flat_map (λ e. line_of e.0 e.1 (get t.nodes e.1))) (sym (from_root t.names))
+
+-- the listing of a tree without snapshots has these lines
 pub whole_listing : (laws : TreeLaws) (t : Tree) → t.snapshots ≡ empty → listing t ≡ lines_below t []
-whole_listing laws t alone = laws.listed_alone t alone ∙ ap (flat_map (λ e. line_of e.0 e.1 (get t.nodes e.1))) (sym (from_root t.names))
+whole_listing laws t alone = laws.listed_alone t alone ∙ root_lines t

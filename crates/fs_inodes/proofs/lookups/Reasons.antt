@@ -1,18 +1,19 @@
 -- Each command is refused by the tree for the reason that the inode map gives.
-use Rattle.std.proofs.Common.{◌≡◌, ℕ, Bool, ◌&&◌, List, ◌∷◌, nat_le, is_none, Option, None, if◌then◌else◌, refl, ap, ap₂, arith}
+use Rattle.std.proofs.Common.{◌≡◌, ℕ, Bool, ◌&&◌, List, ◌∷◌, nat_le, Option, None, if◌then◌else◌, refl, ap, ap₂, arith}
 use Rattle.lang_tree.specs.declared.command.Cmd.{Cmd}
+use Rattle.lang_tree.specs.declared.command.Look.{Look}
+use Rattle.lang_tree.specs.declared.command.Look.TheVariants as look
 use Rattle.lang_tree.specs.declared.command.Refusal.{Refusal}
-use Rattle.lang_tree.specs.declared.command.Refusal.TheVariants.{Exists, NotDir, IsDir, NotEmpty, BelowItself, TooManyLinks, NoNode}
+use Rattle.lang_tree.specs.declared.command.Refusal.TheVariants.{Exists, NotDir, IsDir, NotEmpty, BelowItself, TooManyLinks}
 use Rattle.lang_tree.specs.Tree.{Tree}
 use Rattle.lang_tree.specs.Paths.{is_below}
 use Rattle.lang_tree.specs.Walk.{refusal_in, walk_refusal, is_dir, thing_at}
-use Rattle.lang_tree.specs.Conditions.{when, first_reason, make_refusal, write_refusal, file_refusal, truncate_refusal, link_refusal, rmdir_refusal, onto_refusal, rename_refusal, list_refusal, refusal}
+use Rattle.lang_tree.specs.Conditions.{when, first_reason, make_refusal, write_refusal, file_refusal, truncate_refusal, link_refusal, rmdir_refusal, onto_refusal, rename_refusal, list_refusal, look_refusal, refusal, least_unused}
 use Rattle.crash_stands.specs.Inodes.{Inodes}
 use Rattle.fs_inodes.specs.Lookups.{is_dir_inode, inode_at}
-use Rattle.fs_inodes.specs.Refusals.{walk_reason, make_reason, write_reason, file_reason, truncate_reason, link_reason, rmdir_reason, onto_reason, rename_reason, list_reason, reason}
+use Rattle.fs_inodes.specs.Refusals.{walk_reason, make_reason, write_reason, file_reason, truncate_reason, link_reason, rmdir_reason, onto_reason, rename_reason, list_reason, look_reason, reason}
 use Rattle.fs_inodes.specs.TreeLaws.{TreeLaws}
 use Rattle.fs_inodes.proofs.basics.Paths.{Path}
-use Rattle.fs_inodes.proofs.basics.Numbers.{unused_is_free}
 use Rattle.fs_inodes.proofs.agreement.Agree.{Agrees}
 use Rattle.fs_inodes.proofs.lookups.Walking.{walks, is_dir_given, is_file_given, there_given, same_node_given, parent_given, links_given, holds_given}
 
@@ -38,9 +39,8 @@ module _ (laws : TreeLaws) (limit : ℕ) (m : Inodes) (t : Tree) (a : Agrees lim
   is_dir_where path = where_so IsDir (is_dir_given limit m t a path)
 
   -- a new node
-  make_given : (path : Path) → make_refusal limit t path ≡ make_reason limit m path
-  make_given path = reasons (first (parent_given limit m t a path) (first (where_so Exists (there_given limit m t a path))
-      (first (where_so NoNode (ap is_none (unused_is_free laws limit m t a.alone a.nodes))) refl)))
+  make_given : (path : Path) → make_refusal limit t path ≡ make_reason (least_unused limit t) m path
+  make_given path = reasons (first (parent_given limit m t a path) (first (where_so Exists (there_given limit m t a path)) refl))
 
   -- bytes that come
   write_given : (path : Path) (offset count : ℕ) → write_refusal t path offset count ≡ write_reason m path offset count
@@ -81,6 +81,12 @@ module _ (laws : TreeLaws) (limit : ℕ) (m : Inodes) (t : Tree) (a : Agrees lim
   list_given : (path : Path) → list_refusal t path ≡ list_reason m path
   list_given path = reasons (first (walk_given path) (first (where_so NotDir (is_file_given limit m t a path)) refl))
 
+  -- a look
+  pub look_given : (l : Look) → look_refusal t l ≡ look_reason m l
+  look_given (look.Read path offset count) = file_given path
+  look_given (look.Stat path) = walk_given path
+  look_given (look.List path) = list_given path
+
   -- each command
-  pub reason_given : (cmd : Cmd) → refusal limit t cmd ≡ reason limit m cmd
+  pub reason_given : (cmd : Cmd) → refusal limit t cmd ≡ reason (least_unused limit t) t.snapshots m cmd
   reason_given cmd = grind (arith, make_given, file_given, link_given, rmdir_given, rename_given, walk_given, list_given, reasons, first, is_dir_where)

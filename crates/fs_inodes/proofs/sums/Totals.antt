@@ -10,9 +10,9 @@ use Rattle.lang_tree.specs.Tree.{Tree, Thing, Dir, path_cmp}
 use Rattle.lang_tree.specs.Names.{times, path_count}
 use Rattle.lang_tree.specs.Figures.{directory_blocks, content_blocks, file_blocks, all_directory_blocks, blocks}
 use Rattle.crash_stands.specs.Inodes.{Inode, Inodes, ADir, AFile, thing_of}
-use Rattle.fs_inodes.specs.Lookups.{slots_of, links_in}
+use Rattle.fs_inodes.specs.Lookups.{links_in}
 use Rattle.fs_inodes.specs.Listing.{links_from}
-use Rattle.fs_inodes.specs.Figures.{inode_blocks, blocks_from, blocks_of}
+use Rattle.fs_inodes.specs.Figures.{inode_blocks, dir_blocks, directories_from, blocks_from, blocks_of}
 use Rattle.fs_inodes.specs.TreeLaws.{TreeLaws}
 use Rattle.fs_inodes.proofs.basics.Paths.{Path}
 use Rattle.fs_inodes.proofs.basics.FinMaps.{path_total, path_same, tied, which_key}
@@ -55,6 +55,11 @@ sum_one f j c k (suc n) low high here others = grind (arith, sum_one f j c (k + 
 pub blocks_summed : (m : Inodes) (k n : ℕ) → blocks_from m k n ≡ sum_from (λ i. inode_blocks (m i)) k n
 blocks_summed m k zero = refl
 blocks_summed m k (suc n) = ap (λ s. inode_blocks (m k) + s) (blocks_summed m (k + 1) n)
+
+-- those of directories
+directories_summed : (m : Inodes) (k n : ℕ) → directories_from m k n ≡ sum_from (λ i. dir_blocks (m i)) k n
+directories_summed m k zero = refl
+directories_summed m k (suc n) = ap (λ s. dir_blocks (m k) + s) (directories_summed m (k + 1) n)
 
 -- The files.
 
@@ -135,10 +140,6 @@ pub gone_in_front : (x : Path) (es : List (Path × ℕ)) → T (below_all path_c
 gone_in_front x [] h = refl
 gone_in_front x (d ∷ es) h = grind (arith, gone_in_front x es, which_key path_total path_same x d.0, which_key, path_total, path_same, both_of)
 
--- the blocks of a directory, if it is one
-abbrev dir_blocks : Option Inode → ℕ
-dir_blocks o = directory_blocks (length (slots_of o))
-
 module _ (laws : TreeLaws) (limit : ℕ) (m : Inodes) (t : Tree) (a : Agrees limit m t) where
   -- a later path is found among all
   pub later_paths : (e : Path × ℕ) (es : List (Path × ℕ)) → T (is_sorted path_cmp (e ∷ es)) → (p : Path) (n : ℕ) → find path_cmp p es ≡ Some n → find path_cmp p (e ∷ es) ≡ Some n
@@ -190,6 +191,17 @@ module _ (laws : TreeLaws) (limit : ℕ) (m : Inodes) (t : Tree) (a : Agrees lim
           one_times (path_count t.names n) (directory_blocks (length slots)) (laws.count_dir limit t p.0 n a.sound p.1 dir)
       by (Some (AFile links bytes)) is = nothing_times (path_count t.names n) 0 refl
 
+  -- the blocks of all directories are those of the inodes
+  dirs_summed : all_directory_blocks t.names (entries t.names) ≡ sum_from (λ j. dir_blocks (m j)) 1 limit
+  dirs_summed =
+      dirs_by_number (entries t.names) (entries_sorted t.names) all_are
+      ∙ numbers_summed (λ n. dir_blocks (m n)) (entries t.names) 1 limit (numbers_within (entries t.names) (entries_sorted t.names) all_are)
+      ∙ sum_same (λ j. times j (entries t.names) * dir_blocks (m j)) (λ j. dir_blocks (m j)) counted_once 1 limit
+
+  -- and are so, number by number
+  pub directories_given : all_directory_blocks t.names (entries t.names) ≡ directories_from m 1 limit
+  directories_given = dirs_summed ∙ sym (directories_summed m 1 limit)
+
   -- nothing and a number
   zero_first : (n : ℕ) → 0 + n ≡ n
   zero_first n = omega arith
@@ -203,11 +215,9 @@ module _ (laws : TreeLaws) (limit : ℕ) (m : Inodes) (t : Tree) (a : Agrees lim
   blocks_given =
       let files : file_blocks (entries t.nodes) ≡ sum_from (λ j. thing_blocks (find nat_cmp j (entries t.nodes))) 1 limit
       = files_summed (entries t.nodes) 1 limit (entries_sorted t.nodes) (λ j x is. let at = a.sound.within j x (get-entries t.nodes j ∙ is) in (at.0, omega (arith, at.1))) in
-      let dirs : all_directory_blocks t.names (entries t.names) ≡ sum_from (λ j. times j (entries t.names) * dir_blocks (m j)) 1 limit
-      = dirs_by_number (entries t.names) (entries_sorted t.names) all_are ∙ numbers_summed (λ n. dir_blocks (m n)) (entries t.names) 1 limit (numbers_within (entries t.names) (entries_sorted t.names) all_are) in
       ap₂ (λ x y. x + y)
       (files ∙ sum_same (λ j. thing_blocks (find nat_cmp j (entries t.nodes))) (λ j. thing_blocks (option_map thing_of (m j))) (λ j. ap thing_blocks (sym (get-entries t.nodes j) ∙ a.nodes j)) 1 limit)
-      (dirs ∙ sum_same (λ j. times j (entries t.names) * dir_blocks (m j)) (λ j. dir_blocks (m j)) counted_once 1 limit)
+      dirs_summed
       ∙ sym (sum_added (λ j. thing_blocks (option_map thing_of (m j))) (λ j. dir_blocks (m j)) 1 limit)
       ∙ sum_same (λ j. thing_blocks (option_map thing_of (m j)) + dir_blocks (m j)) (λ j. inode_blocks (m j)) (λ j. two_parts (m j)) 1 limit
       ∙ sym (blocks_summed m 1 limit)

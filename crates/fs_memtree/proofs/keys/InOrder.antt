@@ -5,7 +5,7 @@ use Rattle.std.specs.declared.cmp.Ordering.TheVariants.{Less}
 use Rattle.std.specs.Cmp.{IsTotalOrder}
 use Rattle.std.specs.List.{AllByRecursion}
 use Rattle.std.specs.List.Sorted.{IsStrictlySortedBy}
-use Rattle.std.specs.FinMap.{entries, from_entries, empty, put, entries-insert, keys, len, len-empty, len-entries}
+use Rattle.std.specs.FinMap.{FinMap, entries, from_entries, empty, put, entries-insert, keys, len, len-empty, len-entries}
 use Rattle.std.specs.FinMap.Entries.{by_order}
 use Rattle.std.proofs.lemmas.List.{nil_from_length}
 use Rattle.fs_memtree.specs.Kept.{name_cmp, names_in, DirNames}
@@ -28,7 +28,7 @@ module _ {K X : Type 0} (R : K → K → Ordering) where
   in_order o (e ∷ es) rise = entries-insert o (from_entries es) e.0 e.1 ∙ ap (put R e.0 e.1) (in_order o es rise.1) ∙ put_first e es rise.0
 
 -- the finite map of a search tree has the entries of the tree in their order
-pub tree_in_order : (es : List (List ℕ × ℕ)) → Rise name_cmp es → entries (names_in es) ≡ es
+pub tree_in_order : {X : Type 0} (es : List (List ℕ × X)) → Rise name_cmp es → entries (from_entries {R = name_cmp} es) ≡ es
 tree_in_order es rise = in_order name_cmp name_total es rise
 
 -- and as many
@@ -36,5 +36,5 @@ pub tree_length : (es : List (List ℕ × ℕ)) (names : DirNames) → Rise name
 tree_length es names rise is = sym (ap len is) ∙ len-entries (names_in es) ∙ ap length (tree_in_order es rise)
 
 -- and their keys
-pub keys_in_order : (es : List (List ℕ × ℕ)) (names : DirNames) → Rise name_cmp es → names_in es ≡ names → map (λ e. e.0) es ≡ keys names
+pub keys_in_order : {X : Type 0} (es : List (List ℕ × X)) (names : FinMap name_cmp X) → Rise name_cmp es → from_entries {R = name_cmp} es ≡ names → map (λ e. e.0) es ≡ keys names
 keys_in_order es names rise is = ap (map (λ e. e.0)) (sym (tree_in_order es rise)) ∙ ap keys is

@@ -5,11 +5,11 @@ use Rattle.std.proofs.lemmas.Slice.Eq.{bytes_eq-Decides}
 use Rattle.std.specs.Ordering.{nat_cmp, eq_by_cmp}
 use Rattle.std.specs.Cmp.{IsTotalOrder, nat_cmp_total}
 use Rattle.std.specs.Cmp.Lexicographic.{lists_total}
-use Rattle.std.specs.FinMap.{IsAntisymmetric, nat_cmp-IsAntisymmetric, slice_cmp-IsAntisymmetric, entries, from_entries, len, find, get-entries, get-from_entries, same_map}
+use Rattle.std.specs.FinMap.{empty, IsAntisymmetric, nat_cmp-IsAntisymmetric, slice_cmp-IsAntisymmetric, entries, from_entries, len, find, get-entries, get-from_entries, same_map}
 use Rattle.std.proofs.lemmas.Bool.Decides.{nat_tests}
 use Rattle.std.proofs.lemmas.Grind.{common_steps}
 use Rattle.layout_bytes.specs.declared.slot.Slot.{Slot}
-use Rattle.lang_tree.specs.Tree.{Tree, path_cmp}
+use Rattle.lang_tree.specs.Tree.{Tree, Snapshots, path_cmp, alone}
 use Rattle.crash_stands.specs.Inodes.{Inode, Inodes, ADir, AreDistinct, thing_of, AFile}
 use Rattle.crash_stands.specs.Maps.{IsMapOf}
 use Rattle.crash_stands.specs.Walks.{entries_of, entry_in, node_in, walk}
@@ -176,6 +176,15 @@ module _ (m : Inodes) (distinct : (k : ℕ) (slots : List Slot) → m k ≡ Some
       by None go = refl
       by (Some j) go = go j
 
+-- What is the map of a tree is that of one with other snapshots.
+pub aside : (limit : ℕ) (m : Inodes) (t : Tree) (snapshots : Snapshots) → IsMapOf limit m t → IsMapOf limit m (record t { snapshots = snapshots })
+aside limit m t snapshots is = record {
+  root = is.root;
+  distinct = is.distinct;
+  within = is.within;
+  shows = record { names = is.shows.names; nodes = is.shows.nodes; links = is.shows.links; only = is.shows.only; reached = is.shows.reached; used = is.shows.used };
+}
+
 things_found : (es : List (ℕ × Kept)) (k : ℕ) → find nat_cmp k (map (λ e. (e.0, thing_of (inode_of e.1))) es) ≡ option_map thing_of (option_map inode_of (find nat_cmp k es))
 things_found [] k = refl
 things_found (e ∷ es) k = by (eq_by_cmp nat_cmp k e.0) (things_found es k)
@@ -204,9 +213,9 @@ module _ (limit : ℕ) (nodes : KeptNodes) (t : Tree) (is : IsMapOf limit (map_o
   nodes_are = same_map nat_cmp_total nat_cmp-IsAntisymmetric _ _ (λ k. get-from_entries nat_cmp_total (map (λ e. (e.0, thing_of (inode_of e.1))) (entries nodes)) k
       ∙ things_found (entries nodes) k ∙ ap (λ o. option_map thing_of (option_map inode_of o)) (sym (get-entries nodes k)) ∙ sym (is.shows.nodes k))
 
-  pub the_tree : tree_of nodes ≡ t
+  pub the_tree : tree_of nodes ≡ alone t.names t.nodes
   unfolding tree_of
-  the_tree = λ i. record { names = names_are i; nodes = nodes_are i; snapshots = sym is.shows.alone i }
+  the_tree = λ i. record { names = names_are i; nodes = nodes_are i; snapshots = empty }
 
   pub own_tree : IsMapOf limit (map_of nodes) (tree_of nodes)
-  own_tree = subst (IsMapOf limit (map_of nodes)) (sym the_tree) is
+  own_tree = subst (IsMapOf limit (map_of nodes)) (sym the_tree) (aside limit (map_of nodes) t empty is)

@@ -1,6 +1,6 @@
 -- What is in a row is a finite map from the numbers 1, 2 and so on, and its unused numbers are a set.
-use Rattle.std.proofs.Common.{◌≡◌, ℕ, zero, suc, ◌+◌, ◌-◌, ◌<◌, ◌≤◌, nat_lt, nat_le, Bool, true, false, cond, if◌then◌else◌, List, [], ◌∷◌, ◌++◌, length, slice_get, slice_set, Option, Some, None, option_map, is_none, is_some, find as first, sym, refl, ap, ◌∙◌, ◌⊎◌, inl, inr, arith, nat_cmp, true≢false, Bor, option_copied, get_or, IsTrue, IsSome, btree_set_len, take, ⊎_elim}
-use Rattle.std.proofs.lemmas.Bool.{cases_eq, cases_Bool}
+use Rattle.std.proofs.Common.{◌≡◌, ℕ, zero, suc, ◌+◌, ◌-◌, ◌<◌, ◌≤◌, nat_lt, nat_le, Bool, true, false, cond, not, ◌&&◌, if◌then◌else◌, List, [], ◌∷◌, ◌++◌, length, slice_get, slice_set, Option, Some, None, option_map, is_none, is_some, find as first, sym, refl, ap, ◌∙◌, ◌⊎◌, inl, inr, arith, nat_cmp, true≢false, Bor, option_copied, get_or, IsTrue, IsSome, btree_set_len, take, ⊎_elim}
+use Rattle.std.proofs.lemmas.Bool.{cases_eq, cases_Bool, and_parts}
 use Rattle.std.proofs.lemmas.List.{map-append, map-set, length-map, take_more}
 use Rattle.std.proofs.Math.Seq.{map-set_same}
 use Rattle.std.proofs.lemmas.Option.{slice_get_past, slice_get_read, slice_get-map, get_or_from_slice_get}
@@ -13,9 +13,10 @@ use Rattle.std.specs.BTreeSet.{BTreeSet, contains, IsLowerBound}
 use Rattle.std.specs.FinMap.{nat_cmp-IsAntisymmetric, get, insert, remove, from_entries, find, get-from_entries, get-insert, get-remove, same_map}
 use Rattle.std.proofs.lemmas.Grind.{common_steps}
 use Rattle.fs_memtree.specs.declared.node.Node.{Node}
-use Rattle.crash_stands.specs.Inodes.{Inode}
-use Rattle.fs_inodes.specs.Lookups.{least_free}
-use Rattle.fs_memtree.specs.Kept.{Kept, KeptNodes, map_of, inode_of, changed_at, put_changed}
+use Rattle.lang_tree.specs.Tree.{Tree, Thing}
+use Rattle.lang_tree.specs.Conditions.{is_snapshot}
+use Rattle.lang_tree.specs.Conditions as unused
+use Rattle.fs_memtree.specs.Kept.{Kept, KeptNodes, changed_at, put_changed}
 use Rattle.fs_memtree.specs.Stored.{kept, things, numbered, nodes_of, place, in_place, thing_in, is_gap, AreUnused}
 use Rattle.fs_memtree.proofs.keys.Keys.{remove_absent}
 
@@ -144,11 +145,11 @@ found_first test a (suc n) m e = by (test a) refl (found_first test (a + 1) n m)
     by true is go e = let same : a ≡ m = cc in (ap test (sym same) ∙ is, omega (arith, same), λ k low high. absurd (omega (arith, same, low, high)))
     by false is go e = let r = go e in (r.0, omega (arith, r.1), go_on is r.2)
 
-first_none : (test : ℕ → Bool) (a n : ℕ) → ((k : ℕ) → a ≤ k → k < a + n → test k ≡ false) → first test (range_with_len a n) ≡ None
+pub first_none : (test : ℕ → Bool) (a n : ℕ) → ((k : ℕ) → a ≤ k → k < a + n → test k ≡ false) → first test (range_with_len a n) ≡ None
 first_none test a zero all = refl
 first_none test a (suc n) all = grind (arith, nat_tests, (first_none test (a + 1) n (λ k low high. all k (omega (arith, low)) (omega (arith, high)))))
 
-first_some : (test : ℕ → Bool) (a n m : ℕ) → a ≤ m → m < a + n → ((k : ℕ) → a ≤ k → k < m → test k ≡ false) → test m ≡ true → first test (range_with_len a n) ≡ Some m
+pub first_some : (test : ℕ → Bool) (a n m : ℕ) → a ≤ m → m < a + n → ((k : ℕ) → a ≤ k → k < m → test k ≡ false) → test m ≡ true → first test (range_with_len a n) ≡ Some m
 first_some test a zero m low high before here = absurd (omega (arith, low, high))
 first_some test a (suc n) m low high before here = by (λ l. first_some test (a + 1) n m l (omega (arith, high)) (λ k l h. before k (omega (arith, l)) h) here) (cases_eq a m)
   where
@@ -160,20 +161,18 @@ first_some test a (suc n) m low high before here = by (λ l. first_some test (a 
 abbrev pub least_unused : ℕ → KeptNodes → Option ℕ
 least_unused limit m = first (λ n. is_none (get m n)) (range_with_len 1 limit)
 
-none_mapped : (o : Option Kept) → is_none o ≡ is_none (option_map inode_of o)
-none_mapped o = grind (arith, nat_tests)
+-- no node has the least unused number of a tree
+pub unused_there : (limit : ℕ) (t : Tree) (n : ℕ) → unused.least_unused limit t ≡ Some n → get t.nodes n ≡ None
+unfolding unused.least_unused
+unused_there limit t n e = none_is (get t.nodes n) (and_parts (is_none (get t.nodes n)) _ (found_first (λ k. is_none (get t.nodes k) && not (is_snapshot t.snapshots k)) 1 limit n e).0).0
+  where
+    none_is : (o : Option Thing) → is_none o ≡ true → o ≡ None
+    none_is None e = refl
+    none_is (Some x) e = absurd (true≢false (sym e))
 
--- it is that of the inode map
-pub as_free : (limit : ℕ) (m : KeptNodes) → least_unused limit m ≡ least_free limit (map_of m)
-as_free limit m = ap (λ test. first test (range_with_len 1 limit)) (λ i k. none_mapped (get m k) i)
-
--- it is unused
-pub free_unused : (limit : ℕ) (m : ℕ → Option Inode) (n : ℕ) → least_free limit m ≡ Some n → is_none (m n) ≡ true
-free_unused limit m n e = (found_first (λ k. is_none (m k)) 1 limit n e).0
-
--- and it is at least 1
-pub free_low : (limit : ℕ) (m : ℕ → Option Inode) (n : ℕ) → least_free limit m ≡ Some n → 1 ≤ n
-free_low limit m n e = (found_first (λ k. is_none (m k)) 1 limit n e).1
+-- a number that is found in a range from 1 on is at least 1, and is free
+pub found_free : (test : ℕ → Bool) (limit n : ℕ) → first test (range_with_len 1 limit) ≡ Some n → (test n ≡ true) × (1 ≤ n)
+found_free test limit n e = let r = found_first test 1 limit n e in (r.0, r.1)
 
 -- the number is unused, and each before it is used
 pub record IsFirst (xs : List (Option Kept)) (n : ℕ) : Type 0 where
@@ -191,15 +190,8 @@ least_is limit n xs is = by (nat_le n limit) refl
     by true e = first_some (λ k. is_none (get (row xs) k)) 1 limit n is.low (grind (arith, e)) (λ k low high. ap is_none (get_row xs k) ∙ is.before k low high) (ap is_none (get_row xs n) ∙ is.here)
     by false e = first_none (λ k. is_none (get (row xs) k)) 1 limit (λ k low high. ap is_none (get_row xs k) ∙ is.before k low (grind (arith, e, high)))
 
-pub first_is : (limit n : ℕ) (xs : List (Option Kept)) → least_unused limit (row xs) ≡ Some n → IsFirst xs n
-first_is limit n xs e = let r = found_first (λ k. is_none (get (row xs) k)) 1 limit n e in
-    record { low = r.1; here = ap is_none (sym (get_row xs n)) ∙ r.0; before = λ k low high. ap is_none (sym (get_row xs k)) ∙ r.2 k low high }
-
 past_end : (xs : List (Option Kept)) (n : ℕ) → length xs < n → place xs n ≡ None
 past_end xs n e = grind (arith, nat_tests, slice_get_past)
-
-pub first_within : (xs : List (Option Kept)) (n : ℕ) → IsFirst xs n → n ≤ length xs + 1
-first_within xs n is = grind (arith, nat_tests, past_end)
 
 -- a place within the row is used, or it is a gap
 used_or_gap : (xs : List (Option Kept)) (n : ℕ) → 1 ≤ n → n ≤ length xs → is_gap (place xs n) ≡ false → is_none (thing_in xs n) ≡ false
@@ -266,15 +258,18 @@ unused_pushed s xs ys n x is e are = grind (arith, nat_tests, is_pushed, set_kep
 pub nodes_pushed : (xs ys : List (Option Node)) (n : ℕ) (x : Node) (m : KeptNodes) → ys ≡ xs ++ Some x ∷ [] → n ≡ length xs + 1 → nodes_of xs ≡ m → nodes_of ys ≡ insert m n (kept x)
 nodes_pushed xs ys n x m is e old = ap nodes_of is ∙ row_put (things xs) (things (xs ++ Some x ∷ [])) n (kept x) (is_pushed xs n (Some x) e) ∙ ap (λ k. insert k n (kept x)) old
 
--- the number to be added, where the row hasn't its place, is the one after them
-pub next_one : (xs : List (Option Node)) (limit n : ℕ) (m : KeptNodes) → nodes_of xs ≡ m → least_free limit (map_of m) ≡ Some n → length xs ≤ n - 1 → n ≡ length xs + 1
-next_one xs limit n m is least past = omega (
-  arith,
-  past,
-  free_low limit (map_of m) n least,
-  length-map xs (option_map kept),
-  first_within (things xs) n (first_is limit n (things xs) (ap (least_unused limit) is ∙ as_free limit m ∙ least)),
-)
+-- an empty place more
+pub unused_gap : (s t : BTreeSet ℕ) (xs ys : List (Option Node)) (n : ℕ) → ys ≡ xs ++ None ∷ [] → n ≡ length xs + 1 → AreUnused s (things xs)
+    → ((q : ℕ) → contains nat_cmp t q ≡ cond (eq_by_cmp nat_cmp n q) true (contains nat_cmp s q)) → AreUnused t (things ys)
+unused_gap s t xs ys n is e are now q =
+    unused_put (things xs) (things (xs ++ None ∷ [])) n s t None are (is_pushed xs n None e) (turned s t n true now) q
+    ∙ ap (λ zs. is_gap (place (things zs) q)) (sym is)
+
+pub nodes_gap : (xs ys : List (Option Node)) (n : ℕ) → ys ≡ xs ++ None ∷ [] → n ≡ length xs + 1 → nodes_of ys ≡ nodes_of xs
+nodes_gap xs ys n is e =
+    let beyond : length (things xs) < n = omega (arith, e, length-map xs (option_map kept)) in
+    ap nodes_of is ∙ row_taken (things xs) (things (xs ++ None ∷ [])) n (is_pushed xs n None e)
+    ∙ remove_absent nat_cmp_total nat_cmp-IsAntisymmetric (nodes_of xs) n (get_row (things xs) n ∙ ap in_place (past_end (things xs) n beyond))
 
 -- the least number of the set, as its contract says, up to the limit
 pub least_in_set : (s : BTreeSet ℕ) (xs : List (Option Node)) (limit n : ℕ) (m : KeptNodes) → nodes_of xs ≡ m → AreUnused s (things xs) → IsTrue (contains nat_cmp s n) → IsLowerBound nat_cmp s n

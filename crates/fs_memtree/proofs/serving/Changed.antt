@@ -1,7 +1,6 @@
 -- The inode map after a node of those that are kept changed, came or went.
-use Rattle.std.proofs.Common.{◌≡◌, ℕ, ◌-◌, ◌==◌, Bool, true, false, if◌then◌else◌, List, Option, Some, None, is_none, find, option_map, option_and_then, refl, sym, ap, ◌∙◌, ◌⊎◌, inl, inr, arith}
+use Rattle.std.proofs.Common.{◌≡◌, ℕ, ◌-◌, ◌==◌, Bool, true, false, if◌then◌else◌, List, Option, Some, None, option_map, option_and_then, refl, sym, ap, ◌∙◌, ◌⊎◌, inl, inr, arith}
 use Rattle.std.proofs.lemmas.Bool.{cases_eq}
-use Rattle.std.specs.List.{range_with_len}
 use Rattle.std.specs.Cmp.{nat_cmp_total}
 use Rattle.std.specs.FinMap.{nat_cmp-IsAntisymmetric, get, insert, remove}
 use Rattle.std.proofs.lemmas.Bool.Decides.{nat_tests}
@@ -9,7 +8,6 @@ use Rattle.std.proofs.lemmas.Grind.{common_steps}
 use Rattle.layout_bytes.specs.declared.slot.Slot.{Slot}
 use Rattle.crash_stands.specs.Inodes.{Inodes, ADir, AFile}
 use Rattle.crash_stands.specs.Walks.{entry_in}
-use Rattle.fs_inodes.specs.Lookups.{least_free}
 use Rattle.fs_inodes.specs.Changes.{one_link_less, HasUnder}
 use Rattle.fs_memtree.specs.Kept.{DirNames, Kept, KeptDir, KeptFile, KeptNodes, map_of, inode_of, slots_for, changed_at, put_changed, without_link, less_by, with_name, without_name}
 use Rattle.fs_memtree.proofs.keys.Keys.{name_total, name_same, put_here, put_other, gone_here, gone_other, put_twice, put_same, taken_back}
@@ -100,19 +98,13 @@ module _ (m new : Inodes) (k : ℕ) (names : DirNames) (name : List ℕ) (dir : 
     distinct = slots_distinct (remove names name);
   }
 
--- The numbers in use.
-
--- a change of a node leaves the least free number
-pub free_kept : (limit : ℕ) (nodes : KeptNodes) (k : ℕ) (change : Kept → Kept) → least_free limit (map_of (changed_at nodes k change)) ≡ least_free limit (map_of nodes)
-free_kept limit nodes k change = ap (λ test. find test (range_with_len 1 limit)) (λ i l. same l (cases_eq l k) i)
+-- a number that no node has is that of none after a change of a node
+pub none_kept : (nodes : KeptNodes) (k n : ℕ) (change : Kept → Kept) → get nodes n ≡ None → get (changed_at nodes k change) n ≡ None
+none_kept nodes k n change none = by (cases_eq n k)
   where
-    here : (o : Option Kept) → get nodes k ≡ o → is_none (option_map inode_of (get (put_changed nodes k change o) k)) ≡ is_none (option_map inode_of o)
-    here None is = ap (λ o. is_none (option_map inode_of o)) is
-    here (Some x) is = ap (λ o. is_none (option_map inode_of o)) (put_here nat_cmp_total nat_cmp-IsAntisymmetric nodes k (change x) k refl)
-
-    same : (l : ℕ) → (l ≡ k) ⊎ (l ≡ k → ⊥) → is_none (map_of (changed_at nodes k change) l) ≡ is_none (map_of nodes l)
-    same l (inl e) = ap (λ l. is_none (map_of (changed_at nodes k change) l)) e ∙ here (get nodes k) refl ∙ sym (ap (λ l. is_none (map_of nodes l)) e)
-    same l (inr off) = ap (λ o. is_none (option_map inode_of o)) (changed_other nodes k change l off)
+    by : (n ≡ k) ⊎ (n ≡ k → ⊥) → get (changed_at nodes k change) n ≡ None
+    by (inl e) = ap (λ o. get (put_changed nodes k change o) n) (ap (get nodes) (sym e) ∙ none) ∙ none
+    by (inr off) = changed_other nodes k change n off ∙ none
 
 -- A name that was put in and is taken out again leaves the nodes as they were.
 

@@ -9,20 +9,25 @@ use Rattle.lang_tree.specs.declared.command.Reply.{Reply}
 use Rattle.lang_tree.specs.declared.command.Reply.TheVariants.{Refused}
 use Rattle.lang_tree.specs.declared.command.Refusal.TheVariants.{NoMemory as OutOfMemory}
 use Rattle.lang_tree.specs.Run.{Answers, is_of_memory}
-use Rattle.lang_tree.specs.Tree.{Tree, Thing, Dir, File}
+use Rattle.lang_tree.specs.Tree.{Tree, Thing, Dir, File, alone, kept_tree, HasSoundSnapshots}
+use Rattle.lang_tree.specs.Tree.{Kept as KeptTree}
 use Rattle.lang_tree.specs.Step.{Session, start, step}
 use Rattle.crash_stands.specs.Inodes.{ADir, thing_of, root_alone}
 use Rattle.crash_stands.specs.Maps.{IsMapOf}
 use Rattle.crash_stands.specs.Walks.{entry_in, LeadsTo}
 use Rattle.fs_inodes.specs.Lookups.{number_at}
+use Rattle.std.proofs.lemmas.Option.{same_Some, none-some}
 use Rattle.fs_memtree.specs.declared.state.State.{State}
+use Rattle.fs_memtree.specs.declared.snapshots.Snapshot.{Snapshot}
+use Rattle.fs_memtree.specs.Snapshots.{snapshots_of, kept_by}
 use Rattle.fs_memtree.specs.Kept.{DirNames, name_cmp, Kept, KeptDir, KeptFile, KeptNodes, map_of, inode_of, tree_of}
-use Rattle.fs_memtree.specs.Serving.{root_node, first_state, session_of, IsKept, served}
+use Rattle.fs_memtree.specs.Serving.{root_node, first_state, whole_tree, session_of, IsKept, IsSoundState, served}
 use Rattle.fs_memtree.specs.Laws.{MapLaws}
 use Rattle.fs_memtree.proofs.keys.Keys.{name_total, name_same, put_here, put_other}
 use Rattle.fs_memtree.proofs.keys.InOrder.{entries_empty}
 use Rattle.fs_memtree.proofs.maps.Slots.{as_slots, under_name}
-use Rattle.fs_memtree.proofs.maps.TreeOf.{the_tree, own_tree}
+use Rattle.fs_memtree.proofs.maps.TreeOf.{the_tree, own_tree, aside}
+use Rattle.fs_memtree.proofs.serving.Snapshots.{under_shown}
 use Rattle.fs_memtree.proofs.maps.Walking.{number_last}
 use Rattle.fs_memtree.proofs.serving.Served.{serves, small_map}
 
@@ -31,22 +36,44 @@ root_there zero = sym (ap (option_map inode_of) (put_other nat_cmp_total nat_cmp
 root_there (suc zero) = sym (ap (option_map inode_of) (put_here nat_cmp_total nat_cmp-IsAntisymmetric empty 1 (KeptDir empty) 1 refl) ∙ ap (λ es. Some (ADir (as_slots es))) (entries_empty name_cmp))
 root_there (suc (suc k)) = sym (ap (option_map inode_of) (put_other nat_cmp_total nat_cmp-IsAntisymmetric empty 1 (KeptDir empty) (suc (suc k)) (λ e. omega (arith, e)) ∙ get-empty nat_cmp (suc (suc k))))
 
+-- no snapshots
+none_shown : snapshots_of empty ≡ empty
+none_shown = same_map name_total name_same _ _ (λ q. under_shown empty q ∙ ap (option_map kept_by) (get-empty name_cmp q) ∙ sym (get-empty name_cmp q))
+
 -- the root alone
 module _ (laws : MapLaws) (limit : ℕ) (low : 1 ≤ limit) where
   root_map : IsMapOf limit (map_of root_node) (start limit).tree
   root_map = laws.alike limit root_alone (map_of root_node) (start limit).tree root_there (laws.root limit low)
 
-  pub first_kept : IsKept (first_state limit)
-  first_kept = record { map = own_tree limit root_node (start limit).tree root_map; small = small_map limit (map_of root_node) (start limit).tree root_map (laws.small_start limit) }
+  first_kept : IsKept (first_state limit)
+  first_kept = record {
+    map = own_tree limit root_node (start limit).tree root_map;
+    small = small_map limit (map_of root_node) (start limit).tree root_map (laws.small_start limit);
+    snapshots = λ name x at. absurd (none-some x (sym (get-empty name_cmp name) ∙ at));
+  }
+
+  pub first_sound : IsSoundState (first_state limit)
+  first_sound = record { kept = first_kept; snapshots = laws.none_sound limit (whole_tree (first_state limit)) none_shown }
 
   pub first_session : session_of (first_state limit) ≡ start limit
-  first_session = ap (λ t. record { tree = t; limit = limit; points = 0; changed = false; durable = 0 }) (the_tree limit root_node (start limit).tree root_map)
+  first_session = ap₂ (λ (t : Tree) k. record { tree = record t { snapshots = k }; limit = limit; points = 0; changed = false; durable = 0 }) (the_tree limit root_node (start limit).tree root_map) none_shown
+
+-- the snapshots after a command
+sound_after : (laws : MapLaws) (old new : State) (cmd : Cmd) (reply : Reply) → IsSoundState old → step (session_of old) cmd ≡ (session_of new, reply) → HasSoundSnapshots new.limit (whole_tree new)
+sound_after laws old new cmd reply is steps =
+    let s = session_of old in
+    let sound = laws.sound old.limit (map_of old.nodes) (whole_tree old) (aside old.limit (map_of old.nodes) (tree_of old.nodes) (snapshots_of old.kept) is.kept.map) in
+    let limit : old.limit ≡ new.limit = sym (laws.same_limit s cmd) ∙ ap (λ (r : Session × Reply). r.0.limit) steps in
+    subst (λ l. HasSoundSnapshots l (whole_tree new)) limit
+    (subst (HasSoundSnapshots old.limit) (ap (λ (r : Session × Reply). r.0.tree) steps) (laws.sound_snapshots s cmd sound is.snapshots))
 
 -- what is left of a command
-pub result_kept : (laws : MapLaws) (old new : State) (cmd : Cmd) (result : Result Reply NoMemory) → IsKept old
-    → IfOk result (λ reply. served old cmd ≡ (new, reply)) → OnErr result (new ≡ old) → IsKept new
-result_kept laws old new cmd (Ok reply) kept done same = (serves laws old kept cmd new reply done).1
-result_kept laws old new cmd (Err why) kept done same = subst IsKept (sym same) kept
+pub result_sound : (laws : MapLaws) (old new : State) (cmd : Cmd) (result : Result Reply NoMemory) → IsSoundState old
+    → IfOk result (λ reply. served old cmd ≡ (new, reply)) → OnErr result (new ≡ old) → IsSoundState new
+result_sound laws old new cmd (Ok reply) is done same =
+    let r = serves laws old is.kept cmd new reply done in
+    record { kept = r.1; snapshots = sound_after laws old new cmd reply is r.0 }
+result_sound laws old new cmd (Err why) is done same = subst IsSoundState (sym same) is
 
 -- a reply that this result gives
 abbrev pub IsReply : Result Reply NoMemory → Reply → Type 0
@@ -97,6 +124,35 @@ module _ (limit other : ℕ) (one two : KeptNodes) (t : Tree) (first : IsMapOf l
   one_tree = same_map nat_cmp_total nat_cmp-IsAntisymmetric one two (λ k. node_same k (get one k) (get two k) refl refl
       (sym (first.shows.nodes k) ∙ second.shows.nodes k))
 
--- are the same nodes
-pub same_nodes : (a b : State) → IsKept a → IsKept b → tree_of a.nodes ≡ tree_of b.nodes → a.nodes ≡ b.nodes
-same_nodes a b first second same = one_tree a.limit b.limit a.nodes b.nodes (tree_of b.nodes) (subst (IsMapOf a.limit (map_of a.nodes)) same first.map) second.map
+-- Two sessions with one tree.
+module _ (a b : State) (first : IsKept a) (second : IsKept b) (same : whole_tree a ≡ whole_tree b) where
+  -- what two have under a name
+  under_same : (q : List ℕ) → option_map kept_by (get a.kept q) ≡ option_map kept_by (get b.kept q)
+  under_same q = sym (under_shown a.kept q) ∙ ap (λ (t : Tree). get t.snapshots q) same ∙ under_shown b.kept q
+
+  -- the nodes of two snapshots that keep the same
+  snapshot_same : (q : List ℕ) (x y : Snapshot) → get a.kept q ≡ Some x → get b.kept q ≡ Some y → kept_by x ≡ kept_by y → x ≡ y
+  snapshot_same q x y at_a at_b e =
+      let one : IsMapOf a.limit (map_of x.nodes) (alone (tree_of y.nodes).names (tree_of y.nodes).nodes) =
+      subst (IsMapOf a.limit (map_of x.nodes)) (ap (λ k. kept_tree k) e) (aside a.limit (map_of x.nodes) (tree_of x.nodes) empty (first.snapshots q x at_a)) in
+      let two : IsMapOf b.limit (map_of y.nodes) (alone (tree_of y.nodes).names (tree_of y.nodes).nodes) = aside b.limit (map_of y.nodes) (tree_of y.nodes) empty (second.snapshots q y at_b) in
+      ap₂ (λ n nodes. record { number = n; nodes = nodes }) (ap (λ k. k.number) e) (one_tree a.limit b.limit x.nodes y.nodes (alone (tree_of y.nodes).names (tree_of y.nodes).nodes) one two)
+
+  no_snapshot : {x : KeptTree} → None ≡ Some x → ⊥
+  no_snapshot e = cc
+
+  kept_same : (q : List ℕ) (o p : Option Snapshot) → get a.kept q ≡ o → get b.kept q ≡ p → option_map kept_by o ≡ option_map kept_by p → o ≡ p
+  kept_same q None None at_a at_b e = refl
+  kept_same q None (Some y) at_a at_b e = absurd (no_snapshot e)
+  kept_same q (Some x) None at_a at_b e = absurd (no_snapshot (sym e))
+  kept_same q (Some x) (Some y) at_a at_b e = ap Some (snapshot_same q x y at_a at_b (same_Some (kept_by x) (kept_by y) e))
+
+  pub same_kept : a.kept ≡ b.kept
+  same_kept = same_map name_total name_same a.kept b.kept (λ q. kept_same q (get a.kept q) (get b.kept q) refl refl (under_same q))
+
+  pub same_nodes : a.nodes ≡ b.nodes
+  same_nodes =
+      let t = alone (tree_of b.nodes).names (tree_of b.nodes).nodes in
+      one_tree a.limit b.limit a.nodes b.nodes t
+      (subst (IsMapOf a.limit (map_of a.nodes)) (ap (λ (u : Tree). alone u.names u.nodes) same) (aside a.limit (map_of a.nodes) (tree_of a.nodes) empty first.map))
+      (aside b.limit (map_of b.nodes) (tree_of b.nodes) empty second.map)

@@ -10,15 +10,15 @@ use Rattle.lang_tree.specs.declared.command.Cmd.{Cmd}
 use Rattle.lang_tree.specs.declared.command.Cmd.TheVariants.{Mkdir, Create, Write, Fill, Truncate, Link, Unlink, Rmdir, Rename}
 use Rattle.lang_tree.specs.declared.command.Refusal.{Refusal}
 use Rattle.lang_tree.specs.declared.command.Refusal.TheVariants.{Exists, IsDir, NoNode, TooManyLinks}
-use Rattle.lang_tree.specs.Tree.{Dir}
+use Rattle.lang_tree.specs.Tree.{Thing, Dir}
 use Rattle.lang_tree.specs.Walk.{are_same, is_same_node}
-use Rattle.lang_tree.specs.Conditions.{refusal, when, first_reason}
+use Rattle.lang_tree.specs.Conditions.{least_unused, refusal, when, first_reason}
 use Rattle.lang_tree.specs.Step.{Session, step, written, resized}
-use Rattle.crash_stands.specs.Inodes.{Inodes, ADir, AFile}
+use Rattle.crash_stands.specs.Inodes.{Inode, Inodes, ADir, AFile, thing_of}
 use Rattle.crash_stands.specs.Maps.{IsMapOf}
 use Rattle.crash_stands.specs.Walks.{entry_in, LeadsTo}
 use Rattle.fs_inodes.specs.Changes.{new_inode, Sets, AddsName, TakesName, MovesName}
-use Rattle.fs_inodes.specs.Lookups.{least_free, is_dir_inode, links_in, bytes_of, number_at, inode_at}
+use Rattle.fs_inodes.specs.Lookups.{is_dir_inode, links_in, bytes_of, number_at, inode_at}
 use Rattle.fs_inodes.specs.Refusals.{reason, walk_reason, parent_reason, make_reason}
 use Rattle.fs_memtree.specs.Kept.{name_cmp, DirNames, Kept, KeptDir, KeptFile, KeptNodes, map_of, inode_of, slots_for, spot_at, changed_at, with_bytes, with_links, with_name}
 use Rattle.fs_memtree.specs.Changes.{made, made_at, edited, linked, linked_at, removed, removed_at, moved, moved_at, is_that, put_and_take}
@@ -26,7 +26,7 @@ use Rattle.fs_memtree.specs.Laws.{MapLaws}
 use Rattle.fs_memtree.proofs.maps.Slots.{as_slots, under_name}
 use Rattle.fs_memtree.proofs.maps.Walking.{number_last, spot_is, by_parts}
 use Rattle.fs_memtree.proofs.keys.InOrder.{entries_empty}
-use Rattle.fs_memtree.proofs.rows.Row.{free_unused}
+use Rattle.fs_memtree.proofs.rows.Row.{unused_there}
 use Rattle.fs_memtree.proofs.serving.Changed.{kept_dir, kept_file, mapped, changed_here, changed_other}
 use Rattle.fs_memtree.proofs.serving.Naming.{adds_node, adds_path, takes_path, moves_path}
 use Rattle.fs_memtree.proofs.serving.Reasons.{no_reason, not_so, some_of, walked, parent_there, FileAt, file_there}
@@ -63,7 +63,7 @@ module _ (laws : MapLaws) (s : Session) (nodes : KeptNodes) (is : IsMapOf s.limi
   m = map_of nodes
 
   -- no refusal, no reason
-  reason_none : (cmd : Cmd) → refusal s.limit s.tree cmd ≡ None → reason s.limit m cmd ≡ None
+  reason_none : (cmd : Cmd) → refusal s.limit s.tree cmd ≡ None → reason (least_unused s.limit s.tree) s.tree.snapshots m cmd ≡ None
   reason_none cmd e = sym (laws.refuses s.limit m s.tree cmd is) ∙ e
 
   dir_apart : (n d : ℕ) (names : DirNames) → m n ≡ None → get nodes d ≡ Some (KeptDir names) → n ≢ d
@@ -95,46 +95,59 @@ module _ (laws : MapLaws) (s : Session) (nodes : KeptNodes) (is : IsMapOf s.limi
   spot_there : (up : List (List ℕ)) (name : List ℕ) (d : ℕ) → LeadsTo m up d → spot_at m (up ++ name ∷ []) ≡ Some (d, name)
   spot_there up name d leads = spot_is m up name ∙ ap (option_map (λ d. (d, name))) leads
 
-  -- A new node.
+  -- A new node, under the least unused number.
+  abbrev least : Option ℕ
+  least = least_unused s.limit s.tree
+
+  not_there : (o : Option Inode) → option_map thing_of o ≡ None → o ≡ None
+  not_there None e = refl
+  not_there (Some x) e = absurd (no_thing e)
+    where
+      no_thing : {x : Thing} → Some x ≡ None → ⊥
+      no_thing e = cc
+
+  no_inode : (n : ℕ) → least ≡ Some n → m n ≡ None
+  no_inode n e = not_there (m n) (sym (is.shows.nodes n) ∙ unused_there s.limit s.tree n e)
+
   record Made (up : List (List ℕ)) (name : List ℕ) (x : Kept) : Type 0 where
     d : ℕ
     n : ℕ
     leads : LeadsTo m up d
-    free : least_free s.limit m ≡ Some n
-    adds : AddsName m (map_of (made s.limit nodes (up ++ name ∷ []) x)) d n name (inode_of x)
+    free : least ≡ Some n
+    adds : AddsName m (map_of (made least nodes (up ++ name ∷ []) x)) d n name (inode_of x)
 
-  makes : (up : List (List ℕ)) (name : List ℕ) (x : Kept) → make_reason s.limit m (up ++ name ∷ []) ≡ None → Made up name x
+  makes : (up : List (List ℕ)) (name : List ℕ) (x : Kept) → make_reason least m (up ++ name ∷ []) ≡ None → Made up name x
   makes up name x none =
       let path = up ++ name ∷ [] in
       let one = no_reason (parent_reason m path) _ none in
       let two = no_reason (when (is_some (number_at m path)) Exists) _ one.1 in
-      let three = no_reason (when (is_none (least_free s.limit m)) NoNode) _ two.1 in
+      let three = no_reason (when (is_none least) NoNode) _ two.1 in
       let p = parent_there m up name one.0 in
-      let n = some_of (least_free s.limit m) (not_so (is_none (least_free s.limit m)) NoNode three.0) in
+      let n = some_of least (not_so (is_none least) NoNode three.0) in
       let k = kept_dir nodes p.dir p.slots p.is in
-      let made_is : insert (changed_at nodes p.dir (with_name name n.0)) n.0 x ≡ made s.limit nodes path x = sym (ap₂ (λ a b. made_at nodes a b x) (spot_there up name p.dir p.leads) n.1) in
+      let made_is : insert (changed_at nodes p.dir (with_name name n.0)) n.0 x ≡ made least nodes path x = sym (ap₂ (λ a b. made_at nodes a b x) (spot_there up name p.dir p.leads) n.1) in
       record {
         d = p.dir;
         n = n.0;
         leads = p.leads;
         free = n.1;
         adds = subst (λ new. AddsName m (map_of new) p.dir n.0 name (inode_of x)) made_is
-            (adds_node nodes p.dir n.0 k.0 name k.1 (dir_apart n.0 p.dir k.0 (is_none_of (m n.0) (free_unused s.limit m n.0 n.1)) k.1) x);
+            (adds_node nodes p.dir n.0 k.0 name k.1 (dir_apart n.0 p.dir k.0 (no_inode n.0 n.1) k.1) x);
       }
 
   -- nothing is made at the root
   there_already : Some Exists ≡ None → ⊥
   there_already e = cc
 
-  pub mkdir_mapped : (path : List (List ℕ)) → refusal s.limit s.tree (Mkdir path) ≡ None → IsMapOf s.limit (map_of (made s.limit nodes path (KeptDir empty))) (step s (Mkdir path)).0.tree
-  mkdir_mapped = by_parts (λ path. refusal s.limit s.tree (Mkdir path) ≡ None → IsMapOf s.limit (map_of (made s.limit nodes path (KeptDir empty))) (step s (Mkdir path)).0.tree)
+  pub mkdir_mapped : (path : List (List ℕ)) → refusal s.limit s.tree (Mkdir path) ≡ None → IsMapOf s.limit (map_of (made least nodes path (KeptDir empty))) (step s (Mkdir path)).0.tree
+  mkdir_mapped = by_parts (λ path. refusal s.limit s.tree (Mkdir path) ≡ None → IsMapOf s.limit (map_of (made least nodes path (KeptDir empty))) (step s (Mkdir path)).0.tree)
       (λ accepts. absurd (there_already (reason_none (Mkdir []) accepts)))
       (λ up name accepts.
       let c = makes up name (KeptDir empty) (reason_none (Mkdir (up ++ name ∷ [])) accepts) in
-      laws.mkdir s m _ up name c.d c.n is accepts c.leads c.free (subst (λ x. AddsName m (map_of (made s.limit nodes (up ++ name ∷ []) (KeptDir empty))) c.d c.n name x) no_slots c.adds))
+      laws.mkdir s m _ up name c.d c.n is accepts c.leads c.free (subst (λ x. AddsName m (map_of (made least nodes (up ++ name ∷ []) (KeptDir empty))) c.d c.n name x) no_slots c.adds))
 
-  pub create_mapped : (path : List (List ℕ)) → refusal s.limit s.tree (Create path) ≡ None → IsMapOf s.limit (map_of (made s.limit nodes path (KeptFile 1 []))) (step s (Create path)).0.tree
-  create_mapped = by_parts (λ path. refusal s.limit s.tree (Create path) ≡ None → IsMapOf s.limit (map_of (made s.limit nodes path (KeptFile 1 []))) (step s (Create path)).0.tree)
+  pub create_mapped : (path : List (List ℕ)) → refusal s.limit s.tree (Create path) ≡ None → IsMapOf s.limit (map_of (made least nodes path (KeptFile 1 []))) (step s (Create path)).0.tree
+  create_mapped = by_parts (λ path. refusal s.limit s.tree (Create path) ≡ None → IsMapOf s.limit (map_of (made least nodes path (KeptFile 1 []))) (step s (Create path)).0.tree)
       (λ accepts. absurd (there_already (reason_none (Create []) accepts)))
       (λ up name accepts.
       let c = makes up name (KeptFile 1 []) (reason_none (Create (up ++ name ∷ [])) accepts) in

@@ -1,15 +1,15 @@
 -- The blocks of a sound tree after a command are those before it, with what its figures need and without what they free.
 use Rattle.std.proofs.Common.{◌≡◌, ℕ, ◌+◌, ◌-◌, ◌<◌, ◌≤◌, ◌==◌, min, max, nat_lt, Bool, true, false, ◌&&◌, if◌then◌else◌, List, [], length, replicate, None, refl, sym, ap, ◌∙◌, arith, eqb-true, nat_le}
-use Rattle.std.proofs.lemmas.Bool.{ltb-true, ltb-false}
+use Rattle.std.proofs.lemmas.Bool.{ltb-true, ltb-false, true≢false}
 use Rattle.std.proofs.lemmas.List.{length-replicate}
 use Rattle.lang_tree.specs.declared.command.Cmd.{Cmd}
-use Rattle.lang_tree.specs.declared.command.Cmd.TheVariants.{Mkdir, Create, Write, Fill, Read, Truncate, Link, Unlink, Rmdir, Rename, Stat, List as ListNames, Osync, Dsync, Durable, Dwait, Poll, Bad}
+use Rattle.lang_tree.specs.declared.command.Cmd.TheVariants.{Mkdir, Create, Write, Fill, Read, Truncate, Link, Unlink, Rmdir, Rename, Stat, List as ListNames, Snap, Unsnap, Snaps, At, Osync, Dsync, Durable, Dwait, Poll, Bad}
 use Rattle.lang_tree.specs.declared.command.Reply.TheVariants.{Ok as Done}
 use Rattle.lang_tree.specs.declared.command.Refusal.TheVariants.{IsDir, TooLarge}
 use Rattle.lang_tree.specs.Tree.{Tree, Dir, File, IsSound}
 use Rattle.lang_tree.specs.Walk.{walk_refusal, thing_at, is_dir, is_same_node, content}
 use Rattle.lang_tree.specs.Conditions.{when, is_too_large, write_refusal, truncate_refusal, refusal}
-use Rattle.lang_tree.specs.Step.{Session, step, answered, changed_to, edited, written, resized, removed, moved, osync, dwait}
+use Rattle.lang_tree.specs.Step.{Session, step, answered, changed_to, edited, written, resized, removed, moved, osync, dwait, changes_snapshots}
 use Rattle.lang_tree.specs.Figures.{Figures, nothing, writing, blocks, blocks_for, write_figures, truncate_figures, move_figures, figures_by, figures}
 use Rattle.lang_tree.proofs.walking.Found.{no_reasons, not_so}
 use Rattle.lang_tree.proofs.soundness.Sound.{can_unlink}
@@ -74,25 +74,29 @@ dwait_tells : (s : Session) (n : ℕ) (b : Bool) → Tells (dwait s n b).0.tree 
 dwait_tells s n true = refl
 dwait_tells s n false = refl
 
-accepted_tells : (bitmap : ℕ) (s : Session) (cmd : Cmd) → IsSound s.limit s.tree → refusal s.limit s.tree cmd ≡ None → Tells (answered s cmd None).0.tree s.tree (figures_by bitmap s.tree cmd None)
-accepted_tells bitmap s (Mkdir path) ok e = more_alone _ _ _ (added_blocks s.limit s.tree ok path Dir refl e)
-accepted_tells bitmap s (Create path) ok e = more_alone _ _ _ (added_blocks s.limit s.tree ok path (File []) refl e)
-accepted_tells bitmap s (Write path offset bytes) ok e = choice_tells s _ (length bytes == 0) _ (λ _. write_tells bitmap s ok path offset bytes (length bytes) refl e)
-accepted_tells bitmap s (Fill path offset count byte) ok e = fill_tells bitmap s ok path offset count byte e
-accepted_tells bitmap s (Read path offset count) ok e = refl
-accepted_tells bitmap s (Truncate path size) ok e = truncate_tells bitmap s ok path size e
-accepted_tells bitmap s (Link path other) ok e = more_alone _ _ _ (linked_blocks s.limit s.tree ok path other e)
-accepted_tells bitmap s (Unlink path) ok e = less_alone _ _ _ (gone_blocks s.limit s.tree ok path (can_unlink s.limit s.tree ok path e))
-accepted_tells bitmap s (Rmdir path) ok e = less_alone _ _ _ (rmdir_blocks s.limit s.tree ok path e)
-accepted_tells bitmap s (Rename from to) ok e = choice_tells s (moved (removed s.tree to) from to) (is_same_node s.tree from to) (move_figures bitmap s.tree from to) (moved_blocks s.limit s.tree ok bitmap from to e)
-accepted_tells bitmap s (Stat path) ok e = refl
-accepted_tells bitmap s (ListNames path) ok e = refl
-accepted_tells bitmap s Osync ok e = osync_tells s s.changed
-accepted_tells bitmap s Dsync ok e = osync_tells s s.changed
-accepted_tells bitmap s Durable ok e = refl
-accepted_tells bitmap s (Dwait n) ok e = dwait_tells s n (nat_le n s.points)
-accepted_tells bitmap s Poll ok e = refl
-accepted_tells bitmap s Bad ok e = refl
+accepted_tells : (bitmap : ℕ) (s : Session) (cmd : Cmd) → changes_snapshots cmd ≡ false → IsSound s.limit s.tree → refusal s.limit s.tree cmd ≡ None → Tells (answered s cmd None).0.tree s.tree (figures_by bitmap s.limit s.tree cmd None)
+accepted_tells bitmap s (Mkdir path) live ok e = more_alone _ _ _ (added_blocks s.limit s.tree ok path Dir refl e)
+accepted_tells bitmap s (Create path) live ok e = more_alone _ _ _ (added_blocks s.limit s.tree ok path (File []) refl e)
+accepted_tells bitmap s (Write path offset bytes) live ok e = choice_tells s _ (length bytes == 0) _ (λ _. write_tells bitmap s ok path offset bytes (length bytes) refl e)
+accepted_tells bitmap s (Fill path offset count byte) live ok e = fill_tells bitmap s ok path offset count byte e
+accepted_tells bitmap s (Read path offset count) live ok e = refl
+accepted_tells bitmap s (Truncate path size) live ok e = truncate_tells bitmap s ok path size e
+accepted_tells bitmap s (Link path other) live ok e = more_alone _ _ _ (linked_blocks s.limit s.tree ok path other e)
+accepted_tells bitmap s (Unlink path) live ok e = less_alone _ _ _ (gone_blocks s.limit s.tree ok path (can_unlink s.limit s.tree ok path e))
+accepted_tells bitmap s (Rmdir path) live ok e = less_alone _ _ _ (rmdir_blocks s.limit s.tree ok path e)
+accepted_tells bitmap s (Rename from to) live ok e = choice_tells s (moved (removed s.tree to) from to) (is_same_node s.tree from to) (move_figures bitmap s.tree from to) (moved_blocks s.limit s.tree ok bitmap from to e)
+accepted_tells bitmap s (Stat path) live ok e = refl
+accepted_tells bitmap s (ListNames path) live ok e = refl
+accepted_tells bitmap s (Snap name) live ok e = absurd (true≢false live)
+accepted_tells bitmap s (Unsnap name) live ok e = absurd (true≢false live)
+accepted_tells bitmap s Snaps live ok e = refl
+accepted_tells bitmap s (At name l) live ok e = refl
+accepted_tells bitmap s Osync live ok e = osync_tells s s.changed
+accepted_tells bitmap s Dsync live ok e = osync_tells s s.changed
+accepted_tells bitmap s Durable live ok e = refl
+accepted_tells bitmap s (Dwait n) live ok e = dwait_tells s n (nat_le n s.points)
+accepted_tells bitmap s Poll live ok e = refl
+accepted_tells bitmap s Bad live ok e = refl
 
-pub figures_tell : (bitmap : ℕ) (s : Session) (cmd : Cmd) → IsSound s.limit s.tree → blocks (step s cmd).0.tree + (figures bitmap s cmd).freed ≡ blocks s.tree + (figures bitmap s cmd).need
-figures_tell bitmap s cmd ok = grind (arith, refusal s.limit s.tree cmd, s.limit, s.tree, accepted_tells)
+pub figures_tell : (bitmap : ℕ) (s : Session) (cmd : Cmd) → changes_snapshots cmd ≡ false → IsSound s.limit s.tree → blocks (step s cmd).0.tree + (figures bitmap s cmd).freed ≡ blocks s.tree + (figures bitmap s cmd).need
+figures_tell bitmap s cmd live ok = grind (arith, refusal s.limit s.tree cmd, s.limit, s.tree, accepted_tells)

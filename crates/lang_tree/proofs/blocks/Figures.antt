@@ -9,7 +9,7 @@ use Rattle.lang_tree.specs.Tree.{Tree}
 use Rattle.lang_tree.specs.Conditions.{refusal}
 use Rattle.lang_tree.specs.Step.{Session, step, answered, changed_to, dwait}
 use Rattle.lang_tree.specs.Points.{is_sync}
-use Rattle.lang_tree.specs.Figures.{Figures, nothing, moving, writing, truncate_figures, figures_by, figures}
+use Rattle.lang_tree.specs.Figures.{Figures, nothing, moving, writing, snapping, shrinking, truncate_figures, figures_by, figures}
 
 or_false : (b : Bool) → b ≡ (b || false)
 or_false b = grind arith
@@ -22,6 +22,12 @@ choice_costs s t b f h1 = grind (arith, or_false, s.changed, costs, f.cost)
 
 writing_costs : (bitmap size lo hi : ℕ) → 0 < (writing bitmap size lo hi).cost
 writing_costs bitmap size lo hi = omega arith
+
+snapping_costs : (bitmap count : ℕ) → 0 < (snapping bitmap count).cost
+snapping_costs bitmap count = omega arith
+
+shrinking_costs : (bitmap freed : ℕ) → 0 < (shrinking bitmap freed).cost
+shrinking_costs bitmap freed = omega arith
 
 moving_costs : (bitmap grown freed : ℕ) → 0 < (moving bitmap grown freed).cost
 moving_costs bitmap grown freed = omega arith
@@ -41,8 +47,8 @@ dwait_costs s n true = or_false s.changed
 dwait_costs s n false = or_false s.changed
 
 answered_costs : (bitmap : ℕ) (s : Session) (cmd : Cmd) (r : Option Refusal) → is_sync cmd ≡ false
-    → (answered s cmd r).0.changed ≡ (s.changed || nat_lt 0 (figures_by bitmap s.tree cmd r).cost)
-answered_costs bitmap s cmd r h1 = grind (arith, or_false, s.changed, costs, truncate_costs, s.tree, choice_costs, writing_costs, fill_costs, move_costs, dwait_costs, s.points)
+    → (answered s cmd r).0.changed ≡ (s.changed || nat_lt 0 (figures_by bitmap s.limit s.tree cmd r).cost)
+answered_costs bitmap s cmd r h1 = grind (arith, or_false, s.changed, costs, truncate_costs, s.tree, s.limit, choice_costs, writing_costs, fill_costs, move_costs, snapping_costs, shrinking_costs, dwait_costs, s.points)
 
 pub changed_where_it_costs : (bitmap : ℕ) (s : Session) (cmd : Cmd) → is_sync cmd ≡ false → (step s cmd).0.changed ≡ (s.changed || nat_lt 0 (figures bitmap s cmd).cost)
 changed_where_it_costs bitmap s cmd e = answered_costs bitmap s cmd (refusal s.limit s.tree cmd) e

@@ -1,17 +1,20 @@
 -- The reasons from outside the tree: none of them is one of the tree's own, and a run with some of them is one with more.
-use Rattle.std.proofs.Common.{◌≡◌, ◌==◌, ◌⊎◌, ℕ, ◌+◌, nat_lt, nat_le, is_none, Bool, true, false, if◌then◌else◌, ◌&&◌, List, [], ◌∷◌, ◌++◌, length, Option, Some, None, Result, refl, ap, ◌∙◌, arith}
+use Rattle.std.proofs.Common.{◌≡◌, ◌==◌, ◌⊎◌, ℕ, ◌+◌, nat_lt, nat_le, is_none, is_some, Bool, true, false, if◌then◌else◌, ◌&&◌, List, [], ◌∷◌, ◌++◌, length, Option, Some, None, Result, refl, ap, ◌∙◌, arith}
 use Rattle.std.proofs.lemmas.Bool.{false≢true}
+use Rattle.std.specs.FinMap.{get}
 use Rattle.lang_tree.specs.declared.command.Cmd.{Cmd}
-use Rattle.lang_tree.specs.declared.command.Cmd.TheVariants.{Mkdir, Create, Write, Fill, Read, Truncate, Link, Unlink, Rmdir, Rename, Stat, List as ListNames, Osync, Dsync, Durable, Dwait, Poll, Bad}
+use Rattle.lang_tree.specs.declared.command.Cmd.TheVariants.{Mkdir, Create, Write, Fill, Read, Truncate, Link, Unlink, Rmdir, Rename, Stat, List as ListNames, Snap, Unsnap, Snaps, At, Osync, Dsync, Durable, Dwait, Poll, Bad}
+use Rattle.lang_tree.specs.declared.command.Look.{Look}
+use Rattle.lang_tree.specs.declared.command.Look.TheVariants as look
 use Rattle.lang_tree.specs.declared.command.Reply.{Reply}
 use Rattle.lang_tree.specs.declared.command.Reply.TheVariants.{Ok as Done, Refused}
 use Rattle.lang_tree.specs.declared.command.Refusal.{Refusal}
-use Rattle.lang_tree.specs.declared.command.Refusal.TheVariants.{Exists, NotDir, IsDir, NotEmpty, BelowItself, TooLarge, TooManyLinks, NoNode, NoMemory}
-use Rattle.lang_tree.specs.Tree.{Tree, Thing}
+use Rattle.lang_tree.specs.declared.command.Refusal.TheVariants.{Exists, NotDir, IsDir, NotEmpty, BelowItself, TooLarge, TooManyLinks, NoNode, NoMemory, NoSnap}
+use Rattle.lang_tree.specs.Tree.{Tree, Kept, Thing, kept_tree}
 use Rattle.lang_tree.specs.Names.{holds_names}
 use Rattle.lang_tree.specs.Walk.{walk_from, walk_refusal, parent_refusal, no_directory, refusal_in, enter, thing_at, is_dir, is_file, is_there, is_same_node, links}
-use Rattle.lang_tree.specs.Conditions.{when, first_reason, refusal, onto_refusal, is_too_large, least_unused}
-use Rattle.lang_tree.specs.Step.{Session, step, answered, changed_to, osync, dwait, stat_by, stat_of}
+use Rattle.lang_tree.specs.Conditions.{when, first_reason, refusal, file_refusal, list_refusal, look_refusal, at_refusal, onto_refusal, is_too_large, least_unused}
+use Rattle.lang_tree.specs.Step.{Session, step, answered, changed_to, osync, dwait, stat_by, stat_of, seen, seen_in}
 use Rattle.lang_tree.specs.Run.{Answers, Run, is_of_memory, is_of_disk}
 
 -- a reason of the tree's own, where there is one
@@ -60,6 +63,24 @@ elsewhere_own same reason h1 = grind arith
 pair_own : (o p : Option Refusal) → Own o → Own p → Own (first_reason (o ∷ p ∷ []))
 pair_own o p h1 h2 = grind arith
 
+when_own : (b : Bool) (why : Refusal) → is_of_disk why ≡ false → Own (when b why)
+when_own b why h1 = grind arith
+
+file_own : (t : Tree) (path : List (List ℕ)) → Own (file_refusal t path)
+file_own t path = one (walk_refusal t path) (is_dir (thing_at t path)) IsDir (a_walk t path) refl
+
+list_own : (t : Tree) (path : List (List ℕ)) → Own (list_refusal t path)
+list_own t path = one (walk_refusal t path) (is_file (thing_at t path)) NotDir (a_walk t path) refl
+
+look_own : (t : Tree) (l : Look) → Own (look_refusal t l)
+look_own t (look.Read path offset count) = file_own t path
+look_own t (look.Stat path) = a_walk t path
+look_own t (look.List path) = list_own t path
+
+at_own : (o : Option Kept) (l : Look) → Own (at_refusal o l)
+at_own None l = refl
+at_own (Some k) l = look_own (kept_tree k) l
+
 refusal_own : (limit : ℕ) (t : Tree) (cmd : Cmd) → Own (refusal limit t cmd)
 refusal_own limit t (Mkdir path) = two (parent_refusal t path) (is_there t path) (is_none (least_unused limit t)) Exists NoNode (a_parent t path) refl refl
 refusal_own limit t (Create path) = two (parent_refusal t path) (is_there t path) (is_none (least_unused limit t)) Exists NoNode (a_parent t path) refl refl
@@ -67,13 +88,13 @@ refusal_own limit t (Write path offset bytes) =
     two (walk_refusal t path) (is_dir (thing_at t path)) (nat_lt 0 (length bytes) && is_too_large (offset + length bytes)) IsDir TooLarge (a_walk t path) refl refl
 refusal_own limit t (Fill path offset count byte) =
     two (walk_refusal t path) (is_dir (thing_at t path)) (nat_lt 0 count && is_too_large (offset + count)) IsDir TooLarge (a_walk t path) refl refl
-refusal_own limit t (Read path offset count) = one (walk_refusal t path) (is_dir (thing_at t path)) IsDir (a_walk t path) refl
+refusal_own limit t (Read path offset count) = file_own t path
 refusal_own limit t (Truncate path size) = two (walk_refusal t path) (is_dir (thing_at t path)) (is_too_large size) IsDir TooLarge (a_walk t path) refl refl
 refusal_own limit t (Link path other) =
     first_own (walk_refusal t path) (parent_refusal t other ∷ when (is_there t other) Exists ∷ when (is_dir (thing_at t path)) IsDir ∷ when (nat_le 65535 (links t path)) TooManyLinks ∷ [])
     (a_walk t path)
     (three (parent_refusal t other) (is_there t other) (is_dir (thing_at t path)) (nat_le 65535 (links t path)) Exists IsDir TooManyLinks (a_parent t other) refl refl refl)
-refusal_own limit t (Unlink path) = one (walk_refusal t path) (is_dir (thing_at t path)) IsDir (a_walk t path) refl
+refusal_own limit t (Unlink path) = file_own t path
 refusal_own limit t (Rmdir path) =
     three (walk_refusal t path) (is_file (thing_at t path)) (holds_names t.names path) (length path == 0) NotDir NotEmpty BelowItself (a_walk t path) refl refl refl
 refusal_own limit t (Rename from to) =
@@ -81,7 +102,11 @@ refusal_own limit t (Rename from to) =
     first_own (walk_refusal t from) (parent_refusal t to ∷ last ∷ []) (a_walk t from)
     (pair_own (parent_refusal t to) last (a_parent t to) (elsewhere_own (is_same_node t from to) (onto_refusal t from to) (onto_own t from to)))
 refusal_own limit t (Stat path) = a_walk t path
-refusal_own limit t (ListNames path) = one (walk_refusal t path) (is_file (thing_at t path)) NotDir (a_walk t path) refl
+refusal_own limit t (ListNames path) = list_own t path
+refusal_own limit t (Snap name) = pair_own (when (is_some (get t.snapshots name)) Exists) (when (is_none (least_unused limit t)) NoNode) (when_own _ Exists refl) (when_own _ NoNode refl)
+refusal_own limit t (Unsnap name) = when_own (is_none (get t.snapshots name)) NoSnap refl
+refusal_own limit t Snaps = tt
+refusal_own limit t (At name l) = at_own (get t.snapshots name) l
 refusal_own limit t Osync = tt
 refusal_own limit t Dsync = tt
 refusal_own limit t Durable = tt
@@ -106,12 +131,21 @@ stat_thing t path n thing = grind arith
 stat_own : (t : Tree) (path : List (List ℕ)) (found : Option ℕ) → OwnReply (stat_by t path found)
 stat_own t path found = grind (arith, stat_thing, t.nodes)
 
+seen_own : (t : Tree) (l : Look) → OwnReply (seen t l)
+seen_own t (look.Read path offset count) = tt
+seen_own t (look.Stat path) = stat_own t path (get t.names path)
+seen_own t (look.List path) = tt
+
+kept_own : (o : Option Kept) (l : Look) → OwnReply (seen_in o l)
+kept_own None l = refl
+kept_own (Some k) l = seen_own (kept_tree k) l
+
 dwait_own : (s : Session) (n : ℕ) (b : Bool) → OwnReply (dwait s n b).1
 dwait_own s n true = tt
 dwait_own s n false = refl
 
 answered_own : (s : Session) (cmd : Cmd) (r : Option Refusal) → Own r → OwnReply (answered s cmd r).1
-answered_own s cmd r h1 = grind (arith, choice_own, s.tree, stat_own, s.tree.names, osync_own, s.changed, dwait_own, s.points)
+answered_own s cmd r h1 = grind (arith, choice_own, s.tree, stat_own, s.tree.names, kept_own, osync_own, s.changed, dwait_own, s.points)
 
 step_own : (s : Session) (cmd : Cmd) → OwnReply (step s cmd).1
 step_own s cmd = answered_own s cmd (refusal s.limit s.tree cmd) (refusal_own s.limit s.tree cmd)

@@ -7,13 +7,13 @@ use Rattle.std.specs.Cmp.{nat_cmp_total}
 use Rattle.std.specs.FinMap.{get, insert, remove, empty, get-empty, get-insert, get-remove}
 use Rattle.std.proofs.lemmas.Option.{same_Some}
 use Rattle.lang_tree.specs.declared.command.Cmd.{Cmd}
-use Rattle.lang_tree.specs.declared.command.Cmd.TheVariants.{Mkdir, Create, Write, Fill, Read, Truncate, Link, Unlink, Rmdir, Rename, Stat, List as ListNames, Osync, Dsync, Durable, Dwait, Poll, Bad}
+use Rattle.lang_tree.specs.declared.command.Cmd.TheVariants.{Mkdir, Create, Write, Fill, Read, Truncate, Link, Unlink, Rmdir, Rename, Stat, List as ListNames, Snap, Unsnap, Snaps, At, Osync, Dsync, Durable, Dwait, Poll, Bad}
 use Rattle.lang_tree.specs.declared.command.Reply.TheVariants.{Ok as Done}
 use Rattle.lang_tree.specs.declared.command.Refusal.{Refusal}
 use Rattle.lang_tree.specs.Tree.{Tree, Nodes, Thing, Dir, File, HasSmallFiles}
 use Rattle.lang_tree.specs.Walk.{is_same_node}
 use Rattle.lang_tree.specs.Conditions.{when, first_reason, is_too_large, least_unused, refusal, write_refusal, truncate_refusal}
-use Rattle.lang_tree.specs.Step.{Session, start, step, accepted, changed_to, with_node, with_bytes, edited_at, edited, linked_by, removed, removed_by, moved, write, truncate, osync, dwait, written, resized}
+use Rattle.lang_tree.specs.Step.{Session, start, step, accepted, changed_to, with_node, with_bytes, edited_at, edited, linked_by, removed, removed_by, moved, snapped_by, write, truncate, osync, dwait, written, resized}
 
 -- the nodes of a tree hold no file larger than the bound
 abbrev Small : ℕ → Nodes → Type 0
@@ -56,6 +56,10 @@ module _ (most : ℕ) where
 
   edited_small : (t : Tree) (change : List ℕ → List ℕ) (o : Option ℕ) → ((old : List ℕ) → length old ≤ most → length (change old) ≤ most) → Small most t.nodes → Small most (edited_at t change o).nodes
   edited_small t change o h1 h2 = grind (arith, bytes_small, t.nodes)
+
+snapped_small : (most : ℕ) (t : Tree) (name : List ℕ) (o : Option ℕ) → Small most t.nodes → Small most (snapped_by t name o).nodes
+snapped_small most t name None small = small
+snapped_small most t name (Some n) small = small
 
 written_small : (most off : ℕ) (ys xs : List ℕ) → off + length ys ≤ most → length xs ≤ most → length (written off ys xs) ≤ most
 written_small most off ys xs fits small = grind (arith, length-append, length-take, length-drop)
@@ -126,6 +130,10 @@ accepted_small s (Rmdir path) free small = removed_small 1073741824 s.tree path 
 accepted_small s (Rename from to) free small = rename_small_by (is_same_node s.tree from to) s from to small
 accepted_small s (Stat path) free small = small
 accepted_small s (ListNames path) free small = small
+accepted_small s (Snap name) free small = snapped_small 1073741824 s.tree name (least_unused s.limit s.tree) small
+accepted_small s (Unsnap name) free small = small
+accepted_small s Snaps free small = small
+accepted_small s (At name l) free small = small
 accepted_small s Osync free small = osync_small s s.changed small
 accepted_small s Dsync free small = osync_small s s.changed small
 accepted_small s Durable free small = small

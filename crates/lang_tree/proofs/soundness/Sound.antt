@@ -5,17 +5,17 @@ use Rattle.std.specs.FinMap.{nat_cmp-IsAntisymmetric, get, insert, empty, get-em
 use Rattle.std.specs.Ordering.{nat_cmp}
 use Rattle.std.proofs.lemmas.Option.{same_Some, none-some}
 use Rattle.lang_tree.specs.declared.command.Cmd.{Cmd}
-use Rattle.lang_tree.specs.declared.command.Cmd.TheVariants.{Mkdir, Create, Write, Fill, Read, Truncate, Link, Unlink, Rmdir, Rename, Stat, List as ListNames, Osync, Dsync, Durable, Dwait, Poll, Bad}
+use Rattle.lang_tree.specs.declared.command.Cmd.TheVariants.{Mkdir, Create, Write, Fill, Read, Truncate, Link, Unlink, Rmdir, Rename, Stat, List as ListNames, Snap, Unsnap, Snaps, At, Osync, Dsync, Durable, Dwait, Poll, Bad}
 use Rattle.lang_tree.specs.declared.command.Reply.{Reply}
 use Rattle.lang_tree.specs.declared.command.Reply.TheVariants.{Ok as Done}
 use Rattle.lang_tree.specs.declared.command.Refusal.{Refusal}
 use Rattle.lang_tree.specs.declared.command.Refusal.TheVariants.{Exists, IsDir, TooManyLinks}
-use Rattle.lang_tree.specs.Tree.{Tree, Names, Nodes, Thing, Dir, File, IsSound, path_cmp}
+use Rattle.lang_tree.specs.Tree.{Tree, Names, Nodes, Snapshots, Thing, Dir, File, IsSound, path_cmp}
 use Rattle.lang_tree.specs.Paths.{parent}
 use Rattle.lang_tree.specs.Names.{holds_names}
 use Rattle.lang_tree.specs.Walk.{walk_refusal, parent_refusal, thing_at, is_dir, is_file, is_there, is_same_node, links, content}
-use Rattle.lang_tree.specs.Conditions.{when, file_refusal, link_refusal, rmdir_refusal, refusal}
-use Rattle.lang_tree.specs.Step.{Session, start, step, answered, changed_to, edited, written, resized, linked_by, linked, removed, moved, osync, dwait}
+use Rattle.lang_tree.specs.Conditions.{when, least_unused, file_refusal, link_refusal, rmdir_refusal, refusal}
+use Rattle.lang_tree.specs.Step.{Session, start, step, answered, changed_to, edited, written, resized, linked_by, linked, removed, moved, snapped, snapped_by, unsnapped, osync, dwait}
 use Rattle.lang_tree.proofs.basics.Order.{path_total, path_same}
 use Rattle.lang_tree.proofs.basics.Strips.{lacks, no_append}
 use Rattle.lang_tree.proofs.basics.Finds.{put_here, look}
@@ -73,6 +73,21 @@ module _ (limit : ℕ) (t : Tree) (s : IsSound limit t) where
   gone_sound : (path : List (List ℕ)) → CanGo t path → IsSound limit (removed t path)
   gone_sound path can = removed_sound limit t s path can.free can.below_root
 
+-- what a tree's snapshots are is no matter of its soundness
+pub with_snapshots_sound : (limit : ℕ) (t : Tree) (snapshots : Snapshots) → IsSound limit t → IsSound limit (record t { snapshots = snapshots })
+with_snapshots_sound limit t snapshots s =
+    record { root = s.root; root_dir = s.root_dir; parents = s.parents; named = s.named; reached = s.reached; one_path = s.one_path; within = s.within }
+
+snapped_sound : (limit : ℕ) (t : Tree) → IsSound limit t → (name : List ℕ) → IsSound limit (snapped limit t name)
+snapped_sound limit t s name = by (least_unused limit t)
+  where
+    by : (o : Option ℕ) → IsSound limit (snapped_by t name o)
+    by None = s
+    by (Some n) = with_snapshots_sound limit t _ s
+
+unsnapped_sound : (limit : ℕ) (t : Tree) → IsSound limit t → (name : List ℕ) → IsSound limit (unsnapped t name)
+unsnapped_sound limit t s name = with_snapshots_sound limit t _ s
+
 abbrev pub Sound : Session → Type 0
 Sound s = IsSound s.limit s.tree
 
@@ -106,6 +121,10 @@ accepted_stays s (Rename from to) ok e =
     choice_stays s (moved (removed s.tree to) from to) (is_same_node s.tree from to) ok (λ other. moved_onto_sound s.limit s.tree ok from to (target_apart s.limit s.tree ok from to e other))
 accepted_stays s (Stat path) ok e = (ok, refl)
 accepted_stays s (ListNames path) ok e = (ok, refl)
+accepted_stays s (Snap name) ok e = (snapped_sound s.limit s.tree ok name, refl)
+accepted_stays s (Unsnap name) ok e = (unsnapped_sound s.limit s.tree ok name, refl)
+accepted_stays s Snaps ok e = (ok, refl)
+accepted_stays s (At name l) ok e = (ok, refl)
 accepted_stays s Osync ok e = osync_stays s s.changed ok
 accepted_stays s Dsync ok e = osync_stays s s.changed ok
 accepted_stays s Durable ok e = (ok, refl)

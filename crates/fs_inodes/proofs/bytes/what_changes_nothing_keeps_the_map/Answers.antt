@@ -1,4 +1,4 @@
-use Rattle.fs_inodes.proofs.commands.Unchanged.{refused, looked, nothing_written, nothing_filled, same_size, same_node}
+use Rattle.fs_inodes.proofs.commands.Unchanged.{refused, looked, nothing_written, nothing_filled, same_size, same_node, changed_aside}
 use Rattle.fs_inodes.proofs.bytes.what_changes_nothing_keeps_the_map.Goals as goal
 
 pub returns-clause-refused : goal.returns-clause-refused
@@ -18,3 +18,6 @@ returns-clause-same_size c = same_size
 
 pub returns-clause-same_node : goal.returns-clause-same_node
 returns-clause-same_node c = same_node
+
+pub returns-clause-snapshots : goal.returns-clause-snapshots
+returns-clause-snapshots c = changed_aside

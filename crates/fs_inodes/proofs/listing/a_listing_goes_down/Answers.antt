@@ -2,8 +2,11 @@ use Rattle.std.proofs.Common.{length, ap, ◌∙◌}
 use Rattle.fs_inodes.proofs.agreement.Agree.{agrees}
 use Rattle.fs_inodes.proofs.lookups.Descent.{from_root}
 use Rattle.fs_inodes.proofs.sums.Totals.{paths_counted}
-use Rattle.fs_inodes.proofs.lookups.Lines.{whole_listing, lines_down, paths_down}
+use Rattle.fs_inodes.proofs.lookups.Lines.{root_lines, whole_listing, lines_down, paths_down}
 use Rattle.fs_inodes.proofs.listing.a_listing_goes_down.Goals as goal
+
+pub returns-clause-root : goal.returns-clause-root
+returns-clause-root c = root_lines
 
 pub returns-clause-whole : goal.returns-clause-whole
 returns-clause-whole c = whole_listing c.the_tree_is_lawful.ensures

@@ -9,4 +9,4 @@ pub returns-clause-cuts : goal.returns-clause-cuts
 returns-clause-cuts c = cuts_as_before
 
 pub returns-clause-commands : goal.returns-clause-commands
-returns-clause-commands c = λ bitmap s cmd. figures_as_before bitmap s.tree cmd (refusal s.limit s.tree cmd)
+returns-clause-commands c = λ bitmap s cmd. figures_as_before bitmap s.limit s.tree cmd (refusal s.limit s.tree cmd)

@@ -1,6 +1,6 @@
 use Rattle.std.proofs.Common.{◌≤◌, length}
 use Rattle.lang_script.proofs.Steps.{many_parts, texts, length_texts}
-use Rattle.lang_script.proofs.parse.cmd_of_parts.Goals as goal
+use Rattle.lang_script.proofs.parse.cmd_on_tree.Goals as goal
 
 pub returns-in-len6-up : goal.returns-in-len6-up
 returns-in-len6-up c =
