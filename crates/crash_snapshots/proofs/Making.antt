@@ -8,7 +8,8 @@ use Rattle.base_types.specs.Seal.{Blocks}
 use Rattle.layout_geometry.specs.Geometry.{Geometry, IsGeometry, table_start, nodes_in_block, node_size}
 use Rattle.layout_bytes.specs.Node.{node_bytes}
 use Rattle.crash_stands.specs.Files.{used_node}
-use Rattle.crash_snapshots.specs.Places.{table_blocks, kept_table, dir_part, all_dirs}
+use Rattle.crash_stands.specs.Places.{table_blocks, kept_table, dir_part}
+use Rattle.crash_snapshots.specs.Places.{all_dirs}
 use Rattle.crash_snapshots.specs.Kept.{AreCopies, kept_bytes, HasSnapshot}
 use Rattle.layout_extent.specs.Renew.{AreOnce, IsAmong}
 use Rattle.crash_snapshots.specs.Making.{with_blocks, blocks_at, kept_piece, kept_block, kept_blocks, snapshot_of, CanHold}

@@ -1,86 +1,141 @@
 -- Nodes as a snapshot keeps them: how many blocks each has, which are read as the same, and where the blocks of a directory were copied to.
-use Rattle.std.proofs.Common.{◌≡◌, ℕ, zero, suc, ◌+◌, ◌/◌, ◌<◌, ◌≤◌, ◌==◌, ◌&&◌, nat_le, nat_lt, Bool, true, false, if◌then◌else◌, List, [], ◌∷◌, length, take, drop, replicate, slice_index, Option, Some, None, refl, sym, ap, subst, ◌∙◌, arith}
-use Rattle.std.proofs.lemmas.List.{length-append, drop-drop}
+use Rattle.std.proofs.Common.{◌≡◌, ◌≢◌, ℕ, zero, suc, ◌+◌, ◌<◌, ◌≤◌, ◌==◌, ◌&&◌, nat_le, Bool, true, false, if◌then◌else◌, List, [], length, take, drop, replicate, slice_get, slice_index, Option, Some, None, option_and_then, ◌++◌, refl, sym, ap, ap₂, subst, ◌∙◌, arith}
+use Rattle.std.proofs.lemmas.List.{drop-drop}
 use Rattle.std.proofs.lemmas.Bool.{and_parts, leb-true, eqb-true}
 use Rattle.std.proofs.lemmas.Option.{none-some, same_Some}
 use Rattle.base_types.specs.Seal.{Blocks}
-use Rattle.base_types.specs.declared.places.Run.{Run}
-use Rattle.base_types.specs.Runs.{blocks_from, run_places}
-use Rattle.layout_geometry.specs.Geometry.{Geometry}
+use Rattle.base_types.specs.Runs.{run_places}
+use Rattle.layout_geometry.specs.Geometry.{Geometry, data_start}
 use Rattle.layout_bytes.specs.declared.node.Node.{Node}
 use Rattle.layout_bytes.specs.declared.node.NodeKind.{NodeKind}
+use Rattle.layout_bytes.specs.declared.node.NodeKind.TheVariants.{Free, Dir, File, Snapshot}
 use Rattle.layout_bytes.specs.Bytes.{when}
-use Rattle.layout_bytes.specs.Node.{node_of, node_with, node_at, node_bytes, node_fields, node_fits, spare_zeros, used_kind, runs_fit, run_blocks, kind_fits}
+use Rattle.layout_bytes.specs.Node.{node_of, node_with, node_at, node_bytes, node_fields, node_fits, spare_zeros}
 use Rattle.lang_tree.specs.Figures.{blocks_for}
 use Rattle.crash_stands.specs.Files.{used_node}
-use Rattle.crash_snapshots.specs.Places.{NodesInUse, is_copied, dir_blocks, dirs_from, places_of_dir, all_dirs}
-use Rattle.crash_snapshots.specs.Kept.{AreCopies, kept_bytes}
+use Rattle.crash_stands.specs.Places.{NodesInUse, is_copied, dir_blocks, dirs_from}
+use Rattle.crash_snapshots.specs.Places.{places_of_dir, all_dirs}
+use Rattle.crash_snapshots.specs.Kept.{AreCopies, is_snapshot, kept_bytes}
 use Rattle.crash_snapshots.proofs.Copies.{copies_front, copies_rest}
 
--- Its blocks.
-
-run_length : (first n : ℕ) → length (blocks_from first n) ≡ n
-run_length first zero = refl
-run_length first (suc n) = ap suc (run_length (first + 1) n)
-
-places_length : (rs : List Run) → length (run_places rs) ≡ run_blocks rs
-places_length [] = refl
-places_length (r ∷ rs) = omega (arith, length-append (blocks_from r.first r.count) (run_places rs), run_length r.first r.count, places_length rs)
+-- What crash_stands promises of nodes in use.
+pub record NodeLaws : Type 0 where
+  pub number : (g : Geometry) (m : Blocks) (k : ℕ) (node : Node) → used_node g m k ≡ Some node → (1 ≤ k) × (k ≤ g.i)
+  pub kind : (g : Geometry) (m : Blocks) (k : ℕ) (node : Node) → used_node g m k ≡ Some node → node.kind ≢ Free
+  pub within : (g : Geometry) (m : Blocks) (k : ℕ) (node : Node) → used_node g m k ≡ Some node → (i b : ℕ) → slice_get (run_places node.runs) i ≡ Some b → (data_start g ≤ b) × (b < g.n)
+  pub count : (g : Geometry) (m : Blocks) (k : ℕ) (node : Node) → used_node g m k ≡ Some node → length (run_places node.runs) ≡ blocks_for node.size
 
 when_some : {A : Type 0} (t : Bool) (x : Option A) (y : A) → when t x ≡ Some y → (t ≡ true) × (x ≡ Some y)
 when_some true x y e = (refl, e)
 when_some false x y e = absurd (none-some y e)
 
-fits_with : (g : Geometry) (b : List ℕ) (o : Option NodeKind) (node : Node) → node_with g b o ≡ Some node → node_fits g node ≡ true
-fits_with g b None node e = absurd (none-some node e)
-fits_with g b (Some kind) node e =
-    let spare = when_some (spare_zeros b) (when (node_fits g (node_fields kind b)) (Some (node_fields kind b))) node e in
-    let fits = when_some (node_fits g (node_fields kind b)) (Some (node_fields kind b)) node spare.1 in
-    subst (λ (m : Node). node_fits g m ≡ true) (same_Some (node_fields kind b) node fits.1) fits.0
-
-read_fits : (g : Geometry) (b : List ℕ) (node : Node) → node_of g b ≡ Some node → node_fits g node ≡ true
-unfolding node_of
-read_fits g b node e = fits_with g b (used_kind (slice_index b 0)) node e
-
--- a node in use has as many blocks as its bytes need
-pub node_count : (g : Geometry) (m : Blocks) (k : ℕ) (node : Node) → used_node g m k ≡ Some node → length (run_places node.runs) ≡ blocks_for node.size
-node_count g m k node e =
-    let fits = read_fits g (node_bytes g m k) node (when_some (nat_le 1 k && nat_le k g.i) (node_at g m k) node e).1 in
-    let some = and_parts (nat_lt 0 node.links) _ fits in
-    let few = and_parts (nat_le (length node.runs) 28) _ some.1 in
-    let runs = and_parts (runs_fit g 0 node.runs) _ few.1 in
-    let blocks = and_parts (run_blocks node.runs == (node.size + 1023) / 1024) (kind_fits node node.kind) runs.1 in
-    places_length node.runs ∙ eqb-true (run_blocks node.runs) ((node.size + 1023) / 1024) blocks.0
-
--- a node in use has a number of the geometry's
-pub used_number : (g : Geometry) (m : Blocks) (k : ℕ) (node : Node) → used_node g m k ≡ Some node → (1 ≤ k) × (k ≤ g.i)
-used_number g m k node e =
-    let is = and_parts (nat_le 1 k) (nat_le k g.i) (when_some (nat_le 1 k && nat_le k g.i) (node_at g m k) node e).0 in
-    (leb-true 1 k is.0, leb-true k g.i is.1)
-
 -- What is read.
 
-when_same : {A : Type 0} (t : Bool) (x y : Option A) → (t ≡ true → x ≡ y) → when t x ≡ when t y
+pub when_same : {A : Type 0} (t : Bool) (x y : Option A) → (t ≡ true → x ≡ y) → when t x ≡ when t y
 when_same true x y e = e refl
 when_same false x y e = refl
 
--- the bytes of a snapshot's node are read as no node in use, and so are zeros
-kept_by : (g : Geometry) (b : List ℕ) (t : Bool) → (slice_index b 0 == 3) ≡ t → node_of g (if t then replicate 256 0 else b) ≡ node_of g b
+-- the node, where it is no snapshot
+abbrev pub unless_snapshot : Node → Option Node
+unless_snapshot node = if is_snapshot node.kind then None else Some node
+
+-- the nodes without snapshots
+abbrev pub plain_nodes : NodesInUse → NodesInUse
+plain_nodes nodes k = option_and_then unless_snapshot (nodes k)
+
+pub snapshot_is : (kind : NodeKind) → is_snapshot kind ≡ true → kind ≡ Snapshot
+snapshot_is Snapshot is = refl
+snapshot_is Free is = cc
+snapshot_is Dir is = cc
+snapshot_is File is = cc
+
+kind_of : (g : Geometry) (b : List ℕ) (kind : NodeKind) (node : Node) → node_with g b (Some kind) ≡ Some node → node.kind ≡ kind
+kind_of g b kind node e =
+    let spare = when_some (spare_zeros b) (when (node_fits g (node_fields kind b)) (Some (node_fields kind b))) node e in
+    let fits = when_some (node_fits g (node_fields kind b)) (Some (node_fields kind b)) node spare.1 in
+    ap (λ (m : Node). m.kind) (sym (same_Some (node_fields kind b) node fits.1))
+
+-- a node in use is a snapshot exactly where its first byte says so
+snapshot_by : (g : Geometry) (b : List ℕ) (n : ℕ) (p q r : Bool) (node : Node) → (n == 1) ≡ p → (n == 2) ≡ q → (n == 3) ≡ r
+    → node_with g b (if p then Some Dir else if q then Some File else if r then Some Snapshot else None) ≡ Some node → is_snapshot node.kind ≡ (n == 3)
+snapshot_by g b n true q r node is_p is_q is_r e = ap is_snapshot (kind_of g b Dir node e) ∙ sym (ap (λ x. x == 3) (eqb-true n 1 is_p))
+snapshot_by g b n false true r node is_p is_q is_r e = ap is_snapshot (kind_of g b File node e) ∙ sym (ap (λ x. x == 3) (eqb-true n 2 is_q))
+snapshot_by g b n false false true node is_p is_q is_r e = ap is_snapshot (kind_of g b Snapshot node e) ∙ sym is_r
+snapshot_by g b n false false false node is_p is_q is_r e = absurd (none-some node e)
+
+snapshot_read : (g : Geometry) (b : List ℕ) (node : Node) → node_of g b ≡ Some node → is_snapshot node.kind ≡ (slice_index b 0 == 3)
 unfolding node_of
-kept_by g b true e = sym (ap (λ n. node_with g b (used_kind n)) (eqb-true (slice_index b 0) 3 e))
-kept_by g b false e = refl
+snapshot_read g b node e =
+    let n = slice_index b 0 in
+    snapshot_by g b n (n == 1) (n == 2) (n == 3) node refl refl refl e
 
--- nodes whose bytes are as a snapshot keeps them are the same
-pub nodes_kept : (g : Geometry) (m n : Blocks) → ((k : ℕ) → 1 ≤ k → k ≤ g.i → node_bytes g n k ≡ kept_bytes (node_bytes g m k)) → (k : ℕ) → used_node g n k ≡ used_node g m k
-nodes_kept g m n same k = when_same (nat_le 1 k && nat_le k g.i) (node_at g n k) (node_at g m k) (λ is.
-    let number = and_parts (nat_le 1 k) (nat_le k g.i) is in
-    ap (node_of g) (same k (leb-true 1 k number.0) (leb-true k g.i number.1)) ∙ kept_by g (node_bytes g m k) (slice_index (node_bytes g m k) 0 == 3) refl)
+pub zeros_none : (g : Geometry) → node_of g (replicate 256 0) ≡ None
+unfolding node_of
+zeros_none g = refl
 
--- and so are those with the same bytes
-pub nodes_same : (g : Geometry) (m n : Blocks) → ((k : ℕ) → 1 ≤ k → k ≤ g.i → node_bytes g n k ≡ node_bytes g m k) → (k : ℕ) → used_node g n k ≡ used_node g m k
-nodes_same g m n same k = when_same (nat_le 1 k && nat_le k g.i) (node_at g n k) (node_at g m k) (λ is.
+-- the bytes of a node as a snapshot keeps them are read as the node, where it is no snapshot
+kept_by : (g : Geometry) (b : List ℕ) (o : Option Node) (t : Bool) → node_of g b ≡ o → (slice_index b 0 == 3) ≡ t → node_of g (if t then replicate 256 0 else b) ≡ option_and_then unless_snapshot o
+kept_by g b None true at is = zeros_none g
+kept_by g b None false at is = at
+kept_by g b (Some node) true at is = zeros_none g ∙ sym (ap (λ s. if s then None else Some node) (snapshot_read g b node at ∙ is))
+kept_by g b (Some node) false at is = at ∙ sym (ap (λ s. if s then None else Some node) (snapshot_read g b node at ∙ is))
+
+when_and : {A B : Type 0} (t : Bool) (f : A → Option B) (o : Option A) → when t (option_and_then f o) ≡ option_and_then f (when t o)
+when_and true f o = refl
+when_and false f o = refl
+
+-- nodes whose bytes are as a snapshot keeps them are the same, without snapshots
+pub nodes_kept : (g : Geometry) (m n : Blocks) → ((k : ℕ) → 1 ≤ k → k ≤ g.i → node_bytes g n k ≡ kept_bytes (node_bytes g m k)) → (k : ℕ) → used_node g n k ≡ plain_nodes (used_node g m) k
+nodes_kept g m n same k = when_same (nat_le 1 k && nat_le k g.i) (node_at g n k) (option_and_then unless_snapshot (node_at g m k)) (λ is.
     let number = and_parts (nat_le 1 k) (nat_le k g.i) is in
-    ap (node_of g) (same k (leb-true 1 k number.0) (leb-true k g.i number.1)))
+    ap (node_of g) (same k (leb-true 1 k number.0) (leb-true k g.i number.1))
+    ∙ kept_by g (node_bytes g m k) (node_at g m k) (slice_index (node_bytes g m k) 0 == 3) refl refl)
+    ∙ when_and (nat_le 1 k && nat_le k g.i) unless_snapshot (node_at g m k)
+
+-- a node in use that has its blocks to itself and is no snapshot is a file
+pub file_kind : (kind : NodeKind) → kind ≢ Free → is_copied kind ≡ false → is_snapshot kind ≡ false → kind ≡ File
+file_kind Free used own plain = absurd (used refl)
+file_kind Dir used own plain = cc
+file_kind File used own plain = refl
+file_kind Snapshot used own plain = cc
+
+-- what is there without snapshots is there, and is none
+pub plain_is : (o : Option Node) (node : Node) → option_and_then unless_snapshot o ≡ Some node → (o ≡ Some node) × (is_snapshot node.kind ≡ false)
+plain_is None node e = absurd (none-some node e)
+plain_is (Some other) node e = by (is_snapshot other.kind) refl e
+  where
+    by : (t : Bool) → is_snapshot other.kind ≡ t → (if t then None else Some other) ≡ Some node → (Some other ≡ Some node) × (is_snapshot node.kind ≡ false)
+    by true is e = absurd (none-some node e)
+    by false is e = (e, ap (λ (m : Node). is_snapshot m.kind) (sym (same_Some other node e)) ∙ is)
+
+-- snapshots have no blocks that are copied
+
+not_copied : (kind : NodeKind) → is_snapshot kind ≡ true → is_copied kind ≡ false
+not_copied kind is = ap is_copied (snapshot_is kind is)
+
+pub same_dirs : (nodes : NodesInUse) (k n : ℕ) → all_dirs (plain_nodes nodes) k n ≡ all_dirs nodes k n
+same_dirs nodes k zero = refl
+same_dirs nodes k (suc n) = ap₂ (λ (xs ys : List ℕ). xs ++ ys) (by (nodes k)) (same_dirs nodes (k + 1) n)
+  where
+    in_use : (node : Node) (t : Bool) → is_snapshot node.kind ≡ t → places_of_dir (if t then None else Some node) ≡ places_of_dir (Some node)
+    in_use node true is = sym (ap (λ b. if b then run_places node.runs else []) (not_copied node.kind is))
+    in_use node false is = refl
+
+    by : (o : Option Node) → places_of_dir (option_and_then unless_snapshot o) ≡ places_of_dir o
+    by None = refl
+    by (Some node) = in_use node (is_snapshot node.kind) refl
+
+pub same_counts : (nodes : NodesInUse) (k n : ℕ) → dirs_from (plain_nodes nodes) k n ≡ dirs_from nodes k n
+same_counts nodes k zero = refl
+same_counts nodes k (suc n) = ap₂ (λ x y. x + y) (by (nodes k)) (same_counts nodes (k + 1) n)
+  where
+    in_use : (node : Node) (t : Bool) → is_snapshot node.kind ≡ t → dir_blocks (if t then None else Some node) ≡ dir_blocks (Some node)
+    in_use node true is = sym (ap (λ b. if b then blocks_for node.size else 0) (not_copied node.kind is))
+    in_use node false is = refl
+
+    by : (o : Option Node) → dir_blocks (option_and_then unless_snapshot o) ≡ dir_blocks o
+    by None = refl
+    by (Some node) = in_use node (is_snapshot node.kind) refl
 
 -- The directories.
 

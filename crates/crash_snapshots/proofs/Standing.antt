@@ -1,61 +1,64 @@
--- What a snapshot keeps: the tree of which it was made, one tree at most, and the same as long as its blocks stay. Blocks without snapshots are sound as they are without sharing.
-use Rattle.std.proofs.Common.{◌⊎◌, inl, inr, ℕ, List, sym, subst}
-use Rattle.std.proofs.lemmas.Option.{none-some}
+-- What a snapshot keeps: the paths and nodes of the tree of which it was made.
+use Rattle.std.proofs.Common.{◌≡◌, ℕ, Bool, true, false, if◌then◌else◌, List, Option, None, Some, option_and_then, refl, sym, ap, subst, ◌∙◌}
+use Rattle.std.specs.FinMap.{empty}
 use Rattle.base_types.specs.Seal.{Blocks}
-use Rattle.layout_geometry.specs.Geometry.{Geometry, IsGeometry}
-use Rattle.lang_tree.specs.Tree.{Tree}
-use Rattle.crash_stands.specs.Files.{files_of}
-use Rattle.crash_stands.specs.Inodes.{AreInodesOf}
-use Rattle.crash_stands.specs.Stands.{AreSound, HasBlock, IsTreeOf}
-use Rattle.crash_snapshots.specs.Kept.{kept_files, HasSnapshot, HaveSameSnapshot}
-use Rattle.crash_snapshots.specs.Stands.{KeepsTree, IsKeptBlock, AreSoundSharing, no_snapshots}
-use Rattle.crash_snapshots.proofs.Snapshots.{everywhere, reads_as_before, stays_the_same}
+use Rattle.layout_geometry.specs.Geometry.{Geometry}
+use Rattle.lang_tree.specs.Tree.{Tree, Snapshots}
+use Rattle.crash_stands.specs.Files.{FileNode, Files, files_of}
+use Rattle.crash_stands.specs.Inodes.{Inode, Inodes, IsInodeOf, AreInodesOf, inode_by, inode_of, inodes_of}
+use Rattle.crash_stands.specs.Kept.{kept_files}
+use Rattle.crash_stands.specs.Maps.{IsMapOf}
+use Rattle.crash_stands.specs.Stands.{IsTreeOf, KeepsTree}
+use Rattle.crash_snapshots.specs.Kept.{HasSnapshot, is_snapshot, without_snapshots}
+use Rattle.crash_snapshots.proofs.Nodes.{NodeLaws, snapshot_is}
+use Rattle.crash_snapshots.proofs.Snapshots.{everywhere, reads_as_before}
 
-pub made_of : (g : Geometry) (old new : Blocks) (places : List ℕ) (t : Tree) → IsTreeOf g old t → HasSnapshot g old new places → KeepsTree g new places t
-made_of g old new places t tree has = record {
+-- files read as the same without the snapshots among them
+
+reads_without : (files : Files) (m : Inodes) → AreInodesOf files m → AreInodesOf (without_snapshots files) m
+reads_without files m read k = by (files k) (m k) (read k)
+  where
+    in_use : (file : FileNode) (x : Option Inode) (t : Bool) → is_snapshot file.kind ≡ t → IsInodeOf (Some file) x → IsInodeOf (if t then None else Some file) x
+    in_use file None true is reads = refl
+    in_use file (Some x) true is reads = cc (sym (ap (λ kind. inode_by kind file.links file.bytes) (snapshot_is file.kind is)) ∙ reads)
+    in_use file x false is reads = reads
+
+    by : (o : Option FileNode) (x : Option Inode) → IsInodeOf o x → IsInodeOf (option_and_then (λ file. if is_snapshot file.kind then None else Some file) o) x
+    by None x reads = reads
+    by (Some file) x reads = in_use file x (is_snapshot file.kind) refl reads
+
+pub same_inodes : (files : Files) (k : ℕ) → inodes_of (without_snapshots files) k ≡ inodes_of files k
+same_inodes files k = by (files k)
+  where
+    in_use : (file : FileNode) (t : Bool) → is_snapshot file.kind ≡ t → option_and_then inode_of (if t then None else Some file) ≡ inode_of file
+    in_use file true is = sym (ap (λ kind. inode_by kind file.links file.bytes) (snapshot_is file.kind is))
+    in_use file false is = refl
+
+    by : (o : Option FileNode) → option_and_then inode_of (option_and_then (λ file. if is_snapshot file.kind then None else Some file) o) ≡ option_and_then inode_of o
+    by None = refl
+    by (Some file) = in_use file (is_snapshot file.kind) refl
+
+-- a map of a tree is that of the tree with other snapshots
+pub other_snapshots : (limit : ℕ) (m : Inodes) (t : Tree) (snapshots : Snapshots) → IsMapOf limit m t → IsMapOf limit m (record t { snapshots = snapshots })
+other_snapshots limit m t snapshots is = record {
+  root = is.root;
+  distinct = is.distinct;
+  within = is.within;
+  shows = record {
+    names = is.shows.names;
+    nodes = is.shows.nodes;
+    links = is.shows.links;
+    only = is.shows.only;
+    reached = is.shows.reached;
+    used = is.shows.used;
+  };
+}
+
+pub made_of : NodeLaws → (g : Geometry) (old new : Blocks) (places : List ℕ) (t : Tree) (n : ℕ) → IsTreeOf g old t → HasSnapshot g old new places
+    → KeepsTree g new places (record { number = n; names = t.names; nodes = t.nodes })
+made_of laws g old new places t n tree has = record {
   inodes = tree.inodes;
-  read = subst (λ f. AreInodesOf f tree.inodes) (sym (everywhere (kept_files g new places) (files_of g old) (reads_as_before g old new places has))) tree.read;
-  map = tree.map;
+  read = subst (λ f. AreInodesOf f tree.inodes) (sym (everywhere (kept_files g new places) (without_snapshots (files_of g old)) (reads_as_before laws g old new places has)))
+      (reads_without (files_of g old) tree.inodes tree.read);
+  map = other_snapshots g.i tree.inodes t empty tree.map;
 }
-
-pub stays_so : (g : Geometry) (m n : Blocks) (places : List ℕ) (t : Tree) → IsGeometry g → HaveSameSnapshot g m n places → KeepsTree g m places t → KeepsTree g n places t
-stays_so g m n places t fits same keeps = record {
-  inodes = keeps.inodes;
-  read = subst (λ f. AreInodesOf f keeps.inodes) (sym (everywhere (kept_files g n places) (kept_files g m places) (stays_the_same g m n places fits same))) keeps.read;
-  map = keeps.map;
-}
-
-none_kept : (g : Geometry) (m : Blocks) (b : ℕ) → IsKeptBlock g m no_snapshots b → ⊥
-none_kept g m b is = none-some is.places is.is_one
-
-pub shares_nothing : (g : Geometry) (m : Blocks) → AreSound g m → AreSoundSharing g m no_snapshots
-shares_nothing g m s = record {
-  whole = s.whole;
-  own = s.own;
-  fixed = s.fixed;
-  marked = λ b from below. (λ set. inl ((s.marked b from below).0 set), λ has. (s.marked b from below).1 (alone b has));
-  past = s.past;
-  free = s.free;
-  tail = s.tail;
-  shared = λ b k i node is used has. absurd (none_kept g m b is);
-  kept = λ k places is. absurd (none-some places is);
-}
-  where
-    alone : (b : ℕ) → ((k : ℕ) × (i : ℕ) × HasBlock g m k i b) ⊎ IsKeptBlock g m no_snapshots b → (k : ℕ) × (i : ℕ) × HasBlock g m k i b
-    alone b (inl has) = has
-    alone b (inr is) = absurd (none_kept g m b is)
-
-pub sound_alone : (g : Geometry) (m : Blocks) → AreSoundSharing g m no_snapshots → AreSound g m
-sound_alone g m s = record {
-  whole = s.whole;
-  own = s.own;
-  fixed = s.fixed;
-  marked = λ b from below. (λ set. alone b ((s.marked b from below).0 set), λ has. (s.marked b from below).1 (inl has));
-  past = s.past;
-  free = s.free;
-  tail = s.tail;
-}
-  where
-    alone : (b : ℕ) → ((k : ℕ) × (i : ℕ) × HasBlock g m k i b) ⊎ IsKeptBlock g m no_snapshots b → (k : ℕ) × (i : ℕ) × HasBlock g m k i b
-    alone b (inl has) = has
-    alone b (inr is) = absurd (none_kept g m b is)

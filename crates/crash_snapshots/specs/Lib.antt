@@ -1,4 +1,5 @@
 pub mod Places
 pub mod Kept
-pub mod Stands
 pub mod Making
+pub mod Adding
+pub mod Taking

@@ -1,13 +1,15 @@
 -- A snapshot of blocks, made in other blocks.
-use Rattle.std.specs.Prelude.{◌≡◌, ℕ, zero, suc, ◌+◌, ◌*◌, ◌<◌, ◌≤◌, ◌==◌, if◌then◌else◌, List, [], ◌∷◌, ◌++◌, length, slice_get, Some, false}
+use Rattle.std.specs.Prelude.{◌≡◌, ℕ, zero, suc, ◌+◌, ◌*◌, ◌<◌, ◌≤◌, ◌==◌, if◌then◌else◌, List, [], ◌∷◌, ◌++◌, length, slice_get, Some}
 use Rattle.base_types.specs.Seal.{Blocks}
 use Rattle.base_types.specs.Runs.{run_places}
 use Rattle.layout_geometry.specs.Geometry.{Geometry, table_start, data_start, nodes_in_block}
 use Rattle.layout_bytes.specs.declared.node.Node.{Node}
+use Rattle.layout_bytes.specs.declared.node.NodeKind.TheVariants.{File}
 use Rattle.layout_extent.specs.Renew.{AreOnce, IsAmong}
 use Rattle.layout_bytes.specs.Node.{node_bytes}
 use Rattle.crash_stands.specs.Files.{used_node}
-use Rattle.crash_snapshots.specs.Places.{is_copied, table_blocks, all_dirs}
+use Rattle.crash_stands.specs.Places.{table_blocks}
+use Rattle.crash_snapshots.specs.Places.{all_dirs}
 use Rattle.crash_snapshots.specs.Kept.{kept_bytes}
 
 -- the blocks, with these bytes in those at these places
@@ -42,5 +44,5 @@ snapshot_of g m name = name ∷ (kept_blocks g m 0 (table_blocks g) ++ blocks_at
 pub record CanHold (g : Geometry) (m : Blocks) (name : List ℕ) (places : List ℕ) : Type 0 where
   pub count : length places ≡ length (snapshot_of g m name)
   pub once : AreOnce places
-  pub apart : (k i b : ℕ) (node : Node) → used_node g m k ≡ Some node → is_copied node.kind ≡ false → slice_get (run_places node.runs) i ≡ Some b → IsAmong places b → ⊥
+  pub apart : (k i b : ℕ) (node : Node) → used_node g m k ≡ Some node → node.kind ≡ File → slice_get (run_places node.runs) i ≡ Some b → IsAmong places b → ⊥
   pub table : (b : ℕ) → table_start g ≤ b → b < data_start g → length (m b) ≡ 1024

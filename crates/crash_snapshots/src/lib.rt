@@ -4,6 +4,5 @@
 mod laws;
 
 pub use laws::{
-    a_snapshot_can_be_made, a_snapshot_keeps_one_tree, a_snapshot_reads_as_the_blocks_did,
-    a_snapshot_stays_with_its_blocks, without_snapshots_nothing_is_shared,
+    a_snapshot_can_be_made, a_snapshot_goes, a_snapshot_reads_as_the_blocks_did, a_snapshot_stands,
 };

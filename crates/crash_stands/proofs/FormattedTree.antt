@@ -2,10 +2,14 @@
 use Rattle.std.proofs.Common.{◌≡◌, ◌≢◌, ℕ, zero, suc, ◌*◌, ◌<◌, ◌≤◌, ◌&&◌, ◌||◌, true, false, true≢false, IsTrue, nat_lt, nat_le, if◌then◌else◌, [], length, replicate, slice_get, Some, None, unwrap_or, option_map, sym, refl, subst, ap, ◌∙◌, ◌⊎◌, inl, inr, arith}
 use Rattle.std.proofs.lemmas.Bool.{cases_Bool, cases_eq, and_parts, and_from, ltb-true, ltb-false, leb-true, lt-ltb, le-ltb, le-leb}
 use Rattle.std.proofs.lemmas.Option.{none-some}
+use Rattle.std.specs.Ordering.{nat_cmp}
+use Rattle.std.specs.Cmp.Lexicographic.{slice_cmp}
+use Rattle.std.specs.FinMap.{get-empty}
 use Rattle.base_types.specs.Seal.{Blocks}
 use Rattle.base_types.specs.Runs.{run_places}
 use Rattle.layout_geometry.specs.Geometry.{Geometry, IsGeometry, bitmap_start, bitmap_blocks, data_start}
 use Rattle.layout_bytes.specs.declared.node.Node.{Node}
+use Rattle.layout_bytes.specs.declared.node.NodeKind.TheVariants.{Snapshot}
 use Rattle.layout_bytes.specs.Bytes.{when, are_zeros}
 use Rattle.layout_bytes.specs.Bitmap.{is_set}
 use Rattle.layout_bytes.specs.Node.{node_bytes, node_at}
@@ -14,8 +18,10 @@ use Rattle.layout_journal.specs.Formatted.{formatted, empty_root}
 use Rattle.lang_tree.specs.Step.{start}
 use Rattle.crash_stands.specs.Files.{used_node, files_of, file_of, past_content}
 use Rattle.crash_stands.specs.Inodes.{ADir, AreInodesOf, IsInodeOf, root_alone}
-use Rattle.crash_stands.specs.Stands.{HasBlock, AreSound, IsTreeOf}
+use Rattle.crash_stands.specs.Sharing.{IsKeptBlock}
+use Rattle.crash_stands.specs.Stands.{HasBlock, HasNoSnapshots, AreSound, IsTreeOf}
 use Rattle.crash_stands.proofs.Root.{root_is_map}
+use Rattle.crash_stands.proofs.Holding.{none_kept}
 use Rattle.crash_stands.proofs.FormattedBlocks.{IsFormatted, bits, root_node, other_bytes, other_nodes}
 
 module _ (g : Geometry) (m : Blocks) (same : (b : ℕ) → bitmap_start g ≤ b → b < data_start g → m b ≡ formatted g b) (is : IsGeometry g) (law : IsFormatted g) where
@@ -39,6 +45,17 @@ module _ (g : Geometry) (m : Blocks) (same : (b : ℕ) → bitmap_start g ≤ b 
   -- no node has a block
   no_block : (k i b : ℕ) → HasBlock g m k i b → ⊥
   no_block k i b h = none-some b (subst (λ node. slice_get (run_places node.runs) i ≡ Some b) (used_is k h.node h.is_node) h.place)
+
+  -- no node is a snapshot, and no snapshot keeps a block
+  no_snapshot : HasNoSnapshots g m
+  no_snapshot k node e kind = dir (ap (λ (n : Node). n.kind) (sym (used_is k node e)) ∙ kind)
+    where
+      dir : empty_root.kind ≡ Snapshot → ⊥
+      dir e = cc
+
+  nothing_at : (b : ℕ) → ((k : ℕ) × (i : ℕ) × HasBlock g m k i b) ⊎ IsKeptBlock g m b → ⊥
+  nothing_at b (inl h) = no_block h.0 h.1 b h.2
+  nothing_at b (inr is) = none_kept g m no_snapshot b is
 
   are_inodes : AreInodesOf (files_of g m) root_alone
   are_inodes zero = refl
@@ -73,15 +90,24 @@ module _ (g : Geometry) (m : Blocks) (same : (b : ℕ) → bitmap_start g ≤ b 
     whole = λ b live. let at = live_within b live in ap length (same b at.0 at.1) ∙ law.whole b;
     own = λ k l i j b h. absurd (no_block k i b h);
     fixed = λ b low. bits g m same is law b (omega (arith, low, is.data_room)) ∙ lt-ltb _ _ low;
-    marked = λ b low high. (λ set. absurd (true≢false (sym set ∙ data_clear b low (omega (arith, high)))), λ h. absurd (no_block h.0 h.1 b h.2));
+    marked = λ b low high. (λ set. absurd (true≢false (sym set ∙ data_clear b low (omega (arith, high)))), λ has. absurd (nothing_at b has));
     past = λ b low high. data_clear b (omega (arith, is.data_room, low)) high;
     free = zeros_where_none;
     tail = λ k node e dir. subst (λ node. IsTrue (are_zeros (past_content m node))) (sym (used_is k node e)) refl;
+    shared = λ k i b has is. absurd (no_block k i b has);
+    kept = λ k node e kind. absurd (no_snapshot k node e kind);
   }
 
   -- and so they are the tree of the root
   pub root_stands : IsTreeOf g m (start g.i).tree
-  root_stands = record { inodes = root_alone; read = are_inodes; map = root_is_map g.i (omega (arith, is.least_nodes)); sound = sound }
+  root_stands = record {
+    inodes = root_alone;
+    read = are_inodes;
+    map = root_is_map g.i (omega (arith, is.least_nodes));
+    sound = sound;
+    keeps = λ name k at. absurd (none-some k (sym (get-empty (slice_cmp nat_cmp) name) ∙ at));
+    each = λ n node used kind. absurd (no_snapshot n node used kind);
+  }
 
 -- the live part of a formatted disk has its bitmap and its node table
 live_there : (g : Geometry) → IsGeometry g → (b : ℕ) → bitmap_start g ≤ b → b < data_start g → live_part g (formatted g) b ≡ formatted g b

@@ -2,6 +2,10 @@ pub mod Root
 pub mod OneMap
 pub mod SoundTree
 pub mod NamedSlots
+pub mod UsedNodes
+pub mod Holding
+pub mod KeptSame
+pub mod Living
 pub mod OneTree
 pub mod FormattedBlocks
 pub mod FormattedTree

@@ -1,5 +1,5 @@
 -- Files read as one inode map, and an inode map is that of one tree.
-use Rattle.std.proofs.Common.{◌≡◌, ℕ, ◌≤◌, Bool, true, false, nat_le, Option, Some, None, option_map, option_and_then, sym, refl, ap, subst, ◌∙◌}
+use Rattle.std.proofs.Common.{◌≡◌, ◌≢◌, ℕ, ◌≤◌, Bool, true, false, nat_le, Option, Some, None, option_map, option_and_then, sym, refl, ap, subst, ◌∙◌, ◌⊎◌, inl, inr}
 use Rattle.std.proofs.lemmas.Bool.{and_parts, leb-true}
 use Rattle.std.specs.Cmp.{nat_cmp_total}
 use Rattle.std.specs.Cmp.Lexicographic.{lists_total}
@@ -7,11 +7,13 @@ use Rattle.std.specs.FinMap.{nat_cmp-IsAntisymmetric, slice_cmp-IsAntisymmetric,
 use Rattle.std.proofs.lemmas.Option.{none-some}
 use Rattle.base_types.specs.Seal.{Blocks}
 use Rattle.layout_geometry.specs.Geometry.{Geometry}
+use Rattle.layout_bytes.specs.declared.node.NodeKind.{NodeKind}
+use Rattle.layout_bytes.specs.declared.node.NodeKind.TheVariants.{Free, Dir, File, Snapshot}
 use Rattle.layout_bytes.specs.Bytes.{when}
 use Rattle.layout_bytes.specs.Node.{node_at}
 use Rattle.lang_tree.specs.Tree.{Tree}
 use Rattle.crash_stands.specs.Files.{FileNode, Files, files_of, file_of}
-use Rattle.crash_stands.specs.Inodes.{Inode, Inodes, IsInodeOf, AreInodesOf, inode_of, inodes_of}
+use Rattle.crash_stands.specs.Inodes.{Inode, Inodes, IsInodeOf, AreInodesOf, inode_by, inode_of, inodes_of}
 use Rattle.crash_stands.specs.Maps.{IsMapOf}
 use Rattle.crash_stands.specs.Stands.{IsTreeOf}
 
@@ -23,15 +25,25 @@ everywhere f h same i k = same k i
 pub alike : (limit : ℕ) (m w : Inodes) (t : Tree) → ((k : ℕ) → m k ≡ w k) → IsMapOf limit m t → IsMapOf limit w t
 alike limit m w t same is = subst (λ i. IsMapOf limit i t) (everywhere m w same) is
 
--- a map is that of one tree at most
-pub one_tree : (limit : ℕ) (m : Inodes) (t u : Tree) → IsMapOf limit m t → IsMapOf limit m u → t ≡ u
-one_tree limit m t u x y =
-    let names : t.names ≡ u.names = same_map (lists_total (lists_total nat_cmp_total)) (slice_cmp-IsAntisymmetric (slice_cmp-IsAntisymmetric nat_cmp-IsAntisymmetric)) t.names u.names (λ p. x.shows.names p ∙ sym (y.shows.names p)) in
-    let nodes : t.nodes ≡ u.nodes = same_map nat_cmp_total nat_cmp-IsAntisymmetric t.nodes u.nodes (λ k. x.shows.nodes k ∙ sym (y.shows.nodes k)) in
-    ap (λ n. record t { names = n }) names
-    ∙ (ap (λ n. record t { names = u.names; nodes = n }) nodes ∙ ap (λ s. record u { snapshots = s }) (x.shows.alone ∙ sym y.shows.alone))
+-- a map is that of one tree at most, snapshots aside
+pub one_tree : (limit : ℕ) (m : Inodes) (t u : Tree) → IsMapOf limit m t → IsMapOf limit m u → (t.names ≡ u.names) × (t.nodes ≡ u.nodes)
+one_tree limit m t u x y = (
+  same_map (lists_total (lists_total nat_cmp_total)) (slice_cmp-IsAntisymmetric (slice_cmp-IsAntisymmetric nat_cmp-IsAntisymmetric)) t.names u.names (λ p. x.shows.names p ∙ sym (y.shows.names p)),
+  same_map nat_cmp_total nat_cmp-IsAntisymmetric t.nodes u.nodes (λ k. x.shows.nodes k ∙ sym (y.shows.nodes k)),
+)
 
 -- Files and their map.
+
+-- a snapshot is no inode
+pub no_inode : (file : FileNode) → file.kind ≡ Snapshot → inode_of file ≡ None
+no_inode file is = ap (λ kind. inode_by kind file.links file.bytes) is
+
+-- what is no inode is read as none where it is a snapshot
+snapshot_or_not : (kind : NodeKind) → (kind ≡ Snapshot) ⊎ (kind ≢ Snapshot)
+snapshot_or_not Free = inr (λ e. cc)
+snapshot_or_not Dir = inr (λ e. cc)
+snapshot_or_not File = inr (λ e. cc)
+snapshot_or_not Snapshot = inl refl
 
 -- each map that files read as is their own
 pub own_map : (files : Files) (m : Inodes) → AreInodesOf files m → (k : ℕ) → m k ≡ inodes_of files k
@@ -39,22 +51,26 @@ own_map files m read k = by (files k) (m k) (read k)
   where
     by : (file : Option FileNode) (x : Option Inode) → IsInodeOf file x → x ≡ option_and_then inode_of file
     by None x reads = reads
-    by (Some file) None reads = absurd reads
+    by (Some file) None reads = sym (no_inode file reads)
     by (Some file) (Some x) reads = sym reads
 
 -- so they read as one map
 pub one_map : (files : Files) (a b : Inodes) → AreInodesOf files a → AreInodesOf files b → (k : ℕ) → a k ≡ b k
 one_map files a b x y k = own_map files a x k ∙ sym (own_map files b y k)
 
--- where each node in use reads, files read as their own map
-pub all_read : (files : Files) → ((k : ℕ) (file : FileNode) → files k ≡ Some file → (x : Inode) × (inode_of file ≡ Some x)) → AreInodesOf files (inodes_of files)
+-- where each node in use but snapshots reads, files read as their own map
+pub all_read : (files : Files) → ((k : ℕ) (file : FileNode) → files k ≡ Some file → file.kind ≢ Snapshot → (x : Inode) × (inode_of file ≡ Some x)) → AreInodesOf files (inodes_of files)
 all_read files reads k = by (files k) (reads k)
   where
-    in_use : (file : FileNode) (o : Option Inode) → inode_of file ≡ o → (x : Inode) × (inode_of file ≡ Some x) → IsInodeOf (Some file) o
-    in_use file None is x = none-some x.0 (sym is ∙ x.1)
+    in_use : (file : FileNode) (o : Option Inode) → inode_of file ≡ o → (file.kind ≢ Snapshot → (x : Inode) × (inode_of file ≡ Some x)) → IsInodeOf (Some file) o
+    in_use file None is x = by (snapshot_or_not file.kind)
+      where
+        by : (file.kind ≡ Snapshot) ⊎ (file.kind ≢ Snapshot) → file.kind ≡ Snapshot
+        by (inl e) = e
+        by (inr isnt) = absurd (none-some (x isnt).0 (sym is ∙ (x isnt).1))
     in_use file (Some y) is x = is
 
-    by : (o : Option FileNode) → ((file : FileNode) → o ≡ Some file → (x : Inode) × (inode_of file ≡ Some x)) → IsInodeOf o (option_and_then inode_of o)
+    by : (o : Option FileNode) → ((file : FileNode) → o ≡ Some file → file.kind ≢ Snapshot → (x : Inode) × (inode_of file ≡ Some x)) → IsInodeOf o (option_and_then inode_of o)
     by None reads = refl
     by (Some file) reads = in_use file (inode_of file) refl (reads file refl)
 
@@ -81,10 +97,11 @@ numbers_within g b m read k x e =
 pub map_of_blocks : (g : Geometry) (b : Blocks) (m : Inodes) (t : Tree) → AreInodesOf (files_of g b) m → IsTreeOf g b t → IsMapOf g.i m t
 map_of_blocks g b m t read is = alike g.i is.inodes m t (one_map (files_of g b) is.inodes m is.read read) is.map
 
--- and each of their nodes in use reads
-pub node_reads : (g : Geometry) (b : Blocks) (t : Tree) (k : ℕ) (file : FileNode) → IsTreeOf g b t → files_of g b k ≡ Some file → (x : Inode) × (inode_of file ≡ Some x)
-node_reads g b t k file is at = by (is.inodes k) (subst (λ f. IsInodeOf f (is.inodes k)) at (is.read k))
+-- and each of their nodes in use that is no snapshot reads
+pub node_reads : (g : Geometry) (b : Blocks) (t : Tree) (k : ℕ) (file : FileNode) → IsTreeOf g b t → files_of g b k ≡ Some file → file.kind ≢ Snapshot
+    → (x : Inode) × (inode_of file ≡ Some x)
+node_reads g b t k file is at other = by (is.inodes k) (subst (λ f. IsInodeOf f (is.inodes k)) at (is.read k))
   where
     by : (o : Option Inode) → IsInodeOf (Some file) o → (x : Inode) × (inode_of file ≡ Some x)
-    by None reads = absurd reads
+    by None reads = absurd (other reads)
     by (Some x) reads = (x, reads)

@@ -7,10 +7,14 @@ use Rattle.layout_journal.specs.declared.header.Header.{Header}
 use Rattle.layout_journal.specs.Run.{Newest, HeldIs}
 use Rattle.crash_stands.specs.Stands.{IsTreeOf, StandsFor}
 use Rattle.crash_stands.proofs.OneMap.{everywhere, one_tree, map_of_blocks}
+use Rattle.crash_stands.proofs.Holding.{same_snapshots}
 
--- blocks stand for the tree of their inode map
+-- blocks stand for the tree of their inode map, with their snapshots
 pub one_of_blocks : (g : Geometry) (m : Blocks) (t u : Tree) → IsTreeOf g m t → IsTreeOf g m u → t ≡ u
-one_of_blocks g m t u x y = one_tree g.i x.inodes t u x.map (map_of_blocks g m x.inodes u x.read y)
+one_of_blocks g m t u x y =
+    let same = one_tree g.i x.inodes t u x.map (map_of_blocks g m x.inodes u x.read y) in
+    let kept = same_snapshots g m t u x y in
+    λ i. record { names = same.0 i; nodes = same.1 i; snapshots = kept i }
 
 -- where an image has one newest header and holds one map, it stands for one tree
 pub one_of_image : ((n : ℕ) (img : Blocks) (s t : ℕ) (h k : Header) → Newest n img s h → Newest n img t k → (s ≡ t) × (h ≡ k))

@@ -68,6 +68,5 @@ root_is_map limit low = record {
     only = λ k slots p e at q at_q. (ends q k at_q).0 ∙ sym (ends p k at).0;
     reached = λ k x e. ([], ap Some (sym (number_of k _ e)));
     used = λ p k e. (ADir [], ap root_alone (ends p k e).1);
-    alone = refl;
   };
 }

@@ -1,7 +1,7 @@
 -- What nodes are where their blocks no longer count: lists of slots, and links with bytes. docs/LAYOUT.md describes them.
 use Rattle.std.specs.Prelude.{◌≡◌, ℕ, zero, suc, ◌/◌, ◌==◌, List, [], length, slice_get, Option, None, Some, option_map, option_and_then}
 use Rattle.layout_bytes.specs.declared.node.NodeKind.{NodeKind}
-use Rattle.layout_bytes.specs.declared.node.NodeKind.TheVariants.{Free, Dir, File}
+use Rattle.layout_bytes.specs.declared.node.NodeKind.TheVariants.{Free, Dir, File, Snapshot}
 use Rattle.layout_bytes.specs.declared.slot.Slot.{Slot}
 use Rattle.layout_bytes.specs.Bytes.{when}
 use Rattle.layout_bytes.specs.Slot.{slot_size, slots_in}
@@ -17,23 +17,24 @@ pub data Inode : Type 0 where
 abbrev pub Inodes : Type 0
 Inodes = ℕ → Option Inode
 
--- a directory has one link, and its bytes are slots
+-- a directory has one link, and its bytes are slots; a snapshot is no inode
 abbrev pub inode_by : NodeKind → ℕ → List ℕ → Option Inode
 inode_by Free links bytes = None
 inode_by Dir links bytes = when (links == 1) (option_map ADir (slots_in (length bytes / slot_size) bytes))
 inode_by File links bytes = Some (AFile links bytes)
+inode_by Snapshot links bytes = None
 
 -- the inode that a node in use is, if it reads as one
 abbrev pub inode_of : FileNode → Option Inode
 inode_of file = inode_by file.kind file.links file.bytes
 
--- nothing where there is no node, and the node's inode where there is one
+-- nothing where there is no node or a snapshot's, and any other node's inode
 abbrev pub IsInodeOf : Option FileNode → Option Inode → Type 0
 IsInodeOf None inode = inode ≡ None
-IsInodeOf (Some file) None = ⊥
+IsInodeOf (Some file) None = file.kind ≡ Snapshot
 IsInodeOf (Some file) (Some inode) = inode_of file ≡ Some inode
 
--- each node in use reads as the inode under its number, and nothing else is in the map
+-- each node in use that is no snapshot reads as the inode under its number, and nothing else is in the map
 abbrev pub AreInodesOf : Files → Inodes → Type 0
 AreInodesOf files inodes = (k : ℕ) → IsInodeOf (files k) (inodes k)
 

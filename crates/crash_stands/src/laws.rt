@@ -10,7 +10,6 @@ ghost use Rattle.crash_stands.specs.Stands.{IsTreeOf, StandsFor};
 ghost use Rattle.lang_tree.specs.Step.{start};
 ghost use Rattle.lang_tree.specs.Tree.{Tree, IsSound, HasSoundSnapshots};
 
-use lang_tree::without_snapshots_there_are_paths_and_nodes;
 use layout_geometry::geometries_are_within_limits;
 use layout_journal::{
     an_image_holds_one_map, images_alike_below_n_hold_the_same,
@@ -55,6 +54,4 @@ pub fn an_image_stands_for_one_tree()
 pub fn a_tree_that_stands_is_sound()
     ensures sound { (g : Geometry) (m : Blocks) (t : Tree) → IsTreeOf g m t → IsSound g.i t }
     ensures snapshots { (g : Geometry) (m : Blocks) (t : Tree) → IsTreeOf g m t → HasSoundSnapshots g.i t }
-{
-    without_snapshots_there_are_paths_and_nodes();
-}
+{}

@@ -1,4 +1,5 @@
 pub mod Bytes
 pub mod Bitmap
 pub mod Node
+pub mod SnapshotName
 pub mod Slot

@@ -8,7 +8,7 @@ pub use Rattle.layout_geometry.specs.Geometry.{node_size}
 use Rattle.layout_geometry.specs.Geometry.{Geometry, table_start, data_start, nodes_in_block}
 use Rattle.layout_bytes.specs.declared.node.Node.{Node}
 use Rattle.layout_bytes.specs.declared.node.NodeKind.{NodeKind}
-use Rattle.layout_bytes.specs.declared.node.NodeKind.TheVariants.{Free, Dir, File}
+use Rattle.layout_bytes.specs.declared.node.NodeKind.TheVariants.{Free, Dir, File, Snapshot}
 use Rattle.layout_bytes.specs.Slot.{slot_size}
 use Rattle.layout_bytes.specs.Bytes.{field, has_zeros, when}
 
@@ -20,7 +20,7 @@ most_runs = 28
 
 -- the kind that a node's first byte tells, for a node in use
 abbrev pub used_kind : ℕ → Option NodeKind
-used_kind n = if n == 1 then Some Dir else if n == 2 then Some File else None
+used_kind n = if n == 1 then Some Dir else if n == 2 then Some File else if n == 3 then Some Snapshot else None
 
 -- the first n runs, 8 bytes each
 abbrev pub runs_in : ℕ → List ℕ → List Run
@@ -43,6 +43,7 @@ abbrev pub kind_fits : Node → NodeKind → Bool
 kind_fits node Free = true
 kind_fits node Dir = node.size % slot_size == 0
 kind_fits node File = nat_le node.links 65535 && nat_le node.size 1073741824
+kind_fits node Snapshot = true
 
 -- a node in use: it has a link, and its runs have as many blocks as its bytes need
 abbrev pub node_fits : Geometry → Node → Bool
@@ -78,6 +79,7 @@ abbrev pub kind_byte : NodeKind → ℕ
 kind_byte Free = 0
 kind_byte Dir = 1
 kind_byte File = 2
+kind_byte Snapshot = 3
 
 abbrev pub run_bytes : List Run → List ℕ
 run_bytes [] = []
@@ -97,6 +99,7 @@ abbrev pub FitsAs : Geometry → Node → NodeKind → Type 0
 FitsAs g node Free = node ≡ free_node
 FitsAs g node Dir = node_fits g node ≡ true
 FitsAs g node File = node_fits g node ≡ true
+FitsAs g node Snapshot = node_fits g node ≡ true
 
 -- each number of a node has room in its bytes
 pub record HasRoom (node : Node) : Type 0 where

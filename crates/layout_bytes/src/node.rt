@@ -11,6 +11,8 @@ pub enum NodeKind {
     Dir,
     /// A file.
     File,
+    /// A snapshot, which keeps the tree as it was.
+    Snapshot,
 }
 
 /// A node: its kind, how many directory slots name it, its bytes, and the blocks that hold them.

@@ -6,7 +6,7 @@ use Rattle.layout_extent.specs.Runs.{AreTidy, LieBelow}
 use Rattle.layout_geometry.specs.Geometry.{Geometry, geometry_fits, data_start}
 use Rattle.layout_bytes.specs.declared.node.Node.{Node}
 use Rattle.layout_bytes.specs.declared.node.NodeKind.{NodeKind}
-use Rattle.layout_bytes.specs.declared.node.NodeKind.TheVariants.{Free, Dir, File}
+use Rattle.layout_bytes.specs.declared.node.NodeKind.TheVariants.{Free, Dir, File, Snapshot}
 use Rattle.layout_bytes.specs.Node.{runs_fit, run_blocks, kind_fits, node_fits, node_spelling, FitsAs, HasRoom, IsNode}
 use Rattle.layout_node.specs.declared.read.BadNode.{BadNode}
 use Rattle.layout_node.proofs.Spelled.{zeros_free}
@@ -53,6 +53,7 @@ room_as : (g : Geometry) (n : Node) (kind : NodeKind) → g.n ≤ 1048576 → Fi
 room_as g n Free most fits links = subst HasRoom (sym fits) (zeros_free g).room
 room_as g n Dir most fits links = used_room g n most fits links
 room_as g n File most fits links = used_room g n most fits links
+room_as g n Snapshot most fits links = used_room g n most fits links
 
 -- so it is in its spelling
 pub stands : (g : Geometry) (n : Node) → geometry_fits g ≡ true → FitsAs g n n.kind → n.links < 256 ^ 4 → IsNode g (node_spelling n) n
@@ -91,6 +92,7 @@ runs_as : (g : Geometry) (n : Node) (kind : NodeKind) → g.n ≤ 1048576 → Fi
 runs_as g n Free most fits = subst (λ (m : Node). AreTidy m.runs × LieBelow 1048576 m.runs) (sym fits) no_runs
 runs_as g n Dir most fits = used_runs g n most fits
 runs_as g n File most fits = used_runs g n most fits
+runs_as g n Snapshot most fits = used_runs g n most fits
 
 -- the runs of a node on a disk within its limits are tidy, and end by the most blocks of a disk
 pub runs_of_node : (g : Geometry) (b : List ℕ) (r : Result Node BadNode) → geometry_fits g ≡ true → IfOk r (λ n. IsNode g b n) → IfOk r (λ n. AreTidy n.runs × LieBelow 1048576 n.runs)

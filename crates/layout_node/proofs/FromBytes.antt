@@ -8,7 +8,7 @@ use Rattle.byteorder.specs.Numbers.{little_from-lt}
 use Rattle.layout_geometry.specs.Geometry.{Geometry}
 use Rattle.layout_bytes.specs.declared.node.Node.{Node}
 use Rattle.layout_bytes.specs.declared.node.NodeKind.{NodeKind}
-use Rattle.layout_bytes.specs.declared.node.NodeKind.TheVariants.{Free, Dir, File}
+use Rattle.layout_bytes.specs.declared.node.NodeKind.TheVariants.{Free, Dir, File, Snapshot}
 use Rattle.layout_node.specs.declared.read.BadNode.{BadNode}
 use Rattle.layout_bytes.specs.Bytes.{field, are_zeros, has_zeros, ZerosAreTold, FirstZerosAreTold, NumbersAreTold}
 use Rattle.layout_bytes.specs.Node.{used_kind, runs_in, node_fits, spare_zeros, node_fields, node_with, node_of, kind_byte, run_bytes, node_spelling, free_node, FitsAs, HasRoom, IsNode}
@@ -88,23 +88,29 @@ module _ (zeros_are : ZerosAreTold) (first_zeros_are : FirstZerosAreTold) (numbe
 
   -- the kind that a byte tells is spelled by that byte, and isn't free
   kind_spelled : (n : ℕ) (kind : NodeKind) → used_kind n ≡ Some kind → (n ≡ kind_byte kind) × (kind ≡ Free → ⊥)
-  kind_spelled n kind e = by (n == 1) (n == 2) refl refl e
+  kind_spelled n kind e = by (n == 1) (n == 2) (n == 3) refl refl refl e
     where
-      by : (a b : Bool) → (n == 1) ≡ a → (n == 2) ≡ b → (if a then Some Dir else if b then Some File else None) ≡ Some kind → (n ≡ kind_byte kind) × (kind ≡ Free → ⊥)
-      by true b p q e = (eqb-true n 1 p ∙ ap kind_byte (same_Some _ _ e), λ free. is_free (same_Some _ _ e ∙ free))
+      by : (a b c : Bool) → (n == 1) ≡ a → (n == 2) ≡ b → (n == 3) ≡ c → (if a then Some Dir else if b then Some File else if c then Some Snapshot else None) ≡ Some kind
+          → (n ≡ kind_byte kind) × (kind ≡ Free → ⊥)
+      by true b c p q r e = (eqb-true n 1 p ∙ ap kind_byte (same_Some _ _ e), λ free. is_free (same_Some _ _ e ∙ free))
         where
           is_free : Dir ≡ Free → ⊥
           is_free f = cc
-      by false true p q e = (eqb-true n 2 q ∙ ap kind_byte (same_Some _ _ e), λ free. is_free (same_Some _ _ e ∙ free))
+      by false true c p q r e = (eqb-true n 2 q ∙ ap kind_byte (same_Some _ _ e), λ free. is_free (same_Some _ _ e ∙ free))
         where
           is_free : File ≡ Free → ⊥
           is_free f = cc
-      by false false p q e = cc
+      by false false true p q r e = (eqb-true n 3 r ∙ ap kind_byte (same_Some _ _ e), λ free. is_free (same_Some _ _ e ∙ free))
+        where
+          is_free : Snapshot ≡ Free → ⊥
+          is_free f = cc
+      by false false false p q r e = cc
 
   fits_as : (g : Geometry) (n : Node) (kind : NodeKind) → (kind ≡ Free → ⊥) → node_fits g n ≡ true → FitsAs g n kind
   fits_as g n Free used fits = absurd (used refl)
   fits_as g n Dir used fits = fits
   fits_as g n File used fits = fits
+  fits_as g n Snapshot used fits = fits
 
   by_kind : (g : Geometry) (b : List ℕ) (n : Node) (kind : Option NodeKind) → length b ≡ 256 → AreBytes b → used_kind (slice_index b 0) ≡ kind → node_with g b kind ≡ Some n
       → IsNode g b n × (n.kind ≡ Free → ⊥)
@@ -159,6 +165,13 @@ refused g b None (Err e) told is other = λ n stands. by n stands n.kind refl
       where
         file : File ≡ Free → ⊥
         file e = cc
+
+        none : node_of g b ≡ Some n → ⊥
+        none e = cc
+    by n stands Snapshot k = none (node_reads g b n stands (λ free. snapshot (sym k ∙ free)))
+      where
+        snapshot : Snapshot ≡ Free → ⊥
+        snapshot e = cc
 
         none : node_of g b ≡ Some n → ⊥
         none e = cc

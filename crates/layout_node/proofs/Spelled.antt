@@ -8,7 +8,7 @@ use Rattle.base_types.specs.declared.places.Run.{Run}
 use Rattle.layout_geometry.specs.Geometry.{Geometry}
 use Rattle.layout_bytes.specs.declared.node.Node.{Node}
 use Rattle.layout_bytes.specs.declared.node.NodeKind.{NodeKind}
-use Rattle.layout_bytes.specs.declared.node.NodeKind.TheVariants.{Free, Dir, File}
+use Rattle.layout_bytes.specs.declared.node.NodeKind.TheVariants.{Free, Dir, File, Snapshot}
 use Rattle.layout_bytes.specs.Bytes.{field, are_zeros, has_zeros, when}
 use Rattle.layout_bytes.specs.Node.{used_kind, runs_in, node_fits, spare_zeros, node_fields, node_with, node_of, kind_byte, run_bytes, node_spelling, free_node, FitsAs, HasRoom, IsNode}
 use Rattle.layout_node.proofs.Fields.{so_many_zeros}
@@ -19,6 +19,7 @@ few_runs : (g : Geometry) (n : Node) (kind : NodeKind) → FitsAs g n kind → l
 few_runs g n Free fits = omega (arith, ap (λ (m : Node). length m.runs) fits)
 few_runs g n Dir fits = leb-true (length n.runs) 28 (and_parts _ _ (and_parts _ _ fits).1).0
 few_runs g n File fits = leb-true (length n.runs) 28 (and_parts _ _ (and_parts _ _ fits).1).0
+few_runs g n Snapshot fits = leb-true (length n.runs) 28 (and_parts _ _ (and_parts _ _ fits).1).0
 
 pub has_few_runs : (g : Geometry) (b : List ℕ) (n : Node) → IsNode g b n → length n.runs ≤ 28
 has_few_runs g b n is = few_runs g n n.kind is.fits
@@ -31,12 +32,13 @@ spelling_length n few =
 
 -- the kind that a node's first byte tells
 abbrev kind_in : ℕ → NodeKind
-kind_in n = if n == 1 then Dir else if n == 2 then File else Free
+kind_in n = if n == 1 then Dir else if n == 2 then File else if n == 3 then Snapshot else Free
 
 kind_read : (kind : NodeKind) → kind_in (kind_byte kind) ≡ kind
 kind_read Free = refl
 kind_read Dir = refl
 kind_read File = refl
+kind_read Snapshot = refl
 
 -- a node of fields that are each another's is that one
 pub node_from : (n : Node) (kind : NodeKind) (links size : ℕ) (runs : List Run) → kind ≡ n.kind → links ≡ n.links → size ≡ n.size → runs ≡ n.runs
@@ -102,6 +104,10 @@ used_read g n File room e fits used =
     let few = few_runs g n File fits in
     ap (λ k. node_with g (node_spelling n) (used_kind (kind_byte k))) (sym e)
     ∙ reads_as g (node_spelling n) n File (spare_read n few) (fields_read n File few room e) fits
+used_read g n Snapshot room e fits used =
+    let few = few_runs g n Snapshot fits in
+    ap (λ k. node_with g (node_spelling n) (used_kind (kind_byte k))) (sym e)
+    ∙ reads_as g (node_spelling n) n Snapshot (spare_read n few) (fields_read n Snapshot few room e) fits
 
 pub node_reads : (g : Geometry) (b : List ℕ) (n : Node) → IsNode g b n → (n.kind ≡ Free → ⊥) → node_of g b ≡ Some n
 node_reads g b n is used = ap (node_of g) is.spelling ∙ used_read g n n.kind is.room refl is.fits used

@@ -95,6 +95,7 @@ fn used_kind(number: u8) -> Option<NodeKind>
     match number {
         1 => Some(NodeKind::Dir),
         2 => Some(NodeKind::File),
+        3 => Some(NodeKind::Snapshot),
         _ => None,
     }
 }
@@ -171,6 +172,7 @@ fn kind_fits(node: &Node) -> bool
         NodeKind::Free => true,
         NodeKind::Dir => node.size % SLOT_LENGTH as u64 == 0,
         NodeKind::File => node.links <= MOST_LINKS && node.size <= LARGEST_FILE,
+        NodeKind::Snapshot => true,
     }
 }
 

@@ -37,6 +37,7 @@ fn kind_byte(kind: NodeKind) -> u8
         NodeKind::Free => 0,
         NodeKind::Dir => 1,
         NodeKind::File => 2,
+        NodeKind::Snapshot => 3,
     }
 }
 

@@ -1,0 +1,9 @@
+use Rattle.crash_snapshots.proofs.Taking.{stands_without}
+use Rattle.crash_snapshots.proofs.laws.a_snapshot_goes.Goals as goal
+
+pub returns : goal.returns
+returns c =
+    let nodes = c.a_node_in_use_has_data_blocks.ensures in
+    let kept = c.a_snapshot_stays_with_its_blocks.ensures in
+    λ g old new t name k fits is at takes. stands_without (record { number = nodes.number; kind = nodes.kind; within = nodes.within; count = nodes.count })
+    (record { tree = kept.tree; sound = kept.sound; blocks = kept.blocks; marked = kept.marked }) g fits old new t name k is at (c.a_tree_that_stands_is_sound.ensures.snapshots g old t is) takes
