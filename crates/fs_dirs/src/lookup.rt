@@ -1,7 +1,7 @@
 //! Names looked up in a directory. It is read a block at a time, and nothing of it is kept.
 
 ghost use Rattle.std.specs.Prelude.{◌≡◌, ◌<◌, ◌/◌, ◌^◌, IsTrue, is_err, List, length, Some, IfOk, IfSome};
-ghost use Rattle.layout_bytes.specs.declared.node.NodeKind.TheVariants.{Dir, File};
+ghost use Rattle.layout_bytes.specs.declared.node.NodeKind.TheVariants.{Dir, File, Snapshot};
 ghost use Rattle.layout_bytes.specs.declared.slot.Slot.{Slot};
 ghost use Rattle.crash_stands.specs.Inodes.{Inode, inodes_of};
 ghost use Rattle.fs_files.specs.Asks.{MayLookAt, MayRead};
@@ -55,11 +55,12 @@ pub fn count_slots<N: Nodes, S: Blocks>(
     Ok(slots_of(facts.kind, facts.size))
 }
 
-/// How many slots a node of this kind and so many bytes has. `None` for a file, and where there are more bytes
+/// How many slots a node of this kind and so many bytes has. `None` for what is no directory, and where there are more bytes
 /// than a disk has.
 fn slots_of(kind: NodeKind, size: u64) -> Option<u32>
     ensures few { IfSome result (λ count. count < 2 ^ 24) }
     ensures file { kind ≡ File → result ≡ None }
+    ensures snapshot { kind ≡ Snapshot → result ≡ None }
     ensures dir { kind ≡ Dir → size < 2 ^ 30 → result ≡ Some (size / 64) }
 {
     match kind {
@@ -67,6 +68,7 @@ fn slots_of(kind: NodeKind, size: u64) -> Option<u32>
         NodeKind::Dir if size < MOST_BYTES => Some((size / SLOT_LENGTH as u64) as u32),
         NodeKind::Dir => None,
         NodeKind::File => None,
+        NodeKind::Snapshot => None,
     }
 }
 

@@ -2,6 +2,8 @@ pub mod drafts
 pub mod bytes
 pub mod frames
 pub mod effects
+pub mod Behind
 pub mod calling
+pub mod PlainReads
 pub mod finishing
 pub mod growing

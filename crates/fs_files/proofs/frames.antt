@@ -13,3 +13,4 @@ pub mod Dropped
 pub mod After
 pub mod Written
 pub mod Begins
+pub mod BeginsFreeing

@@ -4,3 +4,4 @@ pub mod Edges
 pub mod Placed
 pub mod Copied
 pub mod Outside
+pub mod Ranges

@@ -35,8 +35,8 @@ pub record MayGrow (tells : Bool) (s : State) (d : DraftState) (number lo hi : �
   pub turns : HasTurns s.books
   -- no file has more bytes
   pub size : hi ≤ 2 ^ 30
-  -- one call of a draft takes blocks, and this is it, if it needs some
-  pub once : IsTrue tells → (x : FileNode) → files_in s d number ≡ Some x → 0 < taken_by (is_kept d.kept) (min lo (length x.bytes)) hi (places_in s d number) → d.taken ≡ []
+  -- one call of a draft takes blocks, and where bytes are new this is it, if it needs some
+  pub once : IsTrue tells → (x : FileNode) → files_in s d number ≡ Some x → min lo (length x.bytes) < hi → 0 < taken_by (is_kept d.kept) (min lo (length x.bytes)) hi (places_in s d number) → d.taken ≡ []
 
 -- Node `number` may be cut to its first `count` bytes, where it is in use.
 pub record MayCut (tells : Bool) (s : State) (d : DraftState) (number count : ℕ) : Type 0 where

@@ -6,7 +6,7 @@ use Rattle.layout_geometry.specs.Geometry.{Geometry}
 use Rattle.layout_extent.specs.Runs.{stretches}
 use Rattle.layout_bytes.specs.declared.node.Node.{Node}
 use Rattle.layout_bytes.specs.declared.node.NodeKind.{NodeKind}
-use Rattle.layout_bytes.specs.declared.node.NodeKind.TheVariants.{Free, Dir, File}
+use Rattle.layout_bytes.specs.declared.node.NodeKind.TheVariants.{Free, Dir, File, Snapshot}
 use Rattle.engine_blocks.specs.Running.{has}
 use Rattle.engine_blocks.specs.State.{Bookkeeping, State, reusable_blocks}
 use Rattle.crash_stands.specs.Files.{FileNode, Files, files_of, used_node}
@@ -67,6 +67,7 @@ abbrev pub is_dir : NodeKind → Bool
 is_dir Free = false
 is_dir Dir = true
 is_dir File = false
+is_dir Snapshot = false
 
 -- each block that has new bytes in e, those of new content aside, had some in d or is one of these
 abbrev pub ChangesAmong : List ℕ → DraftState → DraftState → Type 0

@@ -1,6 +1,8 @@
 -- What finishing a draft makes of a map of blocks. It is described in docs/FILES.md.
-use Rattle.std.specs.Prelude.{◌≡◌, ℕ, ◌+◌, ◌*◌, ◌<◌, ◌≤◌, min, true, not, ◌&&◌, List, length, is_some}
+use Rattle.std.specs.Prelude.{◌≡◌, ℕ, ◌+◌, ◌*◌, ◌<◌, ◌≤◌, min, true, IsTrue, not, ◌&&◌, List, length, is_some}
 use Rattle.layout_geometry.specs.Geometry.{Geometry, table_start, bitmap_blocks}
+use Rattle.layout_bytes.specs.Bitmap.{is_set}
+use Rattle.layout_journal.specs.Run.{is_live}
 use Rattle.crash_stands.specs.Files.{files_of}
 use Rattle.engine_blocks.specs.declared.role.Role.TheVariants.{Changed}
 use Rattle.engine_blocks.specs.Running.{has, HasNoBare}
@@ -36,11 +38,13 @@ pub record BooksFinished (d : DraftState) (old new : Bookkeeping) : Type 0 where
   pub sync : MayGoOn old → (bs : List ℕ) (cost : ℕ) → ChangesOnly bs d → price old.geom bs d ≤ cost
       → (0 < cost → ChangesSome d) → MayGoOn (after_weigh new cost)
 
--- The same of the blocks, where they are known: they are those of the draft, with its files and the blocks of each node, and sound beside what is kept if they were.
+-- The same of the blocks, where they are known: they are those of the draft, with its files and the blocks of each node, its bits and whole live blocks, and sound beside what is kept if they were.
 pub record MapFinished (d : DraftState) (old new : State) : Type 0 where
   pub blocks : (b : ℕ) → table_start old.books.geom ≤ b → b < old.books.geom.n → new.map b ≡ drafted d old.map b
   pub files : (k : ℕ) → files_of old.books.geom new.map k ≡ files_of old.books.geom (drafted d old.map) k
   pub places : (k : ℕ) → places_of old.books.geom new.map k ≡ places_of old.books.geom (drafted d old.map) k
+  pub bits : (b : ℕ) → b < 8192 * bitmap_blocks old.books.geom → is_set old.books.geom new.map b ≡ marks_of d (is_set old.books.geom old.map) b
+  pub whole : (b : ℕ) → IsTrue (is_live old.books.geom new.map b) → length (new.map b) ≡ 1024
   pub sound : AreSoundBeside old.books.geom (is_kept d.kept) old.map → AreSoundBeside old.books.geom (is_kept d.kept) new.map
   pub live : length (live_blocks new.books) + length d.freed ≡ length (live_blocks old.books) + length d.taken
   pub held : new.books.running.held ≡ old.books.running.held + length d.freed

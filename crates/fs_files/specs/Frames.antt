@@ -5,7 +5,7 @@ use Rattle.base_types.specs.Seal.{Blocks}
 use Rattle.layout_geometry.specs.Geometry.{Geometry, table_start, data_start}
 use Rattle.layout_bytes.specs.declared.node.Node.{Node}
 use Rattle.layout_bytes.specs.declared.node.NodeKind.{NodeKind}
-use Rattle.layout_bytes.specs.declared.node.NodeKind.TheVariants.{Free, Dir, File}
+use Rattle.layout_bytes.specs.declared.node.NodeKind.TheVariants.{Free, Dir, File, Snapshot}
 use Rattle.layout_bytes.specs.Bytes.{are_zeros}
 use Rattle.layout_bytes.specs.Node.{node_size, node_of, node_bytes, node_spelling}
 use Rattle.engine_blocks.specs.Running.{has}
@@ -17,6 +17,7 @@ abbrev pub used_by : Node → NodeKind → Option Node
 used_by node Free = None
 used_by node Dir = Some node
 used_by node File = Some node
+used_by node Snapshot = Some node
 
 -- the node in use that a node is: a free one is none
 abbrev pub used_of : Node → Option Node

@@ -16,5 +16,6 @@ pub mod Within
 pub mod Asks
 pub mod Changing
 pub mod NodeMaps
+pub mod Given
 pub mod Places
 pub mod Shared

@@ -6,7 +6,7 @@ use Rattle.layout_geometry.specs.Geometry.{Geometry, table_start, nodes_in_block
 use Rattle.layout_extent.specs.Runs.{runs_of, stretches}
 use Rattle.layout_bytes.specs.declared.node.Node.{Node}
 use Rattle.layout_bytes.specs.declared.node.NodeKind.{NodeKind}
-use Rattle.layout_bytes.specs.declared.node.NodeKind.TheVariants.{Free, Dir, File}
+use Rattle.layout_bytes.specs.declared.node.NodeKind.TheVariants.{Free, Dir, File, Snapshot}
 use Rattle.base_types.specs.declared.words.Class.{Class}
 use Rattle.base_types.specs.declared.words.Class.TheVariants.{Meta, Content}
 use Rattle.layout_bytes.specs.Node.{node_fits, node_spelling}
@@ -26,6 +26,7 @@ abbrev pub class_of : NodeKind → Class
 class_of Free = Meta
 class_of Dir = Meta
 class_of File = Content
+class_of Snapshot = Content
 
 -- the block of the node table in which node k is, and its first byte there
 abbrev pub node_block : Geometry → ℕ → ℕ

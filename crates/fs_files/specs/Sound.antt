@@ -1,10 +1,11 @@
 -- Which drafts fit a map of blocks, and when its blocks are sound with them. It is described in docs/FILES.md.
-use Rattle.std.specs.Prelude.{◌≡◌, ◌≢◌, ◌↔◌, ◌⊎◌, ℕ, ◌*◌, ◌<◌, ◌≤◌, Bool, true, false, IsTrue, ◌||◌, length, replicate, None, Some, is_some}
+use Rattle.std.specs.Prelude.{◌≡◌, ◌≢◌, ◌↔◌, ◌⊎◌, ℕ, ◌*◌, ◌<◌, ◌≤◌, Bool, true, false, IsTrue, ◌||◌, List, length, replicate, None, Some, is_some}
 use Rattle.std.specs.List.{All, AllPairs}
+use Rattle.base_types.specs.Runs.{run_places}
 use Rattle.base_types.specs.Seal.{Blocks}
 use Rattle.layout_geometry.specs.Geometry.{Geometry, table_start, data_start, bitmap_blocks}
 use Rattle.layout_bytes.specs.declared.node.Node.{Node}
-use Rattle.layout_bytes.specs.declared.node.NodeKind.TheVariants.{Dir, File}
+use Rattle.layout_bytes.specs.declared.node.NodeKind.TheVariants.{Dir, File, Snapshot}
 use Rattle.layout_bytes.specs.Bitmap.{is_set}
 use Rattle.layout_bytes.specs.Bytes.{are_zeros}
 use Rattle.layout_bytes.specs.Node.{node_size, node_at, node_bytes}
@@ -13,6 +14,7 @@ use Rattle.engine_blocks.specs.Running.{has, HasNoBare}
 use Rattle.engine_blocks.specs.State.{Bookkeeping, State, MayBeTaken}
 use Rattle.engine_blocks.specs.Puts.{IsData}
 use Rattle.crash_stands.specs.Files.{used_node, past_content}
+use Rattle.crash_stands.specs.Sharing.{IsKeptBlock, IsSoundKept}
 use Rattle.crash_stands.specs.Stands.{HasBlock}
 use Rattle.fs_files.specs.declared.changes.Changed.{Changed}
 use Rattle.fs_files.specs.Shared.{is_kept}
@@ -51,6 +53,20 @@ pub record AreSoundBeside (g : Geometry) (kept : ℕ → Bool) (m : Blocks) : Ty
   pub past : (b : ℕ) → g.n ≤ b → b < 8192 * bitmap_blocks g → is_set g m b ≡ false
   pub free : (k : ℕ) → 1 ≤ k → k ≤ g.i → node_at g m k ≡ None → node_bytes g m k ≡ replicate node_size 0
   pub tail : (k : ℕ) (node : Node) → used_node g m k ≡ Some node → node.kind ≡ Dir → IsTrue (are_zeros (past_content m node))
+
+-- These blocks are different ones, none of them is kept, and no node has one.
+pub record AreApartFrom (g : Geometry) (m : Blocks) (kept bs : List ℕ) : Type 0 where
+  pub once : AllPairs (λ a b. a ≢ b) bs
+  pub unkept : All (λ b. is_kept kept b ≡ false) bs
+  pub bare : (k i b : ℕ) → has bs b ≡ true → HasBlock g m k i b → ⊥
+
+-- The test holds for just the blocks that snapshots keep.
+abbrev pub TellsKept : Geometry → (ℕ → Bool) → Blocks → Type 0
+TellsKept g kept m = (b : ℕ) → (kept b ≡ true) ↔ IsKeptBlock g m b
+
+-- each snapshot is sound
+abbrev pub HasSoundKept : Geometry → Blocks → Type 0
+HasSoundKept g m = (k : ℕ) (node : Node) → used_node g m k ≡ Some node → node.kind ≡ Snapshot → IsSoundKept g m (run_places node.runs)
 
 -- The blocks are sound with the draft's changes. Marked are the blocks that nodes have and those that are kept. A kept block stays as it was, and is a file's if a node has it.
 -- No freed block has bytes, new content has no other change beside it, and each block is freed once and was marked or taken.

@@ -1,7 +1,7 @@
 //! The draft of a command: which blocks it changes, takes and frees, and reading a block with its
 //! changes. It knows no nodes; and of the map of blocks it only reads. Which blocks snapshots keep it is told.
 
-ghost use Rattle.std.specs.Prelude.{◌≡◌, ◌≢◌, ◌↔◌, ℕ, ◌≤◌, ◌<◌, ◌==◌, ◌∷◌, [], true, false, IsTrue, length, is_err, OnOk, OnErr};
+ghost use Rattle.std.specs.Prelude.{◌≡◌, ◌≢◌, ◌↔◌, ℕ, ◌≤◌, ◌<◌, ◌==◌, ◌∷◌, [], true, false, IsTrue, length, is_err, IfOk, OnOk, OnErr};
 ghost use Rattle.std.specs.List.{AllPairs};
 ghost use Rattle.layout_geometry.specs.Geometry.{table_start};
 ghost use Rattle.fs_files.specs.declared.changes.Changed.{Changed};
@@ -51,6 +51,20 @@ impl<'a> Draft<'a> {
         ensures { result ≡ begun_beside shared.now }
     {
         Draft::over(alloc, shared.kept())
+    }
+
+    /// A draft beside the blocks that snapshots keep, in which these blocks are to be freed and nothing else was done.
+    ///
+    /// # Errors
+    /// Out of memory.
+    pub fn freeing(alloc: Global, shared: &'a Shared, list: &[u32]) -> Result<Draft<'a>, NoMemory>
+        ensures { IfOk result (λ draft. FreesBlocks list.now (begun_beside shared.now) draft) }
+    {
+        let mut draft = Draft::beside(alloc, shared);
+        for b in list {
+            draft.free(*b)?;
+        }
+        Ok(draft)
     }
 
     // A draft in which nothing was done, where these blocks are kept.

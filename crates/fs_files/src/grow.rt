@@ -43,6 +43,7 @@ pub(crate) fn class_of(kind: NodeKind) -> Class
         NodeKind::Free => Class::Meta,
         NodeKind::Dir => Class::Meta,
         NodeKind::File => Class::Content,
+        NodeKind::Snapshot => Class::Content,
     }
 }
 

@@ -1,13 +1,14 @@
 //! Laws of drafts and of the files in them, each a function that changes nothing: what a draft is before
 //! anything was done, how many blocks a file has, and how many bytes a directory.
 
-ghost use Rattle.std.specs.Prelude.{◌≡◌, ◌≤◌, ◌+◌, ◌-◌, ◌*◌, ◌/◌, ◌%◌, ◌^◌, ◌++◌, ℕ, Bool, [], false, IsTrue, List, length, Some};
-ghost use Rattle.engine_blocks.specs.Running.{HasNoBare};
+ghost use Rattle.std.specs.Prelude.{◌≡◌, ◌≤◌, ◌+◌, ◌-◌, ◌*◌, ◌/◌, ◌%◌, ◌^◌, ◌++◌, ◌||◌, ℕ, Bool, [], false, IsTrue, List, length, Some};
+ghost use Rattle.engine_blocks.specs.Puts.{IsData};
+ghost use Rattle.engine_blocks.specs.Running.{HasNoBare, has};
 ghost use Rattle.fs_files.specs.Bytes.{blocks_for, met};
 ghost use Rattle.fs_files.specs.Calls.{files_in, places_in, places_of};
-ghost use Rattle.fs_files.specs.Drafts.{DraftState, begun_beside, nothing_drafted};
+ghost use Rattle.fs_files.specs.Drafts.{DraftState, FreesBlocks, begun_beside, nothing_drafted};
 ghost use Rattle.fs_files.specs.Effects.{LooksOnly, LooksAndSettles};
-ghost use Rattle.fs_files.specs.Sound.{AreSoundBeside, IsDraftOf};
+ghost use Rattle.fs_files.specs.Sound.{AreApartFrom, AreSoundBeside, HasSoundKept, IsDraftOf, TellsKept};
 ghost use Rattle.fs_files.specs.Growing.{alone, placed, taken_by};
 ghost use Rattle.fs_files.specs.Shared.{is_kept};
 ghost use Rattle.std.specs.List.{All};
@@ -16,16 +17,17 @@ ghost use Rattle.layout_geometry.specs.Geometry.{Geometry};
 ghost use Rattle.base_types.specs.Seal.{Blocks as Seal};
 ghost use Rattle.layout_bytes.specs.declared.node.NodeKind.TheVariants.{Dir};
 ghost use Rattle.crash_stands.specs.Files.{FileNode, files_of};
-ghost use Rattle.crash_stands.specs.Stands.{AreSound};
+ghost use Rattle.crash_stands.specs.Stands.{AreSound, HasNoSnapshots};
 
+use crash_stands::a_node_in_use_has_data_blocks;
 use engine_blocks::{Blocks, calls_compose};
 
-/// An empty draft is one of each map of blocks that are sound where they are known, while each block that
+/// An empty draft is one of each map of blocks that are sound beside no kept block where they are known, while each block that
 /// was taken is filled or freed; so is an empty draft beside kept blocks, of blocks that are sound beside these. Its
 /// files are those of the map, and so are the blocks of each node.
 pub fn a_draft_begins<S: Blocks>(blocks: &S)
     ensures draft { HasNoBare (S.state blocks.now).books.running
-        → (IsTrue S.tells → AreSound (S.state blocks.now).books.geom (S.state blocks.now).map)
+        → (IsTrue S.tells → AreSoundBeside (S.state blocks.now).books.geom (is_kept []) (S.state blocks.now).map)
         → IsDraftOf S.tells (S.state blocks.now) nothing_drafted }
     ensures beside { (kept : List ℕ) → HasNoBare (S.state blocks.now).books.running
         → (IsTrue S.tells → AreSoundBeside (S.state blocks.now).books.geom (is_kept kept) (S.state blocks.now).map)
@@ -36,6 +38,21 @@ pub fn a_draft_begins<S: Blocks>(blocks: &S)
         k ≡ files_of (S.state blocks.now).books.geom (S.state blocks.now).map k }
     ensures beside_places { (kept : List ℕ) (k : ℕ) → places_in (S.state blocks.now) (begun_beside kept)
         k ≡ places_of (S.state blocks.now).books.geom (S.state blocks.now).map k }
+{
+    blocks.geom().lawful();
+}
+
+/// A draft that only frees blocks is one of a map whose blocks are sound beside these and those that are kept, where
+/// they are different ones, and no node has one and none of them is kept.
+pub fn a_draft_begins_with_frees<S: Blocks>(blocks: &S)
+    ensures draft { (kept bs : List ℕ) (d : DraftState) → HasNoBare (S.state blocks.now).books.running
+        → (IsTrue S.tells → AreSoundBeside (S.state blocks.now).books.geom (λ b. is_kept kept b || has bs b) (S.state blocks.now).map)
+        → (IsTrue S.tells → AreApartFrom (S.state blocks.now).books.geom (S.state blocks.now).map kept bs)
+        → All (IsData (S.state blocks.now).books.geom) bs → FreesBlocks bs (begun_beside kept) d → IsDraftOf S.tells (S.state blocks.now) d }
+    ensures files { (kept bs : List ℕ) (d : DraftState) → (IsTrue S.tells → AreApartFrom (S.state blocks.now).books.geom (S.state blocks.now).map kept bs)
+        → All (IsData (S.state blocks.now).books.geom) bs → FreesBlocks bs (begun_beside kept) d → IsTrue S.tells → (k : ℕ)
+        → (files_in (S.state blocks.now) d k ≡ files_of (S.state blocks.now).books.geom (S.state blocks.now).map k)
+        × (places_in (S.state blocks.now) d k ≡ places_of (S.state blocks.now).books.geom (S.state blocks.now).map k) }
 {
     blocks.geom().lawful();
 }
@@ -77,11 +94,22 @@ pub fn where_nothing_is_kept()
     ensures none { (places : List ℕ) → All (λ b. is_kept [] b ≡ false) places }
 {}
 
-/// Blocks are sound where nothing is kept as they are beside no kept block.
+/// Where a test holds for just the blocks that snapshots keep, sound blocks are sound beside these; and blocks that
+/// are, with sound snapshots, are sound.
+pub fn sound_beside_what_is_kept()
+    ensures to { (g : Geometry) (m : Seal) (kept : ℕ → Bool) → TellsKept g kept m → AreSound g m → AreSoundBeside g kept m }
+    ensures from { (g : Geometry) (m : Seal) (kept : ℕ → Bool) → TellsKept g kept m → HasSoundKept g m → AreSoundBeside g kept m → AreSound g m }
+{
+    a_node_in_use_has_data_blocks();
+}
+
+/// Blocks without snapshots are sound as they are beside no kept block.
 pub fn sound_beside_nothing()
-    ensures to { (g : Geometry) (m : Seal) → AreSound g m → AreSoundBeside g (is_kept []) m }
-    ensures from { (g : Geometry) (m : Seal) → AreSoundBeside g (is_kept []) m → AreSound g m }
-{}
+    ensures to { (g : Geometry) (m : Seal) → HasNoSnapshots g m → AreSound g m → AreSoundBeside g (is_kept []) m }
+    ensures from { (g : Geometry) (m : Seal) → HasNoSnapshots g m → AreSoundBeside g (is_kept []) m → AreSound g m }
+{
+    a_node_in_use_has_data_blocks();
+}
 
 /// In how many blocks of a list bytes lie: those from the block of the first one to that of the last one. Each of
 /// them isn't kept, or makes way for a new one.

@@ -8,11 +8,13 @@ mod changes;
 mod content;
 mod draft;
 mod finish;
+mod given;
 mod grow;
 mod laws;
 mod look;
 mod node_blocks;
 mod nodes;
+mod part;
 mod price;
 mod reading;
 mod refusal;
@@ -25,10 +27,11 @@ mod write;
 pub use changes::Changed;
 pub use draft::Draft;
 pub use finish::a_sync_may_follow;
+pub use given::{different_blocks_are_few, node_in, read_block_at, read_bytes};
 pub use laws::{
-    a_directory_has_whole_slots, a_directory_shares_no_block, a_draft_begins, a_file_fits_the_disk,
-    a_file_has_its_blocks, bytes_lie_in_blocks, settlings_add_up, sound_beside_nothing,
-    where_nothing_is_kept,
+    a_directory_has_whole_slots, a_directory_shares_no_block, a_draft_begins,
+    a_draft_begins_with_frees, a_file_fits_the_disk, a_file_has_its_blocks, bytes_lie_in_blocks,
+    settlings_add_up, sound_beside_nothing, sound_beside_what_is_kept, where_nothing_is_kept,
 };
 pub use look::FileFacts;
 pub use node_blocks::{NodeBlocks, OpenFile};

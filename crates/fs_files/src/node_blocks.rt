@@ -24,7 +24,7 @@ use std::marker::Model;
 /// draft as it was when they were looked up.
 #[derive(Drop)]
 pub struct NodeBlocks {
-    places: Runs,
+    pub(crate) places: Runs,
 }
 
 impl Model for NodeBlocks {

@@ -88,7 +88,7 @@ pub(crate) fn load<S: Blocks>(
 }
 
 /// The node in use in these bytes, if they are one's.
-fn open_node(bytes: &[u8], geom: &Geom) -> Option<OpenNode>
+pub(crate) fn open_node(bytes: &[u8], geom: &Geom) -> Option<OpenNode>
     requires { length bytes.now ≡ node_size }
     ensures node { option_map node_of_open result ≡ node_of geom.now bytes.now }
     ensures open { IfSome result (IsOpen geom.now) }
@@ -104,6 +104,7 @@ fn open_node(bytes: &[u8], geom: &Geom) -> Option<OpenNode>
         NodeKind::Free => None,
         NodeKind::Dir => Some(opened(node)),
         NodeKind::File => Some(opened(node)),
+        NodeKind::Snapshot => Some(opened(node)),
     }
 }
 

@@ -142,6 +142,7 @@ fn clear_rest<S: Blocks>(
         NodeKind::Free => Ok(()),
         NodeKind::Dir => zero_rest(draft, alloc, blocks, places, size),
         NodeKind::File => Ok(()),
+        NodeKind::Snapshot => Ok(()),
     }
 }
 

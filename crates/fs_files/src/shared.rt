@@ -1,7 +1,7 @@
 //! How many snapshots keep each data block: `Shared`. It knows no snapshot and no file; who counts blocks in
 //! and out, and what may be done with a block that is kept, is said elsewhere.
 
-ghost use Rattle.std.specs.Prelude.{◌≡◌, ◌≤◌, ◌<◌, ◌+◌, ◌-◌, ◌==◌, ℕ, List, [], OnOk, OnErr, length};
+ghost use Rattle.std.specs.Prelude.{◌≡◌, ◌≢◌, ◌≤◌, ◌<◌, ◌+◌, ◌-◌, ◌==◌, ℕ, List, [], OnOk, OnErr, length};
 ghost use Rattle.fs_files.specs.Shared.{keepers, is_kept, SetsKeepers};
 
 use base_types::NoMemory;
@@ -83,21 +83,32 @@ impl Shared {
         Ok(())
     }
 
-    /// One more snapshot keeps this block. There must be room, and no more than 65,534 may keep it so far.
+    /// One more snapshot keeps this block, where there is room for its number and no more than 65,534 keep it so far;
+    /// else all stays.
     pub fn add(&mut self, block: u32)
-        requires room { block < length self.old }
-        requires few { keepers self.old block < 65535 }
-        ensures { SetsKeepers block (keepers self.old block + 1) self.old self.new }
+        ensures adds { block < length self.old → keepers self.old block < 65535 → SetsKeepers block (keepers self.old block + 1) self.old self.new }
+        ensures outside { length self.old ≤ block → self.new ≡ self.old }
+        ensures full { 65535 ≤ keepers self.old block → self.new ≡ self.old }
+        ensures others { (c : ℕ) → c ≢ block → keepers self.new c ≡ keepers self.old c }
+        ensures room { length self.new ≡ length self.old }
     {
-        self.counts[block as usize] += 1;
+        let count = self.count(block);
+        if (block as usize) < self.counts.len() && count < u16::MAX {
+            self.counts[block as usize] = count + 1;
+        }
     }
 
-    /// One snapshot less keeps this block. Some snapshot must keep it.
+    /// One snapshot less keeps this block, where some snapshot keeps it; else all stays.
     pub fn take(&mut self, block: u32)
-        requires { 0 < keepers self.old block }
-        ensures { SetsKeepers block (keepers self.old block - 1) self.old self.new }
+        ensures takes { 0 < keepers self.old block → SetsKeepers block (keepers self.old block - 1) self.old self.new }
+        ensures none { keepers self.old block ≡ 0 → self.new ≡ self.old }
+        ensures others { (c : ℕ) → c ≢ block → keepers self.new c ≡ keepers self.old c }
+        ensures room { length self.new ≡ length self.old }
     {
-        self.counts[block as usize] -= 1;
+        let count = self.count(block);
+        if count > 0 {
+            self.counts[block as usize] = count - 1;
+        }
     }
 
     /// No block is kept and no memory is taken, once no block was kept.

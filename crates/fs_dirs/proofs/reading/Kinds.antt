@@ -2,7 +2,7 @@
 use Rattle.std.proofs.Common.{◌≡◌, ℕ, ◌+◌, ◌*◌, ◌/◌, ◌<◌, ◌≤◌, Bool, true, false, ◌==◌, List, length, Option, None, Some, IfSome, option_map, option_and_then, refl, sym, ap, ◌∙◌, arith}
 use Rattle.std.proofs.lemmas.Option.{none-some, same_Some}
 use Rattle.layout_bytes.specs.declared.node.NodeKind.{NodeKind}
-use Rattle.layout_bytes.specs.declared.node.NodeKind.TheVariants.{Free, Dir, File}
+use Rattle.layout_bytes.specs.declared.node.NodeKind.TheVariants.{Free, Dir, File, Snapshot}
 use Rattle.layout_bytes.specs.declared.slot.Slot.{Slot}
 use Rattle.layout_bytes.specs.Bytes.{when}
 use Rattle.crash_stands.specs.Files.{FileNode}
@@ -28,6 +28,7 @@ no_dir links bytes slots e = cc
 
 dir_by : (kind : NodeKind) (links : ℕ) (bytes : List ℕ) (slots : List Slot) → inode_by kind links bytes ≡ Some (ADir slots) → kind ≡ Dir
 dir_by Free links bytes slots e = absurd (none-some (ADir slots) e)
+dir_by Snapshot links bytes slots e = absurd (none-some (ADir slots) e)
 dir_by Dir links bytes slots e = refl
 dir_by File links bytes slots e = absurd (no_dir links bytes slots e)
 
@@ -42,6 +43,7 @@ no_file links bytes false o e = none-some (AFile links bytes) e
 
 file_by : (kind : NodeKind) (links l : ℕ) (bytes b : List ℕ) → inode_by kind links bytes ≡ Some (AFile l b) → kind ≡ File
 file_by Free links l bytes b e = absurd (none-some (AFile l b) e)
+file_by Snapshot links l bytes b e = absurd (none-some (AFile l b) e)
 file_by Dir links l bytes b e = absurd (no_file l b (links == 1) _ e)
 file_by File links l bytes b e = refl
 

@@ -1,5 +1,5 @@
 -- What the steps of a call make of a file's bytes, from the draft before it to the one after it. Its places were ps, with the content's `size` bytes in them, and qs are those that it takes.
-use Rattle.std.proofs.Common.{◌≡◌, ℕ, Bool, ◌+◌, ◌-◌, ◌*◌, ◌≤◌, IsTrue, List, ◌++◌, length, take, drop, replicate, sym, ap, subst, ◌∙◌, arith}
+use Rattle.std.proofs.Common.{◌≡◌, ℕ, Bool, ◌-◌, ◌*◌, ◌≤◌, IsTrue, List, length, take, drop, replicate, sym, ap, subst, ◌∙◌, arith}
 use Rattle.std.proofs.lemmas.List.{length-take, length-replicate}
 use Rattle.base_types.specs.Seal.{Blocks}
 use Rattle.layout_bytes.specs.Bytes.{are_zeros}

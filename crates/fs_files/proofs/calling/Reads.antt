@@ -105,7 +105,7 @@ part_of_first : (size at : ℕ) (xs : List ℕ) → take 1024 (drop at (take siz
 part_of_first size at xs = ap (take 1024) (drop_of_first size at xs) ∙ take_swap 1024 (size - at) (drop at xs)
 
 -- so what is behind some bytes begins with what is behind them among the first ones
-begins : (size at : ℕ) (xs block : List ℕ) → take 1024 (drop at xs) ≡ block → take (length (take 1024 (drop at (take size xs)))) block ≡ take 1024 (drop at (take size xs))
+pub begins : (size at : ℕ) (xs block : List ℕ) → take 1024 (drop at xs) ≡ block → take (length (take 1024 (drop at (take size xs)))) block ≡ take 1024 (drop at (take size xs))
 begins size at xs block is = grind (arith, nat_tests, part_of_first, take_length)
 
 -- the blocks of a node in use have their bytes

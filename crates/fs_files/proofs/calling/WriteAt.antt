@@ -46,9 +46,9 @@ module _ (tells : Bool) (s t : State) (number : ℕ) (d : DraftState) (o : OpenN
   pub takes_same : (x : FileNode) (off end : ℕ) → files_in s d number ≡ Some x → taken_by (is_kept d.kept) (min off o.size) end o.places ≡ taken_by (is_kept d.kept) (min off (length x.bytes)) end (places_in s d number)
   takes_same x off end at = (λ i. taken_by (is_kept d.kept) (min off (sym (is_long x at) i)) end (places_then i))
 
-  pub once_then : (off end : ℕ) → ((x : FileNode) → files_in s d number ≡ Some x → 0 < taken_by (is_kept d.kept) (min off (length x.bytes)) end (places_in s d number) → d.taken ≡ [])
+  pub once_then : (off end : ℕ) → min off o.size < end → ((x : FileNode) → files_in s d number ≡ Some x → min off (length x.bytes) < end → 0 < taken_by (is_kept d.kept) (min off (length x.bytes)) end (places_in s d number) → d.taken ≡ [])
       → 0 < taken_by (is_kept d.kept) (min off o.size) end o.places → d.taken ≡ []
-  once_then off end once more = once file at_file (omega (arith, more, takes_same file off end at_file))
+  once_then off end some once more = once file at_file (subst (λ n. min off n < end) (sym file_long) some) (omega (arith, more, takes_same file off end at_file))
 
   pub slots_then : (end : ℕ) → ((x : FileNode) → files_in s d number ≡ Some x → x.kind ≡ Dir → max (length x.bytes) end % 64 ≡ 0) → o.kind ≡ Dir → max o.size end % 64 ≡ 0
   slots_then end slots dir = subst (λ n. max n end % 64 ≡ 0) file_long (slots file at_file dir)

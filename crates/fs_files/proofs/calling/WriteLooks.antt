@@ -5,7 +5,6 @@ use Rattle.std.proofs.lemmas.Bool.Decides.{nat_tests}
 use Rattle.engine_blocks.specs.State.{State}
 use Rattle.engine_blocks.specs.Crashes.{IssuesNothing, Advances}
 use Rattle.fs_files.specs.declared.refusal.FileRefusal.{FileRefusal}
-use Rattle.fs_files.specs.declared.refusal.FileRefusal.TheVariants as refusal
 use Rattle.fs_files.specs.Calls.{LookRefused}
 use Rattle.fs_files.specs.Content.{fails_settling}
 use Rattle.fs_files.specs.Effects.{LooksOnly, LooksAndSettles}

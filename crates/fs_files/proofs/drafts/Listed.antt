@@ -23,7 +23,7 @@ pub zeros_more : (class : Class) (xs : List ℕ) (b : ℕ) (old mid new : List (
 zeros_more class xs b old mid new h e n = search (rules, arith, merged, same_from_decides, Decides-eqb, has_push, at_most_one, length-append)
 
 -- some are freed, and then others
-frees_on : (xs ys : List ℕ) (d e f : DraftState) → FreesBlocks xs d e → FreesBlocks ys e f → FreesBlocks (xs ++ ys) d f
+pub frees_on : (xs ys : List ℕ) (d e f : DraftState) → FreesBlocks xs d e → FreesBlocks ys e f → FreesBlocks (xs ++ ys) d f
 frees_on xs ys d e f a b = record {
   kept = b.kept ∙ a.kept;
   changed = λ q. both q (change_of d.changed q) (change_of e.changed q) (change_of f.changed q) (a.changed q) (b.changed q);

@@ -8,7 +8,7 @@ use Rattle.layout_geometry.specs.Geometry.{Geometry}
 use Rattle.layout_extent.specs.Runs.{runs_of, stretches}
 use Rattle.layout_bytes.specs.declared.node.Node.{Node}
 use Rattle.layout_bytes.specs.declared.node.NodeKind.{NodeKind}
-use Rattle.layout_bytes.specs.declared.node.NodeKind.TheVariants.{Free, Dir, File}
+use Rattle.layout_bytes.specs.declared.node.NodeKind.TheVariants.{Free, Dir, File, Snapshot}
 use Rattle.layout_bytes.specs.Node.{run_blocks, runs_fit, kind_fits, node_fits, IsNode}
 use Rattle.engine_blocks.specs.Puts.{IsData}
 use Rattle.fs_files.specs.declared.nodes.OpenNode.{OpenNode}
@@ -48,6 +48,9 @@ dir_used e = absurd cc
 file_used : Free ≡ File → ⊥
 file_used e = absurd cc
 
+snapshot_used : Free ≡ Snapshot → ⊥
+snapshot_used e = absurd cc
+
 -- so is a node that was read, where it is in use
 pub opens_dir : (g : Geometry) (o : OpenNode) (n : Node) (b : List ℕ) → g.n ≤ 1048576
     → ((xs : List ℕ) → run_places (runs_of xs) ≡ xs) → ((xs : List ℕ) → length (runs_of xs) ≡ stretches xs)
@@ -58,3 +61,8 @@ pub opens_file : (g : Geometry) (o : OpenNode) (n : Node) (b : List ℕ) → g.n
     → ((xs : List ℕ) → run_places (runs_of xs) ≡ xs) → ((xs : List ℕ) → length (runs_of xs) ≡ stretches xs)
     → node_of_open o ≡ n → n.kind ≡ File → IsNode g b n → IsOpen g o
 opens_file g o n b small places stretch e is node = grind (arith, nat_tests, opens, file_used)
+
+pub opens_snapshot : (g : Geometry) (o : OpenNode) (n : Node) (b : List ℕ) → g.n ≤ 1048576
+    → ((xs : List ℕ) → run_places (runs_of xs) ≡ xs) → ((xs : List ℕ) → length (runs_of xs) ≡ stretches xs)
+    → node_of_open o ≡ n → n.kind ≡ Snapshot → IsNode g b n → IsOpen g o
+opens_snapshot g o n b small places stretch e is node = grind (arith, nat_tests, opens, snapshot_used)

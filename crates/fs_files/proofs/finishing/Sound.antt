@@ -84,9 +84,12 @@ module _ (d : DraftState) (s new : State) (spare : Spare) (geom : IsGeometry s.b
   has_bit b (inl found) from below = or_left (sound.live b) (is_kept d.kept b) ((sound.blocks.marked b from below).1 (found.0, found.1, has_block s.books.geom (drafted d s.map) new.map geom back found.0 found.1 b found.2))
   has_bit b (inr keep) from below = or_right (sound.live b) (is_kept d.kept b) keep
 
+  all_whole : (b : ℕ) → IsTrue (is_live s.books.geom new.map b) → length (new.map b) ≡ 1024
+  all_whole = subst (λ h. (b : ℕ) → IsTrue (is_live h new.map b) → length (new.map b) ≡ 1024) same_geom (live_whole new told_new finished.none_bare)
+
   sound_kept : AreSoundBeside s.books.geom (is_kept d.kept) s.map → AreSoundBeside s.books.geom (is_kept d.kept) new.map
   sound_kept before = record {
-    whole = subst (λ h. (b : ℕ) → IsTrue (is_live h new.map b) → length (new.map b) ≡ 1024) same_geom (live_whole new told_new finished.none_bare);
+    whole = all_whole;
     own = λ k l i j b x y. sound.blocks.own k l i j b (has_block s.books.geom (drafted d s.map) new.map geom back k i b x) (has_block s.books.geom (drafted d s.map) new.map geom back l j b y);
     fixed = λ b low. made.bits b (omega (arith, low, geom.data_room)) ∙ set_by (has d.freed b) (has d.taken b) (is_set s.books.geom s.map b) (none_of_table s.books.geom d.freed b fits.freed low) (before.fixed b low);
     marked = λ b from below. (
@@ -110,6 +113,8 @@ module _ (d : DraftState) (s new : State) (spare : Spare) (geom : IsGeometry s.b
     blocks = λ b from below. made.lies b from;
     files = files_alike s.books.geom new.map (drafted d s.map) geom alike;
     places = λ k. ap places_or_none (used_alike s.books.geom new.map (drafted d s.map) geom alike k);
+    bits = made.bits;
+    whole = all_whole;
     sound = sound_kept;
     live = omega (
       arith,

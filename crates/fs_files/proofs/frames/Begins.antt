@@ -1,35 +1,40 @@
 -- A draft in which nothing was done.
-use Rattle.std.proofs.Common.{◌≡◌, ◌⊎◌, inl, inr, ℕ, zero, suc, ◌<◌, ◌≤◌, Bool, true, false, ◌&&◌, ◌||◌, List, [], nat_le, nat_lt, refl, subst, ◌∙◌, ⊎_elim, arith, rules}
+use Rattle.std.proofs.Common.{◌≡◌, ◌⊎◌, inl, inr, ℕ, zero, suc, ◌<◌, ◌≤◌, Bool, true, false, ◌&&◌, ◌||◌, List, [], slice_get, Some, nat_le, nat_lt, refl, sym, ap, subst, ◌∙◌, ⊎_elim, arith, rules}
 use Rattle.std.proofs.lemmas.Bool.{cases_eq, lt-ltb, or_cases, or_left, or_right, false≢true}
 use Rattle.std.proofs.lemmas.Bool.Decides.{nat_tests}
-use Rattle.std.proofs.lemmas.Option.{none-some}
+use Rattle.std.proofs.lemmas.Option.{none-some, same_Some}
+use Rattle.base_types.specs.Runs.{run_places}
 use Rattle.base_types.specs.Seal.{Blocks}
 use Rattle.layout_geometry.specs.Geometry.{Geometry, bitmap_start, data_start}
+use Rattle.layout_bytes.specs.declared.node.Node.{Node}
 use Rattle.layout_bytes.specs.Bitmap.{is_set}
+use Rattle.engine_blocks.specs.Puts.{IsData}
 use Rattle.engine_blocks.specs.Running.{HasNoBare, has}
 use Rattle.engine_blocks.specs.State.{Bookkeeping, State}
 use Rattle.engine_blocks.specs.Crashes.{IsTold}
 use Rattle.crash_stands.specs.Files.{used_node}
-use Rattle.crash_stands.specs.Stands.{AreSound, HasBlock}
+use Rattle.crash_stands.specs.Places.{kept_table}
+use Rattle.crash_stands.specs.Sharing.{IsKeptBlock}
+use Rattle.crash_stands.specs.Stands.{AreSound, HasBlock, HasNoSnapshots}
 use Rattle.fs_files.specs.Calls.{places_of}
 use Rattle.fs_files.specs.Drafts.{begun_beside}
 use Rattle.fs_files.specs.Shared.{is_kept}
-use Rattle.fs_files.specs.Sound.{AreSoundBeside, FitsBooks, IsSoundDraft}
+use Rattle.fs_files.specs.Sound.{AreSoundBeside, FitsBooks, HasSoundKept, IsSoundDraft, TellsKept}
 use Rattle.fs_files.proofs.frames.Frames.{block_at, places_have}
 use Rattle.fs_files.proofs.frames.Places.{has_place, place_of, used_within}
 
 pub begun_fits : (k : Bookkeeping) (kept : List ℕ) → HasNoBare k.running → FitsBooks k (begun_beside kept)
 begun_fits k kept none = search (rules, arith)
 
-live : (g : Geometry) (m : Blocks) (b : ℕ) → bitmap_start g ≤ b → b < g.n → (nat_lt b (data_start g) || is_set g m b) ≡ true → (nat_le (bitmap_start g) b && (nat_lt b g.n && (nat_lt b (data_start g) || is_set g m b))) ≡ true
-live g m b low high one = grind (arith, nat_tests)
+pub live_from : (g : Geometry) (m : Blocks) (b : ℕ) → bitmap_start g ≤ b → b < g.n → (nat_lt b (data_start g) || is_set g m b) ≡ true → (nat_le (bitmap_start g) b && (nat_lt b g.n && (nat_lt b (data_start g) || is_set g m b))) ≡ true
+live_from g m b low high one = grind (arith, nat_tests)
 
 -- whether one of the first n nodes has block b
-abbrev is_had : Geometry → Blocks → ℕ → ℕ → Bool
+abbrev pub is_had : Geometry → Blocks → ℕ → ℕ → Bool
 is_had g m b zero = false
 is_had g m b (suc n) = has (places_of g m (suc n)) b || is_had g m b n
 
-had_has : (g : Geometry) (m : Blocks) (b n : ℕ) → is_had g m b n ≡ true → (k : ℕ) × (i : ℕ) × HasBlock g m k i b
+pub had_has : (g : Geometry) (m : Blocks) (b n : ℕ) → is_had g m b n ≡ true → (k : ℕ) × (i : ℕ) × HasBlock g m k i b
 had_has g m b zero is = absurd (false≢true is)
 had_has g m b (suc n) is = by (had_has g m b n) (or_cases (has (places_of g m (suc n)) b) (is_had g m b n) is)
   where
@@ -44,7 +49,7 @@ has_had g m b (suc n) k i from upto h = ⊎_elim
     (λ other. or_right (has (places_of g m (suc n)) b) (is_had g m b n) (has_had g m b n k i from (omega (arith, upto, other)) h))
     (cases_eq k (suc n))
 
-had_by : (g : Geometry) (m : Blocks) (b : ℕ) → ((k : ℕ) × (i : ℕ) × HasBlock g m k i b) → is_had g m b g.i ≡ true
+pub had_by : (g : Geometry) (m : Blocks) (b : ℕ) → ((k : ℕ) × (i : ℕ) × HasBlock g m k i b) → is_had g m b g.i ≡ true
 had_by g m b r = let at = used_within g m r.0 r.2.node r.2.is_node in has_had g m b g.i r.0 r.1 at.0 at.1 r.2
 
 same_bool : (x y : Bool) → (x ≡ true → y ≡ true) → (y ≡ true → x ≡ true) → x ≡ y
@@ -55,8 +60,8 @@ pub begun_sound : (s : State) (kept : List ℕ) → data_start s.books.geom ≤ 
 begun_sound s kept room told sound = record {
   live = λ b. is_had g s.map b g.i;
   blocks = record {
-    table = λ b low high. sound.whole b (live g s.map b (omega (arith, low)) (omega (arith, high, room)) (or_left (nat_lt b (data_start g)) (is_set g s.map b) (lt-ltb b (data_start g) high)));
-    «data» = λ b low high is. sound.whole b (live g s.map b (omega (arith, low)) high (or_right (nat_lt b (data_start g)) (is_set g s.map b) ((sound.marked b low high).1 (inl (had_has g s.map b g.i is)))));
+    table = λ b low high. sound.whole b (live_from g s.map b (omega (arith, low)) (omega (arith, high, room)) (or_left (nat_lt b (data_start g)) (is_set g s.map b) (lt-ltb b (data_start g) high)));
+    «data» = λ b low high is. sound.whole b (live_from g s.map b (omega (arith, low)) high (or_right (nat_lt b (data_start g)) (is_set g s.map b) ((sound.marked b low high).1 (inl (had_has g s.map b g.i is)))));
     own = sound.own;
     marked = λ b low high. (had_has g s.map b g.i, had_by g s.map b);
     free = sound.free;
@@ -85,31 +90,59 @@ begun_sound s kept room told sound = record {
     whose b (inl is) = inl (had_has s.books.geom s.map b s.books.geom.i is)
     whose b (inr keep) = inr keep
 
-left : {A : Type 0} → A ⊎ (Bool.false ≡ true) → A
-left (inl a) = a
-left (inr is) = absurd (false≢true is)
+-- Where the kept blocks are those that snapshots keep.
+module _ (within : (g : Geometry) (m : Blocks) (k : ℕ) (node : Node) → used_node g m k ≡ Some node → (i b : ℕ) → slice_get (run_places node.runs) i ≡ Some b → (data_start g ≤ b) × (b < g.n)) where
+  pub beside_kept : (g : Geometry) (m : Blocks) (kept : ℕ → Bool) → TellsKept g kept m → AreSound g m → AreSoundBeside g kept m
+  beside_kept g m kept tells sound = record {
+    whole = sound.whole;
+    own = sound.own;
+    fixed = sound.fixed;
+    marked = λ b low high. (λ is. there b ((sound.marked b low high).0 is), λ has. (sound.marked b low high).1 (back b has));
+    inside = λ b keep. inside b ((tells b).0 keep);
+    shared = λ b k i node keep h used.
+        ap (λ (x : Node). x.kind) (same_Some node h.node (sym used ∙ h.is_node)) ∙ sound.shared k i b h ((tells b).0 keep);
+    past = sound.past;
+    free = sound.free;
+    tail = sound.tail;
+  }
+    where
+      there : (b : ℕ) → ((k : ℕ) × (i : ℕ) × HasBlock g m k i b) ⊎ IsKeptBlock g m b → ((k : ℕ) × (i : ℕ) × HasBlock g m k i b) ⊎ (kept b ≡ true)
+      there b (inl h) = inl h
+      there b (inr one) = inr ((tells b).1 one)
+
+      back : (b : ℕ) → ((k : ℕ) × (i : ℕ) × HasBlock g m k i b) ⊎ (kept b ≡ true) → ((k : ℕ) × (i : ℕ) × HasBlock g m k i b) ⊎ IsKeptBlock g m b
+      back b (inl h) = inl h
+      back b (inr keep) = inr ((tells b).0 keep)
+
+      inside : (b : ℕ) → IsKeptBlock g m b → IsData g b
+      inside b one =
+          let at = within g (kept_table m (run_places one.node.runs) g) one.number one.has.node one.has.is_node one.place b one.has.place in
+          record { from = at.0; below = at.1 }
+
+pub sound_with_kept : (g : Geometry) (m : Blocks) (kept : ℕ → Bool) → TellsKept g kept m → HasSoundKept g m → AreSoundBeside g kept m → AreSound g m
+sound_with_kept g m kept tells each sound = record {
+  whole = sound.whole;
+  own = sound.own;
+  fixed = sound.fixed;
+  marked = λ b low high. (λ is. there b ((sound.marked b low high).0 is), λ has. (sound.marked b low high).1 (back b has));
+  past = sound.past;
+  free = sound.free;
+  tail = sound.tail;
+  shared = λ k i b h one. sound.shared b k i h.node ((tells b).1 one) h h.is_node;
+  kept = each;
+}
+  where
+    there : (b : ℕ) → ((k : ℕ) × (i : ℕ) × HasBlock g m k i b) ⊎ (kept b ≡ true) → ((k : ℕ) × (i : ℕ) × HasBlock g m k i b) ⊎ IsKeptBlock g m b
+    there b (inl h) = inl h
+    there b (inr keep) = inr ((tells b).0 keep)
+
+    back : (b : ℕ) → ((k : ℕ) × (i : ℕ) × HasBlock g m k i b) ⊎ IsKeptBlock g m b → ((k : ℕ) × (i : ℕ) × HasBlock g m k i b) ⊎ (kept b ≡ true)
+    back b (inl h) = inl h
+    back b (inr one) = inr ((tells b).1 one)
 
 -- where nothing is kept
-pub beside_nothing : (g : Geometry) (m : Blocks) → AreSound g m → AreSoundBeside g (is_kept []) m
-beside_nothing g m sound = record {
-  whole = sound.whole;
-  own = sound.own;
-  fixed = sound.fixed;
-  marked = λ b low high. (λ is. inl ((sound.marked b low high).0 is), λ has. (sound.marked b low high).1 (left has));
-  inside = λ b kept. absurd (false≢true kept);
-  shared = λ b k i node kept has is. absurd (false≢true kept);
-  past = sound.past;
-  free = sound.free;
-  tail = sound.tail;
-}
+pub nothing_told : (g : Geometry) (m : Blocks) → HasNoSnapshots g m → TellsKept g (is_kept []) m
+nothing_told g m none b = (λ keep. absurd (false≢true keep), λ one. absurd (none one.snapshot one.node one.is_node one.kind))
 
-pub sound_alone : (g : Geometry) (m : Blocks) → AreSoundBeside g (is_kept []) m → AreSound g m
-sound_alone g m sound = record {
-  whole = sound.whole;
-  own = sound.own;
-  fixed = sound.fixed;
-  marked = λ b low high. (λ is. left ((sound.marked b low high).0 is), λ has. (sound.marked b low high).1 (inl has));
-  past = sound.past;
-  free = sound.free;
-  tail = sound.tail;
-}
+pub none_unsound : (g : Geometry) (m : Blocks) → HasNoSnapshots g m → HasSoundKept g m
+none_unsound g m none k node used kind = absurd (none k node used kind)

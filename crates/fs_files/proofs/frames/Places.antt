@@ -1,17 +1,17 @@
 -- The blocks of a node: data blocks, as many as its bytes need, with as many bytes as its size says and more.
-use Rattle.std.proofs.Common.{◌≡◌, ◌≢◌, ◌⊎◌, inl, inr, ℕ, zero, suc, ◌+◌, ◌*◌, ◌/◌, ◌<◌, ◌≤◌, ◌==◌, ◌||◌, Bool, true, false, List, [], ◌∷◌, length, get_or, slice_get, slice_index, if◌then◌else◌, Option, Some, None, option_map, refl, sym, ap, subst, ◌∙◌, arith}
+use Rattle.std.proofs.Common.{◌≡◌, ◌≢◌, ◌⊎◌, ℕ, ◌+◌, ◌/◌, ◌<◌, ◌≤◌, ◌==◌, Bool, true, false, List, ◌∷◌, length, get_or, slice_get, slice_index, if◌then◌else◌, Option, Some, None, option_map, refl, sym, ap, subst, ◌∙◌, arith}
 use Rattle.std.specs.List.{All, AllPairs}
 use Rattle.std.proofs.lemmas.List.{length-take-le}
-use Rattle.std.proofs.lemmas.Bool.{cases_order, eqb-true, false≢true, or_cases}
+use Rattle.std.proofs.lemmas.Bool.{cases_order, false≢true}
 use Rattle.std.proofs.lemmas.Option.{none-some, same_Some, slice_get_within, slice_get-get_or, get_or_from_slice_get}
 use Rattle.std.proofs.lemmas.Bool.Decides.{nat_tests}
 use Rattle.base_types.specs.Seal.{Blocks}
 use Rattle.base_types.specs.declared.places.Run.{Run}
-use Rattle.base_types.specs.Runs.{blocks_from, run_places}
+use Rattle.base_types.specs.Runs.{run_places}
 use Rattle.layout_geometry.specs.Geometry.{Geometry, data_start}
 use Rattle.layout_bytes.specs.declared.node.Node.{Node}
 use Rattle.layout_bytes.specs.declared.node.NodeKind.{NodeKind}
-use Rattle.layout_bytes.specs.declared.node.NodeKind.TheVariants.{Free, Dir, File}
+use Rattle.layout_bytes.specs.declared.node.NodeKind.TheVariants.{Free, Dir, File, Snapshot}
 use Rattle.layout_bytes.specs.Bytes.{when}
 use Rattle.layout_bytes.specs.Node.{node_of, node_with, node_at, node_bytes, node_fields, node_fits, spare_zeros, used_kind, runs_fit, run_blocks, kind_fits}
 use Rattle.engine_blocks.specs.Running.{has}
@@ -21,7 +21,6 @@ use Rattle.crash_stands.specs.Stands.{HasBlock}
 use Rattle.fs_files.specs.Calls.{places_or_none}
 use Rattle.fs_files.specs.Sound.{AreSoundBy}
 pub use Rattle.fs_files.specs.Places.{has_place, joined_length, joined_same, place_of, places_count, read_fits, runs_data, when_some}
-use Rattle.fs_files.proofs.bytes.Joins as joins
 use Rattle.fs_files.proofs.frames.Cells.{number_is}
 
 -- Numbers of a list.
@@ -50,17 +49,19 @@ abbrev is_free : NodeKind → Bool
 is_free Free = true
 is_free Dir = false
 is_free File = false
+is_free Snapshot = false
 
-kind_used : (p q : Bool) (kind : NodeKind) → (if p then Some Dir else if q then Some File else None) ≡ Some kind → kind ≢ Free
-kind_used true q kind e f = false≢true (ap is_free (same_Some Dir kind e ∙ f))
-kind_used false true kind e f = false≢true (ap is_free (same_Some File kind e ∙ f))
-kind_used false false kind e f = none-some kind e
+kind_used : (p q r : Bool) (kind : NodeKind) → (if p then Some Dir else if q then Some File else if r then Some Snapshot else None) ≡ Some kind → kind ≢ Free
+kind_used true q r kind e f = false≢true (ap is_free (same_Some Dir kind e ∙ f))
+kind_used false true r kind e f = false≢true (ap is_free (same_Some File kind e ∙ f))
+kind_used false false true kind e f = false≢true (ap is_free (same_Some Snapshot kind e ∙ f))
+kind_used false false false kind e f = none-some kind e
 
 pub read_used : (g : Geometry) (b : List ℕ) (node : Node) → node_of g b ≡ Some node → node.kind ≢ Free
 unfolding node_of
 read_used g b node e f =
     let r = with_fits g b (used_kind (slice_index b 0)) node e in
-    kind_used (slice_index b 0 == 1) (slice_index b 0 == 2) r.0 r.1 (sym r.3 ∙ f)
+    kind_used (slice_index b 0 == 1) (slice_index b 0 == 2) (slice_index b 0 == 3) r.0 r.1 (sym r.3 ∙ f)
 
 -- what fits says
 
@@ -83,14 +84,6 @@ pub record PartsFit (g : Geometry) (node : Node) : Type 0 where
 
 pub parts_fit : (g : Geometry) (node : Node) → node_fits g node ≡ true → PartsFit g node
 parts_fit g node e = grind (arith, nat_tests)
-
-blocks_data : (g : Geometry) (x c b : ℕ) → data_start g ≤ x → x + c ≤ g.n → has (blocks_from x c) b ≡ true → IsData g b
-blocks_data g x zero b low high e = absurd (false≢true e)
-blocks_data g x (suc c) b low high e = by (blocks_data g (x + 1) c b (omega (arith, low)) (omega (arith, high))) (or_cases (b == x) (has (blocks_from (x + 1) c) b) e)
-  where
-    by : (has (blocks_from (x + 1) c) b ≡ true → IsData g b) → ((b == x) ≡ true) ⊎ (has (blocks_from (x + 1) c) b ≡ true) → IsData g b
-    by further (inl same) = let is = eqb-true b x same in record { from = omega (arith, is, low); below = omega (arith, is, high) }
-    by further (inr rest) = further rest
 
 -- A node of sound blocks.
 

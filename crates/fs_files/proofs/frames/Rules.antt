@@ -121,7 +121,7 @@ module _ (k : Bookkeeping) (bs : List ℕ) (d e : DraftState) (frees : FreesBloc
           false_last false = refl
 
   -- a block that isn't freed is filled as before
-  frees_filled : (b : ℕ) → has bs b ≡ false → is_filled e b ≡ is_filled d b
+  pub frees_filled : (b : ℕ) → has bs b ≡ false → is_filled e b ≡ is_filled d b
   frees_filled b out = grind (arith, nat_tests, freed_has, cond-false)
 
   -- and has its rules, where what is freed are the blocks that aren't kept of live ones, once, that aren't live any more

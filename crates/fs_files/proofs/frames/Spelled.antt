@@ -7,7 +7,7 @@ use Rattle.base_types.specs.declared.places.Run.{Run}
 use Rattle.layout_geometry.specs.Geometry.{Geometry}
 use Rattle.layout_bytes.specs.declared.node.Node.{Node}
 use Rattle.layout_bytes.specs.declared.node.NodeKind.{NodeKind}
-use Rattle.layout_bytes.specs.declared.node.NodeKind.TheVariants.{Free, Dir, File}
+use Rattle.layout_bytes.specs.declared.node.NodeKind.TheVariants.{Free, Dir, File, Snapshot}
 use Rattle.layout_bytes.specs.Node.{node_of, node_fits, node_spelling, kind_byte, run_bytes, FitsAs, IsNode}
 use Rattle.fs_files.specs.Frames.{used_of, used_by, ReadsBack}
 
@@ -64,12 +64,16 @@ abbrev is_free : NodeKind → Bool
 is_free Free = true
 is_free Dir = false
 is_free File = false
+is_free Snapshot = false
 
 dir_used : Dir ≡ Free → ⊥
 dir_used e = false≢true (ap is_free e)
 
 file_used : File ≡ Free → ⊥
 file_used e = false≢true (ap is_free e)
+
+snapshot_used : Snapshot ≡ Free → ⊥
+snapshot_used e = false≢true (ap is_free e)
 
 pub reads_back : (g : Geometry) (node : Node)
     → ((b : List ℕ) (n : Node) → length b ≡ 256 → ((i : ℕ) → slice_index b i < 256) → (node_of g b ≡ Some n) ↔ (IsNode g b n × (n.kind ≡ Free → ⊥)))
@@ -90,6 +94,7 @@ reads_back g node read free size zeros is = record {
     by Free e = free (node_spelling node) node (size (node_spelling node) node is) (spelling_bytes node) is e
     by Dir e = used (λ free. dir_used (sym e ∙ free))
     by File e = used (λ free. file_used (sym e ∙ free))
+    by Snapshot e = used (λ free. snapshot_used (sym e ∙ free))
 
 -- A node in use is the one that it is.
 

@@ -7,7 +7,7 @@ use Rattle.engine_blocks.specs.Crashes.{IsTold}
 use Rattle.fs_files.specs.Drafts.{begun_beside}
 use Rattle.fs_files.specs.Shared.{is_kept}
 use Rattle.fs_files.specs.Sound.{AreSoundBeside, IsDraftOf}
-use Rattle.fs_files.proofs.frames.Begins.{begun_fits, begun_sound, beside_nothing}
+use Rattle.fs_files.proofs.frames.Begins.{begun_fits, begun_sound}
 use Rattle.fs_files.proofs.laws.a_draft_begins.Goals as goal
 
 begins : (tells : Bool) (s : State) (kept : List ℕ) → data_start s.books.geom ≤ s.books.geom.n → (IsTrue tells → IsTold s) → HasNoBare s.books.running
@@ -22,7 +22,7 @@ pub returns-clause-draft : goal.returns-clause-draft
 returns-clause-draft g c = λ none sound.
     let room = subst (λ (x : Geometry). data_start x ≤ x.n) c.geom.ensures (omega (arith, c.lawful.ensures.limits.data_room)) in
     let s = g.S.Blocks.state c.args.blocks.now in
-    begins g.S.Blocks.tells s [] room (g.met.S.Blocks.is_told c.args.blocks.now) none (λ t. beside_nothing s.books.geom s.map (sound t))
+    begins g.S.Blocks.tells s [] room (g.met.S.Blocks.is_told c.args.blocks.now) none sound
 
 pub returns-clause-beside : goal.returns-clause-beside
 returns-clause-beside g c = λ kept none sound.

@@ -1,5 +1,5 @@
 use Rattle.std.proofs.Common.{sym}
-use Rattle.fs_files.proofs.drafts.Opened.{opens_dir, opens_file}
+use Rattle.fs_files.proofs.drafts.Opened.{opens_dir, opens_file, opens_snapshot}
 use Rattle.fs_files.proofs.nodes.open_node.Goals as goal
 
 pub returns-in_default-clause-node : goal.returns-in_default-clause-node
@@ -13,3 +13,6 @@ returns-in-Dir-clause-open c = opens_dir c.args.geom.now c.opened.result c.in-Ok
 
 pub returns-in-File-clause-open : goal.returns-in-File-clause-open
 returns-in-File-clause-open c = opens_file c.args.geom.now c.opened-in-File.result c.in-Ok.node c.args.bytes.now c.lawful.ensures.limits.most_blocks c.a_list_has_its_runs.ensures.places c.a_list_has_its_runs.ensures.count c.opened-in-File.ensures c.in-File.is c.in-Ok.ensures.found
+
+pub returns-in-Snapshot-clause-open : goal.returns-in-Snapshot-clause-open
+returns-in-Snapshot-clause-open c = opens_snapshot c.args.geom.now c.opened-in-Snapshot.result c.in-Ok.node c.args.bytes.now c.lawful.ensures.limits.most_blocks c.a_list_has_its_runs.ensures.places c.a_list_has_its_runs.ensures.count c.opened-in-Snapshot.ensures c.in-Snapshot.is c.in-Ok.ensures.found

@@ -24,3 +24,9 @@ pub returns-in-Dir-clause-bytes : goal.returns-in-Dir-clause-bytes
 returns-in-Dir-clause-bytes g c = λ tells content.
     ok_both c.zero_rest.result (cleared_dir (g.S.Blocks.state c.args.blocks.now).map c.args.kind c.args.size c.args.places.now c.args.draft.now c.zero_rest.new.draft (ap is_dir c.in-Dir.is))
     (c.zero_rest.ensures.content tells content) (c.zero_rest.ensures.bytes tells content)
+
+pub returns-in-Snapshot-clause-clears : goal.returns-in-Snapshot-clause-clears
+returns-in-Snapshot-clause-clears g c = clears_none c.args.kind c.args.size c.args.places.now c.args.draft.now (ap is_dir c.in-Snapshot.is)
+
+pub returns-in-Snapshot-clause-bytes : goal.returns-in-Snapshot-clause-bytes
+returns-in-Snapshot-clause-bytes g c = λ tells content. cleared_none (g.S.Blocks.state c.args.blocks.now).map c.args.kind c.args.size c.args.places.now c.args.draft.now (ap is_dir c.in-Snapshot.is) content

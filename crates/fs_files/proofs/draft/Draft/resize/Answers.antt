@@ -58,7 +58,7 @@ write_loaded-requires-clause-size g c = omega (arith, c.requires.grows.size)
 pub write_loaded-requires-clause-once : goal.write_loaded-requires-clause-once
 write_loaded-requires-clause-once g c = λ known more.
     let b = (goal.at.write_loaded-requires-clause-once g c).In-Some in
-    once_then g.S.Blocks.tells (s g b) (t g b) c.args.number c.args.self.now c.in-Some.node c.in_ok-node.ensures.looks known (c.requires.look.may.sound known) (fits g b) (is g b known) c.a_list_has_its_runs.ensures.places c.args.size c.args.size (c.requires.grows.once known)
+    once_then g.S.Blocks.tells (s g b) (t g b) c.args.number c.args.self.now c.in-Some.node c.in_ok-node.ensures.looks known (c.requires.look.may.sound known) (fits g b) (is g b known) c.a_list_has_its_runs.ensures.places c.args.size c.args.size (omega (arith, c.if-size-node.false, c.if-size-node-2.false)) (c.requires.grows.once known)
     (subst (λ hi. 0 < taken_by (is_kept c.args.self.now.kept) (min c.args.size c.in-Some.node.size) hi c.in-Some.node.places) {x = c.args.size + 0} {y = c.args.size} (omega arith) more)
 
 pub write_loaded-requires-clause-slots : goal.write_loaded-requires-clause-slots

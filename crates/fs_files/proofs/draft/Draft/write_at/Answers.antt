@@ -48,7 +48,7 @@ write_loaded-requires-clause-some g c = inl (some_bytes (length c.args.bytes.now
 pub write_loaded-requires-clause-once : goal.write_loaded-requires-clause-once
 write_loaded-requires-clause-once g c = λ told more.
     let b = (goal.at.write_loaded-requires-clause-once g c).In-Some in
-    once_then g.S.Blocks.tells (s g b) (t g b) c.args.number c.args.self.now c.in-Some.node c.in_ok-node.ensures.looks told (c.requires.look.may.sound told) (opened g b) (used g b told) c.a_list_has_its_runs.ensures.places c.args.offset (c.args.offset + length c.args.bytes.now) (c.requires.grows.once told) more
+    once_then g.S.Blocks.tells (s g b) (t g b) c.args.number c.args.self.now c.in-Some.node c.in_ok-node.ensures.looks told (c.requires.look.may.sound told) (opened g b) (used g b told) c.a_list_has_its_runs.ensures.places c.args.offset (c.args.offset + length c.args.bytes.now) (omega (arith, some_bytes (length c.args.bytes.now) (sym c.is_empty.ensures ∙ c.if-is_empty.false))) (c.requires.grows.once told) more
 
 pub write_loaded-requires-clause-slots : goal.write_loaded-requires-clause-slots
 write_loaded-requires-clause-slots g c = λ told dir.

@@ -1,0 +1,9 @@
+pub mod Counts
+pub mod UsedKinds
+pub mod Places
+pub mod Whole
+pub mod KeptReads
+pub mod KeptOpens
+pub mod GoneThrough
+pub mod Sound
+pub mod knowing

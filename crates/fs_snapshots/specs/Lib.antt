@@ -1,0 +1,5 @@
+pub mod Kept
+pub mod Tables
+pub mod Refused
+pub mod Known
+pub mod Among
