@@ -5,4 +5,5 @@ pub mod carrying
 pub mod syncing
 pub mod applying
 pub mod standing
+pub mod leaving
 pub mod rooms

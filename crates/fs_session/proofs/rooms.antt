@@ -1,4 +1,7 @@
 pub mod Lists
+pub mod KeptBlocks
+pub mod SnapshotBlocks
+pub mod Shared
 pub mod Nodes
 pub mod Same
 pub mod Known

@@ -2,5 +2,4 @@ pub mod Lists
 pub mod Nodes
 pub mod Links
 pub mod Marks
-pub mod Alive
 pub mod Known

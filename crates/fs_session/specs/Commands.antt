@@ -1,6 +1,7 @@
 -- How a command is carried out over a map of blocks: what it answers, what becomes of the session, and what it leaves of the bookkeeping. It is described in docs/FILE-SYSTEM.md.
-use Rattle.std.specs.Prelude.{◌≡◌, ◌⊎◌, ℕ, ◌+◌, ◌^◌, ◌≤◌, ◌<◌, Bool, true, false, IsTrue, not, ◌&&◌, List, length, take, Option, None, Some, option_and_then, IfOk, IfErr, OnErr, Result, Err}
+use Rattle.std.specs.Prelude.{◌≡◌, ◌⊎◌, ℕ, ◌+◌, ◌^◌, ◌≤◌, ◌<◌, Bool, true, false, IsTrue, not, ◌&&◌, List, length, take, Option, None, Some, is_none, find, option_and_then, IfOk, IfErr, OnErr, Result, Err}
 use Rattle.std.specs.FinMap.{keys}
+use Rattle.std.specs.List.{range_with_len}
 use Rattle.base_types.specs.Counts.{after_call}
 use Rattle.layout_geometry.specs.Geometry.{bitmap_blocks}
 use Rattle.layout_extent.specs.Renew.{renew}
@@ -12,8 +13,9 @@ use Rattle.lang_tree.specs.declared.command.Refusal.TheVariants as because
 use Rattle.lang_tree.specs.declared.command.Reply.{Reply}
 use Rattle.lang_tree.specs.Conditions.{refusal}
 use Rattle.lang_tree.specs.Figures.{Figures}
-use Rattle.lang_tree.specs.Sharing.{SharedNodes, SharedPlaces, figures_over}
+use Rattle.lang_tree.specs.Sharing.{BlocksAlone, SharedNodes, SharedPlaces, figures_over}
 use Rattle.lang_tree.specs.Step.{Session, step}
+use Rattle.crash_stands.specs.Files.{files_of}
 use Rattle.crash_stands.specs.Inodes.{Inodes}
 use Rattle.fs_inodes.specs.Lookups.{number_at}
 use Rattle.engine_blocks.specs.Running.{has}
@@ -24,8 +26,9 @@ use Rattle.engine_blocks.specs.Serving.{SameFreed}
 use Rattle.fs_files.specs.Calls.{places_in}
 use Rattle.fs_files.specs.Drafts.{nothing_drafted}
 use Rattle.fs_files.specs.Effects.{ServesAllOrNone}
-use Rattle.fs_session.specs.Lists.{KeptLists, nothing_kept, shared_in}
+use Rattle.fs_session.specs.Lists.{KeptLists, alone_in, kept_after, shared_in}
 use Rattle.fs_session.specs.Sessions.{IsSession, inodes}
+use Rattle.fs_session.specs.Snapshots.{kept_lists}
 use Rattle.fs_session.specs.Space.{ArePlaced, HasRoom, LacksRoom, grown_path, renewed_by}
 
 -- The command ran, and no point was made: blocks were read, the pipeline may have settled, and the transaction may have changed. A failed read is counted once, and so is another failed call of the disk.
@@ -64,25 +67,38 @@ abbrev pub is_disk_fault : Result Reply Refusal → Bool
 is_disk_fault (Err because.DiskFault) = true
 is_disk_fault _ = false
 
--- the number of the node that the command may grow
+-- the number of the node at the path of one that the command may grow
 abbrev pub grown_by : Inodes → Cmd → Option ℕ
 grown_by m cmd = option_and_then (number_at m) (grown_path cmd)
+
+-- the least number that no node in use has
+abbrev pub least_number : State → Option ℕ
+least_number s = find (λ n. is_none (files_of s.books.geom s.map n)) (range_with_len 1 s.books.geom.i)
+
+-- the number of the node that the command may grow over these blocks: a new snapshot's, or that at its path
+abbrev pub grown_on : State → Cmd → Option ℕ
+grown_on s (cmds.Snap name) = least_number s
+grown_on s cmd = grown_by (inodes s) cmd
 
 -- the blocks of node k, in order
 abbrev pub places_of : State → ℕ → List ℕ
 places_of s k = places_in s nothing_drafted k
 
--- the blocks of files that snapshots keep: so far no command makes a snapshot, and nothing is kept
+-- the blocks of files that snapshots keep
 abbrev pub kept_in : State → KeptLists
-kept_in s = nothing_kept
+kept_in s = kept_lists s.books.geom s.map
 
 -- which blocks of each node a snapshot of the session keeps
 abbrev pub shared_on : State → Session → SharedNodes
 shared_on s f = shared_in s.books.geom.i (places_of s) (kept_in s) (keys f.tree.snapshots)
 
+-- how many blocks of its files each snapshot of the session alone has, by its name
+abbrev pub alone_on : State → Session → BlocksAlone
+alone_on s f = alone_in s.books.geom.i (places_of s) (kept_in s) (keys f.tree.snapshots)
+
 -- need, cost and blocks freed of a command in a session over these blocks
 abbrev pub figures_on : State → Session → Cmd → Figures
-figures_on s f cmd = figures_over (bitmap_blocks s.books.geom) (shared_on s f) f cmd
+figures_on s f cmd = figures_over (bitmap_blocks s.books.geom) (shared_on s f) (alone_on s f) f cmd
 
 -- the places of each node that the command renews
 abbrev pub renewed_on : State → Session → Cmd → SharedNodes
@@ -103,15 +119,16 @@ pub record GrowsInRuns (renewed : SharedPlaces) (old : State) (settled : Bookkee
 
 -- a command that grows a node finds it so
 abbrev pub FindsRuns : State → Bookkeeping → Session → Cmd → Type 0
-FindsRuns old settled f cmd = (k : ℕ) → 0 < (figures_on old f cmd).need → grown_by (inodes old) cmd ≡ Some k → GrowsInRuns (renewed_on old f cmd k) old settled k (figures_on old f cmd).need
+FindsRuns old settled f cmd = (k : ℕ) → 0 < (figures_on old f cmd).need → grown_on old cmd ≡ Some k → GrowsInRuns (renewed_on old f cmd k) old settled k (figures_on old f cmd).need
 
--- What a command of these figures that renews these places spends: its cost is weighed, and what it frees is held. It takes the least blocks that may be taken once it has settled, as many as it needs; and each node has the first of its own blocks, or all of its own and behind them the first of those, of which the first stand where places are renewed.
-pub record Spends (old : State) (settled : Bookkeeping) (new : State) (f : Figures) (renewed : SharedNodes) : Type 0 where
+-- What a command of these figures that renews these places spends: its cost is weighed, and what it frees is held. It takes the least blocks that may be taken once it has settled, as many as it needs; and each node has the first of its own blocks, or all of its own and behind them the first of those, of which the first stand where places are renewed. Behind it snapshots keep these blocks.
+pub record Spends (old : State) (settled : Bookkeeping) (new : State) (f : Figures) (renewed : SharedNodes) (kept : KeptLists) : Type 0 where
   pub weight : new.books.running.weight ≡ old.books.running.weight + f.cost
   pub held : new.books.running.held ≡ old.books.running.held + f.freed
   pub takeable : (b : ℕ) → new.books.reusable b ≡ (not (has (take f.need (reusable_blocks settled)) b) && settled.reusable b)
   pub since : (b : ℕ) → new.books.since b ≡ settled.since b
   pub placed : ArePlaced renewed (places_of old) (places_of new) (take f.need (reusable_blocks settled))
+  pub keeps : kept_in new ≡ kept
 
 -- Nothing is spent: the transaction and the blocks are as they were, and what might be taken still may.
 pub record SpendsNothing (tells : Bool) (old new : State) : Type 0 where
@@ -127,7 +144,7 @@ pub record IsDone (old new : State) (f : Session) (cmd : Cmd) (reply : Reply) : 
   pub settled : Bookkeeping
   pub finds : FindsBlocks (figures_on old f cmd).need old.books settled
   pub runs : FindsRuns old settled f cmd
-  pub spends : Spends old settled new (figures_on old f cmd) (renewed_on old f cmd)
+  pub spends : Spends old settled new (figures_on old f cmd) (renewed_on old f cmd) (kept_after f (places_of old) (kept_in old) cmd)
 
 -- The tree accepts the command, and there is no room for it. Then none of the blocks that wait serves.
 pub record IsOutOfRoom (old new : State) (f : Session) (cmd : Cmd) (why : Refusal) : Type 0 where
@@ -140,7 +157,7 @@ pub record IsScattered (old new : State) (f : Session) (cmd : Cmd) (why : Refusa
   pub accepted : refusal f.limit f.tree cmd ≡ None
   pub room : HasRoom old.books (figures_on old f cmd)
   pub node : ℕ
-  pub grows : grown_by (inodes old) cmd ≡ Some node
+  pub grows : grown_on old cmd ≡ Some node
   pub enough : (figures_on old f cmd).need ≤ length (reusable_blocks new.books)
   pub is : why ≡ because.Scattered (stretches (renew (renewed_on old f cmd node) 0 (places_of old node) (take (figures_on old f cmd).need (reusable_blocks new.books))))
   pub past : 28 < stretches (renew (renewed_on old f cmd node) 0 (places_of old node) (take (figures_on old f cmd).need (reusable_blocks new.books)))

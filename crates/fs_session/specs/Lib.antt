@@ -1,6 +1,7 @@
 pub mod Lists
 pub mod Row
 pub mod Sessions
+pub mod Snapshots
 pub mod Space
 pub mod Room
 pub mod Memory

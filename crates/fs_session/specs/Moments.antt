@@ -2,7 +2,7 @@
 use Rattle.std.proofs.Common.{◌≡◌, ◌⊎◌, inl, inr, ⊎_elim, ℕ, sym, ◌∙◌}
 use Rattle.layout_geometry.specs.Geometry.{Geometry}
 use Rattle.lang_tree.specs.declared.command.Cmd.{Cmd}
-use Rattle.lang_tree.specs.declared.command.Cmd.TheVariants.{Mkdir, Create, Write, Fill, Read, Truncate, Link, Unlink, Rmdir, Rename, Stat, List as ListNames, Osync, Dsync, Durable, Dwait, Poll, Bad}
+use Rattle.lang_tree.specs.declared.command.Cmd.TheVariants.{Mkdir, Create, Write, Fill, Read, Truncate, Link, Unlink, Rmdir, Rename, Stat, List as ListNames, Snap, Unsnap, Snaps, At, Osync, Dsync, Durable, Dwait, Poll, Bad}
 use Rattle.lang_tree.specs.declared.command.Refusal.TheVariants.{Stopped, Spent}
 use Rattle.lang_tree.specs.declared.command.Reply.{Reply}
 use Rattle.lang_tree.specs.Step.{Session}
@@ -51,6 +51,10 @@ answer_in_room g at end f old (Rmdir path) reply next new x = any_over g at end 
 answer_in_room g at end f old (Rename from to) reply next new x = any_over g at end f old (Rename from to) reply next new x
 answer_in_room g at end f old (Stat path) reply next new x = any_over g at end f old (Stat path) reply next new x
 answer_in_room g at end f old (ListNames path) reply next new x = any_over g at end f old (ListNames path) reply next new x
+answer_in_room g at end f old (Snap name) reply next new x = any_over g at end f old (Snap name) reply next new x
+answer_in_room g at end f old (Unsnap name) reply next new x = any_over g at end f old (Unsnap name) reply next new x
+answer_in_room g at end f old Snaps reply next new x = any_over g at end f old Snaps reply next new x
+answer_in_room g at end f old (At name look) reply next new x = any_over g at end f old (At name look) reply next new x
 
 -- Other moments.
 
@@ -103,6 +107,10 @@ module _ (g : Geometry) (at end now last : Moment) (same : SaysNoMore at now) (e
   leaves_too (Rename from to) reply next old new x = x
   leaves_too (Stat path) reply next old new x = x
   leaves_too (ListNames path) reply next old new x = x
+  leaves_too (Snap name) reply next old new x = x
+  leaves_too (Unsnap name) reply next old new x = x
+  leaves_too Snaps reply next old new x = x
+  leaves_too (At name look) reply next old new x = x
 
   any_too : (f : Session) (old : RoomOn) (cmd : Cmd) (reply : Reply) (next : Session) (new : RoomOn) → AnyAt g at end f old cmd reply next new → AnyAt g now last f old cmd reply next new
   any_too f old cmd reply next new (inl refused) = inl refused
@@ -137,3 +145,7 @@ module _ (g : Geometry) (at end now last : Moment) (same : SaysNoMore at now) (e
   answer_at_others f old (Rename from to) reply next new x = any_too f old (Rename from to) reply next new x
   answer_at_others f old (Stat path) reply next new x = any_too f old (Stat path) reply next new x
   answer_at_others f old (ListNames path) reply next new x = any_too f old (ListNames path) reply next new x
+  answer_at_others f old (Snap name) reply next new x = any_too f old (Snap name) reply next new x
+  answer_at_others f old (Unsnap name) reply next new x = any_too f old (Unsnap name) reply next new x
+  answer_at_others f old Snaps reply next new x = any_too f old Snaps reply next new x
+  answer_at_others f old (At name look) reply next new x = any_too f old (At name look) reply next new x

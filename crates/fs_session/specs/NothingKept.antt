@@ -1,8 +1,9 @@
--- Lemmas where nothing is kept, as over blocks so far, or where no snapshot is there: no place is shared or renewed, a command needs what it needs of the tree alone, and new blocks stand behind all. They are described in docs/SPACE.md.
-use Rattle.std.proofs.Common.{◌≡◌, ℕ, zero, suc, ◌+◌, ◌-◌, ◌≤◌, ◌==◌, Bool, false, ◌&&◌, ◌||◌, min, List, [], ◌∷◌, ◌++◌, length, take, map, slice_get, Option, None, Some, refl, sym, subst, ap, ap₂, ◌∙◌}
+-- Lemmas where no snapshot is there, or a command puts no bytes into a file: no place is renewed, and new blocks stand behind all. Without snapshots a command needs what it needs of the tree alone. They are described in docs/SPACE.md.
+use Rattle.std.proofs.Common.{◌≡◌, ℕ, ◌+◌, ◌-◌, ◌≤◌, ◌==◌, Bool, true, false, ◌&&◌, is_none, min, List, [], ◌∷◌, ◌++◌, length, take, map, slice_get, Option, None, Some, refl, sym, subst, ap, ◌∙◌}
 use Rattle.std.proofs.Math.Bool.{and-false, or-false}
+use Rattle.std.proofs.lemmas.Bool.{false≢true}
 use Rattle.std.proofs.lemmas.List.{append-nil, nil_from_length}
-use Rattle.std.specs.FinMap.{empty, entries, keys, len-empty, len-entries}
+use Rattle.std.specs.FinMap.{empty, entries, get, get-empty, keys, len-empty, len-entries}
 use Rattle.std.specs.List.{list_any}
 use Rattle.std.specs.Ordering.{nat_cmp}
 use Rattle.std.specs.Cmp.Lexicographic.{slice_cmp}
@@ -11,10 +12,12 @@ use Rattle.layout_geometry.specs.Geometry.{Geometry, bitmap_blocks, data_start}
 use Rattle.layout_extent.specs.Renew.{renew}
 use Rattle.layout_extent.specs.Runs.{stretches}
 use Rattle.lang_tree.specs.declared.command.Cmd.{Cmd}
-use Rattle.lang_tree.specs.declared.command.Cmd.TheVariants.{Write, Fill, Truncate}
-use Rattle.lang_tree.specs.Conditions.{is_snapshot}
+use Rattle.lang_tree.specs.declared.command.Cmd.TheVariants.{Write, Fill, Truncate, Unsnap}
+use Rattle.lang_tree.specs.declared.command.Refusal.{Refusal}
+use Rattle.lang_tree.specs.declared.command.Refusal.TheVariants.{NoSnap}
+use Rattle.lang_tree.specs.Conditions.{is_snapshot, refusal, when}
 use Rattle.lang_tree.specs.Figures.{blocks, figures, touches}
-use Rattle.lang_tree.specs.Sharing.{SharedNodes, figures_over, none_shared}
+use Rattle.lang_tree.specs.Sharing.{BlocksAlone, SharedNodes, SharedPlaces, accepted_over, figures_over, figures_over_by, none_alone, none_shared}
 use Rattle.lang_tree.specs.Step.{Session}
 use Rattle.lang_tree.specs.Tree.{Kept, Snapshots, Tree}
 use Rattle.lang_tree.specs.Walk.{are_same, content}
@@ -23,8 +26,10 @@ use Rattle.engine_blocks.specs.State.{Bookkeeping, State, reusable_blocks}
 use Rattle.fs_files.specs.Drafts.{DraftState}
 use Rattle.fs_session.specs.Changes.{Uses}
 use Rattle.fs_session.specs.Commands.{GrowsInRuns, figures_on, places_of, renewed_on, shared_on}
-use Rattle.fs_session.specs.Lists.{is_kept_block, is_listed, kept_at, node_blocks, nothing_kept, shared_in}
-use Rattle.fs_session.specs.Room.{HoldsTree, Room, figures_in, is_in_use, left_in, renewed_in, runs_with, shared_by}
+use Rattle.fs_session.specs.Lists.{is_listed, kept_at, shared_in}
+use Rattle.fs_snapshots.specs.Known.{node_blocks}
+use Rattle.fs_session.specs.Memory.{room_of}
+use Rattle.fs_session.specs.Room.{HoldsTree, Room, alone_by, figures_in, is_in_use, left_in, renewed_in, runs_with, shared_by}
 use Rattle.fs_session.specs.Space.{ArePlaced, grown_in, none_renewed, renewed_by, touched_by}
 
 -- New blocks stand behind all where no place is renewed.
@@ -61,56 +66,25 @@ touches_none t cmd i = refl
 renews_none : (f : Session) (cmd : Cmd) → renewed_by f cmd none_renewed ≡ none_renewed
 renews_none f cmd = fun_ext (λ k. fun_ext (λ i. ap (λ b. b && are_same (grown_in f cmd) (Some k)) (touches_none f.tree cmd i)))
 
--- Nothing is kept.
-
-no_blocks : (n : ℕ) → node_blocks (λ k. []) n ≡ []
-no_blocks zero = refl
-no_blocks (suc n) = append-nil (node_blocks (λ k. []) n) ∙ no_blocks n
-
-kept_nowhere : (n : ℕ) (names : List (List ℕ)) (b : ℕ) → is_kept_block n nothing_kept names b ≡ false
-kept_nowhere n [] b = refl
-kept_nowhere n (name ∷ names) b = ap₂ (λ x y. x || y) (ap (λ (xs : List ℕ). has xs b) (no_blocks n)) (kept_nowhere n names b)
-
--- no place is shared
-shares_none : (n : ℕ) (places : ℕ → List ℕ) (names : List (List ℕ)) → shared_in n places nothing_kept names ≡ none_renewed
-shares_none n places names = fun_ext (λ k. fun_ext (λ i. by (slice_get (places k) i)))
-  where
-    by : (o : Option ℕ) → kept_at n nothing_kept names o ≡ false
-    by None = refl
-    by (Some b) = kept_nowhere n names b
-
--- a block is listed where a node has it
-pub listed_of_nodes : (n : ℕ) (places : ℕ → List ℕ) (names : List (List ℕ)) (b : ℕ) → is_listed n places nothing_kept names b ≡ has (node_blocks places n) b
-listed_of_nodes n places names b = ap (λ x. has (node_blocks places n) b || x) (kept_nowhere n names b) ∙ or-false (has (node_blocks places n) b)
-
 -- what the law says of figures where nothing is shared
 abbrev pub CostsAsAlone : Type 0
-CostsAsAlone = (bitmap : ℕ) (f : Session) (cmd : Cmd) → figures_over bitmap none_renewed f cmd ≡ figures bitmap f cmd
+CostsAsAlone = (bitmap : ℕ) (f : Session) (cmd : Cmd) → figures_over bitmap none_renewed none_alone f cmd ≡ figures bitmap f cmd
 
--- so far it is so of all blocks
-module _ (s : State) (f : Session) where
-  pub nothing_shared : shared_on s f ≡ none_renewed
-  nothing_shared = shares_none s.books.geom.i (places_of s) (keys f.tree.snapshots)
+-- What a snapshot alone has counts where it goes.
 
-  pub nothing_renewed : (cmd : Cmd) → renewed_on s f cmd ≡ none_renewed
-  nothing_renewed cmd = ap (renewed_by f cmd) nothing_shared ∙ renews_none f cmd
+unless_it_goes : (bitmap : ℕ) (shared : SharedNodes) (alone : BlocksAlone) (limit : ℕ) (t : Tree) (cmd : Cmd) (why : Option Refusal)
+    → accepted_over bitmap shared alone limit t cmd ≡ accepted_over bitmap shared none_alone limit t cmd → figures_over_by bitmap shared alone limit t cmd why ≡ figures_over_by bitmap shared none_alone limit t cmd why
+unless_it_goes bitmap shared alone limit t cmd None same = same
+unless_it_goes bitmap shared alone limit t cmd (Some why) same = refl
 
-  pub figures_unshared : (cmd : Cmd) → figures_on s f cmd ≡ figures_over (bitmap_blocks s.books.geom) none_renewed f cmd
-  figures_unshared cmd = ap (λ (shared : SharedNodes). figures_over (bitmap_blocks s.books.geom) shared f cmd) nothing_shared
-
-  pub figures_are : CostsAsAlone → (cmd : Cmd) → figures_on s f cmd ≡ figures (bitmap_blocks s.books.geom) f cmd
-  figures_are law cmd = figures_unshared cmd ∙ law (bitmap_blocks s.books.geom) f cmd
-
-  -- new blocks stand behind a node's own
-  pub runs_so_far : (cmd : Cmd) (k : ℕ) (more : List ℕ) → stretches (renew (renewed_on s f cmd k) 0 (places_of s k) more) ≡ stretches (places_of s k ++ more)
-  runs_so_far cmd k more = ap (λ (renewed : SharedNodes). stretches (renew (renewed k) 0 (places_of s k) more)) (nothing_renewed cmd) ∙ ap stretches (behind_all 0 (places_of s k) more)
-
-  -- what a command does that renews no place
-  pub grows_so_far : (cmd : Cmd) (settled : Bookkeeping) (k need : ℕ) → GrowsInRuns none_shared s settled k need → GrowsInRuns (renewed_on s f cmd k) s settled k need
-  grows_so_far cmd settled k need grows = subst (λ (renewed : SharedNodes). GrowsInRuns (renewed k) s settled k need) (sym (nothing_renewed cmd)) grows
-
-  pub uses_so_far : (cmd : Cmd) (need freed : ℕ) (spare : List ℕ) (old new : ℕ → List ℕ) (d : DraftState) → Uses need freed spare none_renewed old new d → Uses need freed spare (renewed_on s f cmd) old new d
-  uses_so_far cmd need freed spare old new d uses = subst (λ (renewed : SharedNodes). Uses need freed spare renewed old new d) (sym (nothing_renewed cmd)) uses
+-- where there is none, none goes
+none_goes : (bitmap : ℕ) (shared : SharedNodes) (alone : BlocksAlone) (f : Session) (cmd : Cmd) → f.tree.snapshots ≡ empty → figures_over bitmap shared alone f cmd ≡ figures_over bitmap shared none_alone f cmd
+none_goes bitmap shared alone f (Unsnap name) none =
+    ap (figures_over_by bitmap shared alone f.limit f.tree (Unsnap name)) refused ∙ sym (ap (figures_over_by bitmap shared none_alone f.limit f.tree (Unsnap name)) refused)
+  where
+    refused : refusal f.limit f.tree (Unsnap name) ≡ Some NoSnap
+    refused = ap (λ (m : Snapshots). when (is_none (get m name)) NoSnap) none ∙ ap (λ (o : Option Kept). when (is_none o) NoSnap) (get-empty (slice_cmp nat_cmp) name)
+none_goes bitmap shared alone f cmd none = unless_it_goes bitmap shared alone f.limit f.tree cmd (refusal f.limit f.tree cmd) refl
 
 -- No snapshot is there.
 
@@ -135,8 +109,13 @@ module _ (g : Geometry) (f : Session) (r : Room) (none : f.tree.snapshots ≡ em
   pub alone_renews : (cmd : Cmd) → renewed_in g f r cmd ≡ none_renewed
   alone_renews cmd = ap (renewed_by f cmd) alone_shares ∙ renews_none f cmd
 
+  alone_figures : (cmd : Cmd) → figures_in g f r cmd ≡ figures_over (bitmap_blocks g) none_renewed none_alone f cmd
+  alone_figures cmd =
+      ap (λ (shared : SharedNodes). figures_over (bitmap_blocks g) shared (alone_by g f.tree r) f cmd) alone_shares
+      ∙ none_goes (bitmap_blocks g) none_renewed (alone_by g f.tree r) f cmd none
+
   pub alone_costs : CostsAsAlone → (cmd : Cmd) → figures_in g f r cmd ≡ figures (bitmap_blocks g) f cmd
-  alone_costs law cmd = ap (λ (shared : SharedNodes). figures_over (bitmap_blocks g) shared f cmd) alone_shares ∙ law (bitmap_blocks g) f cmd
+  alone_costs law cmd = alone_figures cmd ∙ law (bitmap_blocks g) f cmd
 
   -- the blocks in use are those of nodes
   pub alone_uses : (b : ℕ) → is_in_use g f.tree r b ≡ has (node_blocks r.places g.i) b
@@ -152,3 +131,41 @@ module _ (g : Geometry) (f : Session) (r : Room) (none : f.tree.snapshots ≡ em
 
   pub alone_placed : (cmd : Cmd) (old new : ℕ → List ℕ) (more : List ℕ) → ArePlaced (renewed_in g f r cmd) old new more → (k : ℕ) → new k ≡ take (length (new k)) (old k ++ more)
   alone_placed cmd old new more placed = behind_placed old new more (subst (λ (renewed : SharedNodes). ArePlaced renewed old new more) (alone_renews cmd) placed)
+
+-- So it is over blocks whose session has no snapshot.
+module _ (s : State) (f : Session) (none : f.tree.snapshots ≡ empty) where
+  pub nothing_renewed : (cmd : Cmd) → renewed_on s f cmd ≡ none_renewed
+  nothing_renewed cmd = alone_renews s.books.geom f (room_of s) none cmd
+
+  pub figures_are : CostsAsAlone → (cmd : Cmd) → figures_on s f cmd ≡ figures (bitmap_blocks s.books.geom) f cmd
+  figures_are law cmd = alone_costs s.books.geom f (room_of s) none law cmd
+
+-- Commands that renew no place, whatever is shared.
+
+-- all but those that put bytes into a file
+abbrev pub puts_no_bytes : Cmd → Bool
+puts_no_bytes (Write path offset bytes) = false
+puts_no_bytes (Fill path offset count byte) = false
+puts_no_bytes (Truncate path size) = false
+puts_no_bytes cmd = true
+
+touches_nothing : (t : Tree) (cmd : Cmd) (shared : SharedPlaces) (i : ℕ) → puts_no_bytes cmd ≡ true → touched_by t cmd shared i ≡ false
+touches_nothing t (Write path offset bytes) shared i is = absurd (false≢true is)
+touches_nothing t (Fill path offset count byte) shared i is = absurd (false≢true is)
+touches_nothing t (Truncate path size) shared i is = absurd (false≢true is)
+touches_nothing t cmd shared i is = refl
+
+pub renews_without_bytes : (s : State) (f : Session) (cmd : Cmd) → puts_no_bytes cmd ≡ true → renewed_on s f cmd ≡ none_renewed
+renews_without_bytes s f cmd is = fun_ext (λ k. fun_ext (λ i. ap (λ b. b && are_same (grown_in f cmd) (Some k)) (touches_nothing f.tree cmd (shared_on s f k) i is)))
+
+-- what a command does that renews no place
+module _ (s : State) (f : Session) (cmd : Cmd) (renews : renewed_on s f cmd ≡ none_renewed) where
+  -- new blocks stand behind a node's own
+  pub runs_unrenewed : (k : ℕ) (more : List ℕ) → stretches (renew (renewed_on s f cmd k) 0 (places_of s k) more) ≡ stretches (places_of s k ++ more)
+  runs_unrenewed k more = ap (λ (renewed : SharedNodes). stretches (renew (renewed k) 0 (places_of s k) more)) renews ∙ ap stretches (behind_all 0 (places_of s k) more)
+
+  pub grows_unrenewed : (settled : Bookkeeping) (k need : ℕ) → GrowsInRuns none_shared s settled k need → GrowsInRuns (renewed_on s f cmd k) s settled k need
+  grows_unrenewed settled k need grows = subst (λ (renewed : SharedNodes). GrowsInRuns (renewed k) s settled k need) (sym renews) grows
+
+  pub uses_unrenewed : (need freed : ℕ) (spare : List ℕ) (old new : ℕ → List ℕ) (d : DraftState) → Uses need freed spare none_renewed old new d → Uses need freed spare (renewed_on s f cmd) old new d
+  uses_unrenewed need freed spare old new d uses = subst (λ (renewed : SharedNodes). Uses need freed spare renewed old new d) (sym renews) uses

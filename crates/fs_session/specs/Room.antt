@@ -12,14 +12,14 @@ use Rattle.lang_tree.specs.declared.command.Refusal.TheVariants.{Scattered, NoMe
 use Rattle.lang_tree.specs.declared.command.Reply.{Reply}
 use Rattle.lang_tree.specs.declared.command.Reply.TheVariants.{Refused}
 use Rattle.lang_tree.specs.Conditions.{is_snapshot, refusal}
-use Rattle.lang_tree.specs.Figures.{Figures, blocks, blocks_for, directory_blocks}
+use Rattle.lang_tree.specs.Figures.{Figures, blocks, blocks_for, directory_blocks, snapshot_blocks}
 use Rattle.lang_tree.specs.Names.{names_in}
 use Rattle.lang_tree.specs.Run.{MayKnow}
-use Rattle.lang_tree.specs.Sharing.{SharedNodes, figures_over}
+use Rattle.lang_tree.specs.Sharing.{BlocksAlone, SharedNodes, figures_over}
 use Rattle.lang_tree.specs.Step.{Session, step}
-use Rattle.lang_tree.specs.Tree.{Tree, Dir, File}
+use Rattle.lang_tree.specs.Tree.{Kept, Tree, Dir, File}
 use Rattle.engine_blocks.specs.State.{data_blocks}
-use Rattle.fs_session.specs.Lists.{KeptLists, is_listed, listed, shared_in}
+use Rattle.fs_session.specs.Lists.{KeptLists, alone_in, is_listed, kept_after, listed, shared_in}
 use Rattle.fs_session.specs.Space.{ArePlaced, FitsIn, FailsToFit, grown_in, renewed_by}
 
 -- What a session has of room: the weight of its transaction, how many blocks that has freed, the data blocks that may be taken, ascending, the blocks of each node, in order, and those of the files that snapshots keep.
@@ -44,6 +44,10 @@ pub record IsFirstRoom (g : Geometry) (r : Room) : Type 0 where
 abbrev pub shared_by : Geometry → Tree → Room → SharedNodes
 shared_by g t r = shared_in g.i r.places r.kept (keys t.snapshots)
 
+-- how many blocks of its files each snapshot of this tree alone has, by its name
+abbrev pub alone_by : Geometry → Tree → Room → BlocksAlone
+alone_by g t r = alone_in g.i r.places r.kept (keys t.snapshots)
+
 -- whether the block is in a list: a node has it, or a snapshot of this tree keeps it as a file's
 abbrev pub is_in_use : Geometry → Tree → Room → ℕ → Bool
 is_in_use g t r b = is_listed g.i r.places r.kept (keys t.snapshots) b
@@ -52,11 +56,12 @@ is_in_use g t r b = is_listed g.i r.places r.kept (keys t.snapshots) b
 abbrev pub blocks_in_use : Geometry → Tree → Room → ℕ
 blocks_in_use g t r = listed g.i r.places r.kept (keys t.snapshots) (data_start g) (g.n - data_start g)
 
--- Each node has as many blocks as its content needs, and a number that is no node's and no snapshot's has none. Without snapshots as many data blocks are in use as the tree needs.
+-- Each node has as many blocks as its content needs, and so has each snapshot. A number that is no node's and no snapshot's has none. Without snapshots as many data blocks are in use as the tree needs.
 pub record HoldsTree (g : Geometry) (t : Tree) (r : Room) : Type 0 where
   pub files : (k : ℕ) (bytes : List ℕ) → get t.nodes k ≡ Some (File bytes) → length (r.places k) ≡ blocks_for (length bytes)
   pub directories : (path : List (List ℕ)) (k : ℕ) → get t.names path ≡ Some k → get t.nodes k ≡ Some Dir → length (r.places k) ≡ directory_blocks (length (names_in t.names path))
   pub unused : (k : ℕ) → get t.nodes k ≡ None → is_snapshot t.snapshots k ≡ false → r.places k ≡ []
+  pub snapshots : (name : List ℕ) (k : Kept) → get t.snapshots name ≡ Some k → length (r.places k.number) ≡ snapshot_blocks g.i k.names
   pub alone : t.snapshots ≡ empty → blocks_in_use g t r ≡ blocks t
 
 -- Whether there is room.
@@ -71,7 +76,7 @@ most_weight g = 24 * (g.j - 2)
 
 -- the figures of a command on a disk of this geometry
 abbrev pub figures_in : Geometry → Session → Room → Cmd → Figures
-figures_in g f r cmd = figures_over (bitmap_blocks g) (shared_by g f.tree r) f cmd
+figures_in g f r cmd = figures_over (bitmap_blocks g) (shared_by g f.tree r) (alone_by g f.tree r) f cmd
 
 -- the places of each node that the command renews
 abbrev pub renewed_in : Geometry → Session → Room → Cmd → SharedNodes
@@ -96,13 +101,13 @@ pub record Scatters (g : Geometry) (f : Session) (r : Room) (cmd : Cmd) (need : 
 
 -- What becomes of the room.
 
--- A command of these figures that renews these places weighs its cost and holds what it frees. It takes the least blocks that may be taken, as many as it needs; and each node has the first of its own blocks, or all of its own and behind them those, of which the first stand where places are renewed. What snapshots keep stays.
-pub record SpendsRoom (f : Figures) (renewed : SharedNodes) (old new : Room) : Type 0 where
+-- A command of these figures that renews these places weighs its cost and holds what it frees. It takes the least blocks that may be taken, as many as it needs; and each node has the first of its own blocks, or all of its own and behind them those, of which the first stand where places are renewed. Behind it snapshots keep these blocks.
+pub record SpendsRoom (f : Figures) (renewed : SharedNodes) (kept : KeptLists) (old new : Room) : Type 0 where
   pub weight : new.weight ≡ old.weight + f.cost
   pub held : new.held ≡ old.held + f.freed
   pub takeable : new.takeable ≡ drop f.need old.takeable
   pub placed : ArePlaced renewed old.places new.places (take f.need old.takeable)
-  pub kept : new.kept ≡ old.kept
+  pub keeps : new.kept ≡ kept
 
 -- A sync of what was weighed: nothing is weighed or held any more, each list stays, and each data block that is in none may be taken.
 pub record RenewsRoom (g : Geometry) (t : Tree) (old new : Room) : Type 0 where
@@ -124,7 +129,7 @@ pub record IsDoneIn (g : Geometry) (f : Session) (r : Room) (cmd : Cmd) (reply :
   pub fits : FitsIn (left_in g f r) r.weight (most_weight g) (figures_in g f r cmd)
   pub enough : (figures_in g f r cmd).need ≤ length r.takeable
   pub runs : StaysInRuns g f r cmd (figures_in g f r cmd).need
-  pub spends : SpendsRoom (figures_in g f r cmd) (renewed_in g f r cmd) r room
+  pub spends : SpendsRoom (figures_in g f r cmd) (renewed_in g f r cmd) (kept_after f r.places r.kept cmd) r room
   pub holds : HoldsTree g next.tree room
 
 -- why it is refused, but for the tree's own reasons: the tree accepts it, and it doesn't fit, or it fits and would scatter a node; or memory ran out

@@ -1,5 +1,5 @@
 -- When the state of a map of blocks is that of a session of the tree, and what a command may begin with. It is described in docs/FILE-SYSTEM.md.
-use Rattle.std.specs.Prelude.{◌≡◌, ◌≢◌, ℕ, ◌+◌, ◌<◌, ◌≤◌, ◌==◌, nat_lt, Bool, false, IsTrue}
+use Rattle.std.specs.Prelude.{◌≡◌, ◌≢◌, ℕ, ◌+◌, ◌<◌, ◌≤◌, ◌==◌, nat_lt, Bool, false, IsTrue, List}
 use Rattle.std.specs.List.{list_any}
 use Rattle.lang_tree.specs.Tree.{Tree}
 use Rattle.lang_tree.specs.Step.{Session}
@@ -11,6 +11,8 @@ use Rattle.engine_blocks.specs.Calls.{HasTurns}
 use Rattle.engine_blocks.specs.State.{State}
 use Rattle.fs_files.specs.Calls.{IsUsed}
 use Rattle.fs_files.specs.Finish.{MayGoOn}
+use Rattle.fs_files.specs.Shared.{is_kept}
+use Rattle.fs_files.specs.Sound.{TellsKept}
 use Rattle.fs_session.specs.declared.unused.NodeUse.{NodeUse}
 use Rattle.fs_session.specs.declared.unused.NodeUse.TheVariants.{Stays, Taken, Dropped}
 use Rattle.fs_session.specs.declared.unused.UnusedNodes.{UnusedNodes}
@@ -28,11 +30,12 @@ pub record IsSession (s : State) (f : Session) : Type 0 where
   pub changed : s.books.stopped ≡ false → f.changed ≡ nat_lt 0 s.books.running.weight
   pub durable : f.durable ≤ s.books.floor
 
--- A draft may begin: no call of the disk failed, each block that was taken is filled or freed, and the blocks are sound where they are known.
-pub record MayBegin (tells : Bool) (s : State) : Type 0 where
+-- A draft may begin beside blocks of which so many snapshots keep each: no call of the disk failed, each block that was taken is filled or freed, and where they are known the blocks are sound, and just those are kept that have a count.
+pub record MayBegin (tells : Bool) (s : State) (counts : List ℕ) : Type 0 where
   pub going : s.books.stopped ≡ false
   pub none_bare : HasNoBare s.books.running
   pub sound : IsTrue tells → AreSound s.books.geom s.map
+  pub kept : IsTrue tells → TellsKept s.books.geom (is_kept counts) s.map
 
 -- all nodes of a number from 1 on below this one are in use
 abbrev pub AreUsedBelow : Files → ℕ → Type 0
@@ -53,8 +56,8 @@ abbrev pub Stands : State → Type 0
 Stands s = (t : Tree) × IsTreeOf s.books.geom s.map t
 
 -- A command may be planned: a draft may begin, a tree stands in the blocks where they are known, and the journal's numbers leave room.
-pub record MayPlan (tells : Bool) (s : State) : Type 0 where
-  pub begin : MayBegin tells s
+pub record MayPlan (tells : Bool) (s : State) (counts : List ℕ) : Type 0 where
+  pub begin : MayBegin tells s counts
   pub stands : IsTrue tells → Stands s
   pub turns : HasTurns s.books
 

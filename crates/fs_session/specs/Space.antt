@@ -6,6 +6,7 @@ use Rattle.lang_tree.specs.declared.command.Cmd.{Cmd}
 use Rattle.lang_tree.specs.declared.command.Cmd.TheVariants as cmds
 use Rattle.lang_tree.specs.declared.command.Refusal.{Refusal}
 use Rattle.lang_tree.specs.declared.command.Refusal.TheVariants.{Full, TooBig}
+use Rattle.lang_tree.specs.Conditions.{least_unused}
 use Rattle.lang_tree.specs.Figures.{Figures}
 use Rattle.lang_tree.specs.Paths.{parent}
 use Rattle.lang_tree.specs.Sharing.{SharedNodes, SharedPlaces, is_renewed, none_shared}
@@ -59,8 +60,9 @@ grown_path (cmds.Fill path offset count byte) = Some path
 grown_path (cmds.Truncate path size) = Some path
 grown_path _ = None
 
--- the number of the node that the command may grow
+-- the number of the node that the command may grow: a new snapshot's, or that at its path
 abbrev pub grown_in : Session → Cmd → Option ℕ
+grown_in f (cmds.Snap name) = least_unused f.limit f.tree
 grown_in f cmd = option_and_then (get f.tree.names) (grown_path cmd)
 
 -- the shared blocks that the command's bytes touch, by their places in the file that it writes

@@ -19,8 +19,14 @@ ghost use Rattle.fs_session.specs.Sessions.{IsSession};
 
 use crate::laws::blocks_have_the_map_of_their_tree;
 use crate::live::as_many_blocks_are_marked_as_the_tree_has;
+use crash_stands::unused_numbers_are_those_of_no_node;
 use engine_blocks::{Blocks, calls_compose};
-use fs_inodes::{a_file_reads_as_itself, slots_follow_the_bytes, the_map_gives_the_names};
+use fs_inodes::{
+    a_file_reads_as_itself, slots_follow_the_bytes, the_map_gives_the_figures,
+    the_map_gives_the_names,
+};
+use fs_snapshots::{a_sound_snapshot_is_whole, what_is_known_of_snapshots_is_so};
+use lang_tree::numbers_of_snapshots_are_in_the_map;
 use layout_extent::{a_list_has_its_runs, tidy_runs_are_those_of_their_numbers};
 
 /// Over any blocks whose contents are known a session has its room, and each command is answered in it once it
@@ -35,10 +41,15 @@ pub fn a_command_is_answered_in_a_room_that_came_back<S: Blocks>()
     as_many_blocks_are_marked_as_the_tree_has::<S>();
     blocks_have_the_map_of_their_tree();
     the_map_gives_the_names();
+    the_map_gives_the_figures();
+    what_is_known_of_snapshots_is_so();
+    a_sound_snapshot_is_whole();
     slots_follow_the_bytes();
     a_file_reads_as_itself();
     a_list_has_its_runs();
     tidy_runs_are_those_of_their_numbers();
+    numbers_of_snapshots_are_in_the_map();
+    unused_numbers_are_those_of_no_node();
 }
 
 /// Over any blocks whose contents are known each command is answered in the room of its session with what waits: the
@@ -52,10 +63,15 @@ pub fn a_command_serves_what_is_sure<S: Blocks>()
     as_many_blocks_are_marked_as_the_tree_has::<S>();
     blocks_have_the_map_of_their_tree();
     the_map_gives_the_names();
+    the_map_gives_the_figures();
+    what_is_known_of_snapshots_is_so();
+    a_sound_snapshot_is_whole();
     slots_follow_the_bytes();
     a_file_reads_as_itself();
     a_list_has_its_runs();
     tidy_runs_are_those_of_their_numbers();
+    numbers_of_snapshots_are_in_the_map();
+    unused_numbers_are_those_of_no_node();
     calls_compose::<S>();
 }
 

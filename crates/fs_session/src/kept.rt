@@ -1,38 +1,22 @@
-//! What lists of blocks come to that snapshots keep: two that share a block; where nothing is kept, as over all blocks so
-//! far; and where no snapshot is there. The functions do nothing but call laws. Which blocks may be taken is said by the
-//! rooms of `memory` and `disk`.
+//! What lists of blocks come to that snapshots keep: two that share a block; and where no snapshot is there. The
+//! functions do nothing but call laws. Which blocks may be taken is said by the rooms of `memory` and `disk`.
 
 ghost use Rattle.std.specs.Prelude.{◌≡◌, ◌-◌, ◌++◌, ℕ, true, false, List, [], ◌∷◌, length, take};
 ghost use Rattle.std.specs.FinMap.{empty};
 ghost use Rattle.layout_geometry.specs.Geometry.{Geometry, bitmap_blocks, data_start};
-ghost use Rattle.layout_extent.specs.Renew.{renew};
 ghost use Rattle.layout_extent.specs.Runs.{stretches};
 ghost use Rattle.lang_tree.specs.declared.command.Cmd.{Cmd};
 ghost use Rattle.lang_tree.specs.Figures.{blocks, figures};
 ghost use Rattle.lang_tree.specs.Step.{Session};
 ghost use Rattle.lang_tree.specs.Tree.{Tree};
 ghost use Rattle.engine_blocks.specs.Running.{has};
-ghost use Rattle.fs_session.specs.Commands.{figures_on, places_of, renewed_on};
-ghost use Rattle.fs_session.specs.Lists.{alone_in, listed, node_blocks, shared_in};
-ghost use Rattle.fs_session.specs.Memory.{room_of};
+ghost use Rattle.fs_session.specs.Lists.{alone_in, listed, shared_in};
+ghost use Rattle.fs_snapshots.specs.Known.{node_blocks};
 ghost use Rattle.fs_session.specs.Room.{HoldsTree, Room, figures_in, is_in_use, left_in, renewed_in, runs_with};
 ghost use Rattle.fs_session.specs.Space.{ArePlaced};
 ghost use Rattle.fs_session.specs.Row.{name_s, name_t, row_after, row_kept, row_places};
 
-use engine_blocks::Blocks;
 use lang_tree::nothing_shared_costs_nothing;
-
-/// So far nothing is kept of any blocks. A command needs, costs and frees what it does in a tree without snapshots, new
-/// blocks come behind a node's own, and a block is in use where a node has it.
-pub fn nothing_is_kept_so_far<S: Blocks>()
-    ensures figures { (s : S) (f : Session) (cmd : Cmd) → figures_on (S.state s) f cmd ≡ figures (bitmap_blocks (S.state s).books.geom) f cmd }
-    ensures behind { (s : S) (f : Session) (cmd : Cmd) (k : ℕ) (more : List ℕ)
-        → renew (renewed_on (S.state s) f cmd k) 0 (places_of (S.state s) k) more ≡ places_of (S.state s) k ++ more }
-    ensures uses { (s : S) (t : Tree) (b : ℕ)
-        → is_in_use (S.state s).books.geom t (room_of (S.state s)) b ≡ has (node_blocks (places_of (S.state s)) (S.state s).books.geom.i) b }
-{
-    nothing_shared_costs_nothing();
-}
 
 /// In a session without snapshots a room is what it is of the tree alone. A command needs, costs and frees what it does
 /// there, new blocks come behind a node's own, and a block is in use where a node has it. In a room that holds the tree

@@ -11,6 +11,7 @@ mod live;
 mod memory;
 mod plan;
 mod points;
+mod snapshots;
 mod space;
 mod syncs;
 mod unused;
@@ -21,8 +22,7 @@ pub use disk::{
     any_command_may_be_answered,
 };
 pub use kept::{
-    lists_of_two_snapshots_are_counted_so, nothing_is_kept_so_far,
-    without_snapshots_a_room_is_that_of_its_tree,
+    lists_of_two_snapshots_are_counted_so, without_snapshots_a_room_is_that_of_its_tree,
 };
 pub use laws::{
     a_command_answers_its_session, a_command_begins_with_a_tick,
@@ -39,6 +39,10 @@ pub use plan::{Plan, carry};
 pub use points::{
     a_crash_leaves_the_tree_of_a_point, a_reply_tells_the_points, live_blocks_are_enough,
     points_stay_known,
+};
+pub use snapshots::{
+    a_draft_that_leaves_snapshots_makes_its_tree, a_node_that_a_draft_leaves_stays,
+    counts_tell_what_is_shared,
 };
 pub use space::has_room;
 pub use syncs::{dsync, dwait, osync};

@@ -15,8 +15,14 @@ ghost use Rattle.fs_session.specs.Sessions.{IsSession};
 
 use crate::laws::blocks_have_the_map_of_their_tree;
 use crate::live::as_many_blocks_are_marked_as_the_tree_has;
+use crash_stands::unused_numbers_are_those_of_no_node;
 use engine_blocks::{Blocks, PlainBlocks};
-use fs_inodes::{a_file_reads_as_itself, slots_follow_the_bytes, the_map_gives_the_names};
+use fs_inodes::{
+    a_file_reads_as_itself, slots_follow_the_bytes, the_map_gives_the_figures,
+    the_map_gives_the_names,
+};
+use fs_snapshots::{a_sound_snapshot_is_whole, what_is_known_of_snapshots_is_so};
+use lang_tree::numbers_of_snapshots_are_in_the_map;
 use layout_extent::{a_list_has_its_runs, tidy_runs_are_those_of_their_numbers};
 
 /// Over blocks that lie in memory each command is answered in the session's room, and the blocks are then one of
@@ -30,17 +36,24 @@ pub fn a_command_is_answered_in_its_room<S: Blocks>()
     as_many_blocks_are_marked_as_the_tree_has::<S>();
     blocks_have_the_map_of_their_tree();
     the_map_gives_the_names();
+    the_map_gives_the_figures();
+    what_is_known_of_snapshots_is_so();
+    a_sound_snapshot_is_whole();
     slots_follow_the_bytes();
     a_file_reads_as_itself();
     a_list_has_its_runs();
     tidy_runs_are_those_of_their_numbers();
+    numbers_of_snapshots_are_in_the_map();
+    unused_numbers_are_those_of_no_node();
 }
 
 /// Where nothing was done yet, nothing waits, and no data block is set in the bitmap, the room is the first one.
 pub fn nothing_is_taken_at_first<S: Blocks>()
     ensures { IsTrue S.tells → (s : S) (f : Session) → (S.state s).books.waiting ≡ 0 → IsSession (S.state s) f → HasNoBlocks (S.state s)
         → IsBegun (S.state s) → IsFirstRoom (S.state s).books.geom (room_of (S.state s)) }
-{}
+{
+    what_is_known_of_snapshots_is_so();
+}
 
 /// Over blocks in memory each command is answered in the session's room, and the blocks are then one of the
 /// session that follows.

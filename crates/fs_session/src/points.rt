@@ -18,13 +18,16 @@ ghost use Rattle.fs_session.specs.Points.{KnowsPoints, LeavesTree, TellsPoints, 
 ghost use Rattle.fs_session.specs.Sessions.{IsSession};
 
 use crate::laws::a_command_answers_its_session;
+use crash_stands::a_tree_stands_by_its_live_blocks;
 use engine_blocks::Blocks;
 use lang_tree::{a_tree_in_memory_refuses_for_no_disk, no_other_command_is_promised_a_point};
 
 /// Blocks that have the live blocks of a map stand for each tree for which that map stands.
 pub fn live_blocks_are_enough()
     ensures tree { (g : Geometry) (map m : BlockMap) (t : Tree) → IsGeometry g → HasLiveBlocks g map m → IsTreeOf g map t → IsTreeOf g m t }
-{}
+{
+    a_tree_stands_by_its_live_blocks();
+}
 
 /// Where the tree of each point is known, a crash now leaves the tree of a point from the floor on. At each
 /// moment of a call it leaves that of one from the old floor to the last point as the call ended. What a crash
@@ -72,6 +75,7 @@ pub fn points_stay_known<S: Blocks>(blocks: &S)
         → KnowsPoints (S.state old) trees → KnowsPoints (S.state blocks.now) (trees_after (S.state old) (S.state blocks.now) trees t) }
 {
     blocks.geom().lawful();
+    a_tree_stands_by_its_live_blocks();
 }
 
 /// The reply to a command of a session tells of points: how many it made, that what it promised is on the disk, and

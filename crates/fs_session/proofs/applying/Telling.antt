@@ -2,7 +2,7 @@
 use Rattle.std.proofs.Common.{◌≡◌, ◌≢◌, ◌⊎◌, inl, inr, ⊎_elim, ℕ, ◌+◌, ◌<◌, ◌≤◌, ◌==◌, nat_lt, Bool, true, false, IsTrue, ◌&&◌, if◌then◌else◌, List, [], ◌∷◌, length, Result, Ok, Err, refl, sym, ◌∙◌, ap, subst, arith, nat_le}
 use Rattle.std.proofs.lemmas.Bool.{cases_Bool, cases_eq, cases_lt, cond-true, cond-false, eq-eqb, ne_eqb, lt-ltb, le-ltb, true≢false, false≢true}
 use Rattle.lang_tree.specs.declared.command.Cmd.{Cmd}
-use Rattle.lang_tree.specs.declared.command.Cmd.TheVariants.{Mkdir, Create, Write, Fill, Read, Truncate, Link, Unlink, Rmdir, Rename, Stat, List as ListNames, Osync, Dsync, Durable, Dwait, Poll, Bad}
+use Rattle.lang_tree.specs.declared.command.Cmd.TheVariants.{Mkdir, Create, Write, Fill, Read, Truncate, Link, Unlink, Rmdir, Rename, Stat, List as ListNames, Snap, Unsnap, Snaps, At, Osync, Dsync, Durable, Dwait, Poll, Bad}
 use Rattle.lang_tree.specs.declared.command.Refusal.{Refusal}
 use Rattle.lang_tree.specs.declared.command.Refusal.TheVariants as because
 use Rattle.lang_tree.specs.declared.command.Reply.{Reply}
@@ -146,6 +146,10 @@ module _ {S : Type 0} (tells : Bool) (state : S → State) (told : IsTrue tells)
   of_run f (Rename from to) result mid new going h runs = of_carried f (Rename from to) result mid new refl h runs
   of_run f (Stat path) result mid new going h runs = of_carried f (Stat path) result mid new refl h runs
   of_run f (ListNames path) result mid new going h runs = of_carried f (ListNames path) result mid new refl h runs
+  of_run f (Snap name) result mid new going h runs = of_carried f (Snap name) result mid new refl h runs
+  of_run f (Unsnap name) result mid new going h runs = of_carried f (Unsnap name) result mid new refl h runs
+  of_run f Snaps result mid new going h runs = of_carried f Snaps result mid new refl h runs
+  of_run f (At name look) result mid new going h runs = of_carried f (At name look) result mid new refl h runs
   of_run f Bad result mid new going h runs = of_carried f Bad result mid new refl h runs
 
   at_once : (f : Session) (cmd : Cmd) (reply : Reply) (old new : S) → new ≡ old → length (made_by f cmd reply begun) ≡ 0 → promised_by reply ≡ 0 → (reply ≡ Refused because.DiskFault → ⊥) → ((state old).books.stopped ≡ true → cmd ≢ Bad → reply ≡ Refused because.Stopped) → TellsPoints f cmd reply begun (state old) (state new)
@@ -225,6 +229,10 @@ module _ {S : Type 0} (tells : Bool) (state : S → State) (told : IsTrue tells)
     promised_of f (Rename from to) reply old new a began = omega (arith, unasked f a.next (Rename from to) reply a.answers refl)
     promised_of f (Stat path) reply old new a began = omega (arith, unasked f a.next (Stat path) reply a.answers refl)
     promised_of f (ListNames path) reply old new a began = omega (arith, unasked f a.next (ListNames path) reply a.answers refl)
+    promised_of f (Snap name) reply old new a began = omega (arith, unasked f a.next (Snap name) reply a.answers refl)
+    promised_of f (Unsnap name) reply old new a began = omega (arith, unasked f a.next (Unsnap name) reply a.answers refl)
+    promised_of f Snaps reply old new a began = omega (arith, unasked f a.next Snaps reply a.answers refl)
+    promised_of f (At name look) reply old new a began = omega (arith, unasked f a.next (At name look) reply a.answers refl)
     promised_of f Osync reply old new a began = omega (arith, unasked f a.next Osync reply a.answers refl)
     promised_of f Poll reply old new a began = omega (arith, unasked f a.next Poll reply a.answers refl)
     promised_of f Bad reply old new a began = omega (arith, unasked f a.next Bad reply a.answers refl)

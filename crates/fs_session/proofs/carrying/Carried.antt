@@ -1,22 +1,21 @@
 -- A plan carried out: what becomes of the session, and of the bookkeeping.
 use Rattle.std.proofs.lemmas.Bool.{lt-ltb, ltb-true, ltb-false, cases_Bool}
-use Rattle.std.proofs.Common.{⊎_elim, ◌≡◌, ◌⊎◌, inl, inr, ℕ, ◌+◌, nat_lt, Bool, false, not, ◌&&◌, ◌||◌, IsTrue, List, [], ◌++◌, take, take_all, length, Ok, Err, refl, sym, subst, ap, ap₂, ◌∙◌, arith}
+use Rattle.std.proofs.Common.{⊎_elim, ◌≡◌, ◌⊎◌, inl, inr, ℕ, ◌+◌, nat_lt, Bool, false, not, ◌&&◌, ◌||◌, IsTrue, List, [], take, take_all, length, Option, None, Some, Ok, Err, refl, sym, subst, ap, ap₂, ◌∙◌, arith}
 use Rattle.disk_contract.specs.Disk.{writes_in}
 use Rattle.layout_geometry.specs.Geometry.{Geometry, bitmap_blocks}
 use Rattle.layout_extent.specs.Renew.{renew}
 use Rattle.lang_tree.specs.declared.command.Cmd.{Cmd}
+use Rattle.lang_tree.specs.declared.command.Cmd.TheVariants.{Snap, Unsnap}
+use Rattle.lang_tree.specs.Conditions.{refusal}
 use Rattle.lang_tree.specs.declared.command.Refusal.{Refusal}
 use Rattle.lang_tree.specs.declared.command.Refusal.TheVariants as because
 use Rattle.lang_tree.specs.declared.command.Reply.{Reply}
 use Rattle.lang_tree.specs.declared.command.Reply.TheVariants.{Ok as Done}
 use Rattle.lang_tree.specs.Step.{Session, step}
 use Rattle.lang_tree.specs.Figures.{Figures, figures, nothing}
-use Rattle.lang_tree.specs.Sharing.{SharedNodes}
-use Rattle.lang_tree.specs.Tree.{Tree}
+use Rattle.lang_tree.specs.Sharing.{BlocksAlone, SharedNodes, figures_over, figures_over_by}
 use Rattle.lang_tree.specs.Points.{is_sync}
 use Rattle.crash_stands.specs.Files.{Files, files_of}
-use Rattle.crash_stands.specs.Inodes.{IsInodeOf, AreInodesOf, inodes_of}
-use Rattle.crash_stands.specs.Maps.{IsMapOf}
 use Rattle.crash_stands.specs.Stands.{AreSound, IsTreeOf}
 use Rattle.base_types.specs.Seal.{Blocks}
 use Rattle.engine_blocks.specs.Calls.{IsSound, MovesPipeline}
@@ -29,17 +28,18 @@ use Rattle.fs_files.specs.Calls.{files_in, places_in, places_of as blocks_of_nod
 use Rattle.fs_files.specs.Drafts.{DraftState}
 use Rattle.fs_files.specs.Effects.{LooksAndSettles, ServesAllOrNone}
 use Rattle.fs_session.specs.Changes.{IsCarriedOut, KeepsBlocks, ChangeRefused}
-use Rattle.fs_session.specs.Commands.{RunsCommand, Carries, FindsBlocks, IsDone, Spends, SpendsNothing, figures_on, places_of, renewed_on, is_read_fault, is_disk_fault}
-use Rattle.fs_session.specs.NothingKept.{CostsAsAlone, figures_are, renews_nothing}
-use Rattle.fs_session.specs.Plans.{Plans, MakesTree, MayBeMade, plan_fails_reading, plan_fails_settling}
-use Rattle.fs_files.specs.Finish.{MayGoOn}
+use Rattle.fs_session.specs.Lists.{KeptLists, kept_after, kept_by, kept_unless}
+use Rattle.fs_session.specs.Commands.{RunsCommand, Carries, FindsBlocks, IsDone, Spends, SpendsNothing, alone_on, shared_on, figures_on, kept_in, places_of, renewed_on, is_read_fault, is_disk_fault}
+use Rattle.fs_session.specs.NothingKept.{renews_nothing}
+use Rattle.fs_session.specs.Plans.{HasDrafted, Plans, MakesTree, MayBeMade, plan_fails_reading, plan_fails_settling}
+use Rattle.fs_files.specs.Finish.{MapFinished, MayGoOn}
+use Rattle.fs_session.specs.Snapshots.{kept_lists}
 use Rattle.fs_session.specs.Sessions.{IsSession, IsBetween, AreUsedBut, KeepsUsed}
 use Rattle.fs_session.specs.declared.plan.Plan.{Plan}
 use Rattle.fs_session.specs.declared.plan.Plan.TheVariants.{Answer, Change}
 use Rattle.fs_session.specs.declared.unused.NodeUse.{NodeUse}
 use Rattle.fs_session.specs.declared.unused.UnusedNodes.{UnusedNodes}
-use Rattle.fs_files.specs.Shared.{is_kept}
-use Rattle.fs_files.specs.Sound.{AreSoundBeside}
+use Rattle.fs_files.specs.Sound.{IsDraftOf}
 use Rattle.fs_session.proofs.carrying.Points.{points_stay}
 use Rattle.fs_session.specs.Space.{ArePlaced}
 use Rattle.fs_session.specs.Staying.{session_stays, session_settles, between_stays, freed_alike}
@@ -91,25 +91,24 @@ weighed w c = ⊎_elim
     (λ t. ap (λ b. b || nat_lt 0 c) t ∙ sym (lt-ltb 0 (w + c) (omega (arith, ltb-true 0 w t))))
     (λ n. ap (λ b. b || nat_lt 0 c) n ∙ ap (λ k. nat_lt 0 k) {x = c} {y = w + c} (omega (arith, ltb-false 0 w n))) (cases_Bool (nat_lt 0 w))
 
--- Blocks stay sound by a draft that is made where no block is kept.
-pub sound_made : (tells : Bool) (d : DraftState) (cost : ℕ) (s t : State) → ((g : Geometry) (m : Blocks) → AreSound g m → AreSoundBeside g (is_kept []) m) → ((g : Geometry) (m : Blocks) → AreSoundBeside g (is_kept []) m → AreSound g m)
-    → d.kept ≡ [] → IsCarriedOut tells d cost s t → IsTrue tells → AreSound s.books.geom s.map → AreSound s.books.geom t.map
-sound_made tells d cost s t to from none h told sound =
-    from s.books.geom t.map (subst (λ (kept : List ℕ). AreSoundBeside s.books.geom (is_kept kept) t.map) none
-    ((h.map told).sound (subst (λ (kept : List ℕ). AreSoundBeside s.books.geom (is_kept kept) s.map) (sym none) (to s.books.geom s.map sound))))
+-- The blocks of a draft that is made are what it makes of them.
+pub drafted_so : (d : DraftState) (s t : State) → MapFinished d s t → HasDrafted s d t.map
+drafted_so d s t h = record { lies = h.blocks; files = h.files; places = h.places; bits = h.bits; whole = h.whole; sound = h.sound }
 
--- The blocks of a draft that is made stand for the tree of its inode map.
-pub tree_of_draft : (tells : Bool) (d : DraftState) (cost : ℕ) (s t : State) (tree : Tree) → IsTrue tells → IsCarriedOut tells d cost s t → AreSound s.books.geom t.map
-    → AreInodesOf (files_in s d) (inodes_of (files_in s d)) → IsMapOf s.books.geom.i (inodes_of (files_in s d)) tree → IsTreeOf t.books.geom t.map tree
-tree_of_draft tells d cost s t tree told h sound reads map =
-    let finished = h.map told in
-    subst (λ (g : Geometry). IsTreeOf g t.map tree) (sym (made_rests tells d cost s t h).geom)
-    (record {
-      inodes = inodes_of (files_in s d);
-      read = λ k. subst (λ o. IsInodeOf o (inodes_of (files_in s d) k)) (sym (finished.files k)) (reads k);
-      map = map;
-      sound = sound;
-    })
+-- So they stay sound.
+pub sound_made : (tells : Bool) (d : DraftState) (cost : ℕ) (nodes : NodeUse) (s t : State) → MayBeMade tells d cost nodes s → IsCarriedOut tells d cost s t → IsTrue tells → AreSound s.books.geom s.map → AreSound s.books.geom t.map
+sound_made tells d cost nodes s t may h told sound = may.sound told sound t.map (drafted_so d s t (h.map told))
+
+-- A command without figures leaves what snapshots keep: one that makes a snapshot or takes one away costs something.
+module _ (bitmap : ℕ) (shared : SharedNodes) (alone : BlocksAlone) (f : Session) (places : ℕ → List ℕ) (kept : KeptLists) where
+  by_reason : (cmd : Cmd) (why : Option Refusal) → figures_over_by bitmap shared alone f.limit f.tree cmd why ≡ nothing → kept_unless why kept (kept_by f.tree places kept cmd) ≡ kept
+  by_reason cmd (Some why) none = refl
+  by_reason (Snap name) None none = absurd (omega (arith, ap (λ (n : Figures). n.cost) none))
+  by_reason (Unsnap name) None none = absurd (omega (arith, ap (λ (n : Figures). n.cost) none))
+  by_reason cmd None none = refl
+
+  pub kept_by_nothing : (cmd : Cmd) → figures_over bitmap shared alone f cmd ≡ nothing → kept_after f places kept cmd ≡ kept
+  kept_by_nothing cmd none = by_reason cmd (refusal f.limit f.tree cmd) none
 
 -- Nothing is spent where blocks were read and the pipeline may have settled, and by a draft that isn't made behind that.
 pub settled_unspent : (tells read_failed failed : Bool) (s t : State) → LooksAndSettles tells read_failed failed s t → SpendsNothing tells s t
@@ -131,8 +130,9 @@ placed_same renewed old new same k =
 pub finds_nothing : (k l : Bookkeeping) (n : Figures) → n ≡ nothing → MovesPipeline k l → l ≡ k → IsSound l → FindsBlocks n.need k l
 finds_nothing k l n none moves books sound = record { moves = moves; serves = inl (record { reusable = λ b at. ap (λ (x : Bookkeeping). x.reusable b) books; since = λ b at. ap (λ (x : Bookkeeping). x.since b) books }); rests = λ enough. books; enough = omega (arith, ap (λ (f : Figures). f.need) none); sound = sound }
 
-pub spends_nothing : (s t : State) (n : Figures) (renewed : SharedNodes) → n ≡ nothing → t.books ≡ s.books → t.map ≡ s.map → Spends s t.books t n renewed
-spends_nothing s t n renewed none books map = record {
+pub spends_nothing : (s t : State) (n : Figures) (renewed : SharedNodes) (lists : KeptLists) → n ≡ nothing → lists ≡ kept_in s → t.books ≡ s.books → t.map ≡ s.map → Spends s t.books t n renewed lists
+spends_nothing s t n renewed lists none keeps books map = record {
+  keeps = ap₂ kept_lists (ap (λ (b : Bookkeeping). b.geom) books) map ∙ sym keeps;
   weight = omega (arith, ap (λ (b : Bookkeeping). b.running.weight) books, ap (λ (f : Figures). f.cost) none);
   held = omega (arith, ap (λ (b : Bookkeeping). b.running.held) books, ap (λ (f : Figures). f.freed) none);
   takeable = λ b. ap (λ (f : Figures). not (has (take f.need (reusable_blocks t.books)) b) && t.books.reusable b) {x = nothing} {y = n} (sym none);
@@ -141,12 +141,24 @@ spends_nothing s t n renewed none books map = record {
       (placed_same renewed (places_of s) (places_of t) (λ k. ap₂ (λ (g : Geometry) (m : Blocks). blocks_of_node g m k) (ap (λ (b : Bookkeeping). b.geom) books) map));
 }
 
-module _ (tells : Bool) (cmd : Cmd) (start mid new : State) (costs : (bitmap : ℕ) (s : Session) → (step s cmd).0.changed ≡ (s.changed || nat_lt 0 (figures bitmap s cmd).cost)) (alone : CostsAsAlone) (sync : is_sync cmd ≡ false) (sound : IsSound mid.books) (stays_sound : IsTrue tells → AreSound mid.books.geom mid.map → AreSound mid.books.geom new.map) where
+-- What the law says of a command's draft at a moment: what it makes of the blocks stands for the command's tree, and snapshots keep what is said of the command.
+abbrev pub MakesItsTree : Bool → State → State → Cmd → Type 0
+MakesItsTree tells start mid cmd = IsTrue tells → (d : DraftState) (cost : ℕ) (f : Session) (m : Blocks) → IsSession mid f → IsDraftOf tells mid d → MakesTree cmd d cost start mid f → HasDrafted mid d m
+    → IsTreeOf mid.books.geom m (step f cmd).0.tree × (kept_lists mid.books.geom m ≡ kept_after f (places_of mid) (kept_in mid) cmd)
+
+-- what the law says of costs with sharing
+abbrev pub CostsWhereAllCosts : Type 0
+CostsWhereAllCosts = (bitmap : ℕ) (shared : SharedNodes) (alone : BlocksAlone) (s : Session) (cmd : Cmd) → nat_lt 0 (figures_over bitmap shared alone s cmd).cost ≡ nat_lt 0 (figures bitmap s cmd).cost
+
+module _ (tells : Bool) (cmd : Cmd) (start mid new : State) (costs : (bitmap : ℕ) (s : Session) → (step s cmd).0.changed ≡ (s.changed || nat_lt 0 (figures bitmap s cmd).cost)) (shared_costs : CostsWhereAllCosts) (sync : is_sync cmd ≡ false) (sound : IsSound mid.books) (makes : MakesItsTree tells start mid cmd) where
   -- a draft that is made spends what the command takes
-  spends_so : (d : DraftState) (cost : ℕ) (f : Session) → IsTrue tells → LooksAndSettles tells false false start mid → MakesTree cmd d cost start mid f → IsCarriedOut tells d cost mid new → Spends start mid.books new (figures_on start f cmd) (renewed_on start f cmd)
-  spends_so d cost f told looks made carried =
+  spends_so : (d : DraftState) (cost : ℕ) (f : Session) → IsTrue tells → LooksAndSettles tells false false start mid → IsSession mid f → IsDraftOf tells mid d → MakesTree cmd d cost start mid f → IsCarriedOut tells d cost mid new → Spends start mid.books new (figures_on start f cmd) (renewed_on start f cmd) (kept_after f (places_of start) (kept_in start) cmd)
+  spends_so d cost f told looks at_mid draft made carried =
       let n = figures_on start f cmd in
       let finished = carried.map told in
+      let kept : kept_lists mid.books.geom new.map ≡ kept_after f (places_of mid) (kept_in mid) cmd = (makes told d cost f new.map at_mid draft made (drafted_so d mid new finished)).1 in
+      let still : kept_after f (places_of mid) (kept_in mid) cmd ≡ kept_after f (places_of start) (kept_in start) cmd =
+      ap₂ (λ (g : Geometry) (m : Blocks). kept_after f (blocks_of_node g m) (kept_lists g m) cmd) looks.pipeline.geom (looks.map told) in
       record {
         weight = omega (arith, carried.weight, made.costs, ap (λ (r : Running). r.weight) looks.pipeline.running);
         held = omega (arith, finished.held, made.uses.freed_are, ap (λ (r : Running). r.held) looks.pipeline.running);
@@ -155,36 +167,37 @@ module _ (tells : Bool) (cmd : Cmd) (start mid new : State) (costs : (bitmap : �
         placed = λ k.
             let same : places_of new k ≡ places_in mid d k = ap (λ (g : Geometry). blocks_of_node g new.map k) (made_rests tells d cost mid new carried).geom ∙ finished.places k in
             subst (λ (ps : List ℕ). ps ≡ take (length ps) (renew (renewed_on start f cmd k) 0 (places_of start k) (take n.need (reusable_blocks mid.books)))) (sym same) (made.uses.placed k);
+        keeps = ap (λ (g : Geometry). kept_lists g new.map) (made_rests tells d cost mid new carried).geom ∙ kept ∙ still;
       }
 
   -- a draft that is made does the command
   pub done_so : (d : DraftState) (cost : ℕ) (f : Session) → IsTrue tells → start.books.stopped ≡ false → LooksAndSettles tells false false start mid → IsSession start f
-      → MakesTree cmd d cost start mid f → IsCarriedOut tells d cost mid new → IsDone start new f cmd Done
-  done_so d cost f told going looks h made carried =
+      → IsDraftOf tells mid d → MakesTree cmd d cost start mid f → IsCarriedOut tells d cost mid new → IsDone start new f cmd Done
+  done_so d cost f told going looks h draft made carried =
       let at_mid = session_settles tells false false start mid f going told looks h in
       let rest = made_rests tells d cost mid new carried in
       let stay = points_stay f cmd sync made.answer in
       record {
         answer = sym made.answer;
         session = record {
-          tree = tree_of_draft tells d cost mid new (step f cmd).0.tree told carried (stays_sound told at_mid.tree.sound) made.reads (subst (λ n. IsMapOf n (inodes_of (files_in mid d)) (step f cmd).0.tree) at_mid.limit made.map);
+          tree = subst (λ (g : Geometry). IsTreeOf g new.map (step f cmd).0.tree) (sym rest.geom) (makes told d cost f new.map at_mid draft made (drafted_so d mid new (carried.map told))).0;
           limit = stay.limit ∙ at_mid.limit ∙ ap (λ (g : Geometry). g.i) (sym rest.geom);
           points = λ stopped. stay.points ∙ at_mid.points looks.stopped ∙ sym rest.point;
-          changed = λ stopped. costs (bitmap_blocks start.books.geom) f ∙ ap₂ (λ b c. b || nat_lt 0 c) (at_mid.changed looks.stopped) (ap (λ (n : Figures). n.cost) (sym (figures_are start f alone cmd)) ∙ made.costs) ∙ weighed mid.books.running.weight cost ∙ ap (λ n. nat_lt 0 n) (sym carried.weight);
+          changed = λ stopped. costs (bitmap_blocks start.books.geom) f ∙ ap₂ (λ b c. b || c) (at_mid.changed looks.stopped) (sym (shared_costs (bitmap_blocks start.books.geom) (shared_on start f) (alone_on start f) f cmd) ∙ ap (λ n. nat_lt 0 n) made.costs) ∙ weighed mid.books.running.weight cost ∙ ap (λ n. nat_lt 0 n) (sym carried.weight);
           durable = omega (arith, stay.durable, at_mid.durable, rest.floor);
         };
         room = made.room;
         settled = mid.books;
         finds = record { moves = looks.pipeline; serves = looks.serves refl; rests = made.rests; enough = made.enough; sound = sound };
         runs = made.runs;
-        spends = spends_so d cost f told looks made carried;
+        spends = spends_so d cost f told looks at_mid draft made carried;
       }
 
   -- so the command is carried out
-  pub carried_change : (d : DraftState) (cost : ℕ) (nodes : NodeUse) → Plans tells cmd (Ok (Change d cost nodes)) start mid → IsCarriedOut tells d cost mid new → LeavesDisk tells mid new → (IsTrue tells → Advances start new)
+  pub carried_change : (d : DraftState) (cost : ℕ) (nodes : NodeUse) → IsDraftOf tells mid d → Plans tells cmd (Ok (Change d cost nodes)) start mid → IsCarriedOut tells d cost mid new → LeavesDisk tells mid new → (IsTrue tells → Advances start new)
       → Carries tells cmd (Ok Done) start new
-  carried_change d cost nodes plans carried disk advances = record {
-    done = λ told f h. done_so d cost f told plans.going plans.settles h (plans.is told f h) carried;
+  carried_change d cost nodes draft plans carried disk advances = record {
+    done = λ told f h. done_so d cost f told plans.going plans.settles h draft (plans.is told f h) carried;
     refused = λ told. tt;
     kept = λ told. tt;
     unspent = tt;
@@ -204,7 +217,8 @@ carried_answer tells cmd start mid reply sound plans = record {
     settled = mid.books;
     finds = finds_nothing start.books mid.books (figures_on start f cmd) p.costs plans.settles.pipeline p.books sound;
     runs = p.runs;
-    spends = spends_nothing start mid (figures_on start f cmd) (renewed_on start f cmd) p.costs p.books (plans.settles.map told);
+    spends = spends_nothing start mid (figures_on start f cmd) (renewed_on start f cmd) _ p.costs
+        (kept_by_nothing (bitmap_blocks start.books.geom) (shared_on start f) (alone_on start f) f (places_of start) (kept_in start) cmd p.costs) p.books (plans.settles.map told);
   };
   refused = λ told. tt;
   kept = λ told. tt;

@@ -5,9 +5,11 @@ use Rattle.layout_geometry.specs.Geometry.{Geometry, data_start}
 use Rattle.layout_extent.specs.Renew.{renew}
 use Rattle.layout_extent.specs.Runs.{stretches}
 use Rattle.lang_tree.specs.declared.command.Cmd.{Cmd}
+use Rattle.lang_tree.specs.declared.command.Cmd.TheVariants.{Snap}
 use Rattle.lang_tree.specs.declared.command.Refusal.{Refusal}
 use Rattle.lang_tree.specs.declared.command.Refusal.TheVariants as because
 use Rattle.lang_tree.specs.declared.command.Reply.{Reply}
+use Rattle.lang_tree.specs.Conditions.{least_unused}
 use Rattle.lang_tree.specs.Figures.{Figures}
 use Rattle.lang_tree.specs.Sharing.{SharedNodes}
 use Rattle.lang_tree.specs.Step.{Session, step}
@@ -15,13 +17,14 @@ use Rattle.engine_blocks.specs.Ranges.{same_from}
 use Rattle.engine_blocks.specs.Running.{has}
 use Rattle.engine_blocks.specs.State.{Bookkeeping, State, IsReusable, data_blocks, reusable_blocks}
 use Rattle.fs_session.specs.Applying.{reply_for}
-use Rattle.fs_session.specs.Commands.{Carries, FindsRuns, IsDone, IsRefusedFor, IsScattered, Spends, figures_on, grown_by, is_disk_fault, is_on_tree, is_read_fault, places_of, renewed_on}
+use Rattle.fs_session.specs.Lists.{KeptLists}
+use Rattle.fs_session.specs.Commands.{Carries, FindsRuns, IsDone, IsRefusedFor, IsScattered, Spends, figures_on, grown_on, is_disk_fault, is_on_tree, is_read_fault, places_of, renewed_on}
 use Rattle.fs_session.specs.DiskRoom.{ComesBack}
 use Rattle.fs_session.specs.Memory.{LieInMemory, room_of}
 use Rattle.fs_session.specs.NothingKept.{renews_nothing}
 use Rattle.fs_session.specs.Room.{HoldsTree, IsDoneIn, IsRefusedIn, RefusesIn, Room, Scatters, SpendsRoom, StaysInRuns, left_in, most_weight}
 use Rattle.fs_session.specs.Sessions.{IsSession, inodes}
-use Rattle.fs_session.specs.Space.{FitsIn, FailsToFit, HasRoom, LacksRoom, grown_in, left_of}
+use Rattle.fs_session.specs.Space.{FitsIn, FailsToFit, HasRoom, LacksRoom, grown_in, grown_path, left_of}
 use Rattle.fs_session.proofs.rooms.Known.{Known, LeavesSession, brings_back, room_holds, room_is_with, room_with, still_takeable}
 use Rattle.fs_session.proofs.rooms.Lists.{kept_behind}
 use Rattle.fs_session.proofs.rooms.Nodes.{grown_same, in_few_runs, marked_in_use}
@@ -31,7 +34,7 @@ module _ {S : Type 0} (tells : Bool) (state : S → State) (known : Known tells 
   -- What is left, and the most weight, by a room with the same transaction.
 
   left_is : (s : S) (f : Session) → IsSession (state s) f → left_of (state s).books ≡ left_in (state s).books.geom f (room_of (state s))
-  left_is s f h = omega (arith, marked_in_use (state s) (known.agrees s).bits h.tree.sound f.tree, (known.sound s).area)
+  left_is s f h = omega (arith, marked_in_use (state s) (known.agrees s).bits h.tree.sound known.snapshots f.tree h.tree, (known.sound s).area)
 
   in_room : (P : ℕ → ℕ → Type 0) (s : S) (f : Session) → IsSession (state s) f → P (left_of (state s).books) (state s).books.room → P (left_in (state s).books.geom f (room_of (state s))) (most_weight (state s).books.geom)
   in_room P s f h x = subst (λ n. P n (most_weight (state s).books.geom)) (left_is s f h) (subst (λ n. P (left_of (state s).books) n) (known.sound s).room x)
@@ -43,16 +46,17 @@ module _ {S : Type 0} (tells : Bool) (state : S → State) (known : Known tells 
       → FailsToFit (left_in (state s).books.geom f (room_of (state s))) (state s).books.running.weight (most_weight (state s).books.geom) n why
   lacks_in s f n why h lacks = in_room (λ left most. FailsToFit left (state s).books.running.weight most n why) s f h lacks
 
-  grown_is : (s : S) (f : Session) (cmd : Cmd) → IsSession (state s) f → grown_in f cmd ≡ grown_by (inodes (state s)) cmd
-  grown_is s f cmd h = grown_same (inodes (state s)) f.tree (state s).books.geom.i _ (known.map (state s).books.geom (state s).map f.tree h.tree)
+  grown_is : (s : S) (f : Session) (cmd : Cmd) → IsSession (state s) f → grown_in f cmd ≡ grown_on (state s) cmd
+  grown_is s f (Snap name) h = ap (λ n. least_unused n f.tree) h.limit ∙ known.least (state s).books.geom (state s).map f.tree h.tree
+  grown_is s f cmd h = grown_same (inodes (state s)) f.tree (state s).books.geom.i (grown_path cmd) (known.map (state s).books.geom (state s).map f.tree h.tree)
 
   -- Done: in the room once the pipeline has settled.
 
   in_runs : (s : S) (k : Bookkeeping) (f : Session) (cmd : Cmd) → IsSession (state s) f → FindsRuns (state s) k f cmd → StaysInRuns (state s).books.geom f (room_with (state s) k) cmd (figures_on (state s) f cmd).need
   in_runs s k f cmd h finds node some grows = (finds node some (sym (grown_is s f cmd h) ∙ grows)).runs
 
-  spends_room : (s t : S) (k : Bookkeeping) (n : Figures) (renewed : SharedNodes) → (state t).books.geom ≡ (state s).books.geom → k.geom ≡ (state s).books.geom → Spends (state s) k (state t) n renewed → SpendsRoom n renewed (room_with (state s) k) (room_of (state t))
-  spends_room s t k n renewed geom settled x = record {
+  spends_room : (s t : S) (k : Bookkeeping) (n : Figures) (renewed : SharedNodes) (lists : KeptLists) → (state t).books.geom ≡ (state s).books.geom → k.geom ≡ (state s).books.geom → Spends (state s) k (state t) n renewed lists → SpendsRoom n renewed lists (room_with (state s) k) (room_of (state t))
+  spends_room s t k n renewed lists geom settled x = record {
     weight = x.weight;
     held = x.held;
     takeable =
@@ -60,7 +64,7 @@ module _ {S : Type 0} (tells : Bool) (state : S → State) (known : Known tells 
         ∙ same_from (state t).books.reusable (λ b. not (has (take n.need (reusable_blocks k)) b) && k.reusable b) (data_start k.geom) (k.geom.n - data_start k.geom) (λ b from below. x.takeable b)
         ∙ kept_behind k.reusable (data_start k.geom) (k.geom.n - data_start k.geom) n.need;
     placed = x.placed;
-    kept = refl;
+    keeps = x.keeps;
   }
 
   pub done_in : (f : Session) (cmd : Cmd) (reply : Reply) (old new : S) → IsSession (state old) f → (state new).books.geom ≡ (state old).books.geom → (d : IsDone (state old) (state new) f cmd reply)
@@ -70,7 +74,7 @@ module _ {S : Type 0} (tells : Bool) (state : S → State) (known : Known tells 
     fits = fits_in old f (figures_on (state old) f cmd) h d.room;
     enough = d.finds.enough;
     runs = in_runs old d.settled f cmd h d.runs;
-    spends = spends_room old new d.settled (figures_on (state old) f cmd) (renewed_on (state old) f cmd) geom d.finds.moves.geom d.spends;
+    spends = spends_room old new d.settled (figures_on (state old) f cmd) (renewed_on (state old) f cmd) _ geom d.finds.moves.geom d.spends;
     holds = subst (λ (g : Geometry). HoldsTree g (step f cmd).0.tree (room_of (state new))) geom (room_holds tells state known new (step f cmd).0 d.session);
   }
 
@@ -132,7 +136,7 @@ module _ {S : Type 0} (tells : Bool) (state : S → State) (known : Known tells 
       where
         -- that room has the transaction and the nodes' blocks as they were
         same : room_with (state old) (state new).books ≡ room_of (state new)
-        same = rooms (room_with (state old) (state new).books) (room_of (state new)) (sym refused_back.weight) (sym refused_back.held) refl (sym refused_back.keeps.places) refl
+        same = rooms (room_with (state old) (state new).books) (room_of (state new)) (sym refused_back.weight) (sym refused_back.held) refl (sym refused_back.keeps.places) (sym refused_back.keeps.kept)
 
         by : IsRefusedIn (state old).books.geom f (room_with (state old) (state new).books) cmd why ⊎ ((why ≡ because.DiskFault) ⊎ (why ≡ because.ReadFault)) → EndsOver f cmd (reply_for (Err why)) old f new (room_of (state new))
         by (inl own) = inl (inr (why, subst (λ (r : Room). IsRefusedIn (state old).books.geom f r cmd why) same own, refl, refl, refl))

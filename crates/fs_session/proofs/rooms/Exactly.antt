@@ -30,7 +30,7 @@ use Rattle.fs_session.proofs.Logs.{grows_by_none}
 use Rattle.fs_session.proofs.applying.Cases.{answered_as}
 use Rattle.fs_session.proofs.applying.Causes.{same_reason}
 use Rattle.fs_session.proofs.applying.Passing.{of_run}
-use Rattle.fs_session.specs.Staying.{freed_alike, session_ticks}
+use Rattle.fs_session.specs.Staying.{freed_alike, session_ticks, tree_stays}
 use Rattle.fs_session.proofs.applying.Waiting.{fits_still}
 use Rattle.fs_session.proofs.rooms.Answered.{known_in, polled_in}
 use Rattle.fs_session.proofs.rooms.Carried.{EndsOver, done_in, fits_in, refused_back, refused_over, settled_back}
@@ -182,7 +182,7 @@ module _ {S : Type 0} (tells : Bool) (state : S → State) (known : Known tells 
         x.2,
         (
           x.3,
-          inl (syncs_room_on (state old) (state new) syncs.geom x.0.tree (λ b at. in_use_is (state old) (known.agrees old).bits h.tree.sound x.0.tree b at.from at.below) x.0.points (sym (x.1.points syncs.disk.stopped)) (syncs.frees known.told)),
+          inl (syncs_room_on (state old) (state new) syncs.geom x.0.tree (λ b at. in_use_is (state old) (known.agrees old).bits h.tree.sound known.snapshots x.0.tree (tree_stays (state new) (state old) x.0.tree (sym syncs.geom) (sym (syncs.map known.told)) x.1.tree) b at.from at.below) x.0.points (sym (x.1.points syncs.disk.stopped)) (syncs.frees known.told)),
         ),
       )
   sync_at orders f cmd (Err why) old new well h syncs =

@@ -1,12 +1,11 @@
--- The numbers of a range that pass a test: where two tests keep the same ones, and what is left without the first of them. The blocks of nodes, one behind the other.
-use Rattle.std.proofs.Common.{⊎_elim, [], ◌≡◌, ◌≢◌, ◌⊎◌, inl, inr, ℕ, zero, suc, ◌+◌, ◌<◌, ◌≤◌, Bool, true, false, not, ◌&&◌, ◌||◌, cond, List, ◌∷◌, ◌++◌, length, take, drop, filter, refl, sym, ap, ap₂, subst, ◌∙◌, arith}
+-- The numbers of a range that pass a test: where two tests keep the same ones, and what is left without the first of them.
+use Rattle.std.proofs.Common.{⊎_elim, [], ◌≡◌, ◌⊎◌, inl, inr, ℕ, zero, suc, ◌+◌, ◌<◌, ◌≤◌, Bool, true, false, not, ◌&&◌, ◌||◌, cond, List, ◌∷◌, length, take, drop, filter, refl, sym, ap, ap₂, subst, ◌∙◌, arith}
 use Rattle.std.proofs.Math.Bool.{and-false}
-use Rattle.std.proofs.lemmas.Bool.{cases_Bool, cases_eq, eq-eqb, ne_eqb, or_left, or_right, true≢false, false≢true}
+use Rattle.std.proofs.lemmas.Bool.{cases_Bool, eq-eqb, ne_eqb, true≢false}
 use Rattle.std.specs.List.{range_with_len}
 use Rattle.engine_blocks.specs.Ranges.{counted, same_from, first_passes, first_fails}
 use Rattle.engine_blocks.specs.Running.{has}
-use Rattle.fs_session.specs.Lists.{node_blocks}
-use Rattle.fs_session.proofs.standing.Lists.{has_append, in_append, is_kept, kept_is}
+use Rattle.fs_snapshots.specs.Among.{is_among, kept_is}
 
 -- a test keeps fewer than one that passes what it passes, or the same
 fewer_or_same : (p q : ℕ → Bool) (a n : ℕ) → ((b : ℕ) → a ≤ b → b < a + n → p b ≡ true → q b ≡ true) → (counted p a n < counted q a n) ⊎ (filter p (range_with_len a n) ≡ filter q (range_with_len a n))
@@ -56,7 +55,7 @@ pub kept_where : (p : ℕ → Bool) (a n b : ℕ) → a ≤ b → b < a + n → 
 kept_where p a n b from below = by (cases_Bool (p b)) (cases_Bool (has (filter p (range_with_len a n)) b))
   where
     by : (p b ≡ true) ⊎ (p b ≡ false) → (has (filter p (range_with_len a n)) b ≡ true) ⊎ (has (filter p (range_with_len a n)) b ≡ false) → has (filter p (range_with_len a n)) b ≡ p b
-    by (inl passes) k = is_kept p a n b from below passes ∙ sym passes
+    by (inl passes) k = is_among p a n b from below passes ∙ sym passes
     by (inr fails) (inl there) = absurd (true≢false (sym (kept_is p a n b there).2 ∙ fails))
     by (inr fails) (inr gone) = gone ∙ sym fails
 
@@ -90,21 +89,3 @@ kept_behind p a (suc n) (suc m) = by (cases_Bool (p a)) (kept_behind p (a + 1) n
     by : (p a ≡ true) ⊎ (p a ≡ false) → left (take m rest) ≡ drop m rest → left (take (suc m) rest) ≡ drop (suc m) rest → Goal (p a)
     by (inl passes) one more = subst Goal (sym passes) (first_gone (take m rest) ∙ one)
     by (inr fails) one more = subst Goal (sym fails) (first_fails_too (take (suc m) rest) fails ∙ more)
-
--- a block of one of the nodes is among their blocks
-pub among_nodes : (places : ℕ → List ℕ) (n k b : ℕ) → 1 ≤ k → k ≤ n → has (places k) b ≡ true → has (node_blocks places n) b ≡ true
-among_nodes places zero k b from upto is = absurd (omega (arith, from, upto))
-among_nodes places (suc n) k b from upto is = by (cases_eq k (suc n)) (λ below. among_nodes places n k b from below is)
-  where
-    by : (k ≡ suc n) ⊎ (k ≢ suc n) → (k ≤ n → has (node_blocks places n) b ≡ true) → has (node_blocks places n ++ places (suc n)) b ≡ true
-    by (inl last) further = has_append (node_blocks places n) (places (suc n)) b ∙ or_right (has (node_blocks places n) b) (has (places (suc n)) b) (ap (λ j. has (places j) b) (sym last) ∙ is)
-    by (inr other) further = has_append (node_blocks places n) (places (suc n)) b ∙ or_left (has (node_blocks places n) b) (has (places (suc n)) b) (further (omega (arith, upto, other)))
-
--- and one of their blocks is a block of one of them
-pub node_among : (places : ℕ → List ℕ) (n b : ℕ) → has (node_blocks places n) b ≡ true → (k : ℕ) × (has (places k) b ≡ true)
-node_among places zero b is = absurd (false≢true is)
-node_among places (suc n) b is = by (node_among places n b) (in_append (node_blocks places n) (places (suc n)) b is)
-  where
-    by : (has (node_blocks places n) b ≡ true → (k : ℕ) × (has (places k) b ≡ true)) → (has (node_blocks places n) b ≡ true) ⊎ (has (places (suc n)) b ≡ true) → (k : ℕ) × (has (places k) b ≡ true)
-    by further (inl before) = further before
-    by further (inr last) = (suc n, last)

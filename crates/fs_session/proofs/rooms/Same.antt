@@ -9,6 +9,7 @@ use Rattle.engine_blocks.specs.Crashes.{IsTold}
 use Rattle.engine_blocks.specs.Ranges.{counted, same_from}
 use Rattle.engine_blocks.specs.Running.{Running}
 use Rattle.engine_blocks.specs.State.{State, IsReusable, data_blocks, live_blocks, reusable_blocks}
+use Rattle.fs_session.specs.Snapshots.{kept_lists}
 use Rattle.fs_session.specs.Commands.{places_of}
 use Rattle.fs_session.specs.Lists.{KeptLists}
 use Rattle.fs_session.specs.Memory.{room_of}
@@ -60,4 +61,4 @@ module _ (s t : State) (before : IsTold s) (after : IsTold t) (geom : t.books.ge
       → room_of t ≡ room_of s
   room_same sound sound_after none none_after running takeable =
       let held = ap (λ (r : Running). r.held) running in
-      rooms (room_of t) (room_of s) (ap (λ (r : Running). r.weight) running) held (takeable_same sound sound_after none none_after held takeable) (places_same s t geom map) refl
+      rooms (room_of t) (room_of s) (ap (λ (r : Running). r.weight) running) held (takeable_same sound sound_after none none_after held takeable) (places_same s t geom map) (ap₂ kept_lists geom map)

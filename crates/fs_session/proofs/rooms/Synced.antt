@@ -1,6 +1,6 @@
 -- A sync in its room: what was weighed is done, and each data block that no node has may be taken.
 use Rattle.std.proofs.lemmas.Bool.{ne_eqb, eq-eqb, cond-true, cond-false, true≢false, not_from_false}
-use Rattle.std.proofs.Common.{◌≡◌, ◌⊎◌, inl, inr, ℕ, ◌+◌, ◌-◌, ◌<◌, ◌≤◌, ◌==◌, Bool, true, false, not, List, length, filter, Ok, Err, Result, refl, sym, ap, ◌∙◌, arith}
+use Rattle.std.proofs.Common.{◌≡◌, ◌⊎◌, inl, inr, ℕ, ◌+◌, ◌-◌, ◌<◌, ◌≤◌, ◌==◌, Bool, true, false, not, List, length, filter, Ok, Err, Result, refl, sym, ap, ap₂, ◌∙◌, arith}
 use Rattle.layout_geometry.specs.Geometry.{Geometry, data_start}
 use Rattle.lang_tree.specs.declared.command.Cmd.{Cmd}
 use Rattle.lang_tree.specs.declared.command.Refusal.{Refusal}
@@ -18,6 +18,7 @@ use Rattle.fs_session.specs.Sessions.{IsSession}
 use Rattle.fs_session.specs.Syncs.{SyncsSession}
 use Rattle.fs_session.proofs.rooms.Carried.{InMemory, stays}
 use Rattle.fs_session.proofs.rooms.Known.{LeavesSession}
+use Rattle.fs_session.specs.Snapshots.{kept_lists}
 use Rattle.fs_session.proofs.rooms.Lists.{kept_same}
 use Rattle.fs_session.proofs.rooms.Nodes.{in_use_is}
 use Rattle.fs_session.proofs.rooms.Same.{live_same, marks_same, never_failed, places_same}
@@ -30,9 +31,9 @@ module _ {S : Type 0} (tells : Bool) (state : S → State) (here : InMemory tell
     held = held;
     takeable = moved ∙ kept_same (state t).books.reusable (λ b. not ((state s).books.marked b)) first count unmarked long
         ∙ same_from (λ b. not ((state s).books.marked b)) (λ b. not (is_in_use (state s).books.geom f.tree (room_of (state s)) b)) first count
-        (λ b from below. ap not (in_use_is (state s) (here.known.agrees s).bits h.tree.sound f.tree b from (omega (arith, from, below))));
+        (λ b from below. ap not (in_use_is (state s) (here.known.agrees s).bits h.tree.sound here.known.snapshots f.tree h.tree b from (omega (arith, from, below))));
     places = places_same (state s) (state t) geom map;
-    kept = refl;
+    kept = ap₂ kept_lists geom map;
   }
     where
       first : ℕ

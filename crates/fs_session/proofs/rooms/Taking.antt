@@ -4,13 +4,13 @@ use Rattle.std.proofs.lemmas.Bool.{false≢true}
 use Rattle.std.proofs.lemmas.List.{length-drop}
 use Rattle.layout_geometry.specs.Geometry.{Geometry, bitmap_blocks, data_start}
 use Rattle.lang_tree.specs.declared.command.Cmd.{Cmd}
-use Rattle.lang_tree.specs.declared.command.Cmd.TheVariants.{Mkdir, Create, Write, Fill, Truncate, Link, Rename, Osync, Dsync, Durable, Dwait, Poll, Bad}
+use Rattle.lang_tree.specs.declared.command.Cmd.TheVariants.{Mkdir, Create, Write, Fill, Truncate, Link, Rename, Snap, Osync, Dsync, Durable, Dwait, Poll, Bad}
 use Rattle.lang_tree.specs.declared.command.Refusal.{Refusal}
 use Rattle.lang_tree.specs.declared.command.Reply.{Reply}
 use Rattle.lang_tree.specs.declared.command.Reply.TheVariants.{Ok as Done}
 use Rattle.lang_tree.specs.Conditions.{refusal}
 use Rattle.lang_tree.specs.Figures.{Figures}
-use Rattle.lang_tree.specs.Sharing.{SharedNodes, accepted_over, figures_over_by}
+use Rattle.lang_tree.specs.Sharing.{BlocksAlone, SharedNodes, accepted_over, figures_over_by}
 use Rattle.lang_tree.specs.Points.{is_refusal}
 use Rattle.lang_tree.specs.Step.{Session, accepted, answered, changed_to, step}
 use Rattle.lang_tree.specs.Tree.{Tree}
@@ -19,7 +19,7 @@ use Rattle.engine_blocks.specs.Ranges.{fewer_from}
 use Rattle.engine_blocks.specs.Running.{has}
 use Rattle.engine_blocks.specs.State.{data_blocks}
 use Rattle.fs_session.specs.DiskRoom.{AnswersOn, AnswersOver, BeginsOver, KeepsRoom, SyncsOver}
-use Rattle.fs_session.specs.Room.{IsDoneIn, RefusesIn, Room, figures_in, shared_by}
+use Rattle.fs_session.specs.Room.{IsDoneIn, RefusesIn, Room, alone_by, figures_in, shared_by}
 use Rattle.fs_session.specs.Staying.{figures_stay}
 
 -- What the tree refuses needs no block.
@@ -28,9 +28,9 @@ changed_or_not : (t : Bool) (f : Session) (tree : Tree) → is_refusal (if t the
 changed_or_not true f tree = refl
 changed_or_not false f tree = refl
 
-module _ (bitmap : ℕ) (shared : SharedNodes) (f : Session) where
+module _ (bitmap : ℕ) (shared : SharedNodes) (alone : BlocksAlone) (f : Session) where
   abbrev NeedsNone : Cmd → Type 0
-  NeedsNone cmd = (accepted_over bitmap shared f.tree cmd).need ≡ 0
+  NeedsNone cmd = (accepted_over bitmap shared alone f.limit f.tree cmd).need ≡ 0
 
   accepted_none : (cmd : Cmd) → is_refusal (accepted f cmd).1 ≡ true → NeedsNone cmd
   accepted_none (Mkdir path) e = absurd (false≢true e)
@@ -40,14 +40,15 @@ module _ (bitmap : ℕ) (shared : SharedNodes) (f : Session) where
   accepted_none (Truncate path size) e = absurd (false≢true (sym (changed_or_not (size == length (content f.tree path)) f _) ∙ e))
   accepted_none (Link path other) e = absurd (false≢true e)
   accepted_none (Rename from to) e = absurd (false≢true (sym (changed_or_not (is_same_node f.tree from to) f _) ∙ e))
+  accepted_none (Snap name) e = absurd (false≢true e)
   accepted_none cmd e = refl
 
-  answered_none : (cmd : Cmd) (why : Option Refusal) → is_refusal (answered f cmd why).1 ≡ true → (figures_over_by bitmap shared f.tree cmd why).need ≡ 0
+  answered_none : (cmd : Cmd) (why : Option Refusal) → is_refusal (answered f cmd why).1 ≡ true → (figures_over_by bitmap shared alone f.limit f.tree cmd why).need ≡ 0
   answered_none cmd None e = accepted_none cmd e
   answered_none cmd (Some why) e = refl
 
 refused_none : (g : Geometry) (f : Session) (r : Room) (cmd : Cmd) → is_refusal (step f cmd).1 ≡ true → (figures_in g f r cmd).need ≡ 0
-refused_none g f r cmd e = answered_none (bitmap_blocks g) (shared_by g f.tree r) f cmd (refusal f.limit f.tree cmd) e
+refused_none g f r cmd e = answered_none (bitmap_blocks g) (shared_by g f.tree r) (alone_by g f.tree r) f cmd (refusal f.limit f.tree cmd) e
 
 -- So many blocks may be taken still.
 

@@ -1,9 +1,9 @@
 -- Lists of numbers: which numbers are in one, and how long two lists are that have the same ones.
-use Rattle.std.proofs.Common.{◌≡◌, ◌≢◌, ◌⊎◌, inl, inr, ℕ, zero, suc, ◌+◌, ◌<◌, ◌≤◌, ◌==◌, ◌||◌, Bool, true, false, cond, List, [], ◌∷◌, ◌++◌, length, get_or, slice_get, filter, Some, refl, sym, ap, ◌∙◌, arith}
+use Rattle.std.proofs.Common.{◌≡◌, ◌≢◌, ◌⊎◌, inl, inr, ℕ, zero, suc, ◌+◌, ◌<◌, ◌≤◌, ◌==◌, ◌||◌, Bool, true, false, List, [], ◌∷◌, ◌++◌, length, get_or, slice_get, filter, Some, refl, sym, ap, ◌∙◌, arith}
 use Rattle.std.specs.Cmp.{nat_eq_equiv, unsigned_Decides}
 use Rattle.std.specs.List.{AllByRecursion, IsDistinct, range_with_len}
 use Rattle.std.specs.Set.{is_member}
-use Rattle.std.proofs.lemmas.Bool.{cases_Bool, cases_order, eqb-true, eq-eqb, false≢true, or_left, or_right, or_cases}
+use Rattle.std.proofs.lemmas.Bool.{cases_Bool, cases_order, eq-eqb, false≢true, or_left, or_right}
 use Rattle.std.proofs.lemmas.List.FromFn.{get_or-range_with_len, length-range_with_len}
 use Rattle.std.proofs.lemmas.List.Kept.{AllPairs-filter}
 use Rattle.std.proofs.lemmas.Map.Made.{IsDistinct-from_AllPairs, length-le_from_is_member}
@@ -58,37 +58,6 @@ pub as_long : (xs ys : List ℕ) → IsDistinct (λ a b. a == b) xs → IsDistin
 as_long xs ys first second there back = omega (arith, no_longer xs ys first there, no_longer ys xs second back)
 
 -- The numbers of a range that pass a test.
-
-pub kept_is : (p : ℕ → Bool) (a n b : ℕ) → has (filter p (range_with_len a n)) b ≡ true → (a ≤ b) × (b < a + n) × (p b ≡ true)
-kept_is p a zero b e = absurd (false≢true e)
-kept_is p a (suc n) b e = by (cases_Bool (p a)) (kept_is p (a + 1) n b)
-  where
-    rest : List ℕ
-    rest = filter p (range_with_len (a + 1) n)
-
-    wider : (a + 1 ≤ b) × (b < a + 1 + n) × (p b ≡ true) → (a ≤ b) × (b < a + suc n) × (p b ≡ true)
-    wider r = (omega (arith, r.0), omega (arith, r.1), r.2)
-
-    first : p a ≡ true → (has rest b ≡ true → (a + 1 ≤ b) × (b < a + 1 + n) × (p b ≡ true)) → ((b == a) ≡ true) ⊎ (has rest b ≡ true) → (a ≤ b) × (b < a + suc n) × (p b ≡ true)
-    first passes further (inl same) = let is = eqb-true b a same in (omega (arith, is), omega (arith, is), ap p is ∙ passes)
-    first passes further (inr later) = wider (further later)
-
-    by : (p a ≡ true) ⊎ (p a ≡ false) → (has rest b ≡ true → (a + 1 ≤ b) × (b < a + 1 + n) × (p b ≡ true)) → (a ≤ b) × (b < a + suc n) × (p b ≡ true)
-    by (inl passes) further = first passes further (or_cases (b == a) (has rest b) (sym (ap (λ t. has (cond t (a ∷ rest) rest) b) passes) ∙ e))
-    by (inr fails) further = wider (further (sym (ap (λ t. has (cond t (a ∷ rest) rest) b) fails) ∙ e))
-
-pub is_kept : (p : ℕ → Bool) (a n b : ℕ) → a ≤ b → b < a + n → p b ≡ true → has (filter p (range_with_len a n)) b ≡ true
-is_kept p a zero b low high passes = absurd (omega (arith, low, high))
-is_kept p a (suc n) b low high passes = by (cases_order a b) (cases_Bool (p a)) (λ from. is_kept p (a + 1) n b from (omega (arith, high)) passes)
-  where
-    rest : List ℕ
-    rest = filter p (range_with_len (a + 1) n)
-
-    by : (a ≡ b) ⊎ ((a < b) ⊎ (b < a)) → (p a ≡ true) ⊎ (p a ≡ false) → (a + 1 ≤ b → has rest b ≡ true) → has (cond (p a) (a ∷ rest) rest) b ≡ true
-    by (inl same) keeps further = ap (λ t. has (cond t (a ∷ rest) rest) b) (ap p same ∙ passes) ∙ ap (λ t. t || has rest b) (eq-eqb b a (sym same))
-    by (inr (inl later)) (inl keeps) further = ap (λ t. has (cond t (a ∷ rest) rest) b) keeps ∙ or_right (b == a) (has rest b) (further (omega (arith, later)))
-    by (inr (inl later)) (inr drops) further = ap (λ t. has (cond t (a ∷ rest) rest) b) drops ∙ further (omega (arith, later))
-    by (inr (inr before)) keeps further = absurd (omega (arith, low, before))
 
 pub distinct_kept : (p : ℕ → Bool) (a n : ℕ) → IsDistinct (λ a b. a == b) (filter p (range_with_len a n))
 distinct_kept p a n = IsDistinct-from_AllPairs unsigned_Decides (filter p (range_with_len a n)) (AllPairs-filter (λ x y. x ≢ y) p (range_with_len a n) (λ i j d before low e.

@@ -1,5 +1,5 @@
 -- As many data blocks are marked as the tree has, where it stands.
-use Rattle.std.proofs.Common.{◌≡◌, ℕ, zero, suc, ◌+◌, ◌-◌, ◌*◌, ◌%◌, ◌<◌, ◌≤◌, ◌==◌, ◌&&◌, ◌||◌, nat_lt, Bool, true, false, List, length, filter, Option, Some, None, option_map, refl, sym, ap, ap₂, ◌∙◌, arith}
+use Rattle.std.proofs.Common.{◌≡◌, ◌≢◌, ◌⊎◌, inl, inr, ℕ, zero, suc, ◌+◌, ◌-◌, ◌*◌, ◌%◌, ◌<◌, ◌≤◌, ◌==◌, ◌&&◌, ◌||◌, nat_lt, Bool, true, false, List, length, filter, Option, Some, None, option_map, refl, sym, ap, ap₂, ◌∙◌, arith}
 use Rattle.std.specs.List.{IsDistinct, range_with_len}
 use Rattle.std.proofs.lemmas.Bool.{eqb-true, false≢true, le-leb, lt-ltb, or_right}
 use Rattle.std.proofs.lemmas.List.{length-append}
@@ -10,7 +10,7 @@ use Rattle.layout_geometry.specs.Geometry.{Geometry, IsGeometry, bitmap_start, d
 use Rattle.layout_journal.specs.Run.{is_live}
 use Rattle.layout_bytes.specs.declared.node.Node.{Node}
 use Rattle.layout_bytes.specs.declared.node.NodeKind.{NodeKind}
-use Rattle.layout_bytes.specs.declared.node.NodeKind.TheVariants.{Free, Dir, File}
+use Rattle.layout_bytes.specs.declared.node.NodeKind.TheVariants.{Free, Dir, File, Snapshot}
 use Rattle.layout_bytes.specs.declared.slot.Slot.{Slot}
 use Rattle.layout_bytes.specs.Bitmap.{is_set}
 use Rattle.layout_bytes.specs.Node.{kind_fits}
@@ -18,11 +18,13 @@ use Rattle.lang_tree.specs.Figures.{blocks_for}
 use Rattle.engine_blocks.specs.Running.{has}
 use Rattle.crash_stands.specs.Files.{FileNode, files_of, file_of, used_node, content}
 use Rattle.crash_stands.specs.Inodes.{Inode, Inodes, ADir, AFile, AreInodesOf, IsInodeOf, inode_by, inode_of}
-use Rattle.crash_stands.specs.Stands.{AreSound, HasBlock}
+use Rattle.crash_stands.specs.Sharing.{IsKeptBlock}
+use Rattle.crash_stands.specs.Stands.{AreSound, HasBlock, HasNoSnapshots}
 use Rattle.fs_inodes.specs.Figures.{inode_blocks, blocks_from}
 use Rattle.fs_files.specs.Calls.{places_or_none}
-use Rattle.fs_session.proofs.standing.Lists.{place_of, has_place, as_long, kept_is, is_kept, distinct_kept, in_turn, turn_of, in_its_turn, distinct_turns}
-use Rattle.fs_session.proofs.standing.Nodes.{Fits, used_number, used_fits, node_count, content_length, places_at, block_place, place_block, place_data}
+use Rattle.fs_snapshots.specs.Among.{kept_is, is_among, used_number}
+use Rattle.fs_session.proofs.standing.Lists.{place_of, has_place, as_long, distinct_kept, in_turn, turn_of, in_its_turn, distinct_turns}
+use Rattle.fs_session.proofs.standing.Nodes.{Fits, used_fits, node_count, content_length, places_at, block_place, place_block, place_data}
 
 -- Which blocks are live: those of the bitmap and the node table, and the data blocks that are marked.
 
@@ -41,9 +43,9 @@ module _ (g : Geometry) (m : Blocks) (sound : AreSound g m) where
   place_marked k b is =
       let at = place_data g m k b is in
       let r = place_of (places_at g m k) b is in
-      (sound.marked b at.from at.below).1 (k, r.0, place_block g m k r.0 b r.1)
+      (sound.marked b at.from at.below).1 (inl (k, r.0, place_block g m k r.0 b r.1))
 
-  place_whole : (k b : ℕ) → has (places_at g m k) b ≡ true → length (m b) ≡ 1024
+  pub place_whole : (k b : ℕ) → has (places_at g m k) b ≡ true → length (m b) ≡ 1024
   place_whole k b is =
       let at = place_data g m k b is in
       sound.whole b (data_live g m b (omega (arith, at.from)) at.below (place_marked k b is))
@@ -61,24 +63,30 @@ module _ (g : Geometry) (m : Blocks) (sound : AreSound g m) where
       let number = used_number g m k h.node h.is_node in
       in_its_turn (places_at g m) 1 g.i b k number.0 (omega (arith, number.1)) (has_place (places_at g m k) i b (block_place g m k i b h))
 
-  -- as many data blocks are marked as the nodes have
-  marked_count : (p : ℕ → Bool) → ((b : ℕ) → b < g.n → p b ≡ is_set g m b) → length (filter p (range_with_len (data_start g) (g.n - data_start g))) ≡ length all_places
-  marked_count p same = as_long (filter p (range_with_len (data_start g) (g.n - data_start g))) all_places (distinct_kept p (data_start g) (g.n - data_start g)) all_once
+  -- where no node is a snapshot no block is kept
+  of_node : HasNoSnapshots g m → (b : ℕ) → ((k : ℕ) × (i : ℕ) × HasBlock g m k i b) ⊎ IsKeptBlock g m b → (k : ℕ) × (i : ℕ) × HasBlock g m k i b
+  of_node none b (inl at) = at
+  of_node none b (inr kept) = absurd (none kept.snapshot kept.node kept.is_node kept.kind)
+
+  -- and as many data blocks are marked as the nodes have
+  marked_count : HasNoSnapshots g m → (p : ℕ → Bool) → ((b : ℕ) → b < g.n → p b ≡ is_set g m b) → length (filter p (range_with_len (data_start g) (g.n - data_start g))) ≡ length all_places
+  marked_count none p same = as_long (filter p (range_with_len (data_start g) (g.n - data_start g))) all_places (distinct_kept p (data_start g) (g.n - data_start g)) all_once
       (λ b is.
       let r = kept_is p (data_start g) (g.n - data_start g) b is in
       let below : b < g.n = omega (arith, r.0, r.1) in
-      let owner = (sound.marked b r.0 below).0 (sym (same b below) ∙ r.2) in
+      let owner = of_node none b ((sound.marked b r.0 below).0 (sym (same b below) ∙ r.2)) in
       place_among owner.0 owner.1 b owner.2)
       (λ b is.
       let r = turn_of (places_at g m) 1 g.i b is in
       let at = place_data g m r.0 b r.3 in
-      is_kept p (data_start g) (g.n - data_start g) b at.from (omega (arith, at.from, at.below)) (same b at.below ∙ place_marked r.0 b r.3))
+      is_among p (data_start g) (g.n - data_start g) b at.from (omega (arith, at.from, at.below)) (same b at.below ∙ place_marked r.0 b r.3))
 
 -- The blocks of an inode.
 
 -- a directory's bytes are whole slots
-dir_whole : (node : Node) (kind : NodeKind) (links : ℕ) (bytes : List ℕ) (slots : List Slot) → kind_fits node kind ≡ true → inode_by kind links bytes ≡ Some (ADir slots) → node.size % 64 ≡ 0
+pub dir_whole : (node : Node) (kind : NodeKind) (links : ℕ) (bytes : List ℕ) (slots : List Slot) → kind_fits node kind ≡ true → inode_by kind links bytes ≡ Some (ADir slots) → node.size % 64 ≡ 0
 dir_whole node Free links bytes slots fits e = absurd (none-some (ADir slots) e)
+dir_whole node Snapshot links bytes slots fits e = absurd (none-some (ADir slots) e)
 dir_whole node Dir links bytes slots fits e = eqb-true (node.size % 64) 0 fits
 dir_whole node File links bytes slots fits e = absurd (false≢true (ap is_dir (same_Some (AFile links bytes) (ADir slots) e)))
   where
@@ -112,15 +120,16 @@ module _ (slots_law : HasSlots) (bytes_law : HasItsBytes) (g : Geometry) (m : Bl
       by (AFile links bytes) e =
           ap (λ (xs : List ℕ). blocks_for (length xs)) (sym (bytes_law (file_of m node) links bytes e).1) ∙ (ap blocks_for long ∙ sym (node_count g node fits))
 
-  pub inode_has : (k : ℕ) (o : Option Node) (y : Option Inode) → used_node g m k ≡ o → IsInodeOf (option_map (file_of m) o) y → inode_blocks y ≡ length (places_or_none o)
-  inode_has k None y used is = ap inode_blocks is
-  inode_has k (Some node) None used is = absurd is
-  inode_has k (Some node) (Some x) used is = used_blocks k node x used is
+  -- and so has what is no snapshot
+  pub inode_has : (k : ℕ) (o : Option Node) (y : Option Inode) → ((node : Node) → used_node g m k ≡ Some node → node.kind ≢ Snapshot) → used_node g m k ≡ o → IsInodeOf (option_map (file_of m) o) y → inode_blocks y ≡ length (places_or_none o)
+  inode_has k None y plain used is = ap inode_blocks is
+  inode_has k (Some node) None plain used is = absurd (plain node used is)
+  inode_has k (Some node) (Some x) plain used is = used_blocks k node x used is
 
-  turns_count : (f : Inodes) → AreInodesOf (files_of g m) f → (k n : ℕ) → blocks_from f k n ≡ length (in_turn (places_at g m) k n)
-  turns_count f read k zero = refl
-  turns_count f read k (suc n) = omega (arith, length-append (places_at g m k) (in_turn (places_at g m) (k + 1) n), inode_has k (used_node g m k) (f k) refl (read k), turns_count f read (k + 1) n)
+  turns_count : HasNoSnapshots g m → (f : Inodes) → AreInodesOf (files_of g m) f → (k n : ℕ) → blocks_from f k n ≡ length (in_turn (places_at g m) k n)
+  turns_count none f read k zero = refl
+  turns_count none f read k (suc n) = omega (arith, length-append (places_at g m k) (in_turn (places_at g m) (k + 1) n), inode_has k (used_node g m k) (f k) (none k) refl (read k), turns_count none f read (k + 1) n)
 
-  -- as many data blocks are marked as the inodes have
-  pub inodes_count : (f : Inodes) → AreInodesOf (files_of g m) f → (p : ℕ → Bool) → ((b : ℕ) → b < g.n → p b ≡ is_set g m b) → length (filter p (range_with_len (data_start g) (g.n - data_start g))) ≡ blocks_from f 1 g.i
-  inodes_count f read p same = marked_count g m sound p same ∙ sym (turns_count f read 1 g.i)
+  -- as many data blocks are marked as the inodes have, where no node is a snapshot
+  pub inodes_count : HasNoSnapshots g m → (f : Inodes) → AreInodesOf (files_of g m) f → (p : ℕ → Bool) → ((b : ℕ) → b < g.n → p b ≡ is_set g m b) → length (filter p (range_with_len (data_start g) (g.n - data_start g))) ≡ blocks_from f 1 g.i
+  inodes_count none f read p same = marked_count g m sound none p same ∙ sym (turns_count none f read 1 g.i)

@@ -1,7 +1,7 @@
 -- What a node in use has: data blocks, as many as its bytes need.
-use Rattle.std.proofs.Common.{◌≡◌, ◌≢◌, ◌⊎◌, ℕ, ◌+◌, ◌*◌, ◌/◌, ◌<◌, ◌≤◌, ◌==◌, ◌||◌, ◌&&◌, nat_lt, nat_le, true, List, [], ◌∷◌, ◌++◌, length, slice_get, Option, Some, None, refl, sym, ap, ◌∙◌, arith}
+use Rattle.std.proofs.Common.{◌≡◌, ℕ, ◌+◌, ◌/◌, ◌<◌, ◌≤◌, ◌==◌, ◌&&◌, nat_lt, nat_le, true, List, length, slice_get, Option, Some, None, refl, sym, ap, ◌∙◌, arith}
 use Rattle.std.proofs.lemmas.List.{length-take-le}
-use Rattle.std.proofs.lemmas.Bool.{and_parts, leb-true, ltb-true, eqb-true, false≢true}
+use Rattle.std.proofs.lemmas.Bool.{and_parts, leb-true, ltb-true, eqb-true}
 use Rattle.std.proofs.lemmas.Option.{none-some}
 use Rattle.base_types.specs.Seal.{Blocks}
 use Rattle.base_types.specs.Runs.{run_places}
@@ -17,12 +17,6 @@ use Rattle.fs_files.specs.Places.{has_place, joined_length, place_of, places_cou
 pub use Rattle.fs_files.specs.Places.{first_fits, joined_same, runs_data}
 
 -- A node that is read fits.
-
--- a node in use has a number of the geometry's
-pub used_number : (g : Geometry) (m : Blocks) (k : ℕ) (node : Node) → used_node g m k ≡ Some node → (1 ≤ k) × (k ≤ g.i)
-used_number g m k node e =
-    let is = and_parts (nat_le 1 k) (nat_le k g.i) (when_some (nat_le 1 k && nat_le k g.i) (node_at g m k) node e).0 in
-    (leb-true 1 k is.0, leb-true k g.i is.1)
 
 -- What it is to fit.
 

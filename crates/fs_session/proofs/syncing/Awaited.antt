@@ -1,5 +1,5 @@
 -- What a wait for a sync point makes of the session: a point that is durable then, or nothing.
-use Rattle.std.proofs.Common.{◌≡◌, ◌⊎◌, ⊎_elim, ℕ, ◌≤◌, ◌<◌, nat_le, if◌then◌else◌, Bool, true, false, IsTrue, Result, Ok, Err, refl, sym, subst, ap, ◌∙◌, arith}
+use Rattle.std.proofs.Common.{◌≡◌, ⊎_elim, ℕ, ◌≤◌, ◌<◌, if◌then◌else◌, Bool, true, false, IsTrue, Result, Ok, Err, refl, sym, subst, ap, ◌∙◌, arith}
 use Rattle.std.proofs.lemmas.Bool.{cases_lt, le-leb, lt-leb}
 use Rattle.disk_contract.specs.Disk.{writes_in}
 use Rattle.lang_tree.specs.declared.command.Cmd.TheVariants.{Dwait}
