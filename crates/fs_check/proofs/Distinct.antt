@@ -81,7 +81,7 @@ repeats slots place s kept at h e =
 
 -- The set with one name more.
 
-equal : (o : Ordering) → is_eq o ≡ true → o ≡ Equal
+pub equal : (o : Ordering) → is_eq o ≡ true → o ≡ Equal
 equal Less e = absurd cc
 equal Equal e = refl
 equal Greater e = absurd cc

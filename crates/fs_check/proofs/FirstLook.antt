@@ -16,11 +16,13 @@ use Rattle.fs_check.specs.declared.looked.Looked.{Looked}
 use Rattle.fs_check.specs.declared.looked.Looked.TheVariants.{Unused}
 use Rattle.fs_check.specs.Damage.{IsBroken}
 use Rattle.fs_check.specs.Looked.{seen, IsSeen, IsSeenAs, IsLookOf, IsLookAs, HasWrongLink, AreSeen}
+use Rattle.fs_check.proofs.Seeing.{dir_plain}
 
 look_as : (x : FileNode) (k : NodeKind) (look : Looked) → IsLookAs k (facts_of x) look → IsSeenAs k x look
 look_as x kind.Free look h = h
 look_as x kind.Dir look h = h
 look_as x kind.File look h = h
+look_as x kind.Snapshot look h = h
 
 -- what is kept of a look is what is seen of the node
 look_seen : (o : Option FileNode) (found : Option FileFacts) (look : Looked) → found ≡ option_map facts_of o → IsLookOf found look → IsSeen o look
@@ -66,5 +68,6 @@ link_broken limit node files found why e h =
     (record {
       file = x.0;
       used = x.1;
+      plain = dir_plain x.0 (ap (λ (f : FileFacts). f.kind) (sym x.2) ∙ h.is_dir);
       unread = wrong_inode x.0 (ap (λ (f : FileFacts). f.kind) (sym x.2) ∙ h.is_dir) (λ l. h.link (ap (λ (f : FileFacts). f.links) x.2 ∙ l));
     })

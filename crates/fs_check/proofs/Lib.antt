@@ -13,3 +13,4 @@ pub mod FirstLook
 pub mod Ruled
 pub mod Refuted
 pub mod Judging
+pub mod keeping

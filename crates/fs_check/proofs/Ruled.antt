@@ -2,6 +2,7 @@
 use Rattle.std.proofs.Common.{◌≡◌, ◌≢◌, ℕ, zero, suc, ◌-◌, ◌^◌, ◌<◌, ◌≤◌, true, Bool, List, length, get_or, Some, option_and_then, slice_get, refl, sym, ap, ◌∙◌, arith, subst}
 use Rattle.std.proofs.lemmas.Option.{none-some}
 use Rattle.std.proofs.lemmas.Bool.{both_ways}
+use Rattle.layout_bytes.specs.declared.node.NodeKind.TheVariants.{Snapshot}
 use Rattle.layout_bytes.specs.declared.slot.Slot.{Slot}
 use Rattle.crash_stands.specs.Files.{FileNode, Files}
 use Rattle.crash_stands.specs.Inodes.{Inode, ADir, AFile, AreDistinct, inode_of, inodes_of}
@@ -53,11 +54,11 @@ used_inode limit files nodes named marks h k used = used_as limit files nodes na
 inode_used : (files : Files) (nodes : List Looked) (k : ℕ) (x : Inode) → AreSeen files nodes → inodes_of files k ≡ Some x → seen nodes k ≢ Unused
 inode_used files nodes k x h is e = none-some x (sym (inode_none files nodes k h e) ∙ is)
 
-reads_as : (limit : ℕ) (files : Files) (nodes : List Looked) (named : List ℕ) (marks : List Bool) → HasFound limit files nodes named marks → (k : ℕ) (file : FileNode) → files k ≡ Some file → (look : Looked) → seen nodes k ≡ look → (x : Inode) × (inode_of file ≡ Some x)
-reads_as limit files nodes named marks h k file at Unused e = absurd (none-some file (sym (seen_none (files k) (seen nodes k) (h.seen_all k) e) ∙ at))
-reads_as limit files nodes named marks h k file at (Directory size) e =
+reads_as : (limit : ℕ) (files : Files) (nodes : List Looked) (named : List ℕ) (marks : List Bool) → HasFound limit files nodes named marks → (k : ℕ) (file : FileNode) → files k ≡ Some file → file.kind ≢ Snapshot → (look : Looked) → seen nodes k ≡ look → (x : Inode) × (inode_of file ≡ Some x)
+reads_as limit files nodes named marks h k file at plain Unused e = absurd (plain (seen_none (files k) (seen nodes k) file (h.seen_all k) e at))
+reads_as limit files nodes named marks h k file at plain (Directory size) e =
     let g = good limit files nodes named marks h k (size, e) in (ADir g.slots, sym (ap (option_and_then inode_of) at) ∙ g.is_dir)
-reads_as limit files nodes named marks h k file at (Links n) e =
+reads_as limit files nodes named marks h k file at plain (Links n) e =
     let f = inode_file files nodes k n h.seen_all e in (AFile n f.0, sym (ap (option_and_then inode_of) at) ∙ f.1)
 
 -- the count of a node is how many slots name it
@@ -90,7 +91,7 @@ was_file limit files nodes named marks h k l bytes is (Links n) e =
 -- the rules hold
 pub tree_files : (limit : ℕ) (files : Files) (nodes : List Looked) (named : List ℕ) (marks : List Bool) → HasFound limit files nodes named marks → WasDir nodes 1 → Agree nodes named marks (length nodes) → AreTreeFiles limit files
 tree_files limit files nodes named marks h root agree = record {
-  read = λ k file at. reads_as limit files nodes named marks h k file at (seen nodes k) refl;
+  read = λ k file at plain. reads_as limit files nodes named marks h k file at plain (seen nodes k) refl;
   rules = record {
     root = let g = good limit files nodes named marks h 1 root in (g.slots, g.is_dir);
     within = λ k x is. (above k x is, omega (arith, place k x is, h.places.count));

@@ -45,6 +45,7 @@ seen_dir_as : (x : FileNode) (k : NodeKind) (look : Looked) (size : ℕ) → x.k
 seen_dir_as x kind.Free look size is h e = absurd h
 seen_dir_as x kind.Dir look size is h e = record { file = x; there = refl; is_dir = is; link = h.0; long = same_size (length x.bytes) size look h.1 e }
 seen_dir_as x kind.File look size is h e = absurd cc
+seen_dir_as x kind.Snapshot look size is h e = absurd cc
 
 pub seen_dir : (o : Option FileNode) (look : Looked) (size : ℕ) → IsSeen o look → look ≡ Directory size → IsDirOf o size
 seen_dir None look size h e = absurd cc
@@ -64,24 +65,34 @@ seen_file_as : (x : FileNode) (k : NodeKind) (look : Looked) (n : ℕ) → x.kin
 seen_file_as x kind.Free look n is h e = absurd h
 seen_file_as x kind.Dir look n is h e = let f = h.1 in absurd cc
 seen_file_as x kind.File look n is h e = record { file = x; there = refl; is_file = is; as_many = same_links x.links n look h e }
+seen_file_as x kind.Snapshot look n is h e = absurd cc
 
 pub seen_file : (o : Option FileNode) (look : Looked) (n : ℕ) → IsSeen o look → look ≡ Links n → IsFileOf o n
 seen_file None look n h e = absurd cc
 seen_file (Some x) look n h e = seen_file_as x x.kind look n refl h e
 
-seen_none_as : (x : FileNode) (k : NodeKind) (look : Looked) → IsSeenAs k x look → look ≡ Unused → ⊥
-seen_none_as x kind.Free look h e = h
-seen_none_as x kind.Dir look h e = let f = h.1 in cc
-seen_none_as x kind.File look h e = cc
+-- what was seen as unused is no node, or a snapshot
+seen_none_as : (x : FileNode) (k : NodeKind) (look : Looked) → x.kind ≡ k → IsSeenAs k x look → look ≡ Unused → x.kind ≡ kind.Snapshot
+seen_none_as x kind.Free look is h e = absurd h
+seen_none_as x kind.Dir look is h e = let f = h.1 in absurd cc
+seen_none_as x kind.File look is h e = absurd cc
+seen_none_as x kind.Snapshot look is h e = is
 
-pub seen_none : (o : Option FileNode) (look : Looked) → IsSeen o look → look ≡ Unused → o ≡ None
-seen_none None look h e = refl
-seen_none (Some x) look h e = absurd (seen_none_as x x.kind look h e)
+pub seen_none : (o : Option FileNode) (look : Looked) (x : FileNode) → IsSeen o look → look ≡ Unused → o ≡ Some x → x.kind ≡ kind.Snapshot
+seen_none None look x h e at = absurd (none-some x at)
+seen_none (Some y) look x h e at = ap (λ (f : FileNode). f.kind) (sym (same_Some y x at)) ∙ seen_none_as y y.kind look refl h e
 
 -- The inodes.
 
+pub snapshot_inode : (x : FileNode) → x.kind ≡ kind.Snapshot → inode_of x ≡ None
+snapshot_inode x is = ap (λ k. inode_by k x.links x.bytes) is
+
+unused_inode : (o : Option FileNode) (look : Looked) → IsSeen o look → look ≡ Unused → option_and_then inode_of o ≡ None
+unused_inode None look h e = refl
+unused_inode (Some x) look h e = snapshot_inode x (seen_none (Some x) look x h e refl)
+
 pub inode_none : (files : Files) (nodes : List Looked) (k : ℕ) → AreSeen files nodes → seen nodes k ≡ Unused → inodes_of files k ≡ None
-inode_none files nodes k h e = ap (option_and_then inode_of) (seen_none (files k) (seen nodes k) (h k) e)
+inode_none files nodes k h e = unused_inode (files k) (seen nodes k) (h k) e
 
 file_inode : (x : FileNode) → x.kind ≡ kind.File → inode_of x ≡ Some (AFile x.links x.bytes)
 file_inode x is = ap (λ k. inode_by k x.links x.bytes) is
@@ -111,11 +122,20 @@ dir_some o v items files nodes dir size h e reads is =
     let r = read_inode files nodes dir size (option_map items o) h e reads in
     ap (option_and_then inode_of) r.1 ∙ r.2 ∙ ap (λ p. option_map ADir (option_map items p)) is
 
+pub dir_plain : (x : FileNode) → x.kind ≡ kind.Dir → x.kind ≢ kind.Snapshot
+dir_plain x is not = cc
+
 pub dir_none : {V : Type 0} (o : Option V) (items : V → List Slot) (files : Files) (nodes : List Looked) (dir size : ℕ) → AreSeen files nodes → seen nodes dir ≡ Directory size → WereRead files dir size (option_map items o) → o ≡ None
     → IsUnreadable files dir
 dir_none o items files nodes dir size h e reads is =
     let r = read_inode files nodes dir size (option_map items o) h e reads in
-    record { file = r.0; used = r.1; unread = r.2 ∙ ap (λ p. option_map ADir (option_map items p)) is }
+    let d = seen_dir (files dir) (seen nodes dir) size (h dir) e in
+    record {
+      file = r.0;
+      used = r.1;
+      plain = dir_plain r.0 (ap (λ (f : FileNode). f.kind) (same_Some r.0 d.file (sym r.1 ∙ d.there)) ∙ d.is_dir);
+      unread = r.2 ∙ ap (λ p. option_map ADir (option_map items p)) is;
+    }
 
 pub dir_used : (files : Files) (nodes : List Looked) (dir size : ℕ) → AreSeen files nodes → seen nodes dir ≡ Directory size → (x : FileNode) × (files dir ≡ Some x)
 dir_used files nodes dir size h e = let d = seen_dir (files dir) (seen nodes dir) size (h dir) e in (d.file, d.there)

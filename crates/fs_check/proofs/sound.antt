@@ -6,3 +6,4 @@ pub mod Told
 pub mod Bitmap
 pub mod Steps
 pub mod Whole
+pub mod Ends

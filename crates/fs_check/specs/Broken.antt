@@ -9,6 +9,7 @@ use Rattle.layout_bytes.specs.Bytes.{are_zeros}
 use Rattle.layout_bytes.specs.Node.{node_size, node_at, node_bytes}
 use Rattle.layout_bitmap.specs.Bits.{is_bad_bit}
 use Rattle.crash_stands.specs.Files.{used_node, past_content}
+use Rattle.crash_stands.specs.Sharing.{IsKeptBlock}
 use Rattle.crash_stands.specs.Stands.{HasBlock}
 use Rattle.fs_check.specs.declared.block_damage.BlockDamage.{BlockDamage}
 use Rattle.fs_check.specs.declared.block_damage.BlockDamage.TheVariants.{WrongBit, BadNode, Unmarked, Shared, Tail, Lost}
@@ -50,12 +51,13 @@ pub record HasTail (g : Geometry) (m : Blocks) (k : ℕ) : Type 0 where
   pub is_dir : node.kind ≡ Dir
   pub carries : are_zeros (past_content m node) ≡ false
 
--- the bit of data block b is set, and no node has the block
+-- the bit of data block b is set, no node has the block, and no snapshot keeps it
 pub record IsLost (g : Geometry) (m : Blocks) (b : ℕ) : Type 0 where
   pub from : data_start g ≤ b
   pub below : b < g.n
   pub marked : is_set g m b ≡ true
   pub unowned : (k i : ℕ) → HasBlock g m k i b → ⊥
+  pub unkept : IsKeptBlock g m b → ⊥
 
 -- this is broken in the blocks, and there
 abbrev pub IsBroken : Geometry → Blocks → BlockDamage → Type 0

@@ -1,5 +1,6 @@
 -- What is broken in the tree of some nodes, and where. The rules are those of docs/LAYOUT.md.
 use Rattle.std.specs.Prelude.{◌≡◌, ◌≢◌, ℕ, ◌<◌, List, slice_get, None, Some}
+use Rattle.layout_bytes.specs.declared.node.NodeKind.TheVariants.{Snapshot}
 use Rattle.layout_bytes.specs.declared.slot.Slot.{Slot}
 use Rattle.crash_stands.specs.Files.{FileNode, Files}
 use Rattle.crash_stands.specs.Inodes.{Inode, Inodes, ADir, AFile, inode_of, inodes_of}
@@ -8,10 +9,11 @@ use Rattle.fs_inodes.specs.Links.{slots_naming}
 use Rattle.fs_check.specs.declared.damage.TreeDamage.{TreeDamage}
 use Rattle.fs_check.specs.declared.damage.TreeDamage.TheVariants as damage
 
--- A node in use reads as no inode: it is a directory with another number of links than one, or with bytes that are no slot's.
+-- A node in use that is no snapshot reads as no inode: it is a directory with another number of links than one, or with bytes that are no slot's.
 pub record IsUnreadable (files : Files) (node : ℕ) : Type 0 where
   pub file : FileNode
   pub used : files node ≡ Some file
+  pub plain : file.kind ≢ Snapshot
   pub unread : inode_of file ≡ None
 
 -- this slot is at a place of a directory
@@ -26,7 +28,7 @@ pub record NamesRoot (m : Inodes) (dir place : ℕ) : Type 0 where
   pub has : HasSlot m dir place slot
   pub root : slot.node ≡ 1
 
--- The slot at a place of a directory names a node that isn't in use.
+-- The slot at a place of a directory names a node that is no inode: one that isn't in use, or a snapshot.
 pub record NamesUnused (m : Inodes) (dir place : ℕ) : Type 0 where
   pub slot : Slot
   pub has : HasSlot m dir place slot

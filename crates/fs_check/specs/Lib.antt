@@ -2,6 +2,12 @@ pub mod Broken
 pub mod Calls
 pub mod Meeting
 pub mod Damage
+pub mod BrokenSnapshots
+pub mod Snapshots
+pub mod KeptMeeting
+pub mod KeptGoing
+pub mod SnapshotCalls
+pub mod Firm
 pub mod Reading
 pub mod Looked
 pub mod Slots

@@ -15,11 +15,12 @@ use Rattle.fs_check.specs.declared.looked.Looked.TheVariants.{Unused, Directory,
 abbrev pub seen : List Looked → ℕ → Looked
 seen nodes k = get_or nodes k Unused
 
--- a directory with its one link and its size, and a file with its links
+-- a directory with its one link and its size, a file with its links, and nothing of a snapshot
 abbrev pub IsSeenAs : NodeKind → FileNode → Looked → Type 0
 IsSeenAs kind.Free x look = ⊥
 IsSeenAs kind.Dir x look = (x.links ≡ 1) × (look ≡ Directory (length x.bytes))
 IsSeenAs kind.File x look = look ≡ Links x.links
+IsSeenAs kind.Snapshot x look = look ≡ Unused
 
 -- that is what was seen of the node
 abbrev pub IsSeen : Option FileNode → Looked → Type 0
@@ -51,6 +52,7 @@ abbrev pub IsLookAs : NodeKind → FileFacts → Looked → Type 0
 IsLookAs kind.Free facts look = ⊥
 IsLookAs kind.Dir facts look = (facts.links ≡ 1) × (look ≡ Directory facts.size)
 IsLookAs kind.File facts look = look ≡ Links facts.links
+IsLookAs kind.Snapshot facts look = look ≡ Unused
 
 abbrev pub IsLookOf : Option FileFacts → Looked → Type 0
 IsLookOf None look = look ≡ Unused

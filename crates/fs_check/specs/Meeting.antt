@@ -1,11 +1,11 @@
 -- What a check knows once it went through the blocks of some nodes. It is described in docs/FSCK.md.
-use Rattle.std.specs.Prelude.{◌≡◌, ◌↔◌, ℕ, ◌*◌, ◌<◌, ◌≤◌, true, false, IsTrue, List, length, replicate, None, Some}
+use Rattle.std.specs.Prelude.{◌≡◌, ◌≢◌, ◌↔◌, Bool, ℕ, ◌*◌, ◌<◌, ◌≤◌, true, false, IsTrue, List, length, replicate, None, Some}
 use Rattle.base_types.specs.Runs.{run_places}
 use Rattle.base_types.specs.Seal.{Blocks, blocks_of}
 use Rattle.layout_geometry.specs.Geometry.{Geometry, bitmap_blocks, data_start}
 use Rattle.layout_bytes.specs.declared.node.Node.{Node}
 use Rattle.layout_bytes.specs.declared.node.NodeKind.{NodeKind}
-use Rattle.layout_bytes.specs.declared.node.NodeKind.TheVariants.{Dir}
+use Rattle.layout_bytes.specs.declared.node.NodeKind.TheVariants.{Dir, Snapshot}
 use Rattle.layout_bytes.specs.Bitmap.{bit_in, is_set}
 use Rattle.layout_bytes.specs.Bytes.{are_zeros}
 use Rattle.layout_bytes.specs.Node.{node_size, node_at, node_bytes}
@@ -62,10 +62,11 @@ pub record IsUnmet (g : Geometry) (bits met : Blocks) (b : ℕ) : Type 0 where
   pub marked : bit_in bits b ≡ true
   pub unmet : bit_in met b ≡ false
 
--- The bits are those of the bitmap, and the nodes below k were gone through.
-pub record IsCheckedTo (g : Geometry) (m : Blocks) (bits met : List (List ℕ)) (k : ℕ) : Type 0 where
+-- The bits are those of the bitmap, and the nodes below k were gone through: where no snapshot was found none of them is one.
+pub record IsCheckedTo (g : Geometry) (m : Blocks) (bits met : List (List ℕ)) (found : Bool) (k : ℕ) : Type 0 where
   pub are : AreBits g m bits
   pub sound : AreSoundBelow g m k (blocks_of met)
+  pub plain : found ≡ false → (l : ℕ) (node : Node) → l < k → used_node g m l ≡ Some node → node.kind ≢ Snapshot
 
 -- What a check needs of a map of blocks of this geometry, and of its two bitmaps.
 pub record MayCheck (g : Geometry) (s : State) (bits met : List (List ℕ)) : Type 0 where

@@ -1,5 +1,5 @@
 -- What the whole check answers: what is broken, and where. It is described in docs/FSCK.md.
-use Rattle.std.specs.Prelude.{ℕ, ⊤, Bool, true, false, Result, Ok, Err}
+use Rattle.std.specs.Prelude.{⊤, Bool, true, false, Result, Ok, Err}
 use Rattle.base_types.specs.Seal.{Blocks}
 use Rattle.layout_geometry.specs.Geometry.{Geometry}
 use Rattle.crash_stands.specs.Files.{files_of}
@@ -12,11 +12,13 @@ use Rattle.fs_check.specs.declared.checking.Damage.TheVariants as damage
 use Rattle.fs_check.specs.declared.checking.CheckRefusal.{CheckRefusal}
 use Rattle.fs_check.specs.declared.checking.CheckRefusal.TheVariants as refusal
 use Rattle.fs_check.specs.Broken.{IsBroken as IsBrokenBlock}
+use Rattle.fs_check.specs.BrokenSnapshots.{IsBroken as IsBrokenSnapshot}
 use Rattle.fs_check.specs.Damage.{IsBroken as IsBrokenTree}
 
--- the damage is there: in the blocks, or among the nodes of these blocks
+-- the damage is there: in the blocks, in a snapshot, or among the nodes of these blocks
 abbrev pub IsDamaged : Geometry → Blocks → Damage → Type 0
 IsDamaged g m (damage.Blocks what) = IsBrokenBlock g m what
+IsDamaged g m (damage.Snapshot what) = IsBrokenSnapshot g m what
 IsDamaged g m (damage.Tree what) = IsBrokenTree g.i (files_of g m) what
 
 -- what must hold of the damage, where there is one

@@ -65,6 +65,7 @@ fn look_of(node: u32, found: Option<FileFacts>) -> Result<Looked, TreeDamage>
                 Ok(Looked::Directory(facts.size))
             }
             NodeKind::File => Ok(Looked::Links(facts.links)),
+            NodeKind::Snapshot => Ok(Looked::Unused),
         },
     }
 }

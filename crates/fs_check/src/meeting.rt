@@ -6,6 +6,7 @@ ghost use Rattle.std.specs.List.{All};
 ghost use Rattle.base_types.specs.Seal.{Blocks, blocks_of};
 ghost use Rattle.layout_bitmap.specs.Bits.{BitBecomes};
 ghost use Rattle.engine_blocks.specs.Puts.{IsData};
+ghost use Rattle.fs_files.specs.Shared.{is_kept};
 ghost use Rattle.fs_check.specs.Broken.{IsBroken};
 ghost use Rattle.fs_check.specs.Meeting.{AreBits, HasMet, HasPlaces, IsUnmeetable, IsUnmet};
 ghost use Rattle.layout_geometry.specs.Geometry.{bitmap_blocks, data_start};
@@ -13,6 +14,7 @@ ghost use Rattle.layout_bytes.specs.Bitmap.{bit_in};
 
 use crate::BlockDamage;
 use base_types::Block;
+use fs_files::Shared;
 use layout_bitmap::{is_set, set};
 use layout_extent::Runs;
 use layout_geometry::Geom;
@@ -75,33 +77,41 @@ fn meet_block(
     Ok(())
 }
 
-/// The first data block whose bit is set and that wasn't met.
-pub(crate) fn first_unmet(bits: &[Block], met: &[Block], geom: &Geom) -> Option<u32>
+/// The first data block whose bit is set, that wasn't met, and that no snapshot keeps.
+pub(crate) fn first_unmet(
+    bits: &[Block],
+    met: &[Block],
+    shared: &Shared,
+    geom: &Geom,
+) -> Option<u32>
     requires bits { length bits.now ≡ bitmap_blocks geom.now }
     requires room { length met.now ≡ bitmap_blocks geom.now }
     ensures none { IfNone result ((b : ℕ) → data_start geom.now ≤ b → b < geom.now.n → bit_in (blocks_of bits.now) b ≡ true
-        → bit_in (blocks_of met.now) b ≡ true) }
-    ensures some { IfSome result (IsUnmet geom.now (blocks_of bits.now) (blocks_of met.now)) }
+        → is_kept shared.now b ≡ false → bit_in (blocks_of met.now) b ≡ true) }
+    ensures some { IfSome result (λ b. IsUnmet geom.now (blocks_of bits.now) (blocks_of met.now) b × (is_kept shared.now b ≡ false)) }
 {
     geom.lawful();
     for b in geom.data_start()..geom.n() {
-        if is_unmet(bits, met, geom, b) {
+        if is_unmet(bits, met, shared, geom, b) {
             return Some(b);
         }
     }
     None
 }
 
-/// Whether the bit of a block is set, and it wasn't met.
-fn is_unmet(bits: &[Block], met: &[Block], geom: &Geom, b: u32) -> bool
+/// Whether the bit of a block is set, it wasn't met, and no snapshot keeps it.
+fn is_unmet(bits: &[Block], met: &[Block], shared: &Shared, geom: &Geom, b: u32) -> bool
     requires bits { length bits.now ≡ bitmap_blocks geom.now }
     requires room { length met.now ≡ bitmap_blocks geom.now }
     requires below { b < geom.now.n }
-    ensures { result ≡ (bit_in (blocks_of bits.now) b && not (bit_in (blocks_of met.now) b)) }
+    ensures { result ≡ (bit_in (blocks_of bits.now) b && (not (bit_in (blocks_of met.now) b) && not (is_kept shared.now b))) }
 {
     geom.lawful();
     if !is_set(bits, b) {
         return false;
     }
-    !is_set(met, b)
+    if is_set(met, b) {
+        return false;
+    }
+    !shared.keeps(b)
 }

@@ -1,7 +1,7 @@
 //! One node of the node table: its bytes, its blocks, and what a directory's last block carries past the
 //! last slot. Links and slots aren't looked at.
 
-ghost use Rattle.std.specs.Prelude.{◌≡◌, ◌+◌, ◌/◌, ◌<◌, ◌≤◌, ℕ, true, false, IsTrue, IfNone, IfOk, IfSome, OnErr, OnOk, None, Some, length};
+ghost use Rattle.std.specs.Prelude.{◌≡◌, ◌≢◌, ◌+◌, ◌/◌, ◌<◌, ◌≤◌, ℕ, true, false, IsTrue, IfNone, IfOk, IfSome, OnErr, OnOk, None, Some, length};
 ghost use Rattle.std.specs.Prelude.{replicate, is_err, slice_index, drop};
 ghost use Rattle.std.specs.List.{All};
 ghost use Rattle.base_types.specs.Runs.{run_places};
@@ -14,7 +14,7 @@ ghost use Rattle.fs_files.specs.Effects.{LooksOnly};
 ghost use Rattle.fs_check.specs.Meeting.{IsCheckedTo, IsTailOf, MayCheck};
 ghost use Rattle.layout_geometry.specs.Geometry.{node_size};
 ghost use Rattle.layout_bytes.specs.Bitmap.{is_set};
-ghost use Rattle.layout_bytes.specs.declared.node.NodeKind.TheVariants.{Dir};
+ghost use Rattle.layout_bytes.specs.declared.node.NodeKind.TheVariants.{Dir, Snapshot};
 ghost use Rattle.layout_bytes.specs.Bytes.{are_zeros};
 ghost use Rattle.layout_bytes.specs.Node.{node_bytes, node_fits, node_of};
 ghost use Rattle.crash_stands.specs.Files.{joined, used_node};
@@ -32,7 +32,7 @@ use layout_node::{
     BadNode, Node, NodeKind, a_free_node_is_zeros, nodes_in_use_are_read, read_node,
 };
 
-/// Checks a node, whose bytes these are: nothing is broken in the nodes below it.
+/// Checks a node, whose bytes these are: nothing is broken in the nodes below it. Where it is a snapshot `found` is set.
 ///
 /// # Errors
 /// Its bytes are no node's, one of its blocks can't be met, or a directory has a tail; or a read of the
@@ -44,6 +44,7 @@ pub(crate) fn check_node<S: Blocks>(
     met: &mut [Block],
     number: u32,
     bytes: &[u8],
+    found: &mut bool,
 ) -> Result<(), BlocksRefusal>
     requires may { MayCheck geom.now (S.state blocks.old) bits.now met.old }
     requires above_zero { 1 ≤ number }
@@ -51,10 +52,10 @@ pub(crate) fn check_node<S: Blocks>(
     requires bytes { length bytes.now ≡ node_size }
     ensures size { length met.new ≡ length met.old }
     ensures sound { IsTrue S.tells → bytes.now ≡ node_bytes geom.now (S.state blocks.old).map number
-        → IsCheckedTo geom.now (S.state blocks.old).map bits.now met.old number
-        → OnOk result (IsCheckedTo geom.now (S.state blocks.old).map bits.now met.new (number + 1)) }
+        → IsCheckedTo geom.now (S.state blocks.old).map bits.now met.old found.old number
+        → OnOk result (IsCheckedTo geom.now (S.state blocks.old).map bits.now met.new found.new (number + 1)) }
     ensures damage { IsTrue S.tells → bytes.now ≡ node_bytes geom.now (S.state blocks.old).map number
-        → IsCheckedTo geom.now (S.state blocks.old).map bits.now met.old number
+        → IsCheckedTo geom.now (S.state blocks.old).map bits.now met.old found.old number
         → IfDamaged result (IsBroken geom.now (S.state blocks.old).map) }
     ensures looks { LooksOnly S.tells (fails_reading result) (S.state blocks.old) (S.state blocks.new) }
 {
@@ -62,7 +63,7 @@ pub(crate) fn check_node<S: Blocks>(
         Err(_) => Err(BlocksRefusal::Damaged(BlockDamage::BadNode { node: number })),
         Ok(None) => Ok(()),
         Ok(Some(node)) => {
-            check_used(blocks, geom, bits, met, number, node)?;
+            check_used(blocks, geom, bits, met, number, node, found)?;
             Ok(())
         }
     }
@@ -72,7 +73,7 @@ pub(crate) fn check_node<S: Blocks>(
 ///
 /// # Errors
 /// They are neither.
-fn node_in(bytes: &[u8], geom: &Geom) -> Result<Option<Node>, BadNode>
+pub(crate) fn node_in(bytes: &[u8], geom: &Geom) -> Result<Option<Node>, BadNode>
     requires { length bytes.now ≡ node_size }
     ensures found { IfOk result (λ found. found ≡ node_of geom.now bytes.now) }
     ensures free { IfOk result (λ found. IfNone found (bytes.now ≡ replicate node_size 0)) }
@@ -91,6 +92,7 @@ fn node_in(bytes: &[u8], geom: &Geom) -> Result<Option<Node>, BadNode>
         NodeKind::Free => Ok(None),
         NodeKind::Dir => Ok(Some(node)),
         NodeKind::File => Ok(Some(node)),
+        NodeKind::Snapshot => Ok(Some(node)),
     }
 }
 
@@ -110,6 +112,7 @@ fn check_used<S: Blocks>(
     met: &mut [Block],
     number: u32,
     node: Node,
+    found: &mut bool,
 ) -> Result<(), BlocksRefusal>
     requires may { MayCheck geom.now (S.state blocks.old) bits.now met.old }
     requires tidy { AreTidy node.runs }
@@ -117,10 +120,10 @@ fn check_used<S: Blocks>(
     requires fits { node_fits geom.now node ≡ true }
     ensures size { length met.new ≡ length met.old }
     ensures sound { IsTrue S.tells → used_node geom.now (S.state blocks.old).map number ≡ Some node
-        → IsCheckedTo geom.now (S.state blocks.old).map bits.now met.old number
-        → OnOk result (IsCheckedTo geom.now (S.state blocks.old).map bits.now met.new (number + 1)) }
+        → IsCheckedTo geom.now (S.state blocks.old).map bits.now met.old found.old number
+        → OnOk result (IsCheckedTo geom.now (S.state blocks.old).map bits.now met.new found.new (number + 1)) }
     ensures damage { IsTrue S.tells → used_node geom.now (S.state blocks.old).map number ≡ Some node
-        → IsCheckedTo geom.now (S.state blocks.old).map bits.now met.old number
+        → IsCheckedTo geom.now (S.state blocks.old).map bits.now met.old found.old number
         → IfDamaged result (IsBroken geom.now (S.state blocks.old).map) }
     ensures looks { LooksOnly S.tells (fails_reading result) (S.state blocks.old) (S.state blocks.new) }
 {
@@ -129,10 +132,24 @@ fn check_used<S: Blocks>(
     let places = Runs::of(node.runs);
     meet_places(bits, met, geom, number, &places)?;
     check_tail(blocks, geom, kind, number, size, &places)?;
+    note(kind, found);
     Ok(())
 }
 
-/// Checks that a directory of this size has zeros past its last slot. Nothing is asked of a file.
+/// Sets `found` where a node of this kind is a snapshot.
+fn note(kind: NodeKind, found: &mut bool)
+    ensures before { found.new ≡ false → found.old ≡ false }
+    ensures plain { found.new ≡ false → kind ≢ Snapshot }
+{
+    match kind {
+        NodeKind::Snapshot => *found = true,
+        NodeKind::Free => (),
+        NodeKind::Dir => (),
+        NodeKind::File => (),
+    }
+}
+
+/// Checks that a directory of this size has zeros past its last slot. Nothing is asked of a file or a snapshot.
 ///
 /// # Errors
 /// It has other bytes; or a read of the disk failed, which the disk has counted.
@@ -158,6 +175,7 @@ fn check_tail<S: Blocks>(
     match kind {
         NodeKind::Free => Ok(()),
         NodeKind::File => Ok(()),
+        NodeKind::Snapshot => Ok(()),
         NodeKind::Dir => {
             if !has_zeros_past(blocks, geom, size, places)? {
                 return Err(BlocksRefusal::Damaged(BlockDamage::Tail { node: number }));

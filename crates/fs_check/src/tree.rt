@@ -10,6 +10,8 @@ ghost use Rattle.crash_stands.specs.Stands.{AreSound, IsTreeOf};
 ghost use Rattle.engine_blocks.specs.Running.{HasNoBare};
 ghost use Rattle.fs_files.specs.Asks.{MayRead};
 ghost use Rattle.fs_files.specs.Effects.{LooksOnly};
+ghost use Rattle.fs_files.specs.Shared.{is_kept};
+ghost use Rattle.fs_files.specs.Sound.{TellsKept};
 ghost use Rattle.fs_check.specs.declared.damage.TreeDamage.{TreeDamage as DamageValue};
 ghost use Rattle.fs_check.specs.Damage.{IsBroken};
 ghost use Rattle.fs_check.specs.Looked.{AreSeen, HasPlaces};
@@ -23,36 +25,36 @@ use crate::directories::check_directories;
 use crate::judge::judge;
 use crate::looked::{Looked, seen};
 use crate::reach::reach;
-use crash_stands::{a_map_is_of_one_tree, blocks_have_a_map, files_have_one_map};
+use crash_stands::{a_map_is_of_one_tree, files_have_one_map};
 use engine_blocks::Blocks;
-use fs_files::{Draft, Nodes, a_draft_begins};
+use fs_files::{Draft, Nodes, Shared, a_draft_begins, sound_beside_what_is_kept};
 use fs_inodes::the_rules_make_a_tree;
 use std::alloc::Global;
 
-/// Checks that a tree stands in a map of blocks, which are sound where they are known. Blocks are read, and
-/// nothing else is done. The node table is read once, and each directory twice.
+/// Checks that the nodes of a map of blocks are those of a tree, snapshots aside. Where the blocks are known they are
+/// sound, and the counts say which blocks snapshots keep. Blocks are read, and nothing else is done. The node table is
+/// read once, and each directory twice.
 ///
 /// # Errors
-/// Something is broken, and no tree stands; a read of the disk failed, which the disk has counted; or out of
-/// memory.
-pub(crate) fn check_tree<S: Blocks>(alloc: Global, blocks: &mut S) -> Result<(), TreeRefusal>
+/// Something is broken; a read of the disk failed, which the disk has counted; or out of memory.
+pub(crate) fn check_tree<S: Blocks>(
+    alloc: Global,
+    blocks: &mut S,
+    shared: &Shared,
+) -> Result<(), TreeRefusal>
     requires going { (S.state blocks.old).books.stopped ≡ false }
     requires none_bare { HasNoBare (S.state blocks.old).books.running }
     requires sound { IsTrue S.tells → AreSound (S.state blocks.old).books.geom (S.state blocks.old).map }
-    ensures tree { IsTrue S.tells → OnOk result ((t : Tree) × IsTreeOf (S.state blocks.old).books.geom (S.state blocks.old).map t) }
+    requires kept { IsTrue S.tells → TellsKept (S.state blocks.old).books.geom (is_kept shared.now) (S.state blocks.old).map }
+    ensures rules { IsTrue S.tells → OnOk result
+        (AreTreeFiles (S.state blocks.old).books.geom.i (files_of (S.state blocks.old).books.geom (S.state blocks.old).map)) }
     ensures broken { IsTrue S.tells → IfErr result
         (λ why. IfDamaged why (IsBroken (S.state blocks.old).books.geom.i (files_of (S.state blocks.old).books.geom (S.state blocks.old).map))) }
-    ensures none { IsTrue S.tells → IfErr result
-        (λ why. IfDamaged why (λ _. (t : Tree) → IsTreeOf (S.state blocks.old).books.geom (S.state blocks.old).map t → ⊥)) }
     ensures looks { LooksOnly S.tells (fails_reading result) (S.state blocks.old) (S.state blocks.new) }
 {
     a_draft_begins(blocks);
-    the_rules_make_a_tree();
-    a_map_is_of_one_tree();
-    blocks_have_a_map();
-    files_have_one_map();
-    no_tree_stands_where_it_is_broken();
-    let draft = Draft::new(alloc);
+    sound_beside_what_is_kept();
+    let draft = Draft::beside(alloc, shared);
     find_tree(&draft, alloc, blocks)?;
     Ok(())
 }
@@ -70,7 +72,7 @@ pub fn no_tree_stands_where_it_is_broken()
 ///
 /// # Errors
 /// Something is broken; a read of the disk failed, which the disk has counted; or out of memory.
-fn find_tree<N: Nodes, S: Blocks>(
+pub(crate) fn find_tree<N: Nodes, S: Blocks>(
     files: &N,
     alloc: Global,
     blocks: &mut S,

@@ -26,7 +26,7 @@ bad_cases g m b e = ⊎_elim (λ fixed. let p = and_parts (nat_lt b (data_start 
 both : (t : Bool) → t ≡ true → t ≡ false → ⊥
 both t is isnt = false≢true (sym isnt ∙ is)
 
-not_before : (l j k i : ℕ) → (l ≡ k) × (j ≡ i) → Precedes l j k i → ⊥
+pub not_before : (l j k i : ℕ) → (l ≡ k) × (j ≡ i) → Precedes l j k i → ⊥
 not_before l j k i same (inl low) = omega (arith, same.0, low)
 not_before l j k i same (inr low) = omega (arith, same.1, low.1)
 
@@ -37,10 +37,9 @@ broken_unsound g m (WrongBit b) bad sound = ⊎_elim (λ low. both (is_set g m b
 broken_unsound g m (BadNode k) bad sound = bad.carries (sound.free k bad.from bad.upto bad.unread)
 broken_unsound g m (Unmarked k b) bad sound =
     let is = has_data g m k bad.place b bad.has in
-    both (is_set g m b) ((sound.marked b is.from is.below).1 (k, bad.place, bad.has)) bad.clear
+    both (is_set g m b) ((sound.marked b is.from is.below).1 (inl (k, bad.place, bad.has))) bad.clear
 broken_unsound g m (Shared k b) bad sound =
     not_before bad.other bad.other_place k bad.place (sound.own bad.other k bad.other_place bad.place b bad.other_has bad.has) bad.before
 broken_unsound g m (Tail k) bad sound = both _ (sound.tail k bad.node bad.is_node bad.is_dir) bad.carries
 broken_unsound g m (Lost b) bad sound =
-    let owner = (sound.marked b bad.from bad.below).0 bad.marked in
-    bad.unowned owner.0 owner.1 owner.2
+    ⊎_elim (λ owner. bad.unowned owner.0 owner.1 owner.2) bad.unkept ((sound.marked b bad.from bad.below).0 bad.marked)

@@ -19,13 +19,13 @@ use Rattle.fs_check.proofs.sound.Nodes.{used_is}
 -- The order of places.
 
 -- a place before the next one is before this one, or is this one
-last : (l j k i : ℕ) → Precedes l j k (i + 1) → Precedes l j k i ⊎ ((l ≡ k) × (j ≡ i))
+pub last : (l j k i : ℕ) → Precedes l j k (i + 1) → Precedes l j k i ⊎ ((l ≡ k) × (j ≡ i))
 last l j k i (inl low) = inl (inl low)
 last l j k i (inr same) = ⊎_elim (λ low. inl (inr (same.0, low)))
     (λ high. inr (same.0, omega (arith, same.1, high)))
     (cases_lt j i)
 
-earlier : (l j k i : ℕ) → Precedes l j k i → Precedes l j k (i + 1)
+pub earlier : (l j k i : ℕ) → Precedes l j k i → Precedes l j k (i + 1)
 earlier l j k i (inl low) = inl low
 earlier l j k i (inr same) = inr (same.0, omega (arith, same.1))
 
@@ -51,10 +51,10 @@ the_block g m l j k i b c places node at same h =
 met_earlier : (g : Geometry) (m : Blocks) (k i c : ℕ) → IsMet g m k i c → IsMet g m k (i + 1) c
 met_earlier g m k i c is = record { node = is.node; place = is.place; before = earlier is.node is.place k i is.before; has = is.has }
 
-bit_own : (met new : Blocks) (b c : ℕ) → BitBecomes met new b true → c ≡ b → bit_in new c ≡ true
+pub bit_own : (met new : Blocks) (b c : ℕ) → BitBecomes met new b true → c ≡ b → bit_in new c ≡ true
 bit_own met new b c becomes e = becomes c ∙ ap (λ t. if t then true else bit_in met c) (eq-eqb c b e)
 
-bit_stays : (met new : Blocks) (b c : ℕ) → BitBecomes met new b true → bit_in met c ≡ true → bit_in new c ≡ true
+pub bit_stays : (met new : Blocks) (b c : ℕ) → BitBecomes met new b true → bit_in met c ≡ true → bit_in new c ≡ true
 bit_stays met new b c becomes is = becomes c ∙ by (c == b)
   where
     by : (t : Bool) → (if t then true else bit_in met c) ≡ true
@@ -116,7 +116,7 @@ unmeetable g m bits places met k i b (Lost c) are node so_far at below within is
 
 -- From node to node.
 
-behind : (l j k n : ℕ) → Precedes l j k n → Precedes l j (k + 1) 0
+pub behind : (l j k n : ℕ) → Precedes l j k n → Precedes l j (k + 1) 0
 behind l j k n (inl low) = inl (omega (arith, low))
 behind l j k n (inr same) = inl (omega (arith, same.0))
 

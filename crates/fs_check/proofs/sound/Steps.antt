@@ -1,5 +1,5 @@
 -- A check goes on from node to node.
-use Rattle.std.proofs.Common.{◌≡◌, ◌⊎◌, inl, inr, ℕ, ◌+◌, ◌-◌, ◌*◌, ◌/◌, ◌%◌, ◌<◌, ◌≤◌, Bool, true, false, IsTrue, List, length, take, drop, replicate, get_or, None, Some, refl, sym, ap, subst, ◌∙◌, arith, Err}
+use Rattle.std.proofs.Common.{◌≡◌, ◌≢◌, ◌⊎◌, inl, inr, ℕ, ◌+◌, ◌-◌, ◌*◌, ◌/◌, ◌%◌, ◌<◌, ◌≤◌, Bool, true, false, IsTrue, List, length, take, drop, replicate, get_or, None, Some, refl, sym, ap, subst, ◌∙◌, arith, Err}
 use Rattle.std.specs.List.{All}
 use Rattle.std.proofs.lemmas.Bool.{cases_lt}
 use Rattle.std.proofs.lemmas.Option.{none-some, same_Some, slice_get-get_or}
@@ -8,7 +8,7 @@ use Rattle.base_types.specs.Seal.{Blocks, blocks_of}
 use Rattle.engine_blocks.specs.State.{State}
 use Rattle.layout_geometry.specs.Geometry.{Geometry, node_size, nodes_in_block, table_start}
 use Rattle.layout_bytes.specs.declared.node.Node.{Node}
-use Rattle.layout_bytes.specs.declared.node.NodeKind.TheVariants.{Dir}
+use Rattle.layout_bytes.specs.declared.node.NodeKind.TheVariants.{Dir, Snapshot}
 use Rattle.layout_bytes.specs.Bitmap.{bit_in, is_set}
 use Rattle.layout_bytes.specs.Bytes.{are_zeros}
 use Rattle.layout_bytes.specs.Node.{node_at, node_bytes}
@@ -32,10 +32,11 @@ all_marked g m k places met node so_far = λ i d low.
     so_far.marked k i (get_or places i d) (inr (refl, low)) (at_place g m k i (get_or places i d) places node (slice_get-get_or places i d low))
 
 -- a node in use, whose blocks were met and whose tail is zeros if it is a directory
-pub used_step : (g : Geometry) (m : Blocks) (bits met new : List (List ℕ)) (k : ℕ) (node : Node) (places : List ℕ) → used_node g m k ≡ Some node → places ≡ run_places node.runs → IsCheckedTo g m bits met k
-    → HasMet g m k (length places) (blocks_of new) → (node.kind ≡ Dir → IsTrue (are_zeros (drop node.size (joined m places)))) → IsCheckedTo g m bits new (k + 1)
-used_step g m bits met new k node places used are checked so_far tail = record {
+pub used_step : (g : Geometry) (m : Blocks) (bits met new : List (List ℕ)) (found after : Bool) (k : ℕ) (node : Node) (places : List ℕ) → used_node g m k ≡ Some node → places ≡ run_places node.runs → IsCheckedTo g m bits met found k
+    → HasMet g m k (length places) (blocks_of new) → (node.kind ≡ Dir → IsTrue (are_zeros (drop node.size (joined m places)))) → (after ≡ false → found ≡ false) → (after ≡ false → node.kind ≢ Snapshot) → IsCheckedTo g m bits new after (k + 1)
+used_step g m bits met new found after k node places used are checked so_far tail before plain = record {
   are = checked.are;
+  plain = λ none l other low is_node. plains none l other is_node (cases_lt l k) low;
   sound = record {
     blocks = meet_all g m (blocks_of new) k places (record { node = node; is_node = used; places = sym are }) so_far;
     free = λ l from low none. free l from low none (cases_lt l k);
@@ -43,6 +44,13 @@ used_step g m bits met new k node places used are checked so_far tail = record {
   };
 }
   where
+    plains : after ≡ false → (l : ℕ) (other : Node) → used_node g m l ≡ Some other → (l < k) ⊎ (k ≤ l) → l < k + 1 → other.kind ≢ Snapshot
+    plains none l other is_node (inl under) low = checked.plain (before none) l other under is_node
+    plains none l other is_node (inr over) low =
+        let same : l ≡ k = omega (arith, low, over) in
+        let one : node ≡ other = same_Some node other (sym used ∙ ap (used_node g m) (sym same) ∙ is_node) in
+        subst (λ (n : Node). n.kind ≢ Snapshot) one (plain none)
+
     free : (l : ℕ) → 1 ≤ l → l < k + 1 → node_at g m l ≡ None → (l < k) ⊎ (k ≤ l) → node_bytes g m l ≡ replicate node_size 0
     free l from low none (inl under) = checked.sound.free l from under none
     free l from low none (inr over) =
@@ -58,9 +66,10 @@ used_step g m bits met new k node places used are checked so_far tail = record {
         subst (λ (n : Node). IsTrue (are_zeros (past_content m n))) one zeros
 
 -- a node out of use, which is zeros
-pub free_step : (g : Geometry) (m : Blocks) (bits met : List (List ℕ)) (k : ℕ) → 1 ≤ k → k ≤ g.i → node_at g m k ≡ None → node_bytes g m k ≡ replicate node_size 0 → IsCheckedTo g m bits met k → IsCheckedTo g m bits met (k + 1)
-free_step g m bits met k from upto none zeros checked = record {
+pub free_step : (g : Geometry) (m : Blocks) (bits met : List (List ℕ)) (found : Bool) (k : ℕ) → 1 ≤ k → k ≤ g.i → node_at g m k ≡ None → node_bytes g m k ≡ replicate node_size 0 → IsCheckedTo g m bits met found k → IsCheckedTo g m bits met found (k + 1)
+free_step g m bits met found k from upto none zeros checked = record {
   are = checked.are;
+  plain = λ is l other low is_node. plains is l other is_node (cases_lt l k) low;
   sound = record {
     blocks = meet_none g m (blocks_of met) k (used_at g m k from upto ∙ none) checked.sound.blocks;
     free = λ l low high unread. free l low high unread (cases_lt l k);
@@ -68,6 +77,12 @@ free_step g m bits met k from upto none zeros checked = record {
   };
 }
   where
+    plains : found ≡ false → (l : ℕ) (other : Node) → used_node g m l ≡ Some other → (l < k) ⊎ (k ≤ l) → l < k + 1 → other.kind ≢ Snapshot
+    plains is l other is_node (inl under) low = checked.plain is l other under is_node
+    plains is l other is_node (inr over) low =
+        let same : l ≡ k = omega (arith, low, over) in
+        absurd (none-some other (sym (used_at g m k from upto ∙ none) ∙ ap (used_node g m) (sym same) ∙ is_node))
+
     free : (l : ℕ) → 1 ≤ l → l < k + 1 → node_at g m l ≡ None → (l < k) ⊎ (k ≤ l) → node_bytes g m l ≡ replicate node_size 0
     free l low high unread (inl under) = checked.sound.free l low under unread
     free l low high unread (inr over) = let same : l ≡ k = omega (arith, high, over) in ap (node_bytes g m) same ∙ zeros
@@ -98,30 +113,30 @@ tail_broken g m k node places (refusal.Damaged (Lost c)) used are is = absurd is
 -- Many nodes.
 
 -- what a check knows in the midst of its way
-pub record Goes (P : Type 0) (tells : Bool) (g : Geometry) (s t : State) (bits met new : List (List ℕ)) (from at : ℕ) : Type 0 where
+pub record Goes (P : Type 0) (tells : Bool) (g : Geometry) (s t : State) (bits met new : List (List ℕ)) (found after : Bool) (from at : ℕ) : Type 0 where
   pub looks : LooksOnly tells false s t
   pub size : length new ≡ length met
-  pub sound : P → IsCheckedTo g s.map bits met from → IsCheckedTo g s.map bits new at
+  pub sound : P → IsCheckedTo g s.map bits met found from → IsCheckedTo g s.map bits new after at
 
 -- the map is the same in the midst
-pub goes_here : (tells : Bool) (g : Geometry) (s t : State) (bits new : List (List ℕ)) (at here : ℕ) → LooksOnly tells false s t → at ≡ here → IsTrue tells → IsCheckedTo g s.map bits new at → IsCheckedTo g t.map bits new here
-goes_here tells g s t bits new at here looks same told checked =
-    subst (λ (m : Blocks). IsCheckedTo g m bits new here) (sym (looks.map told)) (subst (IsCheckedTo g s.map bits new) same checked)
+pub goes_here : (tells : Bool) (g : Geometry) (s t : State) (bits new : List (List ℕ)) (after : Bool) (at here : ℕ) → LooksOnly tells false s t → at ≡ here → IsTrue tells → IsCheckedTo g s.map bits new after at → IsCheckedTo g t.map bits new after here
+goes_here tells g s t bits new after at here looks same told checked =
+    subst (λ (m : Blocks). IsCheckedTo g m bits new after here) (sym (looks.map told)) (subst (IsCheckedTo g s.map bits new after) same checked)
 
-pub goes_more : (P : Type 0) (tells : Bool) (g : Geometry) (s t u : State) (bits met new newer : List (List ℕ)) (from at here then next : ℕ) → (P → IsTrue tells) → at ≡ here → then ≡ next → Goes P tells g s t bits met new from at
-    → LooksOnly tells false t u → length newer ≡ length new → (P → IsCheckedTo g t.map bits new here → IsCheckedTo g t.map bits newer then) → Goes P tells g s u bits met newer from next
-goes_more P tells g s t u bits met new newer from at here then next told same on goes looks size step = record {
+pub goes_more : (P : Type 0) (tells : Bool) (g : Geometry) (s t u : State) (bits met new newer : List (List ℕ)) (found after later : Bool) (from at here then next : ℕ) → (P → IsTrue tells) → at ≡ here → then ≡ next → Goes P tells g s t bits met new found after from at
+    → LooksOnly tells false t u → length newer ≡ length new → (P → IsCheckedTo g t.map bits new after here → IsCheckedTo g t.map bits newer later then) → Goes P tells g s u bits met newer found later from next
+goes_more P tells g s t u bits met new newer found after later from at here then next told same on goes looks size step = record {
   looks = looks_more tells false s t u goes.looks looks;
   size = size ∙ goes.size;
-  sound = λ p checked. subst (IsCheckedTo g s.map bits newer) on (subst (λ (m : Blocks). IsCheckedTo g m bits newer then) (goes.looks.map (told p))
-      (step p (goes_here tells g s t bits new at here goes.looks same (told p) (goes.sound p checked))));
+  sound = λ p checked. subst (IsCheckedTo g s.map bits newer later) on (subst (λ (m : Blocks). IsCheckedTo g m bits newer later then) (goes.looks.map (told p))
+      (step p (goes_here tells g s t bits new after at here goes.looks same (told p) (goes.sound p checked))));
 }
 
-pub goes_broken : (P : Type 0) (tells : Bool) (g : Geometry) (s t : State) (bits met new : List (List ℕ)) (from at here : ℕ) (why : BlocksRefusal) → (P → IsTrue tells) → at ≡ here → Goes P tells g s t bits met new from at
-    → (P → IsCheckedTo g t.map bits new here → IfDamaged {T = Unit {0}} (Err why) (IsBroken g t.map)) → P → IsCheckedTo g s.map bits met from → IfDamaged {T = Unit {0}} (Err why) (IsBroken g s.map)
-goes_broken P tells g s t bits met new from at here why told same goes broken p checked =
+pub goes_broken : (P : Type 0) (tells : Bool) (g : Geometry) (s t : State) (bits met new : List (List ℕ)) (found after : Bool) (from at here : ℕ) (why : BlocksRefusal) → (P → IsTrue tells) → at ≡ here → Goes P tells g s t bits met new found after from at
+    → (P → IsCheckedTo g t.map bits new after here → IfDamaged {T = Unit {0}} (Err why) (IsBroken g t.map)) → P → IsCheckedTo g s.map bits met found from → IfDamaged {T = Unit {0}} (Err why) (IsBroken g s.map)
+goes_broken P tells g s t bits met new found after from at here why told same goes broken p checked =
     subst (λ (m : Blocks). IfDamaged {T = Unit {0}} (Err why) (IsBroken g m)) (goes.looks.map (told p))
-    (broken p (goes_here tells g s t bits new at here goes.looks same (told p) (goes.sound p checked)))
+    (broken p (goes_here tells g s t bits new after at here goes.looks same (told p) (goes.sound p checked)))
 
 -- the bytes of a node are in their block of the table
 pub bytes_at : (g : Geometry) (m : Blocks) (t place number at n : ℕ) (table : List ℕ) → table ≡ m (table_start g + t) → number ≡ 4 * t + place + 1 → place < 4 → at ≡ 256 * place → n ≡ 256
@@ -132,9 +147,10 @@ bytes_at g m t place number at n table is number_is low at_is n_is =
     ∙ ap (λ b. take node_size (drop (node_size * ((number - 1) % nodes_in_block)) b)) (is ∙ ap (λ j. m (table_start g + j)) {x = t} {y = (number - 1) / nodes_in_block} (omega (arith, number_is, low)))
 
 -- a check begins with the first node
-pub begins : (g : Geometry) (m : Blocks) (bits met : List (List ℕ)) → AreBits g m bits → ((b : ℕ) → bit_in (blocks_of met) b ≡ false) → IsCheckedTo g m bits met 1
-begins g m bits met are unmet = record {
+pub begins : (g : Geometry) (m : Blocks) (bits met : List (List ℕ)) (found : Bool) → AreBits g m bits → ((b : ℕ) → bit_in (blocks_of met) b ≡ false) → IsCheckedTo g m bits met found 1
+begins g m bits met found are unmet = record {
   are = are;
+  plain = λ none l node low used. absurd (let from = (used_is g m l node used).from in omega (arith, from, low));
   sound = record {
     blocks = meet_begins g m (blocks_of met) unmet;
     free = λ l from low none. absurd (omega (arith, from, low));

@@ -1,7 +1,8 @@
 -- The bytes of a directory's last block past its size.
-use Rattle.std.proofs.Common.{◌≡◌, ℕ, zero, suc, ◌+◌, ◌-◌, ◌*◌, ◌/◌, ◌%◌, ◌<◌, ◌≤◌, true, List, [], ◌∷◌, ◌++◌, Some, length, drop, slice_get, refl, sym, ap, ◌∙◌, arith}
+use Rattle.std.proofs.Common.{◌≡◌, ℕ, zero, suc, ◌+◌, ◌-◌, ◌*◌, ◌/◌, ◌%◌, ◌<◌, ◌≤◌, true, List, [], ◌∷◌, ◌++◌, Some, length, get_or, take, drop, slice_get, refl, sym, ap, ◌∙◌, arith, take_all}
 use Rattle.std.specs.List.{All}
-use Rattle.std.proofs.lemmas.List.{length-append, drop_at, drop-drop, drop_all}
+use Rattle.std.proofs.lemmas.List.{length-append, length-drop, drop_at, drop-drop, drop_all}
+use Rattle.std.proofs.lemmas.Option.{slice_get-get_or}
 use Rattle.std.proofs.lemmas.List.Elements.{All-tail}
 use Rattle.base_types.specs.Seal.{Blocks}
 use Rattle.layout_bytes.specs.Bytes.{are_zeros}
@@ -45,3 +46,14 @@ pub past_last : (m : Blocks) (ps : List ℕ) (i b size used : ℕ) → AreWhole 
 past_last m ps i b size used whole at count is some last =
     ap (λ k. drop k (joined m ps)) {x = size} {y = 1024 * i + used} (omega (arith, count, is, some, last))
     ∙ from_last m ps i b used whole at (omega (arith, count, is, some, last)) (omega (arith, is))
+
+-- what is read of the last block
+pub tail_read : (m : Blocks) (ps : List ℕ) (size used last : ℕ) (into : List ℕ) → AreWhole m ps → length ps ≡ (size + 1023) / 1024 → used ≡ size % 1024 → 0 < used → last ≡ length ps - 1
+    → ((b : ℕ) → slice_get ps last ≡ Some b → length (m b) ≡ 1024 → into ≡ m b) → are_zeros (take (1024 - used) (drop used into)) ≡ are_zeros (drop size (joined m ps))
+tail_read m ps size used last into whole count is some at read =
+    let low : last < length ps = omega (arith, count, is, some, at) in
+    let there : slice_get ps last ≡ Some (get_or ps last 0) = slice_get-get_or ps last 0 low in
+    let long : length (m (get_or ps last 0)) ≡ 1024 = whole last 0 low in
+    ap (λ (xs : List ℕ). are_zeros (take (1024 - used) (drop used xs))) (read (get_or ps last 0) there long)
+    ∙ ap are_zeros (take_all (1024 - used) (drop used (m (get_or ps last 0))) (omega (arith, length-drop used (m (get_or ps last 0)), long)))
+    ∙ ap are_zeros (sym (past_last m ps last (get_or ps last 0) size used whole there count is some at))

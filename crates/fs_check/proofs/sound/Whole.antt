@@ -1,7 +1,7 @@
 -- The check as a whole: what is left once the bits that no data block has and all nodes were found sound.
-use Rattle.std.proofs.Common.{◌≡◌, ◌⊎◌, inl, inr, ℕ, ◌+◌, ◌*◌, ◌/◌, ◌%◌, ◌<◌, ◌≤◌, Bool, true, false, not, ◌&&◌, ◌||◌, ◌==◌, IsTrue, nat_le, nat_lt, List, [], ◌++◌, length, take, drop, replicate, get_or, refl, sym, ap, subst, ◌∙◌, arith, Err}
+use Rattle.std.proofs.Common.{◌≡◌, ◌≢◌, ◌⊎◌, inl, inr, ℕ, ◌+◌, ◌*◌, ◌/◌, ◌%◌, ◌<◌, ◌≤◌, Bool, true, false, not, ◌&&◌, ◌||◌, ◌==◌, IsTrue, nat_le, nat_lt, List, [], ◌++◌, length, take, drop, replicate, get_or, Some, ⊎_elim, refl, sym, ap, subst, ◌∙◌, arith}
 use Rattle.std.specs.Int.{bit_at}
-use Rattle.std.proofs.lemmas.Bool.{and_parts, or_parts, cases_lt, le-leb, lt-ltb, ltb-true, leb-true, false≢true, or_cases}
+use Rattle.std.proofs.lemmas.Bool.{cases_Bool, and_parts, or_parts, cases_lt, le-leb, lt-ltb, ltb-true, leb-true, false≢true, or_cases}
 use Rattle.std.proofs.lemmas.List.{get_or-replicate, get_or_past, length-replicate}
 use Rattle.std.proofs.Math.Seq.{take-append_seam}
 use Rattle.std.proofs.lemmas.Nat.Bits.{bit_at-zero}
@@ -13,14 +13,18 @@ use Rattle.engine_blocks.specs.State.{State}
 use Rattle.layout_geometry.specs.Geometry.{Geometry, IsGeometry, bitmap_blocks, bitmap_start, data_start}
 use Rattle.layout_journal.specs.Run.{is_live}
 use Rattle.layout_bytes.specs.Bitmap.{bit_in, is_set}
+use Rattle.layout_bytes.specs.declared.node.Node.{Node}
+use Rattle.layout_bytes.specs.declared.node.NodeKind.{NodeKind}
+use Rattle.layout_bytes.specs.declared.node.NodeKind.TheVariants.{Free, Dir, File, Snapshot}
+use Rattle.crash_stands.specs.Files.{used_node}
+use Rattle.crash_stands.specs.Sharing.{IsKeptBlock}
 use Rattle.crash_stands.specs.Stands.{AreSound, HasBlock}
-use Rattle.fs_check.specs.declared.block_damage.BlockDamage.{BlockDamage}
-use Rattle.fs_check.specs.declared.block_damage.BlocksRefusal.{BlocksRefusal}
-use Rattle.fs_check.specs.declared.block_damage.BlocksRefusal.TheVariants as refusal
-use Rattle.fs_check.specs.Broken.{IsBroken, IsLost, Precedes}
-use Rattle.fs_check.specs.Calls.{IfDamaged}
+use Rattle.fs_files.specs.Shared.{is_kept}
+use Rattle.fs_files.specs.Sound.{TellsKept}
+use Rattle.fs_check.specs.Snapshots.{IsGoodSnapshot}
+use Rattle.fs_check.specs.Broken.{IsLost, Precedes}
 use Rattle.fs_files.specs.Effects.{LooksOnly}
-use Rattle.fs_check.specs.Meeting.{IsCheckedTo, IsMet, IsUnmet}
+use Rattle.fs_check.specs.Meeting.{IsCheckedTo, IsUnmet}
 use Rattle.fs_check.proofs.sound.Nodes.{used_is}
 use Rattle.fs_check.proofs.sound.Told.{defined_front, defined_data}
 
@@ -61,18 +65,20 @@ good_past g m b good from below =
 -- Blocks.
 
 -- each place is one before the end
-before_end : (g : Geometry) (m : Blocks) (k i b : ℕ) → HasBlock g m k i b → Precedes k i (g.i + 1) 0
+pub before_end : (g : Geometry) (m : Blocks) (k i b : ℕ) → HasBlock g m k i b → Precedes k i (g.i + 1) 0
 before_end g m k i b has = let upto = (used_is g m k has.node has.is_node).upto in inl (omega (arith, upto))
 
--- a block that is left over is no node's
-pub lost : (g : Geometry) (m : Blocks) (bits met : List (List ℕ)) (b : ℕ) → IsCheckedTo g m bits met (g.i + 1) → IsUnmet g (blocks_of bits) (blocks_of met) b → IsLost g m b
-lost g m bits met b checked is =
+-- a block that is left over is no node's and no snapshot keeps it
+pub lost : (g : Geometry) (m : Blocks) (bits met : List (List ℕ)) (found : Bool) (counts : List ℕ) (b : ℕ) → IsCheckedTo g m bits met found (g.i + 1) → TellsKept g (is_kept counts) m
+    → IsUnmet g (blocks_of bits) (blocks_of met) b → is_kept counts b ≡ false → IsLost g m b
+lost g m bits met found counts b checked tells is unkept =
     let low : b < 8192 * bitmap_blocks g = let below = is.below in omega (arith, below) in
     record {
       from = is.from;
       below = is.below;
       marked = sym (checked.are b low) ∙ is.marked;
       unowned = λ k i has. false≢true (sym is.unmet ∙ (checked.sound.blocks.bits b is.below).1 (record { node = k; place = i; before = before_end g m k i b has; has = has }));
+      unkept = λ kept. false≢true (sym unkept ∙ (tells b).1 kept);
     }
 
 -- a live block is whole
@@ -87,51 +93,68 @@ live_whole s room none told b live =
     by from below (inr behind) (inl front) = absurd (let low = ltb-true b (data_start s.books.geom) front in omega (arith, low, behind))
     by from below (inr behind) (inr marked) = told.whole b below (defined_data s b none told (record { from = behind; below = below }) marked)
 
--- the blocks are sound where no bit is bad, all nodes are sound, and no block is left over
-whole_here : (s : State) (bits met : List (List ℕ)) → IsGeometry s.books.geom → HasNoBare s.books.running → IsTold s → ((b : ℕ) → is_bad_bit s.books.geom (blocks_of bits) b ≡ false)
-    → IsCheckedTo s.books.geom s.map bits met (s.books.geom.i + 1) → ((b : ℕ) → data_start s.books.geom ≤ b → b < s.books.geom.n → bit_in (blocks_of bits) b ≡ true → bit_in (blocks_of met) b ≡ true) → AreSound s.books.geom s.map
-whole_here s bits met geom none told good checked rest =
+-- each data block whose bit is set was met, or a snapshot keeps it
+abbrev pub LeavesNone : Geometry → List (List ℕ) → List (List ℕ) → List ℕ → Type 0
+LeavesNone g bits met counts = (b : ℕ) → data_start g ≤ b → b < g.n → bit_in (blocks_of bits) b ≡ true → is_kept counts b ≡ false → bit_in (blocks_of met) b ≡ true
+
+-- what was found of all blocks and nodes: no bit is bad, all nodes are sound, the counts tell what snapshots keep, and no block is left over
+pub record IsThrough (g : Geometry) (m : Blocks) (bits met : List (List ℕ)) (found : Bool) (counts : List ℕ) : Type 0 where
+  pub good : (b : ℕ) → is_bad_bit g (blocks_of bits) b ≡ false
+  pub checked : IsCheckedTo g m bits met found (g.i + 1)
+  pub tells : TellsKept g (is_kept counts) m
+  pub snapshots : (n : ℕ) (node : Node) → used_node g m n ≡ Some node → node.kind ≡ Snapshot → IsGoodSnapshot g m node
+  pub rest : LeavesNone g bits met counts
+
+-- a block that a snapshot keeps is marked
+kept_marked : (g : Geometry) (m : Blocks) (bits met : List (List ℕ)) (found : Bool) (counts : List ℕ) → IsThrough g m bits met found counts → (b : ℕ) → IsKeptBlock g m b → is_set g m b ≡ true
+kept_marked g m bits met found counts h b is = (h.snapshots is.snapshot is.node is.is_node is.kind).marked is.number is.place b is.has
+
+-- a node that has a block that a snapshot keeps is a file: it isn't free, and it is no directory and no snapshot
+kept_file : (g : Geometry) (m : Blocks) (bits met : List (List ℕ)) (found : Bool) (counts : List ℕ) → IsThrough g m bits met found counts → (k i b : ℕ) (has : HasBlock g m k i b) → IsKeptBlock g m b → has.node.kind ≡ File
+kept_file g m bits met found counts h k i b has is = by has.node.kind refl
+  where
+    firm : has.node.kind ≢ File → ⊥
+    firm other = (h.snapshots is.snapshot is.node is.is_node is.kind).apart is.number is.place b is.has (record { number = k; place = i; has = has; kind = other })
+
+    by : (kind : NodeKind) → has.node.kind ≡ kind → has.node.kind ≡ File
+    by Free e = absurd (firm (λ f. cc))
+    by Dir e = absurd (firm (λ f. cc))
+    by File e = e
+    by Snapshot e = absurd (firm (λ f. cc))
+
+-- the blocks are sound then
+whole_here : (s : State) (bits met : List (List ℕ)) (found : Bool) (counts : List ℕ) → IsGeometry s.books.geom → HasNoBare s.books.running → IsTold s → IsThrough s.books.geom s.map bits met found counts → AreSound s.books.geom s.map
+whole_here s bits met found counts geom none told h =
     let room : data_start s.books.geom ≤ s.books.geom.n = let more = geom.data_room in omega (arith, more) in
     let g = s.books.geom in
     let m = s.map in
     record {
       whole = live_whole s room none told;
-      own = λ k l i j b has other. checked.sound.blocks.once k i l j b (before_end g m k i b has) (before_end g m l j b other) has other;
-      fixed = λ b low. sym (checked.are b (omega (arith, low, room))) ∙ good_before g (blocks_of bits) b (good b) low;
+      own = λ k l i j b has other. h.checked.sound.blocks.once k i l j b (before_end g m k i b has) (before_end g m l j b other) has other;
+      fixed = λ b low. sym (h.checked.are b (omega (arith, low, room))) ∙ good_before g (blocks_of bits) b (h.good b) low;
       marked = λ b from below. (
-        λ is. owner b ((checked.sound.blocks.bits b below).0 (rest b from below (checked.are b (omega (arith, below)) ∙ is))),
-        λ is. checked.sound.blocks.marked is.0 is.1 b (before_end g m is.0 is.1 b is.2) is.2,
+        λ is. owner b from below (h.checked.are b (omega (arith, below)) ∙ is) (cases_Bool (is_kept counts b)),
+        ⊎_elim (λ is. h.checked.sound.blocks.marked is.0 is.1 b (before_end g m is.0 is.1 b is.2) is.2) (kept_marked g m bits met found counts h b),
       );
-      past = λ b from below. sym (checked.are b below) ∙ good_past g (blocks_of bits) b (good b) from below;
-      free = λ k from upto unread. checked.sound.free k from (omega (arith, upto)) unread;
-      tail = λ k node used dir. let is = used_is g m k node used in let upto = is.upto in checked.sound.tail k node (omega (arith, upto)) used dir;
+      past = λ b from below. sym (h.checked.are b below) ∙ good_past g (blocks_of bits) b (h.good b) from below;
+      free = λ k from upto unread. h.checked.sound.free k from (omega (arith, upto)) unread;
+      tail = λ k node used dir. let is = used_is g m k node used in let upto = is.upto in h.checked.sound.tail k node (omega (arith, upto)) used dir;
+      shared = kept_file g m bits met found counts h;
+      kept = λ k node used kind. (h.snapshots k node used kind).sound;
     }
   where
-    owner : (b : ℕ) → IsMet s.books.geom s.map (s.books.geom.i + 1) 0 b → (k : ℕ) × (i : ℕ) × HasBlock s.books.geom s.map k i b
-    owner b is = (is.node, is.place, is.has)
+    owner : (b : ℕ) → data_start s.books.geom ≤ b → b < s.books.geom.n → bit_in (blocks_of bits) b ≡ true → (is_kept counts b ≡ true) ⊎ (is_kept counts b ≡ false)
+        → ((k : ℕ) × (i : ℕ) × HasBlock s.books.geom s.map k i b) ⊎ IsKeptBlock s.books.geom s.map b
+    owner b from below marked (inl kept) = inr ((h.tells b).0 kept)
+    owner b from below marked (inr unkept) = let is = (h.checked.sound.blocks.bits b below).0 (h.rest b from below marked unkept) in inl (is.node, is.place, is.has)
 
-pub whole_sound : (s : State) (g : Geometry) (bits met : List (List ℕ)) → s.books.geom ≡ g → IsGeometry g → HasNoBare s.books.running → IsTold s → ((b : ℕ) → is_bad_bit g (blocks_of bits) b ≡ false)
-    → IsCheckedTo g s.map bits met (g.i + 1) → ((b : ℕ) → data_start g ≤ b → b < g.n → bit_in (blocks_of bits) b ≡ true → bit_in (blocks_of met) b ≡ true) → AreSound g s.map
-whole_sound s g bits met same geom none told good checked rest =
-    subst (λ (h : Geometry). IsGeometry h → ((b : ℕ) → is_bad_bit h (blocks_of bits) b ≡ false) → IsCheckedTo h s.map bits met (h.i + 1)
-    → ((b : ℕ) → data_start h ≤ b → b < h.n → bit_in (blocks_of bits) b ≡ true → bit_in (blocks_of met) b ≡ true) → AreSound h s.map) same
-    (λ here fine through left. whole_here s bits met here none told fine through left) geom good checked rest
+pub whole_sound : (s : State) (g : Geometry) (bits met : List (List ℕ)) (found : Bool) (counts : List ℕ) → s.books.geom ≡ g → IsGeometry g → HasNoBare s.books.running → IsTold s → IsThrough g s.map bits met found counts → AreSound g s.map
+whole_sound s g bits met found counts same geom none told h =
+    subst (λ (h : Geometry). IsGeometry h → IsThrough h s.map bits met found counts → AreSound h s.map) same (λ here through. whole_here s bits met found counts here none told through) geom h
 
--- What was said of a later state holds of the first.
-
-pub sound_first : (tells : Bool) (s t : State) (g : Geometry) → LooksOnly tells false s t → g ≡ s.books.geom → IsTrue tells → AreSound g t.map → AreSound s.books.geom s.map
-sound_first tells s t g looks same told sound = subst (λ (h : Geometry). AreSound h s.map) same (subst (AreSound g) (looks.map told) sound)
-
-pub broken_first : (tells : Bool) (s t : State) (g : Geometry) (why : BlocksRefusal) → LooksOnly tells false s t → g ≡ s.books.geom → IsTrue tells
-    → IfDamaged {T = Unit {0}} (Err why) (IsBroken g t.map) → IfDamaged {T = Unit {0}} (Err why) (IsBroken s.books.geom s.map)
-broken_first tells s t g why looks same told broken =
-    subst (λ (h : Geometry). IfDamaged {T = Unit {0}} (Err why) (IsBroken h s.map)) same (subst (λ (m : Blocks). IfDamaged {T = Unit {0}} (Err why) (IsBroken g m)) (looks.map told) broken)
-
-pub unsound_where : (g : Geometry) (m : Blocks) (why : BlocksRefusal) → ((damage : BlockDamage) → IsBroken g m damage → AreSound g m → ⊥)
-    → IfDamaged {T = Unit {0}} (Err why) (IsBroken g m) → IfDamaged {T = Unit {0}} (Err why) (λ _. AreSound g m → ⊥)
-unsound_where g m (refusal.Damaged damage) law broken = law damage broken
-unsound_where g m refusal.ReadFault law broken = tt
-unsound_where g m refusal.NoMemory law broken = tt
+-- what was said of a later state holds of the first
+pub held_first : (P : Geometry → Blocks → Type 0) (tells : Bool) (s t : State) (g : Geometry) → LooksOnly tells false s t → g ≡ s.books.geom → IsTrue tells → P g t.map → P s.books.geom s.map
+held_first P tells s t g looks same told p = subst (λ (h : Geometry). P h s.map) same (subst (P g) (looks.map told) p)
 
 -- a vector whose blocks were all written
 pub written_back : (n : ℕ) (new old : List (List ℕ)) → length new ≡ n → take n (new ++ drop (length new) old) ≡ new

@@ -31,5 +31,6 @@ returns-clause-sound g c = λ tells used checked.
     let m = (g.S.Blocks.state c.args.blocks.now).map in
     let node : HasPlaces c.args.geom.now m c.args.number c.of-places.result = record { node = c.args.node; is_node = used; places = sym c.of-places.ensures } in
     let so_far = c.in_ok-meet_places.ensures.met m checked.are node checked.sound.blocks in
-    used_step c.args.geom.now m c.args.bits.now c.args.met.now c.meet_places.new.met c.args.number c.args.node c.of-places.result used c.of-places.ensures checked so_far
+    used_step c.args.geom.now m c.args.bits.now c.args.met.now c.meet_places.new.met c.args.found.now c.note.new.found c.args.number c.args.node c.of-places.result used c.of-places.ensures checked so_far
     (c.in_ok-check_tail.ensures.zeros tells (all_marked c.args.geom.now m c.args.number c.of-places.result (blocks_of c.meet_places.new.met) node so_far))
+    c.note.ensures.before c.note.ensures.plain

@@ -10,7 +10,7 @@ returns-in_err-check_node-clause-damage g c = λ tells table checked.
     let s = g.S.Blocks.state c.args.blocks.now in
     let t = g.S.Blocks.state c.loop-place.blocks in
     let p = err_from_is_err_and c.from_residual.result c.from_residual.ensures.1 in
-    rw (p.1, p.2) (goes_broken (IsTrue g.S.Blocks.tells × (c.args.table.now ≡ s.map (table_start c.args.geom.now + c.args.t))) g.S.Blocks.tells c.args.geom.now s t c.args.bits.now c.args.met.now c.loop-place.met
+    rw (p.1, p.2) (goes_broken (IsTrue g.S.Blocks.tells × (c.args.table.now ≡ s.map (table_start c.args.geom.now + c.args.t))) g.S.Blocks.tells c.args.geom.now s t c.args.bits.now c.args.met.now c.loop-place.met c.args.found.now c.loop-place.found
     (4 * c.args.t + 1) (4 * c.args.t + c.loop-place.place + 1) (4 * c.args.t + c.loop-place.place + 1) c.in_err-check_node.field-0.0 (λ q. q.0) refl c.loop-place.invariant
     (λ q here. c.in_err-check_node.ensures.damage q.0
     (bytes_at c.args.geom.now t.map c.args.t c.loop-place.place (4 * c.args.t + c.loop-place.place + 1) (256 * c.loop-place.place) (256 * c.loop-place.place + 256 - 256 * c.loop-place.place) c.args.table.now
@@ -22,7 +22,7 @@ loop-place-preserved g c =
     let s = g.S.Blocks.state c.args.blocks.now in
     let t = g.S.Blocks.state c.loop-place.blocks in
     let u = g.S.Blocks.state c.check_node.new.blocks in
-    goes_more (IsTrue g.S.Blocks.tells × (c.args.table.now ≡ s.map (table_start c.args.geom.now + c.args.t))) g.S.Blocks.tells c.args.geom.now s t u c.args.bits.now c.args.met.now c.loop-place.met c.check_node.new.met
+    goes_more (IsTrue g.S.Blocks.tells × (c.args.table.now ≡ s.map (table_start c.args.geom.now + c.args.t))) g.S.Blocks.tells c.args.geom.now s t u c.args.bits.now c.args.met.now c.loop-place.met c.check_node.new.met c.args.found.now c.loop-place.found c.check_node.new.found
     (4 * c.args.t + 1) (4 * c.args.t + c.loop-place.place + 1) (4 * c.args.t + c.loop-place.place + 1) (4 * c.args.t + c.loop-place.place + 1 + 1) (4 * c.args.t + (c.loop-place.place + 1) + 1) (λ q. q.0) refl (omega arith) c.loop-place.invariant
     c.in_ok-check_node.ensures.looks c.in_ok-check_node.ensures.size
     (λ q here. c.in_ok-check_node.ensures.sound q.0

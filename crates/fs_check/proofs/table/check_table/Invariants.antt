@@ -4,4 +4,4 @@ use Rattle.fs_check.proofs.table.check_table.Given as goal
 
 abbrev pub invariant-loop-t : goal.invariant-loop-t
 invariant-loop-t g l =
-    Goes (IsTrue g.S.Blocks.tells) g.S.Blocks.tells l.geom (g.S.Blocks.state l.fn.blocks) (g.S.Blocks.state l.blocks) l.bits l.fn.met l.met 1 (4 * l.t + 1)
+    Goes (IsTrue g.S.Blocks.tells) g.S.Blocks.tells l.geom (g.S.Blocks.state l.fn.blocks) (g.S.Blocks.state l.blocks) l.bits l.fn.met l.met l.fn.found l.found 1 (4 * l.t + 1)

@@ -1,0 +1,16 @@
+pub mod Names
+pub mod Broken
+pub mod Counts
+pub mod Dirs
+pub mod Kept
+pub mod Entries
+pub mod Going
+pub mod Meets
+pub mod Steps
+pub mod Firm
+pub mod Trees
+pub mod Known
+pub mod Opened
+pub mod Snapshot
+pub mod Found
+pub mod Finding
