@@ -41,8 +41,8 @@ within g d a b c e cost most fits = record {
 pub for_removing : (freed bitmap : ℕ) → 25 * 4 + 0 + (25 * min 0 bitmap + 25 * min freed bitmap) ≤ 25 * (4 + min freed bitmap)
 for_removing freed bitmap = omega arith
 
-pub for_writing : (met grown bitmap : ℕ) → 25 * (met + 1) + grown + (25 * min grown bitmap + 25 * min 0 bitmap) ≤ 25 * (met + (1 + min grown bitmap)) + grown
-for_writing met grown bitmap = omega arith
+pub for_writing : (met taken bitmap : ℕ) → 25 * (met + 1) + taken + (25 * min taken bitmap + 25 * min 0 bitmap) ≤ 25 * (met + (1 + min taken bitmap)) + taken
+for_writing met taken bitmap = omega arith
 
 pub for_shrinking : (freed bitmap : ℕ) → 25 * 1 + 0 + (25 * min 0 bitmap + 25 * min freed bitmap) ≤ 25 * (1 + min freed bitmap)
 for_shrinking freed bitmap = omega arith

@@ -1,14 +1,13 @@
 -- What laws say that proofs take as arguments.
 use Rattle.std.proofs.Common.{◌≡◌, ℕ, ◌+◌, ◌-◌, ◌*◌, ◌/◌, ◌≤◌, min, max, Bool, false, IsTrue, sym, subst, List, [], ◌++◌, length, slice_get, Some, Ok}
-use Rattle.std.specs.List.{All}
 use Rattle.base_types.specs.Seal.{Blocks}
 use Rattle.layout_geometry.specs.Geometry.{Geometry, bitmap_blocks}
 use Rattle.layout_bytes.specs.declared.node.NodeKind.TheVariants.{File}
 use Rattle.layout_bytes.specs.declared.slot.Slot.{Slot}
 use Rattle.layout_directory.specs.Directory.{place_of}
 use Rattle.lang_tree.specs.declared.command.Cmd.{Cmd}
-use Rattle.lang_tree.specs.Conditions.{refusal}
-use Rattle.lang_tree.specs.Figures.{blocks_for, blocks_met, writing}
+use Rattle.lang_tree.specs.Conditions.{least_unused, refusal}
+use Rattle.lang_tree.specs.Figures.{blocks_for, blocks_met}
 use Rattle.lang_tree.specs.Points.{answers_point}
 use Rattle.lang_tree.specs.Step.{Session, step}
 use Rattle.lang_tree.specs.Tree.{Tree}
@@ -18,33 +17,36 @@ use Rattle.crash_stands.specs.Maps.{IsMapOf}
 use Rattle.crash_stands.specs.Stands.{IsTreeOf}
 use Rattle.crash_stands.specs.Walks.{LeadsTo, node_in}
 use Rattle.fs_inodes.specs.Changes.{slot_of}
-use Rattle.fs_inodes.specs.Figures.{cost}
+use Rattle.fs_inodes.specs.Figures.{cost_over}
 use Rattle.fs_inodes.specs.Lookups.{walk_on}
 use Rattle.fs_inodes.specs.Refusals.{reason}
 use Rattle.fs_inodes.specs.Replies.{reply_of}
 use Rattle.fs_files.specs.Drafts.{DraftState, nothing_drafted}
 use Rattle.fs_files.specs.Finish.{ChangesOnly, price}
-use Rattle.fs_files.specs.Growing.{alone, placed, taken_by}
-use Rattle.fs_files.specs.Shared.{is_kept}
+use Rattle.fs_files.specs.Bytes.{met}
+use Rattle.fs_files.specs.Growing.{alone}
+use Rattle.fs_files.specs.Shared.{is_kept_at}
+use Rattle.layout_extent.specs.Renew.{makes_way, renewals}
 use Rattle.fs_dirs.specs.Changing.{Alters, IsWithSlots}
 use Rattle.engine_blocks.specs.Crashes.{Advances, IssuesNothing}
 use Rattle.engine_blocks.specs.State.{State}
 use Rattle.fs_session.specs.Changes.{ChangesAtMost, IsWithinCost}
 use Rattle.fs_session.specs.Sessions.{IsSession, inodes}
-use Rattle.lang_tree.specs.Sharing.{figures_over}
-use Rattle.fs_session.specs.Space.{none_renewed}
+use Rattle.lang_tree.specs.Sharing.{BlocksAlone, SharedNodes, SharedPlaces, figures_over, shared_met, writing_over}
+use Rattle.fs_session.specs.Commands.{places_of, shared_on}
 
 -- the tree refuses a command for the reason that its inode map gives
 abbrev pub RefusalLaw : Type 0
-RefusalLaw = (limit : ℕ) (m : Inodes) (t : Tree) (cmd : Cmd) → IsMapOf limit m t → refusal limit t cmd ≡ reason limit m cmd
+RefusalLaw = (limit : ℕ) (m : Inodes) (t : Tree) (cmd : Cmd) → IsMapOf limit m t → refusal limit t cmd ≡ reason (least_unused limit t) t.snapshots m cmd
 
--- with nothing shared a command takes what its inode map says
+-- a command takes what its inode map says, with what is shared
 abbrev pub FiguresLaw : Type 0
-FiguresLaw = (bitmap : ℕ) (s : Session) (m : Inodes) (cmd : Cmd) → IsMapOf s.limit m s.tree → figures_over bitmap none_renewed s cmd ≡ cost bitmap s.limit m cmd
+FiguresLaw = (bitmap : ℕ) (shared : SharedNodes) (alone : BlocksAlone) (s : Session) (m : Inodes) (cmd : Cmd) → IsMapOf s.limit m s.tree
+    → figures_over bitmap shared alone s cmd ≡ cost_over bitmap shared alone s.limit (least_unused s.limit s.tree) s.tree.snapshots m cmd
 
 -- and is answered as it says
 abbrev pub ReplyLaw : Type 0
-ReplyLaw = (s : Session) (m : Inodes) (cmd : Cmd) → IsMapOf s.limit m s.tree → answers_point cmd ≡ false → (step s cmd).1 ≡ reply_of s.limit m cmd
+ReplyLaw = (s : Session) (m : Inodes) (cmd : Cmd) → IsMapOf s.limit m s.tree → answers_point cmd ≡ false → (step s cmd).1 ≡ reply_of (least_unused s.limit s.tree) s.tree.snapshots m cmd
 
 -- a walk along a path ends where the path leads
 abbrev pub EndsLaw : Type 0
@@ -77,23 +79,17 @@ DivisionLaw = (size lo hi : ℕ) → min (blocks_for size) (blocks_for hi) - lo 
 
 -- a draft that puts bytes into a file is within the cost of that
 abbrev pub WritingLaw : Type 0
-WritingLaw = (g : Geometry) (d : DraftState) (size lo hi : ℕ) → ChangesAtMost d (blocks_met size lo hi + 1) (blocks_for (max size hi) - blocks_for size) (blocks_for (max size hi) - blocks_for size) 0
-    → IsWithinCost g d (writing (bitmap_blocks g) size lo hi).cost
+WritingLaw = (g : Geometry) (d : DraftState) (shared : SharedPlaces) (size lo hi : ℕ)
+    → ChangesAtMost d (blocks_met size lo hi - shared_met shared size lo hi + 1) (shared_met shared size lo hi + (blocks_for (max size hi) - blocks_for size)) (shared_met shared size lo hi + (blocks_for (max size hi) - blocks_for size)) 0
+    → IsWithinCost g d (writing_over (bitmap_blocks g) shared size lo hi).cost
 
--- Where no block is kept a node takes those blocks alone that it has too few, they come behind its own, and it frees all that it gives up.
-pub record UnkeptLaw : Type 0 where
-  pub takes : (lo hi : ℕ) (places : List ℕ) → taken_by (is_kept []) lo hi places ≡ blocks_for hi - length places
-  pub behind : (lo hi : ℕ) (places more : List ℕ) → placed (is_kept []) lo hi places more ≡ places ++ more
-  pub all : (places : List ℕ) → alone (is_kept []) places ≡ places
+-- each block that bytes meet isn't kept, or makes way for a new one
+abbrev pub KeptTooLaw : Type 0
+KeptTooLaw = (kept : ℕ → Bool) (lo hi : ℕ) (places : List ℕ) → length (alone kept (met lo hi places)) + renewals (makes_way (lo / 1024) (blocks_for hi) kept places) 0 places ≡ length (met lo hi places)
 
-pub unkept_law : ((kept : ℕ → Bool) (lo hi : ℕ) (places : List ℕ) → All (λ b. kept b ≡ false) places → taken_by kept lo hi places ≡ blocks_for hi - length places)
-    → ((kept : ℕ → Bool) (lo hi : ℕ) (places more : List ℕ) → All (λ b. kept b ≡ false) places → placed kept lo hi places more ≡ places ++ more)
-    → ((kept : ℕ → Bool) (places : List ℕ) → All (λ b. kept b ≡ false) places → alone kept places ≡ places) → ((places : List ℕ) → All (λ b. is_kept [] b ≡ false) places) → UnkeptLaw
-unkept_law takes behind all none = record {
-  takes = λ lo hi places. takes (is_kept []) lo hi places (none places);
-  behind = λ lo hi places more. behind (is_kept []) lo hi places more (none places);
-  all = λ places. all (is_kept []) places (none places);
-}
+-- what counts tell of the blocks that a session's snapshots keep
+abbrev pub SharedLaw : State → Session → List ℕ → Type 0
+SharedLaw s f counts = (k i : ℕ) → shared_on s f k i ≡ is_kept_at counts (slice_get (places_of s k) i)
 
 -- a map of blocks where a tree stands has the tree's inode map
 abbrev pub MapLaw : Type 0

@@ -5,6 +5,8 @@ pub mod AtMost
 pub mod Placing
 pub mod FirstReason
 pub mod Given
+pub mod counting
+pub mod keeping
 pub mod looking
 pub mod planning
 pub mod growing
@@ -17,3 +19,7 @@ pub mod removed
 pub mod moved
 pub mod renamed
 pub mod listed
+pub mod numbered
+pub mod gathered
+pub mod snapped
+pub mod unsnapped

@@ -1,10 +1,12 @@
 -- Blocks of nodes before and after: each node has the first of its own, or all of them and others behind.
-use Rattle.std.proofs.Common.{⊎_elim, ◌≡◌, ℕ, ◌≤◌, min, List, [], ◌++◌, length, take, refl, sym, ap, ◌∙◌, subst, arith}
+use Rattle.std.proofs.Common.{⊎_elim, ◌≡◌, ◌≢◌, ℕ, ◌≤◌, min, List, [], ◌++◌, length, take, refl, sym, ap, ◌∙◌, subst, arith}
 use Rattle.std.proofs.Math.Seq.{take-append_seam}
 use Rattle.std.proofs.lemmas.Bool.{cases_eq}
 use Rattle.std.proofs.lemmas.List.{append-nil, length-take, take_all, take_min, take-append-le, take-take}
 use Rattle.fs_files.specs.Calls.{IsWithPlaces}
-use Rattle.fs_session.specs.NothingKept.{behind_placed, placed_behind}
+use Rattle.layout_extent.specs.Renew.{renew}
+use Rattle.lang_tree.specs.Sharing.{SharedNodes, SharedPlaces, none_shared}
+use Rattle.fs_session.specs.NothingKept.{behind_all, behind_placed, placed_behind, renews_nothing}
 use Rattle.fs_session.specs.Space.{ArePlaced, none_renewed}
 
 -- what is the first of a list is so by its own length
@@ -47,3 +49,13 @@ placed_then old mid new more first second = placed_behind old new more (λ k.
     let of_mid : new k ≡ take (length (new k)) (mid k) = behind_placed mid new [] second k ∙ ap (λ (xs : List ℕ). take (length (new k)) xs) (append-nil (mid k)) in
     let within : length (new k) ≤ length (mid k) = omega (arith, ap (λ (xs : List ℕ). length xs) of_mid, length-take (length (new k)) (mid k)) in
     of_mid ∙ ap (λ (xs : List ℕ). take (length (new k)) xs) (behind_placed old mid more first k) ∙ take-take (length (new k)) (length (mid k)) all within)
+
+-- One node has new blocks where places of it are renewed, and behind all.
+pub placed_renewed : (renewed : SharedNodes) (old new : ℕ → List ℕ) (k : ℕ) (more : List ℕ) → new k ≡ renew (renewed k) 0 (old k) more → ((l : ℕ) → l ≢ k → new l ≡ old l) → ((l : ℕ) → l ≢ k → renewed l ≡ none_shared) → ArePlaced renewed old new more
+placed_renewed renewed old new k more own others none l = ⊎_elim
+    (λ e. subst (λ n. new n ≡ take (length (new n)) (renew (renewed n) 0 (old n) more)) (sym e) (front (new k) (renew (renewed k) 0 (old k) more) (length (renew (renewed k) 0 (old k) more)) (own ∙ sym (take_all (length (renew (renewed k) 0 (old k) more)) (renew (renewed k) 0 (old k) more) (omega arith)))))
+    (λ d. subst (λ (qs : List ℕ). qs ≡ take (length qs) (renew (renewed l) 0 (old l) more)) (sym (others l d)) (own_front (old l) more ∙ ap (take (length (old l))) (sym (ap (λ (r : SharedPlaces). renew r 0 (old l) more) (none l d) ∙ behind_all 0 (old l) more)))) (cases_eq l k)
+
+-- Where none are new, whatever is renewed.
+pub placed_without : (renewed : SharedNodes) (old new : ℕ → List ℕ) → ArePlaced none_renewed old new [] → ArePlaced renewed old new []
+placed_without renewed old new placed k = placed k ∙ ap (take (length (new k))) (renews_nothing none_shared 0 (old k) ∙ sym (renews_nothing (renewed k) 0 (old k)))

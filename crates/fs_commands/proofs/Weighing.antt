@@ -5,9 +5,8 @@ use Rattle.lang_tree.specs.Conditions.{refusal}
 use Rattle.lang_tree.specs.Figures.{Figures}
 use Rattle.lang_tree.specs.Step.{Session}
 use Rattle.engine_blocks.specs.State.{State}
-use Rattle.fs_session.specs.Commands.{figures_on}
-use Rattle.fs_session.specs.NothingKept.{figures_unshared}
-use Rattle.fs_session.specs.Space.{HasRoom, none_renewed}
+use Rattle.fs_session.specs.Commands.{alone_on, figures_on, shared_on}
+use Rattle.fs_session.specs.Space.{HasRoom}
 use Rattle.fs_commands.specs.Writing.{IsWeighed}
 use Rattle.layout_geometry.specs.Geometry.{bitmap_blocks}
 use Rattle.fs_commands.specs.Figures.{AreFiguresOf}
@@ -24,5 +23,5 @@ is_weighed s f cmd n accepted are room = record {
 }
 
 -- figures that are those of the command are those that it is weighed by
-pub figures_as : (s : State) (f : Session) (cmd : Cmd) (bitmap : ℕ) (m : Inodes) (n : Figures) → bitmap ≡ bitmap_blocks s.books.geom → AreFiguresOf bitmap m cmd n → IsMapOf f.limit m f.tree → refusal f.limit f.tree cmd ≡ None → figures_on s f cmd ≡ n
-figures_as s f cmd bitmap m n is are map accepted = figures_unshared s f cmd ∙ ap (λ b. figures_over b none_renewed f cmd) (sym is) ∙ are f map accepted
+pub figures_as : (s : State) (f : Session) (cmd : Cmd) (bitmap : ℕ) (m : Inodes) (n : Figures) → bitmap ≡ bitmap_blocks s.books.geom → AreFiguresOf bitmap (shared_on s f) m cmd n → IsMapOf f.limit m f.tree → refusal f.limit f.tree cmd ≡ None → figures_on s f cmd ≡ n
+figures_as s f cmd bitmap m n is are map accepted = ap (λ b. figures_over b (shared_on s f) (alone_on s f) f cmd) (sym is) ∙ are (alone_on s f) f map accepted

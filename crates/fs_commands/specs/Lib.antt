@@ -1,3 +1,6 @@
+pub mod Known
+pub mod Gathering
+pub mod Snapping
 pub mod Looks
 pub mod Opened
 pub mod Figures

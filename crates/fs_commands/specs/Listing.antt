@@ -2,12 +2,12 @@
 use Rattle.std.specs.Prelude.{◌≡◌, ℕ, ◌+◌, ◌-◌, ◌*◌, ◌^◌, ◌≤◌, ⊤, Bool, true, false, IsTrue, if◌then◌else◌, List, [], ◌∷◌, ◌++◌, length, map, take, drop, Option, Some, Result, Ok, Err}
 use Rattle.std.specs.List.{All, flat_map}
 use Rattle.std.specs.List.Sorted.{IsPermutation}
-use Rattle.std.specs.FinMap.{get}
+use Rattle.std.specs.FinMap.{entries, get}
 use Rattle.std.specs.Io.KnownBytes.{Appends}
 use Rattle.base_types.specs.Counts.{after_call}
 use Rattle.layout_bytes.specs.declared.slot.Slot.{Slot}
-use Rattle.lang_tree.specs.Tree.{Tree, Thing, Dir}
-use Rattle.lang_tree.specs.Listing.{line_of}
+use Rattle.lang_tree.specs.Tree.{Snapshots, Tree, Thing, Dir}
+use Rattle.lang_tree.specs.Listing.{line_of, snapshot_lines}
 use Rattle.crash_stands.specs.Files.{Files}
 use Rattle.crash_stands.specs.Inodes.{Inodes, ADir, inodes_of}
 use Rattle.crash_stands.specs.Maps.{IsMapOf}
@@ -22,6 +22,8 @@ use Rattle.fs_files.specs.Asks.{MayLookAt}
 use Rattle.fs_files.specs.Calls.{IsUsed}
 use Rattle.fs_files.specs.Effects.{LooksOnly}
 use Rattle.fs_files.specs.NodeMaps.{NodeMap}
+use Rattle.fs_files.specs.Shared.{is_kept}
+use Rattle.fs_files.specs.Sound.{TellsKept}
 use Rattle.fs_dirs.specs.Directories.{IsNumber}
 use Rattle.fs_commands.specs.declared.listing.Frame.{Frame}
 use Rattle.fs_commands.specs.declared.listing.Walk.{Walk}
@@ -64,10 +66,11 @@ list_refusal_of file.NoMemory = refusal.NoMemory
 
 -- What a listing needs, and what its calls leave.
 
--- Each block that was taken is filled or freed, and the blocks are sound where they are known.
-pub record MayList (tells : Bool) (s : State) : Type 0 where
+-- Each block that was taken is filled or freed, and where they are known the blocks are sound, and snapshots keep just those that have a count.
+pub record MayList (tells : Bool) (s : State) (counts : List ℕ) : Type 0 where
   pub none_bare : HasNoBare s.books.running
   pub sound : IsTrue tells → AreSound s.books.geom s.map
+  pub kept : IsTrue tells → TellsKept s.books.geom (is_kept counts) s.map
 
 -- Node k may be looked at, and is in use.
 pub record MayReadNode (tells : Bool) (may_read : Type 0) (s : State) (files : Files) (k : ℕ) : Type 0 where
@@ -88,6 +91,10 @@ pub record Lists {T : Type 0} (tells : Bool) (result : Result T ListRefusal) (ol
 pub record IsMapIn (s : State) (v : NodeMap) (m : Inodes) (t : Tree) : Type 0 where
   pub same : m ≡ inodes_of v.files
   pub map : IsMapOf s.books.geom.i m t
+
+-- the lines of snapshots, the names ascending
+abbrev pub kept_lines : Snapshots → List ℕ
+kept_lines snapshots = flat_map (λ e. snapshot_lines e.0 e.1) (entries snapshots)
 
 -- Paths of a tree.
 

@@ -1,7 +1,7 @@
 -- What paths lead and come to, and what commands that only look answer. They are described in docs/FILE-SYSTEM.md.
 use Rattle.std.specs.Prelude.{◌≡◌, ◌≢◌, ℕ, ◌<◌, ◌^◌, nat_lt, ⊤, true, false, not, List, [], ◌∷◌, ◌++◌, length, Option, None, Some, option_map, IfSome, Result, Ok, Err}
 use Rattle.layout_bytes.specs.declared.node.NodeKind.{NodeKind}
-use Rattle.layout_bytes.specs.declared.node.NodeKind.TheVariants.{Free, Dir, File}
+use Rattle.layout_bytes.specs.declared.node.NodeKind.TheVariants.{Free, Dir, File, Snapshot}
 use Rattle.layout_bytes.specs.declared.slot.Slot.{Slot}
 use Rattle.layout_directory.specs.Directory.{place_of}
 use Rattle.lang_tree.specs.declared.command.Kind.TheVariants.{Dir as DirKind, File as FileKind}
@@ -28,6 +28,10 @@ use Rattle.fs_commands.specs.declared.paths.Entry.{Entry}
 use Rattle.fs_commands.specs.declared.paths.Spot.{Spot}
 use Rattle.fs_commands.specs.declared.paths.Spot.TheVariants.{Root as TheRoot, Inside}
 
+-- what is under a number is no snapshot
+abbrev pub IsNoSnapshot : Option FileNode → Type 0
+IsNoSnapshot o = (x : FileNode) → o ≡ Some x → x.kind ≢ Snapshot
+
 -- what a path leads to: a node in use, or why it leads nowhere
 abbrev pub LeadsToFound : Files → List (List ℕ) → Result NodeFound Refusal → Type 0
 LeadsToFound files path (Ok found) = (walk_on (inodes_of files) 1 path ≡ Ok found.number) × ((x : FileNode) × (files found.number ≡ Some x) × (found.facts ≡ facts_of x))
@@ -38,11 +42,12 @@ abbrev pub LeadsToFile : Files → List (List ℕ) → Result NodeFound Refusal 
 LeadsToFile files path (Ok found) = (walk_on (inodes_of files) 1 path ≡ Ok found.number) × ((x : FileNode) × (files found.number ≡ Some x) × (found.facts ≡ facts_of x) × (x.kind ≡ File))
 LeadsToFile files path (Err why) = file_reason (inodes_of files) path ≡ Some why
 
--- what is told of a node: a directory has one link
+-- what is told of a node: a directory has one link, and no path leads to a snapshot
 abbrev pub stat_of_kind : NodeKind → ℕ → ℕ → ℕ → Reply
 stat_of_kind Free number links size = Refused NotFound
 stat_of_kind Dir number links size = StatReply (record { kind = DirKind; number = number; size = size; links = 1 })
 stat_of_kind File number links size = StatReply (record { kind = FileKind; number = number; size = size; links = links })
+stat_of_kind Snapshot number links size = Refused NotFound
 
 -- Node k is a directory with so many slots, and this is what stands under the name there: the place of its slot, and the node that the slot names.
 pub record HasEntry (files : Files) (k many : ℕ) (name : List ℕ) (entry : Option Entry) : Type 0 where

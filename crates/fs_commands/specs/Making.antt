@@ -1,5 +1,5 @@
 -- What commands by which a name comes to be look up first, and what they draft. They are described in docs/FILE-SYSTEM.md.
-use Rattle.std.specs.Prelude.{◌≡◌, ◌≤◌, ℕ, List, [], ◌∷◌, ◌++◌, length, is_some, Option, None, Some, Result, Ok, Err}
+use Rattle.std.specs.Prelude.{◌≡◌, ◌≤◌, ℕ, false, List, [], ◌∷◌, ◌++◌, length, is_some, Option, None, Some, Result, Ok, Err}
 use Rattle.layout_bytes.specs.declared.slot.Slot.{Slot}
 use Rattle.layout_bytes.specs.declared.node.NodeKind.{NodeKind}
 use Rattle.layout_bytes.specs.declared.node.NodeKind.TheVariants.{Dir as DirNode, File as FileNode}
@@ -12,7 +12,7 @@ use Rattle.lang_tree.specs.declared.command.Refusal.TheVariants.{Exists}
 use Rattle.lang_tree.specs.Conditions.{when, first_reason, refusal}
 use Rattle.lang_tree.specs.declared.command.Reply.TheVariants.{Ok as Done}
 use Rattle.lang_tree.specs.Figures.{adding, growth}
-use Rattle.lang_tree.specs.Step.{Session, step}
+use Rattle.lang_tree.specs.Step.{Session, changes_snapshots, step}
 use Rattle.lang_tree.specs.Tree.{Thing, Dir as DirThing, File as FileThing}
 use Rattle.crash_stands.specs.Files.{Files}
 use Rattle.crash_stands.specs.Inodes.{Inode, Inodes, ADir, AFile, AreInodesOf, inodes_of}
@@ -27,7 +27,7 @@ use Rattle.fs_dirs.specs.Directories.{inodes_in}
 use Rattle.fs_commands.specs.declared.making.Vacancy.{Vacancy}
 use Rattle.fs_commands.specs.declared.paths.Spot.TheVariants.{Inside}
 use Rattle.fs_session.specs.Changes.{IsWithinCost, Uses}
-use Rattle.fs_session.specs.Commands.{GrowsInRuns, figures_on, grown_by, places_of}
+use Rattle.fs_session.specs.Commands.{GrowsInRuns, figures_on, grown_on, places_of, renewed_on}
 use Rattle.fs_commands.specs.Looks.{ComesTo}
 use Rattle.fs_session.specs.Sessions.{inodes}
 use Rattle.lang_tree.specs.Sharing.{none_shared}
@@ -67,11 +67,13 @@ pub record AddsName (old now : State) (d : DraftState) (dir node : ℕ) (name : 
   pub uses : Uses (growth (length slots)) 0 (reusable_blocks now.books) none_renewed (places_of old) (places_in now d) d
   pub rests : growth (length slots) ≤ length (reusable_blocks old.books) → now.books ≡ old.books
 
--- The tree accepts the command and answers that it is done, and directory `dir`, which has so many slots, gets a name more by it.
+-- The tree accepts the command and answers that it is done, and directory `dir`, which has so many slots, gets a name more by it. It renews no place, and leaves the snapshots as they are.
 pub record AcceptsName (old : State) (f : Session) (cmd : Cmd) (dir many : ℕ) : Type 0 where
   pub accepted : refusal f.limit f.tree cmd ≡ None
   pub answer : (step f cmd).1 ≡ Done
-  pub grows : grown_by (inodes old) cmd ≡ Some dir
+  pub grows : grown_on old cmd ≡ Some dir
+  pub renews : renewed_on old f cmd ≡ none_renewed
+  pub keeps : changes_snapshots cmd ≡ false
   pub figures : figures_on old f cmd ≡ adding (growth many)
   pub slots : List Slot
   pub is_dir : inodes old dir ≡ Some (ADir slots)

@@ -3,7 +3,7 @@ use Rattle.std.specs.Prelude.{◌≡◌, ◌≢◌, ℕ, List, [], ◌∷◌, �
 use Rattle.layout_bytes.specs.declared.slot.Slot.{Slot}
 use Rattle.layout_directory.specs.Directory.{place_of}
 use Rattle.crash_stands.specs.Files.{Files}
-use Rattle.crash_stands.specs.Inodes.{Inodes, ADir, AreInodesOf, inodes_of}
+use Rattle.crash_stands.specs.Inodes.{Inode, Inodes, ADir, AreInodesOf, inodes_of}
 use Rattle.crash_stands.specs.Walks.{node_in, LeadsTo}
 use Rattle.fs_inodes.specs.Changes.{slot_of, MovesSlot}
 use Rattle.fs_inodes.specs.Figures.{slots_above}
@@ -42,11 +42,13 @@ pub record LacksName (m : Inodes) (name : List ℕ) (dir count : ℕ) : Type 0 w
   pub none : place_of name slots ≡ None
   pub nothing : node_in slots name ≡ None
 
--- A name may move onto another one: that names another node, which is neither of the two directories.
+-- A name may move onto another one: that names another node, which reads as an inode and is neither of the two directories.
 pub record MayMoveOnto (s : State) (source target : Named) (name other : List ℕ) : Type 0 where
   pub from : HasNamed (inodes s) name source
   pub onto : HasNamed (inodes s) other target
   pub found : IsFound (files_in s nothing_drafted) target.entry.node
+  pub inode : Inode
+  pub shown : inodes s target.entry.node.number ≡ Some inode
   pub not_node : target.entry.node.number ≢ source.entry.node.number
   pub not_from : target.entry.node.number ≢ source.dir
   pub not_into : target.entry.node.number ≢ target.dir

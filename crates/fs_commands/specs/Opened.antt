@@ -2,6 +2,7 @@
 use Rattle.std.specs.Prelude.{Bool, IsTrue}
 use Rattle.engine_blocks.specs.State.{State}
 use Rattle.fs_commands.specs.declared.fs.Fs.{Fs}
+use Rattle.fs_commands.specs.Known.{Known, Knows}
 use Rattle.fs_session.specs.declared.unused.UnusedNodes.{UnusedNodes}
 use Rattle.fs_session.specs.Sessions.{IsBetween, Stands}
 
@@ -14,12 +15,21 @@ module _ {S : Type 0} where
   abbrev pub unused_in : Fs S → UnusedNodes
   unused_in fs = fs.unused
 
+  -- what it knows of its snapshots
+  abbrev pub known_in : Fs S → Known
+  known_in fs = fs.known
+
+  -- What must hold between two commands: of its blocks and the nodes that may be unused, and what it knows of its snapshots is so.
+  pub record IsReady (tells : Bool) (state : S → State) (fs : Fs S) : Type 0 where
+    pub between : IsBetween tells (state (blocks_in fs)) (unused_in fs)
+    pub knows : Knows tells (state (blocks_in fs)) (known_in fs)
+
   -- A command may follow: what must hold between two commands does, and where the blocks are known, a tree stands in them.
   pub record MayFollow (tells : Bool) (state : S → State) (fs : Fs S) : Type 0 where
-    pub between : IsBetween tells (state (blocks_in fs)) (unused_in fs)
+    pub ready : IsReady tells state fs
     pub stands : IsTrue tells → Stands (state (blocks_in fs))
 
   -- What must hold between two commands does afterwards, and where a tree stood in known blocks, one stands still.
   pub record StaysOpen (tells : Bool) (state : S → State) (old new : Fs S) : Type 0 where
-    pub between : IsBetween tells (state (blocks_in new)) (unused_in new)
+    pub ready : IsReady tells state new
     pub stands : IsTrue tells → Stands (state (blocks_in old)) → Stands (state (blocks_in new))

@@ -1,14 +1,14 @@
 -- What a command that takes a name away looks up first, and what it drafts. It is described in docs/FILE-SYSTEM.md.
-use Rattle.std.specs.Prelude.{◌≡◌, ◌≢◌, ℕ, ◌+◌, ◌≤◌, ◌==◌, false, if◌then◌else◌, List, [], ◌∷◌, ◌++◌, length, slice_get, Option, None, Some, option_and_then, Result, Ok, Err}
+use Rattle.std.specs.Prelude.{◌≡◌, ◌≢◌, ℕ, ◌+◌, ◌≤◌, ◌==◌, Bool, false, if◌then◌else◌, List, [], ◌∷◌, ◌++◌, length, slice_get, Option, None, Some, option_and_then, Result, Ok, Err}
 use Rattle.layout_bytes.specs.declared.slot.Slot.{Slot}
 use Rattle.lang_tree.specs.declared.command.Cmd.{Cmd}
 use Rattle.lang_tree.specs.declared.command.Cmd.TheVariants.{Unlink, Rmdir}
 use Rattle.lang_tree.specs.declared.command.Kind.{Kind}
 use Rattle.lang_tree.specs.declared.command.Kind.TheVariants.{Dir, File}
 use Rattle.lang_tree.specs.declared.command.Refusal.{Refusal}
-use Rattle.lang_tree.specs.Figures.{blocks_for, release}
+use Rattle.lang_tree.specs.Figures.{release}
 use Rattle.crash_stands.specs.Files.{FileNode, Files}
-use Rattle.crash_stands.specs.Inodes.{Inodes, ADir, IsInodeOf, AreInodesOf, inodes_of}
+use Rattle.crash_stands.specs.Inodes.{Inode, Inodes, ADir, IsInodeOf, AreInodesOf, inodes_of}
 use Rattle.crash_stands.specs.Walks.{LeadsTo}
 use Rattle.fs_inodes.specs.Changes.{slot_of, one_link_less, TakesSlot}
 use Rattle.fs_inodes.specs.Figures.{slots_above}
@@ -18,6 +18,8 @@ use Rattle.engine_blocks.specs.State.{State}
 use Rattle.fs_files.specs.declared.look.FileFacts.{FileFacts}
 use Rattle.fs_files.specs.Calls.{facts_of, files_in, places_in}
 use Rattle.fs_files.specs.Drafts.{DraftState, nothing_drafted}
+use Rattle.fs_files.specs.Growing.{alone}
+use Rattle.fs_files.specs.Shared.{is_kept}
 use Rattle.fs_dirs.specs.Changing.{Alters}
 use Rattle.fs_dirs.specs.Directories.{inodes_in}
 use Rattle.fs_commands.specs.declared.paths.Entry.{Entry}
@@ -46,9 +48,9 @@ abbrev pub MayLose : Kind → Inodes → List (List ℕ) → Option Entry → Re
 MayLose kind m path found (Ok entry) = (found ≡ Some entry) × (lose_reason kind m path ≡ None)
 MayLose kind m path found (Err why) = lose_reason kind m path ≡ Some why
 
--- the blocks that go with one link of a node with these facts: its own, where the link is the last one
-abbrev pub blocks_gone : FileFacts → ℕ
-blocks_gone f = if f.links == 1 then blocks_for f.size else 0
+-- how many blocks go with one link of a node with these facts and blocks: its own that aren't kept, where the link is the last one
+abbrev pub blocks_gone : (ℕ → Bool) → FileFacts → List ℕ → ℕ
+blocks_gone kept f places = if f.links == 1 then length (alone kept places) else 0
 
 -- what the loss of one link of the node makes of the nodes in use: it is dropped, where the link is the last one
 abbrev pub use_after : NodeFound → NodeUse
@@ -65,20 +67,22 @@ pub record LosesLink (old new : Files) (k : ℕ) : Type 0 where
   pub own : IsInodeOf (new k) (option_and_then one_link_less (inodes_of old k))
   pub others : (l : ℕ) → l ≢ k → new l ≡ old l
 
--- The slot at the entry's place names the entry's node, under this name, in a directory of so many slots. The node has no slots.
+-- The slot at the entry's place names the entry's node, under this name, in a directory of so many slots. The node reads as an inode, which has no slots.
 pub record IsNamed (files : Files) (name : List ℕ) (n : Named) : Type 0 where
   pub slots : List Slot
   pub dir : inodes_of files n.dir ≡ Some (ADir slots)
   pub count : n.count ≡ length slots
   pub slot : slice_get slots n.entry.place ≡ Some (slot_of n.entry.node.number name)
   pub node : IsFound files n.entry.node
+  pub inode : Inode
+  pub shown : inodes_of files n.entry.node.number ≡ Some inode
   pub bare : has_slots (inodes_of files n.entry.node.number) ≡ false
 
 -- The name was taken away in a draft: its slot went, and its node has one link less. Each node in use reads as an inode and has the first of its own blocks, so much is altered, and the other nodes in use stay so.
 pub record LosesName (old now : State) (d : DraftState) (name : List ℕ) (n : Named) : Type 0 where
   pub takes : TakesSlot (inodes old) (inodes_in now d) n.dir n.entry.node.number name
   pub reads : AreInodesOf (files_in now d) (inodes_in now d)
-  pub alters : Alters 4 [] (release n.count + blocks_gone n.entry.node.facts) nothing_drafted d
+  pub alters : Alters 4 [] (release n.count + blocks_gone (is_kept d.kept) n.entry.node.facts (places_of old n.entry.node.number)) nothing_drafted d
   pub placed : ArePlaced none_renewed (places_of old) (places_in now d) []
   pub used : KeepsUsed (use_after n.entry.node) (files_in old nothing_drafted) (files_in now d)
 
@@ -87,7 +91,7 @@ pub record IsLoss (kind : Kind) (files : Files) (path : List (List ℕ)) (n : Na
   pub comes : ComesTo files path (Ok (Inside n.dir n.count (Some n.entry)))
   pub accepted : lose_reason kind (inodes_of files) path ≡ None
 
--- What is known of what goes: the directory above the path, the slot there that names its node, how many slots there are, and the links and bytes at the path, which are few.
+-- What is known of what goes: the directory above the path, the slot there that names its node, how many slots there are, where the path leads, and the links and bytes there, which are few.
 pub record KnowsLoss (kind : Kind) (files : Files) (path : List (List ℕ)) (n : Named) : Type 0 where
   pub up : List (List ℕ)
   pub name : List ℕ
@@ -95,6 +99,7 @@ pub record KnowsLoss (kind : Kind) (files : Files) (path : List (List ℕ)) (n :
   pub leads : LeadsTo (inodes_of files) up n.dir
   pub named : IsNamed files name n
   pub above : n.count ≡ slots_above (inodes_of files) path
+  pub to_node : LeadsTo (inodes_of files) path n.entry.node.number
   pub facts : HasFacts (inodes_of files) path n.entry.node.facts.links n.entry.node.facts.size
   pub small : n.entry.node.facts.size ≤ 1073741824
   pub accepted : lose_reason kind (inodes_of files) path ≡ None

@@ -19,8 +19,10 @@ ghost use Rattle.fs_dirs.specs.Directories.{IsNumber};
 ghost use Rattle.fs_commands.specs.Looks.{LeadsToFile};
 ghost use Rattle.fs_session.specs.Plans.{MayBeMade, OnChange, Plans};
 ghost use Rattle.fs_session.specs.Sessions.{MayBegin, MayPlan};
+ghost use Rattle.fs_commands.specs.Figures.{MeetsKept};
 ghost use Rattle.fs_commands.specs.Writing.{IsFile, MayPut};
 
+use crate::begins::a_draft_may_begin;
 use crate::facts::the_node_at_a_path_gives_the_inode;
 use crate::figures::overwrite_figures;
 use crate::found::a_file_is_at_its_path;
@@ -28,19 +30,21 @@ use crate::look::is_dir;
 use crate::paths::{NodeFound, find_node};
 use crate::prices::small_drafts_are_within_the_cost;
 use crate::refusals::refusal_of;
+use crate::sharing::kept_met;
 use base_types::limits::LARGEST_FILE;
 use engine_blocks::{Blocks, calls_compose};
 use fs_files::{
-    Draft, FileRefusal, a_directory_has_whole_slots, a_draft_begins, a_file_fits_the_disk,
-    a_file_has_its_blocks, where_nothing_is_kept,
+    Draft, FileRefusal, Shared, a_directory_has_whole_slots, a_file_fits_the_disk,
+    a_file_has_its_blocks, bytes_lie_in_blocks,
 };
 use fs_inodes::{
     new_bytes_are_mapped, paths_lead_to_inodes, the_map_gives_the_refusal, walks_are_the_same,
 };
-use fs_session::{NodeUse, Plan, blocks_have_the_map_of_their_tree, has_room};
-use lang_tree::{
-    Path, Refusal, Reply, nothing_shared_costs_nothing, touched_blocks_are_counted_by_division,
+use fs_session::{
+    NodeUse, Plan, a_draft_that_leaves_snapshots_makes_its_tree, blocks_have_the_map_of_their_tree,
+    counts_tell_what_is_shared, has_room,
 };
+use lang_tree::{Path, Refusal, Reply, touched_blocks_are_counted_by_division};
 use std::alloc::Global;
 
 /// The file at a path, or why there is none.
@@ -51,20 +55,21 @@ pub(crate) fn find_file<S: Blocks>(
     alloc: Global,
     blocks: &mut S,
     path: &Path,
+    shared: &Shared,
 ) -> Result<Result<NodeFound, Refusal>, FileRefusal>
-    requires begin { MayBegin S.tells (S.state blocks.old) }
+    requires begin { MayBegin S.tells (S.state blocks.old) shared.now }
     ensures file { IsTrue S.tells → IfOk result (λ found. (t : Tree) → IsTreeOf (S.state blocks.old).books.geom (S.state blocks.old).map t
         → LeadsToFile (files_in (S.state blocks.old) nothing_drafted) path.now found) }
     ensures number { IfOk result (λ found. IfOk found (λ f. IsNumber (S.state blocks.old).books.geom.i f.number)) }
     ensures refused { IfErr result LookRefused }
     ensures looks { LooksOnly S.tells (fails_reading result) (S.state blocks.old) (S.state blocks.new) }
 {
-    a_draft_begins(blocks);
+    a_draft_may_begin(blocks);
     blocks_have_the_map_of_their_tree();
     the_node_at_a_path_gives_the_inode();
     a_directory_has_whole_slots::<S>();
     walks_are_the_same();
-    match find_node(alloc, blocks, path)? {
+    match find_node(alloc, blocks, path, shared)? {
         Ok(found) => {
             if is_dir(found.facts.kind) {
                 return Ok(Err(Refusal::IsDir));
@@ -86,16 +91,17 @@ pub(crate) fn plan_write<'a, S: Blocks>(
     path: &Path,
     offset: u32,
     bytes: &[u8],
+    shared: &'a Shared,
 ) -> Result<Plan<'a>, Refusal>
-    requires may { MayPlan S.tells (S.state blocks.old) }
+    requires may { MayPlan S.tells (S.state blocks.old) shared.now }
     ensures plans { Plans S.tells (Write path.now offset bytes.now) result (S.state blocks.old) (S.state blocks.new) }
     ensures made { OnChange result (λ draft cost nodes. MayBeMade S.tells draft cost nodes (S.state blocks.new)) }
 {
     calls_compose::<S>();
     the_map_gives_the_refusal();
     blocks_have_the_map_of_their_tree();
-    match find_file(alloc, blocks, path) {
-        Ok(Ok(found)) => write_found(alloc, blocks, &found, offset, bytes),
+    match find_file(alloc, blocks, path, shared) {
+        Ok(Ok(found)) => write_found(alloc, blocks, &found, offset, bytes, shared),
         Ok(Err(why)) => Ok(Plan::Answer(Reply::Refused(why))),
         Err(why) => Err(refusal_of(why)),
     }
@@ -111,8 +117,9 @@ fn write_found<'a, S: Blocks>(
     found: &NodeFound,
     offset: u32,
     bytes: &[u8],
+    shared: &'a Shared,
 ) -> Result<Plan<'a>, Refusal>
-    requires may { MayPlan S.tells (S.state blocks.old) }
+    requires may { MayPlan S.tells (S.state blocks.old) shared.now }
     requires number { IsNumber (S.state blocks.old).books.geom.i found.now.number }
     requires file { IsTrue S.tells → IsFile (files_in (S.state blocks.old) nothing_drafted) found.now }
     ensures plans { (path : List (List ℕ)) → (IsTrue S.tells
@@ -121,8 +128,7 @@ fn write_found<'a, S: Blocks>(
     ensures made { OnChange result (λ draft cost nodes. MayBeMade S.tells draft cost nodes (S.state blocks.new)) }
 {
     calls_compose::<S>();
-    a_file_is_at_its_path(blocks);
-    nothing_shared_costs_nothing();
+    a_file_is_at_its_path(blocks, shared);
     the_map_gives_the_refusal();
     if is_too_large(offset, bytes.len() as u64) {
         return Ok(Plan::Answer(Reply::Refused(Refusal::TooLarge)));
@@ -131,9 +137,56 @@ fn write_found<'a, S: Blocks>(
         return Ok(Plan::Answer(Reply::Ok));
     }
     let count = bytes.len() as u32;
-    let figures = overwrite_figures(blocks.geom().bitmap_blocks(), size_of(found), offset, count);
+    let lo = offset.min(size_of(found));
+    match kept_met(alloc, blocks, found.number, lo, offset + count, shared) {
+        Ok(met) => write_over(alloc, blocks, found, offset, bytes, met, shared),
+        Err(why) => Err(refusal_of(why)),
+    }
+}
+
+/// Plans to put these bytes into a file that was found, where snapshots keep so many of the blocks that they touch.
+///
+/// # Errors
+/// As `plan_write`.
+fn write_over<'a, S: Blocks>(
+    alloc: Global,
+    blocks: &mut S,
+    found: &NodeFound,
+    offset: u32,
+    bytes: &[u8],
+    met: u32,
+    shared: &'a Shared,
+) -> Result<Plan<'a>, Refusal>
+    requires may { MayPlan S.tells (S.state blocks.old) shared.now }
+    requires number { IsNumber (S.state blocks.old).books.geom.i found.now.number }
+    requires file { IsTrue S.tells → IsFile (files_in (S.state blocks.old) nothing_drafted) found.now }
+    requires some { 0 < length bytes.now }
+    requires fits { offset + length bytes.now ≤ 1073741824 }
+    requires met { IsTrue S.tells → MeetsKept (S.state blocks.old) shared.now found.now.number (min offset (min found.now.facts.size 1073741824))
+        (offset + length bytes.now) met }
+    requires few { met ≤ 1048576 }
+    ensures plans { (path : List (List ℕ)) → (IsTrue S.tells
+        → walk_on (inodes_of (files_in (S.state blocks.old) nothing_drafted)) 1 path ≡ Fine found.now.number)
+        → Plans S.tells (Write path offset bytes.now) result (S.state blocks.old) (S.state blocks.new) }
+    ensures made { OnChange result (λ draft cost nodes. MayBeMade S.tells draft cost nodes (S.state blocks.new)) }
+{
+    calls_compose::<S>();
+    a_file_is_at_its_path(blocks, shared);
+    counts_tell_what_is_shared::<S>();
+    the_map_gives_the_refusal();
+    let count = bytes.len() as u32;
+    let bitmap = blocks.geom().bitmap_blocks();
+    let figures = overwrite_figures(bitmap, size_of(found), offset, count, met);
     match has_room(blocks, &figures) {
-        Ok(()) => plan_bytes(alloc, blocks, found.number, offset, bytes, figures.cost),
+        Ok(()) => plan_bytes(
+            alloc,
+            blocks,
+            found.number,
+            offset,
+            bytes,
+            figures.cost,
+            shared,
+        ),
         Err(why) => Err(why),
     }
 }
@@ -150,8 +203,9 @@ pub(crate) fn plan_bytes<'a, S: Blocks>(
     offset: u32,
     bytes: &[u8],
     cost: u32,
+    shared: &'a Shared,
 ) -> Result<Plan<'a>, Refusal>
-    requires may { MayPlan S.tells (S.state blocks.old) }
+    requires may { MayPlan S.tells (S.state blocks.old) shared.now }
     requires number { IsNumber (S.state blocks.old).books.geom.i number }
     requires file { IsTrue S.tells → (x : FileNode) × (files_in (S.state blocks.old) nothing_drafted number ≡ Some x) × (x.kind ≡ File) }
     requires some { 0 < length bytes.now }
@@ -162,7 +216,7 @@ pub(crate) fn plan_bytes<'a, S: Blocks>(
     ensures made { OnChange result (λ draft cost nodes. MayBeMade S.tells draft cost nodes (S.state blocks.new)) }
 {
     blocks.geom().lawful();
-    a_draft_begins(blocks);
+    a_draft_may_begin(blocks);
     a_file_has_its_blocks::<S>();
     a_file_fits_the_disk(blocks);
     blocks_have_the_map_of_their_tree();
@@ -170,17 +224,20 @@ pub(crate) fn plan_bytes<'a, S: Blocks>(
     paths_lead_to_inodes();
     walks_are_the_same();
     the_node_at_a_path_gives_the_inode();
-    nothing_shared_costs_nothing();
+    bytes_lie_in_blocks();
+    counts_tell_what_is_shared::<S>();
     small_drafts_are_within_the_cost();
     touched_blocks_are_counted_by_division();
-    where_nothing_is_kept();
-    let mut draft = Draft::new(alloc);
+    let mut draft = Draft::beside(alloc, shared);
     match draft.write_at(alloc, blocks, number, u64::from(offset), bytes) {
-        Ok(()) => Ok(Plan::Change {
-            draft,
-            cost,
-            nodes: NodeUse::Stays,
-        }),
+        Ok(()) => {
+            a_draft_that_leaves_snapshots_makes_its_tree(blocks);
+            Ok(Plan::Change {
+                draft,
+                cost,
+                nodes: NodeUse::Stays,
+            })
+        }
         Err(why) => Err(refusal_of(why)),
     }
 }

@@ -3,6 +3,8 @@
 
 ghost use Rattle.std.specs.Prelude.{◌≡◌, ◌≢◌, ◌≤◌, true, false, IsTrue};
 ghost use Rattle.lang_tree.specs.declared.command.Cmd.TheVariants.{Bad as NoCommand};
+ghost use Rattle.lang_tree.specs.Step.{changes_snapshots};
+ghost use Rattle.fs_commands.specs.Known.{Knows, counts_in};
 ghost use Rattle.fs_files.specs.Calls.{files_in};
 ghost use Rattle.fs_files.specs.Drafts.{nothing_drafted};
 ghost use Rattle.fs_session.specs.Applying.{Applies, Began, Runs, is_spent, reply_for};
@@ -13,14 +15,20 @@ ghost use Rattle.fs_session.specs.Syncs.{MaySyncNow};
 
 use crate::bytes::plan_write;
 use crate::fills::plan_fill;
+use crate::kept_looks::{plan_at, plan_snaps};
+use crate::known::KnownSnapshots;
 use crate::look::{plan_list, plan_read, plan_stat};
 use crate::making::{plan_link, plan_node};
 use crate::removing::{plan_rmdir, plan_unlink};
 use crate::renaming::plan_rename;
 use crate::sizes::plan_truncate;
-use engine_blocks::Blocks;
+use crate::snapping::{snap, unsnap};
+use engine_blocks::{Blocks, calls_compose};
 use fs_files::a_sync_may_follow;
-use fs_session::{Plan, UnusedNodes, carry, dsync, dwait, osync};
+use fs_session::{
+    Plan, UnusedNodes, a_draft_that_leaves_snapshots_makes_its_tree, carry, dsync, dwait, osync,
+};
+use fs_snapshots::what_is_known_of_snapshots_is_so;
 use lang_tree::{Cmd, Kind, Refusal, Reply};
 use std::alloc::Global;
 
@@ -31,11 +39,14 @@ pub(crate) fn answer<S: Blocks>(
     blocks: &mut S,
     cmd: &Cmd,
     unused: &mut UnusedNodes,
+    known: &mut KnownSnapshots,
 ) -> Reply
     requires between { IsBetween S.tells (S.state blocks.old) unused.old }
+    requires knows { Knows S.tells (S.state blocks.old) known.old }
     requires stands { IsTrue S.tells → Stands (S.state blocks.old) }
     ensures applies { Applies S.tells S.state cmd.now result blocks.old blocks.new }
     ensures between { IsBetween S.tells (S.state blocks.new) unused.new }
+    ensures knows { Knows S.tells (S.state blocks.new) known.new }
 {
     if let Cmd::Bad = cmd {
         return Reply::Bad;
@@ -47,22 +58,30 @@ pub(crate) fn answer<S: Blocks>(
     if now.spent {
         return Reply::Refused(Refusal::Spent);
     }
-    begin(alloc, blocks, cmd, unused)
+    begin(alloc, blocks, cmd, unused, known)
 }
 
 /// Begins a command with a tick, and carries it out.
-fn begin<S: Blocks>(alloc: Global, blocks: &mut S, cmd: &Cmd, unused: &mut UnusedNodes) -> Reply
+fn begin<S: Blocks>(
+    alloc: Global,
+    blocks: &mut S,
+    cmd: &Cmd,
+    unused: &mut UnusedNodes,
+    known: &mut KnownSnapshots,
+) -> Reply
     requires going { (S.state blocks.old).books.stopped ≡ false }
     requires unspent { is_spent (S.state blocks.old).books ≡ false }
     requires between { IsBetween S.tells (S.state blocks.old) unused.old }
+    requires knows { Knows S.tells (S.state blocks.old) known.old }
     requires stands { IsTrue S.tells → Stands (S.state blocks.old) }
     requires some { cmd.now ≢ NoCommand }
     ensures began { Began S.tells S.state cmd.now result blocks.old blocks.new }
     ensures between { IsBetween S.tells (S.state blocks.new) unused.new }
+    ensures knows { Knows S.tells (S.state blocks.new) known.new }
 {
     a_sync_may_follow();
     match blocks.tick() {
-        Ok(()) => reply_for(run(alloc, blocks, cmd, unused)),
+        Ok(()) => reply_for(run(alloc, blocks, cmd, unused, known)),
         Err(_) => Reply::Refused(Refusal::DiskFault),
     }
 }
@@ -86,14 +105,18 @@ fn run<S: Blocks>(
     blocks: &mut S,
     cmd: &Cmd,
     unused: &mut UnusedNodes,
+    known: &mut KnownSnapshots,
 ) -> Result<Reply, Refusal>
     requires may { MaySyncNow (S.state blocks.old).books }
     requires between { IsBetween S.tells (S.state blocks.old) unused.old }
+    requires knows { Knows S.tells (S.state blocks.old) known.old }
     requires stands { IsTrue S.tells → Stands (S.state blocks.old) }
     requires some { cmd.now ≢ NoCommand }
     ensures runs { Runs S.tells S.state cmd.now result blocks.old blocks.new }
     ensures between { IsBetween S.tells (S.state blocks.new) unused.new }
+    ensures knows { Knows S.tells (S.state blocks.new) known.new }
 {
+    what_is_known_of_snapshots_is_so();
     match cmd {
         Cmd::Osync => osync(alloc, blocks),
         Cmd::Dsync => dsync(alloc, blocks),
@@ -101,7 +124,9 @@ fn run<S: Blocks>(
         Cmd::Dwait(n) => dwait(blocks, *n),
         Cmd::Poll => Ok(Reply::Ok),
         Cmd::Bad => Ok(Reply::Bad),
-        _ => run_on_tree(alloc, blocks, cmd, unused),
+        Cmd::Snap(name) => snap(alloc, blocks, name, unused, known),
+        Cmd::Unsnap(name) => unsnap(alloc, blocks, name, unused, known),
+        _ => run_on_tree(alloc, blocks, cmd, unused, known),
     }
 }
 
@@ -114,16 +139,23 @@ fn run_on_tree<S: Blocks>(
     blocks: &mut S,
     cmd: &Cmd,
     unused: &mut UnusedNodes,
+    known: &mut KnownSnapshots,
 ) -> Result<Reply, Refusal>
     requires may { MaySyncNow (S.state blocks.old).books }
     requires between { IsBetween S.tells (S.state blocks.old) unused.old }
+    requires knows { Knows S.tells (S.state blocks.old) known.old }
     requires stands { IsTrue S.tells → Stands (S.state blocks.old) }
     requires on_tree { is_on_tree cmd.now ≡ true }
+    requires stays { changes_snapshots cmd.now ≡ false }
     ensures runs { Runs S.tells S.state cmd.now result blocks.old blocks.new }
     ensures between { IsBetween S.tells (S.state blocks.new) unused.new }
+    ensures knows { Knows S.tells (S.state blocks.new) known.new }
 {
     a_sync_may_follow();
-    let planned = plan(alloc, blocks, cmd, unused.least());
+    calls_compose::<S>();
+    what_is_known_of_snapshots_is_so();
+    let planned = plan(alloc, blocks, cmd, unused.least(), known);
+    a_draft_that_leaves_snapshots_makes_its_tree(blocks);
     carry(alloc, blocks, planned, unused)
 }
 
@@ -136,31 +168,38 @@ fn plan<'a, S: Blocks>(
     blocks: &mut S,
     cmd: &Cmd,
     first_unused: u32,
+    known: &'a KnownSnapshots,
 ) -> Result<Plan<'a>, Refusal>
-    requires may { MayPlan S.tells (S.state blocks.old) }
+    requires may { MayPlan S.tells (S.state blocks.old) (counts_in known.now) }
     requires above { 1 ≤ first_unused }
     requires below { IsTrue S.tells → AreUsedBelow (files_in (S.state blocks.old) nothing_drafted) first_unused }
+    requires knows { Knows S.tells (S.state blocks.old) known.now }
     requires on_tree { is_on_tree cmd.now ≡ true }
+    requires stays { changes_snapshots cmd.now ≡ false }
     ensures plans { Plans S.tells cmd.now result (S.state blocks.old) (S.state blocks.new) }
     ensures made { OnChange result (λ draft cost nodes. MayBeMade S.tells draft cost nodes (S.state blocks.new)) }
 {
+    let shared = known.shared();
     match cmd {
-        Cmd::Mkdir(path) => plan_node(alloc, blocks, Kind::Dir, path, first_unused),
-        Cmd::Create(path) => plan_node(alloc, blocks, Kind::File, path, first_unused),
+        Cmd::Mkdir(path) => plan_node(alloc, blocks, Kind::Dir, path, first_unused, shared),
+        Cmd::Create(path) => plan_node(alloc, blocks, Kind::File, path, first_unused, shared),
         Cmd::Write(path, offset, bytes) => {
-            plan_write(alloc, blocks, path, *offset, bytes.as_slice())
+            plan_write(alloc, blocks, path, *offset, bytes.as_slice(), shared)
         }
         Cmd::Fill(path, offset, count, byte) => {
-            plan_fill(alloc, blocks, path, *offset, *count, *byte)
+            plan_fill(alloc, blocks, path, *offset, *count, *byte, shared)
         }
-        Cmd::Truncate(path, size) => plan_truncate(alloc, blocks, path, *size),
-        Cmd::Link(path, other) => plan_link(alloc, blocks, path, other),
-        Cmd::Unlink(path) => plan_unlink(alloc, blocks, path),
-        Cmd::Rmdir(path) => plan_rmdir(alloc, blocks, path),
-        Cmd::Read(path, offset, len) => plan_read(alloc, blocks, path, *offset, *len),
-        Cmd::Stat(path) => plan_stat(alloc, blocks, path),
-        Cmd::List(path) => plan_list(alloc, blocks, path),
-        Cmd::Rename(from, to) => plan_rename(alloc, blocks, from, to),
+        Cmd::Truncate(path, size) => plan_truncate(alloc, blocks, path, *size, shared),
+        Cmd::Link(path, other) => plan_link(alloc, blocks, path, other, shared),
+        Cmd::Unlink(path) => plan_unlink(alloc, blocks, path, shared),
+        Cmd::Rmdir(path) => plan_rmdir(alloc, blocks, path, shared),
+        Cmd::Read(path, offset, len) => plan_read(alloc, blocks, path, *offset, *len, shared),
+        Cmd::Stat(path) => plan_stat(alloc, blocks, path, shared),
+        Cmd::List(path) => plan_list(alloc, blocks, path, shared),
+        Cmd::Rename(from, to) => plan_rename(alloc, blocks, from, to, shared),
+        Cmd::Snaps => plan_snaps(alloc, blocks, known),
+        Cmd::At(name, look) => plan_at(alloc, blocks, name, look, known),
+        Cmd::Snap(_) | Cmd::Unsnap(_) => unreachable!(),
         Cmd::Osync | Cmd::Dsync | Cmd::Durable | Cmd::Dwait(_) | Cmd::Poll | Cmd::Bad => {
             unreachable!()
         }

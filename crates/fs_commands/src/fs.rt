@@ -14,15 +14,18 @@ ghost use Rattle.fs_files.specs.Effects.{LooksOnly};
 ghost use Rattle.fs_check.specs.Whole.{IsDamaged, OnDamage, fails_by};
 ghost use Rattle.fs_session.specs.Applying.{AnswersSession, Applies, PassesTime};
 ghost use Rattle.fs_commands.specs.Listing.{ended_by_read, ended_by_push, ended_by_stop, CountsPushes};
-ghost use Rattle.fs_session.specs.Sessions.{IsSession, IsBetween, Stands};
+ghost use Rattle.fs_session.specs.Sessions.{IsSession, Stands};
 
 use crate::commands::answer;
-use crate::listing::{ListRefusal, listing};
+use crate::kept_listing::list_all;
+use crate::known::KnownSnapshots;
+use crate::listing::ListRefusal;
 use base_io::Sink;
 use engine_blocks::{Blocks, Figures};
 use fs_check::{CheckRefusal, check};
 use fs_files::a_sync_may_follow;
 use fs_session::{UnusedNodes, a_command_answers_its_session};
+use fs_snapshots::what_is_known_of_snapshots_is_so;
 use lang_tree::{Cmd, Reply};
 use std::alloc::Global;
 
@@ -32,10 +35,12 @@ pub struct Fs<S: Blocks> {
     blocks: S,
     /// Which nodes may be unused.
     unused: UnusedNodes,
+    /// What is known of the snapshots.
+    known: KnownSnapshots,
 }
 
 impl<S: Blocks> Fs<S> {
-    ghost use Rattle.fs_commands.specs.Opened.{blocks_in, unused_in, StaysOpen};
+    ghost use Rattle.fs_commands.specs.Opened.{blocks_in, IsReady, StaysOpen};
 
     /// Opens the file system of these blocks, if a tree stands in them. All of the node table and the
     /// directories is read, and nothing is written.
@@ -46,7 +51,7 @@ impl<S: Blocks> Fs<S> {
     pub fn open(alloc: Global, mut blocks: S) -> Result<Fs<S>, (S, CheckRefusal)>
         requires begun { IsBegun (S.state blocks) }
         ensures session { IsTrue S.tells → IfOk result (λ fs. (t : Tree) × IsSession (S.state (blocks_in fs)) (session_on (S.state blocks).books.geom.i t)) }
-        ensures between { IfOk result (λ fs. IsBetween S.tells (S.state (blocks_in fs)) (unused_in fs)) }
+        ensures ready { IfOk result (λ fs. IsReady S.tells S.state fs) }
         ensures stands { IsTrue S.tells → IfOk result (λ fs. Stands (S.state (blocks_in fs))) }
         ensures damage { IsTrue S.tells → IfErr result (λ e. OnDamage e.1 (IsDamaged (S.state blocks).books.geom (S.state blocks).map)) }
         ensures none { IsTrue S.tells → IfErr result (λ e. OnDamage e.1 (λ _. (t : Tree) → IsTreeOf (S.state blocks).books.geom (S.state blocks).map t → ⊥)) }
@@ -55,9 +60,10 @@ impl<S: Blocks> Fs<S> {
     {
         a_sync_may_follow();
         match check(alloc, &mut blocks) {
-            Ok(()) => Ok(Fs {
+            Ok(found) => Ok(Fs {
                 blocks,
                 unused: UnusedNodes::new(),
+                known: KnownSnapshots::of(found),
             }),
             Err(why) => Err((blocks, why)),
         }
@@ -66,28 +72,35 @@ impl<S: Blocks> Fs<S> {
     /// Answers one command: as the tree answers it, or with the refusal of a file system that has no room, or
     /// whose disk or memory failed it. Each command but one that is refused at once begins with a tick.
     pub fn apply(&mut self, alloc: Global, cmd: &Cmd) -> Reply
-        requires between { IsBetween S.tells (S.state (blocks_in self.old)) (unused_in self.old) }
+        requires ready { IsReady S.tells S.state self.old }
         requires stands { IsTrue S.tells → Stands (S.state (blocks_in self.old)) }
         ensures applies { Applies S.tells S.state cmd.now result (blocks_in self.old) (blocks_in self.new) }
         ensures answers { IsTrue S.tells → (f : Session) → IsSession (S.state (blocks_in self.old)) f
             → AnswersSession S.tells S.state f cmd.now result (blocks_in self.new) }
         ensures time { IsTrue S.tells → PassesTime (S.state (blocks_in self.old)) (S.state (blocks_in self.new)) }
-        ensures between { IsBetween S.tells (S.state (blocks_in self.new)) (unused_in self.new) }
+        ensures ready { IsReady S.tells S.state self.new }
         ensures stands { IsTrue S.tells → Stands (S.state (blocks_in self.new)) }
     {
         a_command_answers_its_session::<S>();
-        answer(alloc, &mut self.blocks, cmd, &mut self.unused)
+        answer(
+            alloc,
+            &mut self.blocks,
+            cmd,
+            &mut self.unused,
+            &mut self.known,
+        )
     }
 
-    /// Writes the listing of the tree to a sink. It takes memory for the names of the directories on one path and
-    /// for a piece of a file.
+    /// Writes the listing of the tree to a sink, and behind it what each snapshot keeps. It takes memory for the names of
+    /// the directories on one path, for a piece of a file, and four bytes for each block of the node table of one
+    /// snapshot.
     ///
     /// # Errors
     /// A call of the disk failed before, and then nothing is read or written; a read of the disk failed, which the
     /// disk has counted; a push of the sink failed, which the sink has counted; or out of memory. By then the sink
     /// took a prefix of the listing and nothing else.
     pub fn listing<K: Sink>(&mut self, alloc: Global, out: &mut K) -> Result<(), ListRefusal>
-        requires between { IsBetween S.tells (S.state (blocks_in self.old)) (unused_in self.old) }
+        requires ready { IsReady S.tells S.state self.old }
         ensures all { IsTrue S.tells → OnOk result ((f : Session) → IsSession (S.state (blocks_in self.old)) f
             → Appends (K.taken out.old) (K.taken out.new) (listing_of f.tree)) }
         ensures front { IsTrue S.tells → OnErr result ((f : Session) → IsSession (S.state (blocks_in self.old)) f
@@ -98,7 +111,8 @@ impl<S: Blocks> Fs<S> {
         ensures pushes { CountsPushes (ended_by_push result) (K.faults out.old) (K.faults out.new) }
         ensures stays { StaysOpen S.tells S.state self.old self.new }
     {
-        listing(alloc, &mut self.blocks, out)
+        what_is_known_of_snapshots_is_so();
+        list_all(alloc, &mut self.blocks, out, &self.known)
     }
 
     /// What is known of the blocks and the room in them.
@@ -119,7 +133,11 @@ impl<S: Blocks> Fs<S> {
     pub fn into_blocks(self) -> S
         ensures { result ≡ blocks_in self }
     {
-        let Fs { blocks, unused: _ } = self;
+        let Fs {
+            blocks,
+            unused: _,
+            known: _,
+        } = self;
         blocks
     }
 }

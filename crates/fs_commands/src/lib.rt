@@ -3,6 +3,7 @@
 //! docs/SPACE.md.
 #![tactic(auto)]
 
+mod begins;
 mod bytes;
 mod commands;
 mod facts;
@@ -10,6 +11,10 @@ mod figures;
 mod fills;
 mod found;
 mod fs;
+mod gathering;
+mod kept_listing;
+mod kept_looks;
+mod known;
 mod lines;
 mod listing;
 mod look;
@@ -21,7 +26,10 @@ mod prices;
 mod refusals;
 mod removing;
 mod renaming;
+mod sharing;
 mod sizes;
+mod snapping;
+mod snapshot_drafts;
 
 pub use fs::Fs;
 pub use listing::ListRefusal;

@@ -55,6 +55,22 @@ pub(crate) fn write_file_head<K: Sink>(
     Ok(())
 }
 
+/// Writes the line of a snapshot: its name.
+///
+/// # Errors
+/// As `write_dir`.
+pub(crate) fn write_snapshot<K: Sink>(out: &mut K, name: &Name) -> Result<(), SinkFault>
+    ensures all { OnOk result (Appends (K.taken out.old) (K.taken out.new) (codes "snap " ++ name.now ++ codes "\n")) }
+    ensures front { OnErr result (TakesPrefix (K.taken out.old) (K.taken out.new) (codes "snap " ++ name.now ++ codes "\n")) }
+    ensures cause { HasCause result (K.faults out.old) (K.faults out.new) }
+{
+    prefixes_join();
+    push_all(out, b"snap ")?;
+    push_all(out, name.as_bytes())?;
+    push_all(out, b"\n")?;
+    Ok(())
+}
+
 /// Writes the kind of a line with its blank, the path and the number.
 ///
 /// # Errors

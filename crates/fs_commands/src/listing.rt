@@ -1,4 +1,4 @@
-//! The listing of the tree that stands in a map of blocks, written to a sink. The walk goes down from the
+//! The lines of the tree that stands in a map of blocks, written to a sink. The walk goes down from the
 //! root, directory by directory, and keeps the names of those that it is in, and of no others. A file is
 //! read and written in pieces. How the lines read is described elsewhere.
 
@@ -8,7 +8,7 @@ ghost use Rattle.std.specs.Io.KnownBytes.{Appends};
 ghost use Rattle.base_io.specs.Prefix.{TakesPrefix};
 ghost use Rattle.layout_bytes.specs.declared.slot.Slot.{Slot as SlotValue};
 ghost use Rattle.lang_tree.specs.Tree.{Tree, File};
-ghost use Rattle.lang_tree.specs.Listing.{digits_behind_blank, line_of, listing as listing_of};
+ghost use Rattle.lang_tree.specs.Listing.{digits_behind_blank, line_of, path_lines};
 ghost use Rattle.lang_tree.specs.Paths.{parent};
 ghost use Rattle.lang_tree.specs.Step.{Session};
 ghost use Rattle.crash_stands.specs.Files.{FileNode};
@@ -24,6 +24,7 @@ ghost use Rattle.fs_commands.specs.Listing.{AreFrames, IsWalk, HasWritten, Enter
 ghost use Rattle.fs_commands.specs.Listing.{turns_left};
 ghost use Rattle.fs_session.specs.Sessions.{IsSession};
 
+use crate::begins::a_draft_may_begin;
 use crate::lines::{write_digits, write_dir, write_file_head};
 use crate::look::is_dir;
 use base_io::{Sink, SinkFault, prefixes_join, push_all};
@@ -31,7 +32,7 @@ use base_types::{Name, NoMemory, ReadFault};
 use crash_stands::{a_map_is_of_one_tree, slots_name_nodes_in_use};
 use engine_blocks::Blocks;
 use fs_dirs::entries;
-use fs_files::{Draft, FileRefusal, Nodes, a_draft_begins};
+use fs_files::{Draft, FileRefusal, Nodes, Shared};
 use fs_inodes::{a_listing_goes_down, the_map_gives_the_names, walks_are_the_same};
 use fs_session::blocks_have_the_map_of_their_tree;
 use lang_tree::paths_are_counted;
@@ -155,7 +156,7 @@ struct Walk {
     left: u32,
 }
 
-/// Writes the listing of the tree that stands in these blocks. It takes memory for the names of the
+/// Writes the lines of the tree that stands in these blocks, and none of its snapshots. It takes memory for the names of the
 /// directories on one path, four bytes more for each, and for a piece of a file. A directory's names are read
 /// once, each with the number of its node.
 ///
@@ -165,37 +166,38 @@ struct Walk {
 /// # Errors
 /// The disk failed before in another call than a read, and then nothing is read or written; a read of the
 /// disk failed, which the disk has counted; a push of the sink failed, which the sink has counted; or out of
-/// memory. By then the sink took a prefix of the listing and nothing else.
-pub fn listing<S: Blocks, K: Sink>(
+/// memory. By then the sink took a prefix of the lines and nothing else.
+pub(crate) fn listing<S: Blocks, K: Sink>(
     alloc: Global,
     blocks: &mut S,
     out: &mut K,
+    shared: &Shared,
 ) -> Result<(), ListRefusal>
-    requires may_list { MayList S.tells (S.state blocks.old) }
+    requires may_list { MayList S.tells (S.state blocks.old) shared.now }
     ensures all { IsTrue S.tells → OnOk result ((f : Session) → IsSession (S.state blocks.old) f
-        → Appends (K.taken out.old) (K.taken out.new) (listing_of f.tree)) }
+        → Appends (K.taken out.old) (K.taken out.new) (path_lines f.tree.names f.tree.nodes)) }
     ensures front { IsTrue S.tells → OnErr result ((f : Session) → IsSession (S.state blocks.old) f
-        → TakesPrefix (K.taken out.old) (K.taken out.new) (listing_of f.tree)) }
+        → TakesPrefix (K.taken out.old) (K.taken out.new) (path_lines f.tree.names f.tree.nodes)) }
     ensures stopped { ended_by_stop result ≡ (S.state blocks.old).books.stopped }
     ensures nothing { (S.state blocks.old).books.stopped ≡ true → (blocks.new ≡ blocks.old) × (out.new ≡ out.old) }
     ensures looks { LooksOnly S.tells (ended_by_read result) (S.state blocks.old) (S.state blocks.new) }
     ensures pushes { CountsPushes (ended_by_push result) (K.faults out.old) (K.faults out.new) }
 {
-    a_draft_begins(blocks);
+    a_draft_may_begin(blocks);
     blocks_have_the_map_of_their_tree();
     if blocks.figures().stopped {
         return Err(ListRefusal::Stopped);
     }
-    let draft = Draft::new(alloc);
+    let draft = Draft::beside(alloc, shared);
     list_from_root(&draft, alloc, blocks, out)?;
     Ok(())
 }
 
-/// Writes the listing of the tree whose map the inodes of the files that are read are.
+/// Writes the lines of the tree whose map the inodes of the files that are read are.
 ///
 /// # Errors
 /// As `listing`, but for the first one.
-fn list_from_root<N: Nodes, S: Blocks, K: Sink>(
+pub(crate) fn list_from_root<N: Nodes, S: Blocks, K: Sink>(
     files: &N,
     alloc: Global,
     blocks: &mut S,
@@ -203,9 +205,9 @@ fn list_from_root<N: Nodes, S: Blocks, K: Sink>(
 ) -> Result<(), ListRefusal>
     requires read { MayRead (N.may_read S.tells (S.state blocks.old) files.now) (S.state blocks.old) }
     ensures all { IsTrue S.tells → OnOk result ((m : Inodes) (t : Tree) → IsMapIn (S.state blocks.old) (N.nodes (S.state blocks.old) files.now) m t
-        → Appends (K.taken out.old) (K.taken out.new) (listing_of t)) }
+        → Appends (K.taken out.old) (K.taken out.new) (path_lines t.names t.nodes)) }
     ensures front { IsTrue S.tells → OnErr result ((m : Inodes) (t : Tree) → IsMapIn (S.state blocks.old) (N.nodes (S.state blocks.old) files.now) m t
-        → TakesPrefix (K.taken out.old) (K.taken out.new) (listing_of t)) }
+        → TakesPrefix (K.taken out.old) (K.taken out.new) (path_lines t.names t.nodes)) }
     ensures lists { Lists S.tells result (S.state blocks.old) (S.state blocks.new) (K.faults out.old) (K.faults out.new) }
 {
     files.laws(blocks);
@@ -288,7 +290,7 @@ fn next_entry(frame: &mut Frame) -> Option<Slot>
 }
 
 /// Whether a number is one of a table of so many. In a directory of a tree no entry names another.
-fn is_in_table(number: u32, limit: u32) -> bool
+pub(crate) fn is_in_table(number: u32, limit: u32) -> bool
     ensures { result ≡ true ↔ IsNumber limit number }
 {
     1 <= number && number <= limit

@@ -13,11 +13,12 @@ ghost use Rattle.fs_commands.specs.Looks.{answer_of, stat_of_kind, IsMapOfSessio
 ghost use Rattle.fs_session.specs.Plans.{IsAnswer, Plans};
 ghost use Rattle.fs_session.specs.Sessions.{IsSession, MayBegin, MayPlan};
 
+use crate::begins::a_draft_may_begin;
 use crate::paths::{NodeFound, find_in};
 use crate::refusals::refusal_of;
 use engine_blocks::{Blocks, calls_compose};
 use fs_dirs::names;
-use fs_files::{Draft, FileRefusal, Nodes, a_draft_begins};
+use fs_files::{Draft, FileRefusal, Nodes, Shared};
 use fs_inodes::{
     slots_follow_the_bytes, the_map_gives_the_names, the_map_gives_the_reply, walks_are_the_same,
 };
@@ -30,15 +31,20 @@ use std::alloc::Global;
 ///
 /// # Errors
 /// A read of the disk failed, which the disk has counted; or out of memory.
-pub fn stat<S: Blocks>(alloc: Global, blocks: &mut S, path: &Path) -> Result<Reply, FileRefusal>
-    requires begin { MayBegin S.tells (S.state blocks.old) }
+pub fn stat<S: Blocks>(
+    alloc: Global,
+    blocks: &mut S,
+    path: &Path,
+    shared: &Shared,
+) -> Result<Reply, FileRefusal>
+    requires begin { MayBegin S.tells (S.state blocks.old) shared.now }
     ensures answer { IsTrue S.tells → IfOk result (λ reply. (f : Session) → IsSession (S.state blocks.old) f → reply ≡ (step f (StatCmd path.now)).1) }
     ensures refused { IfErr result LookRefused }
     ensures looks { LooksOnly S.tells (fails_reading result) (S.state blocks.old) (S.state blocks.new) }
 {
-    a_draft_begins(blocks);
+    a_draft_may_begin(blocks);
     blocks_have_the_map_of_their_tree();
-    let draft = Draft::new(alloc);
+    let draft = Draft::beside(alloc, shared);
     stat_in(&draft, blocks, path)
 }
 
@@ -76,6 +82,7 @@ fn stat_reply(found: &NodeFound) -> Reply
         NodeKind::Free => return Reply::Refused(Refusal::NotFound),
         NodeKind::Dir => (Kind::Dir, 1),
         NodeKind::File => (Kind::File, u64::from(found.facts.links)),
+        NodeKind::Snapshot => return Reply::Refused(Refusal::NotFound),
     };
     Reply::Stat(Stat {
         kind,
@@ -95,15 +102,16 @@ pub fn read<S: Blocks>(
     path: &Path,
     offset: u32,
     len: u32,
+    shared: &Shared,
 ) -> Result<Reply, FileRefusal>
-    requires begin { MayBegin S.tells (S.state blocks.old) }
+    requires begin { MayBegin S.tells (S.state blocks.old) shared.now }
     ensures answer { IsTrue S.tells → IfOk result (λ reply. (f : Session) → IsSession (S.state blocks.old) f → reply ≡ (step f (Read path.now offset len)).1) }
     ensures refused { IfErr result LookRefused }
     ensures looks { LooksOnly S.tells (fails_reading result) (S.state blocks.old) (S.state blocks.new) }
 {
-    a_draft_begins(blocks);
+    a_draft_may_begin(blocks);
     blocks_have_the_map_of_their_tree();
-    let draft = Draft::new(alloc);
+    let draft = Draft::beside(alloc, shared);
     read_in(&draft, alloc, blocks, path, offset, len)
 }
 
@@ -147,15 +155,20 @@ pub(crate) fn read_in<N: Nodes, S: Blocks>(
 ///
 /// # Errors
 /// As `stat`.
-pub fn list<S: Blocks>(alloc: Global, blocks: &mut S, path: &Path) -> Result<Reply, FileRefusal>
-    requires begin { MayBegin S.tells (S.state blocks.old) }
+pub fn list<S: Blocks>(
+    alloc: Global,
+    blocks: &mut S,
+    path: &Path,
+    shared: &Shared,
+) -> Result<Reply, FileRefusal>
+    requires begin { MayBegin S.tells (S.state blocks.old) shared.now }
     ensures answer { IsTrue S.tells → IfOk result (λ reply. (f : Session) → IsSession (S.state blocks.old) f → reply ≡ (step f (ListNames path.now)).1) }
     ensures refused { IfErr result LookRefused }
     ensures looks { LooksOnly S.tells (fails_reading result) (S.state blocks.old) (S.state blocks.new) }
 {
-    a_draft_begins(blocks);
+    a_draft_may_begin(blocks);
     blocks_have_the_map_of_their_tree();
-    let draft = Draft::new(alloc);
+    let draft = Draft::beside(alloc, shared);
     list_in(&draft, alloc, blocks, path)
 }
 
@@ -202,13 +215,14 @@ pub(crate) fn plan_stat<'a, S: Blocks>(
     alloc: Global,
     blocks: &mut S,
     path: &Path,
+    shared: &'a Shared,
 ) -> Result<Plan<'a>, Refusal>
-    requires may { MayPlan S.tells (S.state blocks.old) }
+    requires may { MayPlan S.tells (S.state blocks.old) shared.now }
     ensures plans { Plans S.tells (StatCmd path.now) result (S.state blocks.old) (S.state blocks.new) }
     ensures answers { IsAnswer result }
 {
     calls_compose::<S>();
-    answer(stat(alloc, blocks, path))
+    answer(stat(alloc, blocks, path, shared))
 }
 
 /// Plans a read: its reply.
@@ -221,13 +235,14 @@ pub(crate) fn plan_read<'a, S: Blocks>(
     path: &Path,
     offset: u32,
     len: u32,
+    shared: &'a Shared,
 ) -> Result<Plan<'a>, Refusal>
-    requires may { MayPlan S.tells (S.state blocks.old) }
+    requires may { MayPlan S.tells (S.state blocks.old) shared.now }
     ensures plans { Plans S.tells (Read path.now offset len) result (S.state blocks.old) (S.state blocks.new) }
     ensures answers { IsAnswer result }
 {
     calls_compose::<S>();
-    answer(read(alloc, blocks, path, offset, len))
+    answer(read(alloc, blocks, path, offset, len, shared))
 }
 
 /// Plans a list: its reply.
@@ -238,13 +253,14 @@ pub(crate) fn plan_list<'a, S: Blocks>(
     alloc: Global,
     blocks: &mut S,
     path: &Path,
+    shared: &'a Shared,
 ) -> Result<Plan<'a>, Refusal>
-    requires may { MayPlan S.tells (S.state blocks.old) }
+    requires may { MayPlan S.tells (S.state blocks.old) shared.now }
     ensures plans { Plans S.tells (ListNames path.now) result (S.state blocks.old) (S.state blocks.new) }
     ensures answers { IsAnswer result }
 {
     calls_compose::<S>();
-    answer(list(alloc, blocks, path))
+    answer(list(alloc, blocks, path, shared))
 }
 
 /// The plan of a command that only looks.
@@ -265,5 +281,6 @@ pub(crate) fn is_dir(kind: NodeKind) -> bool
         NodeKind::Free => false,
         NodeKind::Dir => true,
         NodeKind::File => false,
+        NodeKind::Snapshot => false,
     }
 }

@@ -19,9 +19,8 @@ ghost use Rattle.crash_stands.specs.Inodes.{Inodes, ADir, AFile};
 ghost use Rattle.crash_stands.specs.Maps.{IsMapOf};
 ghost use Rattle.crash_stands.specs.Stands.{IsTreeOf};
 ghost use Rattle.fs_inodes.specs.Changes.{AddsSlot, new_inode, slot_of};
-ghost use Rattle.fs_inodes.specs.Lookups.{least_free};
 ghost use Rattle.engine_blocks.specs.Calls.{HasTurns};
-ghost use Rattle.fs_files.specs.Calls.{files_in, is_dir, GrowthRefused, IsUsed, LookRefused};
+ghost use Rattle.fs_files.specs.Calls.{files_in, is_dir, places_in, GrowthRefused, IsUsed, LookRefused};
 ghost use Rattle.fs_files.specs.Content.{fails_reading, fails_settling};
 ghost use Rattle.fs_files.specs.Drafts.{nothing_drafted};
 ghost use Rattle.fs_files.specs.Effects.{LooksAndSettles, LooksOnly};
@@ -30,15 +29,17 @@ ghost use Rattle.fs_dirs.specs.Changing.{HasCount};
 ghost use Rattle.fs_dirs.specs.Directories.{IsNumber};
 ghost use Rattle.fs_commands.specs.declared.paths.NodeFound.{NodeFound as FoundValue};
 ghost use Rattle.fs_commands.specs.declared.making.Vacancy.{Vacancy as VacancyValue};
-ghost use Rattle.fs_session.specs.Commands.{places_of, IsCalm};
-ghost use Rattle.fs_commands.specs.Looks.{ComesTo, IsWithin, LeadsToFound};
+ghost use Rattle.fs_session.specs.Commands.{least_number, places_of, IsCalm};
+ghost use Rattle.fs_commands.specs.Looks.{ComesTo, IsNoSnapshot, IsWithin, LeadsToFound};
 ghost use Rattle.fs_commands.specs.Making.{AcceptsName, AddsName, MayAppear, MayLink, first_thing, make_cmd, node_kind};
 ghost use Rattle.fs_session.specs.declared.unused.NodeUse.TheVariants.{Taken};
 ghost use Rattle.fs_session.specs.Plans.{MayBeMade, OnChange, Plans};
+ghost use Rattle.fs_session.specs.Snapshots.{LeavesSnapshots};
 ghost use Rattle.fs_session.specs.Sessions.{AreUsedBelow, IsSession, KeepsUsed, MayBegin, MayPlan, inodes};
 
+use crate::begins::a_draft_may_begin;
 use crate::facts::what_a_path_comes_to_gives_the_walk;
-use crate::figures::{new_name_figures, the_map_gives_the_costs};
+use crate::figures::new_name_figures;
 use crate::look::is_dir;
 use crate::paths::{NodeFound, Spot, find_node, look_up};
 use crate::refusals::refusal_of;
@@ -47,12 +48,15 @@ use base_types::limits::MOST_LINKS;
 use crash_stands::{blocks_have_a_map, files_have_one_map};
 use engine_blocks::{Blocks, calls_compose};
 use fs_dirs::{add_slot, alterations_add_up};
-use fs_files::{Draft, FileRefusal, a_draft_begins, a_file_fits_the_disk, a_file_has_its_blocks};
+use fs_files::{Draft, FileRefusal, Shared, a_file_fits_the_disk, a_file_has_its_blocks};
 use fs_inodes::{
-    a_file_reads_as_itself, a_new_node_is_mapped, a_new_path_is_mapped, the_map_gives_the_refusal,
-    walks_are_the_same,
+    a_file_reads_as_itself, a_new_node_is_mapped, a_new_path_is_mapped, the_map_gives_the_figures,
+    the_map_gives_the_refusal, walks_are_the_same,
 };
-use fs_session::{NodeUse, Plan, blocks_have_the_map_of_their_tree, has_room};
+use fs_session::{
+    NodeUse, Plan, a_draft_that_leaves_snapshots_makes_its_tree, blocks_have_the_map_of_their_tree,
+    counts_tell_what_is_shared, has_room,
+};
 use lang_tree::{Kind, Path, Refusal, Reply};
 use layout_bytes::{NodeKind, Slot};
 use std::alloc::Global;
@@ -68,8 +72,9 @@ pub(crate) fn plan_node<'a, S: Blocks>(
     kind: Kind,
     path: &Path,
     first_unused: u32,
+    shared: &'a Shared,
 ) -> Result<Plan<'a>, Refusal>
-    requires may { MayPlan S.tells (S.state blocks.old) }
+    requires may { MayPlan S.tells (S.state blocks.old) shared.now }
     requires above { 1 ≤ first_unused }
     requires below { IsTrue S.tells → AreUsedBelow (files_in (S.state blocks.old) nothing_drafted) first_unused }
     ensures plans { Plans S.tells (make_cmd kind path.now) result (S.state blocks.old) (S.state blocks.new) }
@@ -77,8 +82,8 @@ pub(crate) fn plan_node<'a, S: Blocks>(
 {
     calls_compose::<S>();
     the_tree_makes_nodes::<S>();
-    match find_vacancy(alloc, blocks, path) {
-        Ok(Ok(vacancy)) => make_in(alloc, blocks, kind, &vacancy, first_unused),
+    match find_vacancy(alloc, blocks, path, shared) {
+        Ok(Ok(vacancy)) => make_in(alloc, blocks, kind, &vacancy, first_unused, shared),
         Ok(Err(why)) => Ok(Plan::Answer(Reply::Refused(why))),
         Err(why) => Err(refusal_of(why)),
     }
@@ -94,8 +99,9 @@ fn make_in<'a, S: Blocks>(
     kind: Kind,
     vacancy: &Vacancy,
     first_unused: u32,
+    shared: &'a Shared,
 ) -> Result<Plan<'a>, Refusal>
-    requires may { MayPlan S.tells (S.state blocks.old) }
+    requires may { MayPlan S.tells (S.state blocks.old) shared.now }
     requires above { 1 ≤ first_unused }
     requires below { IsTrue S.tells → AreUsedBelow (files_in (S.state blocks.old) nothing_drafted) first_unused }
     requires dir { IsNumber (S.state blocks.old).books.geom.i vacancy.now.dir }
@@ -107,8 +113,8 @@ fn make_in<'a, S: Blocks>(
 {
     calls_compose::<S>();
     the_tree_makes_nodes::<S>();
-    match least_unused(alloc, blocks, first_unused) {
-        Ok(Some(node)) => make_node(alloc, blocks, kind, vacancy, node),
+    match least_unused(alloc, blocks, first_unused, shared) {
+        Ok(Some(node)) => make_node(alloc, blocks, kind, vacancy, node, shared),
         Ok(None) => Ok(Plan::Answer(Reply::Refused(Refusal::NoNode))),
         Err(why) => Err(refusal_of(why)),
     }
@@ -124,15 +130,16 @@ fn make_node<'a, S: Blocks>(
     kind: Kind,
     vacancy: &Vacancy,
     node: u32,
+    shared: &'a Shared,
 ) -> Result<Plan<'a>, Refusal>
-    requires may { MayPlan S.tells (S.state blocks.old) }
+    requires may { MayPlan S.tells (S.state blocks.old) shared.now }
     requires below { IsTrue S.tells → AreUsedBelow (files_in (S.state blocks.old) nothing_drafted) node }
     requires dir { IsNumber (S.state blocks.old).books.geom.i vacancy.now.dir }
     requires few { vacancy.now.count < 2 ^ 24 }
     requires there { IsTrue S.tells → HasCount (S.state blocks.old) nothing_drafted vacancy.now.dir vacancy.now.count }
     requires node { IsNumber (S.state blocks.old).books.geom.i node }
     ensures plans { (path : List (List ℕ)) → (IsTrue S.tells → MayAppear (files_in (S.state blocks.old) nothing_drafted) path (Fine vacancy.now))
-        → (IsTrue S.tells → least_free (S.state blocks.old).books.geom.i (inodes (S.state blocks.old)) ≡ Some node)
+        → (IsTrue S.tells → least_number (S.state blocks.old) ≡ Some node)
         → Plans S.tells (make_cmd kind path) result (S.state blocks.old) (S.state blocks.new) }
     ensures made { OnChange result (λ draft cost nodes. MayBeMade S.tells draft cost nodes (S.state blocks.new)) }
 {
@@ -148,12 +155,23 @@ fn make_node<'a, S: Blocks>(
         node,
         name: vacancy.name.copy(),
     };
-    match draft_node(alloc, blocks, kind, vacancy.dir, vacancy.count, &slot) {
-        Ok(draft) => Ok(Plan::Change {
-            draft,
-            cost: figures.cost,
-            nodes: NodeUse::Taken(node),
-        }),
+    match draft_node(
+        alloc,
+        blocks,
+        kind,
+        vacancy.dir,
+        vacancy.count,
+        &slot,
+        shared,
+    ) {
+        Ok(draft) => {
+            a_draft_that_leaves_snapshots_makes_its_tree(blocks);
+            Ok(Plan::Change {
+                draft,
+                cost: figures.cost,
+                nodes: NodeUse::Taken(node),
+            })
+        }
         Err(why) => Err(refusal_of(why)),
     }
 }
@@ -167,15 +185,18 @@ pub(crate) fn plan_link<'a, S: Blocks>(
     blocks: &mut S,
     path: &Path,
     other: &Path,
+    shared: &'a Shared,
 ) -> Result<Plan<'a>, Refusal>
-    requires may { MayPlan S.tells (S.state blocks.old) }
+    requires may { MayPlan S.tells (S.state blocks.old) shared.now }
     ensures plans { Plans S.tells (Link path.now other.now) result (S.state blocks.old) (S.state blocks.new) }
     ensures made { OnChange result (λ draft cost nodes. MayBeMade S.tells draft cost nodes (S.state blocks.new)) }
 {
+    blocks_have_the_map_of_their_tree();
     calls_compose::<S>();
     the_tree_links_files::<S>();
-    match find_node(alloc, blocks, path) {
-        Ok(Ok(found)) => link_to(alloc, blocks, &found, other),
+    walks_are_the_same();
+    match find_node(alloc, blocks, path, shared) {
+        Ok(Ok(found)) => link_to(alloc, blocks, &found, other, shared),
         Ok(Err(why)) => Ok(Plan::Answer(Reply::Refused(why))),
         Err(why) => Err(refusal_of(why)),
     }
@@ -190,18 +211,20 @@ fn link_to<'a, S: Blocks>(
     blocks: &mut S,
     found: &NodeFound,
     other: &Path,
+    shared: &'a Shared,
 ) -> Result<Plan<'a>, Refusal>
-    requires may { MayPlan S.tells (S.state blocks.old) }
+    requires may { MayPlan S.tells (S.state blocks.old) shared.now }
     requires number { IsNumber (S.state blocks.old).books.geom.i found.now.number }
     requires used { IsTrue S.tells → IsUsed (files_in (S.state blocks.old) nothing_drafted) found.now.number }
+    requires plain { IsTrue S.tells → IsNoSnapshot (files_in (S.state blocks.old) nothing_drafted found.now.number) }
     ensures plans { (path : List (List ℕ)) → (IsTrue S.tells → LeadsToFound (files_in (S.state blocks.old) nothing_drafted) path (Fine found.now))
         → Plans S.tells (Link path other.now) result (S.state blocks.old) (S.state blocks.new) }
     ensures made { OnChange result (λ draft cost nodes. MayBeMade S.tells draft cost nodes (S.state blocks.new)) }
 {
     calls_compose::<S>();
     the_tree_links_files::<S>();
-    match find_vacancy(alloc, blocks, other) {
-        Ok(Ok(vacancy)) => link_in(alloc, blocks, found, &vacancy),
+    match find_vacancy(alloc, blocks, other, shared) {
+        Ok(Ok(vacancy)) => link_in(alloc, blocks, found, &vacancy, shared),
         Ok(Err(why)) => Ok(Plan::Answer(Reply::Refused(why))),
         Err(why) => Err(refusal_of(why)),
     }
@@ -216,13 +239,15 @@ fn link_in<'a, S: Blocks>(
     blocks: &mut S,
     found: &NodeFound,
     vacancy: &Vacancy,
+    shared: &'a Shared,
 ) -> Result<Plan<'a>, Refusal>
-    requires may { MayPlan S.tells (S.state blocks.old) }
+    requires may { MayPlan S.tells (S.state blocks.old) shared.now }
     requires dir { IsNumber (S.state blocks.old).books.geom.i vacancy.now.dir }
     requires few { vacancy.now.count < 2 ^ 24 }
     requires there { IsTrue S.tells → HasCount (S.state blocks.old) nothing_drafted vacancy.now.dir vacancy.now.count }
     requires number { IsNumber (S.state blocks.old).books.geom.i found.now.number }
     requires used { IsTrue S.tells → IsUsed (files_in (S.state blocks.old) nothing_drafted) found.now.number }
+    requires plain { IsTrue S.tells → IsNoSnapshot (files_in (S.state blocks.old) nothing_drafted found.now.number) }
     ensures plans { (path other : List (List ℕ)) → (IsTrue S.tells → LeadsToFound (files_in (S.state blocks.old) nothing_drafted) path (Fine found.now))
         → (IsTrue S.tells → MayAppear (files_in (S.state blocks.old) nothing_drafted) other (Fine vacancy.now))
         → Plans S.tells (Link path other) result (S.state blocks.old) (S.state blocks.new) }
@@ -241,7 +266,7 @@ fn link_in<'a, S: Blocks>(
         name: vacancy.name.copy(),
     };
     let links = found.facts.links + 1;
-    link_file(alloc, blocks, vacancy, &slot, links)
+    link_file(alloc, blocks, vacancy, &slot, links, shared)
 }
 
 /// Plans this slot for a file, which gets so many links by it.
@@ -254,13 +279,15 @@ fn link_file<'a, S: Blocks>(
     vacancy: &Vacancy,
     slot: &Slot,
     links: u32,
+    shared: &'a Shared,
 ) -> Result<Plan<'a>, Refusal>
-    requires may { MayPlan S.tells (S.state blocks.old) }
+    requires may { MayPlan S.tells (S.state blocks.old) shared.now }
     requires dir { IsNumber (S.state blocks.old).books.geom.i vacancy.now.dir }
     requires few { vacancy.now.count < 2 ^ 24 }
     requires there { IsTrue S.tells → HasCount (S.state blocks.old) nothing_drafted vacancy.now.dir vacancy.now.count }
     requires node { IsNumber (S.state blocks.old).books.geom.i slot.now.node }
     requires used { IsTrue S.tells → IsUsed (files_in (S.state blocks.old) nothing_drafted) slot.now.node }
+    requires plain { IsTrue S.tells → IsNoSnapshot (files_in (S.state blocks.old) nothing_drafted slot.now.node) }
     requires some { 1 ≤ links }
     requires most { links ≤ 65535 }
     ensures plans { (cmd : Cmd) → (IsTrue S.tells → (f : Session) → IsSession (S.state blocks.old) f
@@ -275,12 +302,23 @@ fn link_file<'a, S: Blocks>(
         Ok(()) => {}
         Err(why) => return Err(why),
     }
-    match draft_link(alloc, blocks, vacancy.dir, vacancy.count, slot, links) {
-        Ok(draft) => Ok(Plan::Change {
-            draft,
-            cost: figures.cost,
-            nodes: NodeUse::Stays,
-        }),
+    match draft_link(
+        alloc,
+        blocks,
+        vacancy.dir,
+        vacancy.count,
+        slot,
+        links,
+        shared,
+    ) {
+        Ok(draft) => {
+            a_draft_that_leaves_snapshots_makes_its_tree(blocks);
+            Ok(Plan::Change {
+                draft,
+                cost: figures.cost,
+                nodes: NodeUse::Stays,
+            })
+        }
         Err(why) => Err(refusal_of(why)),
     }
 }
@@ -291,19 +329,20 @@ fn the_tree_makes_nodes<S: Blocks>()
     ensures refused { (old : S) (f : Session) (kind : KindValue) (path : List (List ℕ)) (why : RefusalValue) → IsSession (S.state old) f
         → MayAppear (files_in (S.state old) nothing_drafted) path (Failed why) → refusal f.limit f.tree (make_cmd kind path) ≡ Some why }
     ensures no_node { (old : S) (f : Session) (kind : KindValue) (path : List (List ℕ)) (v : VacancyValue) → IsSession (S.state old) f
-        → MayAppear (files_in (S.state old) nothing_drafted) path (Fine v) → least_free (S.state old).books.geom.i (inodes (S.state old)) ≡ None
+        → MayAppear (files_in (S.state old) nothing_drafted) path (Fine v) → least_number (S.state old) ≡ None
         → refusal f.limit f.tree (make_cmd kind path) ≡ Some NoNode }
     ensures accepted { (old : S) (f : Session) (kind : KindValue) (path : List (List ℕ)) (v : VacancyValue) (node : ℕ) → IsSession (S.state old) f
-        → MayAppear (files_in (S.state old) nothing_drafted) path (Fine v) → least_free (S.state old).books.geom.i (inodes (S.state old)) ≡ Some node
+        → MayAppear (files_in (S.state old) nothing_drafted) path (Fine v) → least_number (S.state old) ≡ Some node
         → AcceptsName (S.state old) f (make_cmd kind path) v.dir v.count }
     ensures map { (old : S) (new : Inodes) (f : Session) (kind : KindValue) (path : List (List ℕ)) (v : VacancyValue) (node : ℕ)
         → IsSession (S.state old) f → MayAppear (files_in (S.state old) nothing_drafted) path (Fine v)
-        → least_free (S.state old).books.geom.i (inodes (S.state old)) ≡ Some node
+        → least_number (S.state old) ≡ Some node
         → AddsSlot (inodes (S.state old)) new v.dir node v.name (new_inode (first_thing kind)) → IsMapOf f.limit new (step f (make_cmd kind path)).0.tree }
 {
     a_new_node_is_mapped();
     blocks_have_the_map_of_their_tree();
-    the_map_gives_the_costs();
+    counts_tell_what_is_shared::<S>();
+    the_map_gives_the_figures();
     the_map_gives_the_refusal();
     walks_are_the_same();
     what_a_path_comes_to_gives_the_walk();
@@ -332,7 +371,7 @@ fn the_tree_links_files<S: Blocks>()
 {
     a_new_path_is_mapped();
     blocks_have_the_map_of_their_tree();
-    the_map_gives_the_costs();
+    the_map_gives_the_figures();
     the_map_gives_the_refusal();
     walks_are_the_same();
     what_a_path_comes_to_gives_the_walk();
@@ -342,9 +381,10 @@ fn the_tree_links_files<S: Blocks>()
 pub(crate) fn a_disk_is_small<S: Blocks>(blocks: &S)
     ensures disk { (S.state blocks.now).books.geom.n ≤ 1048576 }
     ensures table { (S.state blocks.now).books.geom.i ≤ 65536 }
-    ensures places { IsTrue S.tells → MayBegin S.tells (S.state blocks.now) → (k : ℕ) → length (places_of (S.state blocks.now) k) ≤ 1048576 }
+    ensures places { IsTrue S.tells → (counts : List ℕ) → MayBegin S.tells (S.state blocks.now) counts → (k : ℕ)
+        → length (places_of (S.state blocks.now) k) ≤ 1048576 }
 {
-    a_draft_begins(blocks);
+    a_draft_may_begin(blocks);
     a_file_fits_the_disk(blocks);
     a_file_has_its_blocks::<S>();
     blocks.geom().lawful();
@@ -369,8 +409,9 @@ pub(crate) fn find_vacancy<S: Blocks>(
     alloc: Global,
     blocks: &mut S,
     path: &Path,
+    shared: &Shared,
 ) -> Result<Result<Vacancy, Refusal>, FileRefusal>
-    requires begin { MayBegin S.tells (S.state blocks.old) }
+    requires begin { MayBegin S.tells (S.state blocks.old) shared.now }
     ensures vacancy { IsTrue S.tells → IfOk result (λ vacancy. (t : Tree) → IsTreeOf (S.state blocks.old).books.geom (S.state blocks.old).map t
         → MayAppear (files_in (S.state blocks.old) nothing_drafted) path.now vacancy) }
     ensures dir { IfOk result (λ vacancy. IfOk vacancy (λ v. IsNumber (S.state blocks.old).books.geom.i v.dir)) }
@@ -379,7 +420,7 @@ pub(crate) fn find_vacancy<S: Blocks>(
     ensures looks { LooksOnly S.tells (fails_reading result) (S.state blocks.old) (S.state blocks.new) }
 {
     what_a_path_comes_to_gives_the_walk();
-    let spot = match look_up(alloc, blocks, path)? {
+    let spot = match look_up(alloc, blocks, path, shared)? {
         Ok(spot) => spot,
         Err(why) => return Ok(Err(why)),
     };
@@ -416,25 +457,24 @@ fn vacancy_in(spot: &Spot, name: &Name) -> Result<Vacancy, Refusal>
 ///
 /// # Errors
 /// As `find_vacancy`.
-fn least_unused<S: Blocks>(
+pub(crate) fn least_unused<S: Blocks>(
     alloc: Global,
     blocks: &mut S,
     first_unused: u32,
+    shared: &Shared,
 ) -> Result<Option<u32>, FileRefusal>
-    requires may { MayPlan S.tells (S.state blocks.old) }
+    requires may { MayPlan S.tells (S.state blocks.old) shared.now }
     requires above { 1 ≤ first_unused }
     requires below { IsTrue S.tells → AreUsedBelow (files_in (S.state blocks.old) nothing_drafted) first_unused }
-    ensures least { IsTrue S.tells → IfOk result (λ found. (t : Tree) → IsTreeOf (S.state blocks.old).books.geom (S.state blocks.old).map t
-        → found ≡ least_free (S.state blocks.old).books.geom.i (inodes (S.state blocks.old))) }
+    ensures least { IsTrue S.tells → IfOk result (λ found. found ≡ least_number (S.state blocks.old)) }
     ensures number { IfOk result (λ found. IfSome found (IsNumber (S.state blocks.old).books.geom.i)) }
     ensures used { IsTrue S.tells → IfOk result (λ found. IfSome found (AreUsedBelow (files_in (S.state blocks.old) nothing_drafted))) }
     ensures refused { IfErr result LookRefused }
     ensures looks { LooksOnly S.tells (fails_reading result) (S.state blocks.old) (S.state blocks.new) }
 {
-    a_draft_begins(blocks);
-    blocks_have_a_map();
+    a_draft_may_begin(blocks);
     calls_compose::<S>();
-    let mut draft = Draft::new(alloc);
+    let mut draft = Draft::beside(alloc, shared);
     let unused = is_unused(&draft, blocks, first_unused)?;
     if unused {
         return Ok(Some(first_unused));
@@ -475,19 +515,22 @@ fn draft_node<'a, S: Blocks>(
     dir: u32,
     count: u32,
     slot: &Slot,
+    shared: &'a Shared,
 ) -> Result<Draft<'a>, FileRefusal>
-    requires may { MayPlan S.tells (S.state blocks.old) }
+    requires may { MayPlan S.tells (S.state blocks.old) shared.now }
     requires below { IsTrue S.tells → AreUsedBelow (files_in (S.state blocks.old) nothing_drafted) slot.now.node }
     requires dir { IsNumber (S.state blocks.old).books.geom.i dir }
     requires few { count < 2 ^ 24 }
     requires there { IsTrue S.tells → HasCount (S.state blocks.old) nothing_drafted dir count }
     requires node { IsNumber (S.state blocks.old).books.geom.i slot.now.node }
     ensures draft { IfOk result (λ draft. IsDraftOf S.tells (S.state blocks.new) draft) }
-    ensures kept { IfOk result (λ draft. draft.kept ≡ []) }
+    ensures kept { IfOk result (λ draft. draft.kept ≡ shared.now) }
+    ensures leaves { IsTrue S.tells → IfOk result (λ draft. LeavesSnapshots (files_in (S.state blocks.old) nothing_drafted)
+        (files_in (S.state blocks.new) draft) (places_of (S.state blocks.old)) (places_in (S.state blocks.new) draft)) }
     ensures used { IsTrue S.tells → IfOk result (λ draft. KeepsUsed (Taken slot.now.node) (files_in (S.state blocks.old) nothing_drafted)
         (files_in (S.state blocks.new) draft)) }
     ensures names { IsTrue S.tells → IfOk result (λ draft. (t : Tree) (slots : List SlotValue)
-        → IsTreeOf (S.state blocks.old).books.geom (S.state blocks.old).map t → inodes (S.state blocks.old) slot.now.node ≡ None
+        → IsTreeOf (S.state blocks.old).books.geom (S.state blocks.old).map t → files_in (S.state blocks.old) nothing_drafted slot.now.node ≡ None
         → inodes (S.state blocks.old) dir ≡ Some (ADir slots)
         → AddsName (S.state blocks.old) (S.state blocks.new) draft dir slot.now.node slot.now.name (new_inode (first_thing kind)) slots) }
     ensures refused { IsTrue S.tells → IfErr result (λ why. (slots : List SlotValue) → inodes (S.state blocks.old) dir ≡ Some (ADir slots)
@@ -497,13 +540,13 @@ fn draft_node<'a, S: Blocks>(
         → IsCalm (growth (length slots)) (S.state blocks.old) (S.state blocks.new) }
     ensures settles { LooksAndSettles S.tells (fails_reading result) (fails_settling result) (S.state blocks.old) (S.state blocks.new) }
 {
-    a_draft_begins(blocks);
+    a_draft_may_begin(blocks);
     calls_compose::<S>();
     alterations_add_up();
     blocks_have_a_map();
     files_have_one_map();
     a_file_reads_as_itself();
-    let mut draft = Draft::new(alloc);
+    let mut draft = Draft::beside(alloc, shared);
     match add_slot(&mut draft, alloc, blocks, dir, count, slot) {
         Ok(()) => {}
         Err(why) => return Err(why),
@@ -536,8 +579,9 @@ fn draft_link<'a, S: Blocks>(
     count: u32,
     slot: &Slot,
     links: u32,
+    shared: &'a Shared,
 ) -> Result<Draft<'a>, FileRefusal>
-    requires begin { MayBegin S.tells (S.state blocks.old) }
+    requires begin { MayBegin S.tells (S.state blocks.old) shared.now }
     requires turns { HasTurns (S.state blocks.old).books }
     requires dir { IsNumber (S.state blocks.old).books.geom.i dir }
     requires few { count < 2 ^ 24 }
@@ -547,7 +591,10 @@ fn draft_link<'a, S: Blocks>(
     requires some { 1 ≤ links }
     requires most { links ≤ 65535 }
     ensures draft { IfOk result (λ draft. IsDraftOf S.tells (S.state blocks.new) draft) }
-    ensures kept { IfOk result (λ draft. draft.kept ≡ []) }
+    ensures kept { IfOk result (λ draft. draft.kept ≡ shared.now) }
+    ensures leaves { IsTrue S.tells → IfOk result (λ draft. IsNoSnapshot (files_in (S.state blocks.old) nothing_drafted slot.now.node)
+        → LeavesSnapshots (files_in (S.state blocks.old) nothing_drafted) (files_in (S.state blocks.new) draft) (places_of (S.state blocks.old))
+        (places_in (S.state blocks.new) draft)) }
     ensures used { IsTrue S.tells → IfOk result (λ draft. (l : ℕ) → IsUsed (files_in (S.state blocks.old) nothing_drafted) l
         → IsUsed (files_in (S.state blocks.new) draft) l) }
     ensures names { IsTrue S.tells → IfOk result (λ draft. (t : Tree) (slots : List SlotValue) (before : ℕ) (bytes : List ℕ)
@@ -561,13 +608,13 @@ fn draft_link<'a, S: Blocks>(
         → IsCalm (growth (length slots)) (S.state blocks.old) (S.state blocks.new) }
     ensures settles { LooksAndSettles S.tells (fails_reading result) (fails_settling result) (S.state blocks.old) (S.state blocks.new) }
 {
-    a_draft_begins(blocks);
+    a_draft_may_begin(blocks);
     calls_compose::<S>();
     alterations_add_up();
     blocks_have_a_map();
     files_have_one_map();
     a_file_reads_as_itself();
-    let mut draft = Draft::new(alloc);
+    let mut draft = Draft::beside(alloc, shared);
     match add_slot(&mut draft, alloc, blocks, dir, count, slot) {
         Ok(()) => {}
         Err(why) => return Err(why),

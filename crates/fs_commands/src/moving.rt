@@ -7,43 +7,50 @@ ghost use Rattle.lang_tree.specs.Figures.{growth, release};
 ghost use Rattle.lang_tree.specs.Sharing.{none_shared};
 ghost use Rattle.lang_tree.specs.Tree.{Tree};
 ghost use Rattle.crash_stands.specs.Stands.{IsTreeOf};
-ghost use Rattle.fs_inodes.specs.Figures.{blocks_lost};
+ghost use Rattle.crash_stands.specs.Walks.{LeadsTo};
 ghost use Rattle.engine_blocks.specs.Calls.{HasTurns};
 ghost use Rattle.engine_blocks.specs.State.{reusable_blocks};
-ghost use Rattle.fs_files.specs.Calls.{GrowthRefused, LookRefused, files_in};
+ghost use Rattle.fs_files.specs.Calls.{GrowthRefused, LookRefused, files_in, places_in};
 ghost use Rattle.fs_files.specs.Content.{fails_reading, fails_settling};
 ghost use Rattle.fs_files.specs.Drafts.{nothing_drafted};
 ghost use Rattle.fs_files.specs.Effects.{LooksOnly, LooksAndSettles};
+ghost use Rattle.fs_files.specs.Shared.{is_kept};
 ghost use Rattle.fs_files.specs.Sound.{IsDraftOf};
 ghost use Rattle.fs_dirs.specs.Directories.{IsNumber};
+ghost use Rattle.fs_commands.specs.Figures.{HasFacts, LosesBlocks};
 ghost use Rattle.fs_commands.specs.Looks.{MayBeEntry};
 ghost use Rattle.fs_session.specs.Commands.{GrowsInRuns, places_of, IsCalm};
 ghost use Rattle.fs_commands.specs.Moving.{IsMove, KnowsMove, MayMoveAway, MayMoveOnto, MayRename, MovesName};
 ghost use Rattle.fs_session.specs.declared.unused.NodeUse.TheVariants.{Stays};
 ghost use Rattle.fs_session.specs.Plans.{MayBeMade, OnChange, Plans};
 ghost use Rattle.fs_commands.specs.Removing.{blocks_gone, use_after};
+ghost use Rattle.fs_session.specs.Snapshots.{LeavesSnapshots};
 ghost use Rattle.fs_session.specs.Sessions.{MayBegin, MayPlan, Stands, inodes};
 
+use crate::begins::a_draft_may_begin;
 use crate::facts::{the_node_at_a_path_gives_the_inode, what_a_path_comes_to_gives_the_walk};
-use crate::figures::the_map_gives_the_costs;
 use crate::making::a_disk_is_small;
-use crate::paths::{Entry, NodeFound};
+use crate::paths::Entry;
 use crate::refusals::refusal_of;
 use crate::removing::{Named, lose_link, use_after};
+use crate::sharing::blocks_gone;
 use base_types::Name;
-use base_types::limits::LARGEST_FILE;
 use crash_stands::{blocks_have_a_map, files_have_one_map};
 use engine_blocks::{Blocks, calls_compose};
 use fs_dirs::{add_slot, alterations_add_up, directories_are_read, set_slot, take_slot};
 use fs_files::{
-    Draft, FileRefusal, a_directory_has_whole_slots, a_draft_begins, a_file_fits_the_disk,
+    Draft, FileRefusal, Shared, a_directory_has_whole_slots, a_file_fits_the_disk,
+    a_file_has_its_blocks,
 };
 use fs_inodes::{
-    a_move_is_mapped, a_name_stands_at_its_place, paths_lead_to_inodes, the_map_gives_the_refusal,
-    the_map_gives_the_reply, walks_are_the_same,
+    a_move_is_mapped, a_name_stands_at_its_place, paths_lead_to_inodes, the_map_gives_the_figures,
+    the_map_gives_the_refusal, the_map_gives_the_reply, walks_are_the_same,
 };
-use fs_session::{NodeUse, Plan, blocks_have_the_map_of_their_tree, has_room};
-use lang_tree::{Refusal, blocks_for, growth, moving, release};
+use fs_session::{
+    NodeUse, Plan, a_draft_that_leaves_snapshots_makes_its_tree, blocks_have_the_map_of_their_tree,
+    counts_tell_what_is_shared, has_room,
+};
+use lang_tree::{Refusal, growth, moving, release};
 use layout_bytes::Slot;
 use std::alloc::Global;
 
@@ -66,8 +73,9 @@ fn draft_onto<'a, S: Blocks>(
     source: &Named,
     target: &Named,
     other: &Name,
+    shared: &'a Shared,
 ) -> Result<Draft<'a>, FileRefusal>
-    requires begin { MayBegin S.tells (S.state blocks.old) }
+    requires begin { MayBegin S.tells (S.state blocks.old) shared.now }
     requires stands { IsTrue S.tells → Stands (S.state blocks.old) }
     requires from_dir { IsNumber (S.state blocks.old).books.geom.i source.now.dir }
     requires from_entry { MayBeEntry (S.state blocks.old).books.geom.i source.now.entry }
@@ -75,19 +83,22 @@ fn draft_onto<'a, S: Blocks>(
     requires onto_entry { MayBeEntry (S.state blocks.old).books.geom.i target.now.entry }
     requires moves { IsTrue S.tells → (name : List ℕ) × MayMoveOnto (S.state blocks.old) source.now target.now name other.now }
     ensures draft { IfOk result (λ draft. IsDraftOf S.tells (S.state blocks.new) draft) }
-    ensures kept { IfOk result (λ draft. draft.kept ≡ []) }
+    ensures kept { IfOk result (λ draft. draft.kept ≡ shared.now) }
+    ensures leaves { IsTrue S.tells → IfOk result (λ draft. LeavesSnapshots (files_in (S.state blocks.old) nothing_drafted)
+        (files_in (S.state blocks.new) draft) (places_of (S.state blocks.old)) (places_in (S.state blocks.new) draft)) }
     ensures moves { IsTrue S.tells → IfOk result (λ draft. (name : List ℕ) → MayMoveOnto (S.state blocks.old) source.now target.now name other.now
         → MovesName (S.state blocks.old) (S.state blocks.new) draft source.now.dir target.now.dir source.now.entry.node.number name other.now 5 []
-        (release source.now.count + blocks_gone target.now.entry.node.facts) (use_after target.now.entry.node)) }
+        (release source.now.count + blocks_gone (is_kept shared.now) target.now.entry.node.facts (places_of (S.state blocks.old) target.now.entry.node.number))
+        (use_after target.now.entry.node)) }
     ensures refused { IfErr result LookRefused }
     ensures looks { LooksOnly S.tells (fails_reading result) (S.state blocks.old) (S.state blocks.new) }
 {
-    a_draft_begins(blocks);
+    a_draft_may_begin(blocks);
     alterations_add_up();
     blocks_have_a_map();
     files_have_one_map();
     directories_are_read();
-    let mut draft = Draft::new(alloc);
+    let mut draft = Draft::beside(alloc, shared);
     let slot = Slot {
         node: source.entry.node.number,
         name: other.copy(),
@@ -122,26 +133,29 @@ fn draft_within<'a, S: Blocks>(
     blocks: &mut S,
     source: &Named,
     other: &Name,
+    shared: &'a Shared,
 ) -> Result<Draft<'a>, FileRefusal>
-    requires begin { MayBegin S.tells (S.state blocks.old) }
+    requires begin { MayBegin S.tells (S.state blocks.old) shared.now }
     requires stands { IsTrue S.tells → Stands (S.state blocks.old) }
     requires dir { IsNumber (S.state blocks.old).books.geom.i source.now.dir }
     requires entry { MayBeEntry (S.state blocks.old).books.geom.i source.now.entry }
     requires moves { IsTrue S.tells → (name : List ℕ) × MayRename (S.state blocks.old) source.now name other.now }
     ensures draft { IfOk result (λ draft. IsDraftOf S.tells (S.state blocks.new) draft) }
-    ensures kept { IfOk result (λ draft. draft.kept ≡ []) }
+    ensures kept { IfOk result (λ draft. draft.kept ≡ shared.now) }
+    ensures leaves { IsTrue S.tells → IfOk result (λ draft. LeavesSnapshots (files_in (S.state blocks.old) nothing_drafted)
+        (files_in (S.state blocks.new) draft) (places_of (S.state blocks.old)) (places_in (S.state blocks.new) draft)) }
     ensures moves { IsTrue S.tells → IfOk result (λ draft. (name : List ℕ) → MayRename (S.state blocks.old) source.now name other.now
         → MovesName (S.state blocks.old) (S.state blocks.new) draft source.now.dir source.now.dir source.now.entry.node.number name other.now 1 [] 0
         Stays) }
     ensures refused { IfErr result LookRefused }
     ensures looks { LooksOnly S.tells (fails_reading result) (S.state blocks.old) (S.state blocks.new) }
 {
-    a_draft_begins(blocks);
+    a_draft_may_begin(blocks);
     a_name_stands_at_its_place();
     blocks_have_a_map();
     files_have_one_map();
     directories_are_read();
-    let mut draft = Draft::new(alloc);
+    let mut draft = Draft::beside(alloc, shared);
     let slot = Slot {
         node: source.entry.node.number,
         name: other.copy(),
@@ -172,8 +186,9 @@ fn draft_across<'a, S: Blocks>(
     into: u32,
     count: u32,
     other: &Name,
+    shared: &'a Shared,
 ) -> Result<Draft<'a>, FileRefusal>
-    requires begin { MayBegin S.tells (S.state blocks.old) }
+    requires begin { MayBegin S.tells (S.state blocks.old) shared.now }
     requires turns { HasTurns (S.state blocks.old).books }
     requires stands { IsTrue S.tells → Stands (S.state blocks.old) }
     requires dir { IsNumber (S.state blocks.old).books.geom.i source.now.dir }
@@ -182,7 +197,9 @@ fn draft_across<'a, S: Blocks>(
     requires few { count < 2 ^ 24 }
     requires moves { IsTrue S.tells → (name : List ℕ) × MayMoveAway (S.state blocks.old) source.now into count name other.now }
     ensures draft { IfOk result (λ draft. IsDraftOf S.tells (S.state blocks.new) draft) }
-    ensures kept { IfOk result (λ draft. draft.kept ≡ []) }
+    ensures kept { IfOk result (λ draft. draft.kept ≡ shared.now) }
+    ensures leaves { IsTrue S.tells → IfOk result (λ draft. LeavesSnapshots (files_in (S.state blocks.old) nothing_drafted)
+        (files_in (S.state blocks.new) draft) (places_of (S.state blocks.old)) (places_in (S.state blocks.new) draft)) }
     ensures moves { IsTrue S.tells → IfOk result (λ draft. (name : List ℕ) → MayMoveAway (S.state blocks.old) source.now into count name other.now
         → MovesName (S.state blocks.old) (S.state blocks.new) draft source.now.dir into source.now.entry.node.number name other.now 5
         (take (growth count) (reusable_blocks (S.state blocks.new).books)) (release source.now.count) Stays) }
@@ -197,13 +214,13 @@ fn draft_across<'a, S: Blocks>(
         → IsCalm (growth count) (S.state blocks.old) (S.state blocks.new) }
     ensures settles { LooksAndSettles S.tells (fails_reading result) (fails_settling result) (S.state blocks.old) (S.state blocks.new) }
 {
-    a_draft_begins(blocks);
+    a_draft_may_begin(blocks);
     alterations_add_up();
     blocks_have_a_map();
     calls_compose::<S>();
     files_have_one_map();
     directories_are_read();
-    let mut draft = Draft::new(alloc);
+    let mut draft = Draft::beside(alloc, shared);
     let slot = Slot {
         node: source.entry.node.number,
         name: other.copy(),
@@ -230,8 +247,9 @@ pub(crate) fn plan_move<'a, S: Blocks>(
     source: &Named,
     spot: &Goal,
     other: &Name,
+    shared: &'a Shared,
 ) -> Result<Plan<'a>, Refusal>
-    requires may { MayPlan S.tells (S.state blocks.old) }
+    requires may { MayPlan S.tells (S.state blocks.old) shared.now }
     requires dir { IsNumber (S.state blocks.old).books.geom.i source.now.dir }
     requires entry { MayBeEntry (S.state blocks.old).books.geom.i source.now.entry }
     requires into { IsNumber (S.state blocks.old).books.geom.i spot.now.dir }
@@ -251,13 +269,13 @@ pub(crate) fn plan_move<'a, S: Blocks>(
                 count: spot.count,
                 entry,
             };
-            plan_onto(alloc, blocks, source, &target, other)
+            plan_onto(alloc, blocks, source, &target, other, shared)
         }
         None => {
             if source.dir == spot.dir {
-                return plan_within(alloc, blocks, source, other);
+                return plan_within(alloc, blocks, source, other, shared);
             }
-            plan_across(alloc, blocks, source, spot.dir, spot.count, other)
+            plan_across(alloc, blocks, source, spot.dir, spot.count, other, shared)
         }
     }
 }
@@ -272,8 +290,9 @@ fn plan_onto<'a, S: Blocks>(
     source: &Named,
     target: &Named,
     other: &Name,
+    shared: &'a Shared,
 ) -> Result<Plan<'a>, Refusal>
-    requires may { MayPlan S.tells (S.state blocks.old) }
+    requires may { MayPlan S.tells (S.state blocks.old) shared.now }
     requires from_dir { IsNumber (S.state blocks.old).books.geom.i source.now.dir }
     requires from_entry { MayBeEntry (S.state blocks.old).books.geom.i source.now.entry }
     requires onto_dir { IsNumber (S.state blocks.old).books.geom.i target.now.dir }
@@ -287,39 +306,68 @@ fn plan_onto<'a, S: Blocks>(
     ensures made { OnChange result (λ draft cost nodes. MayBeMade S.tells draft cost nodes (S.state blocks.new)) }
 {
     calls_compose::<S>();
-    a_move_is_known(blocks);
-    a_move_is_mapped();
-    alterations_add_up();
-    blocks_have_the_map_of_their_tree();
-    the_map_gives_the_costs();
-    the_map_gives_the_refusal();
-    the_map_gives_the_reply();
-    let bitmap = blocks.geom().bitmap_blocks();
-    let freed = release(u64::from(source.count)) + blocks_gone_with(&target.entry.node);
-    let figures = moving(bitmap, 0, freed);
-    match has_room(blocks, &figures) {
-        Ok(()) => {}
-        Err(why) => return Err(why),
-    }
-    match draft_onto(alloc, blocks, source, target, other) {
-        Ok(draft) => Ok(Plan::Change {
-            draft,
-            cost: figures.cost,
-            nodes: use_after(&target.entry.node),
-        }),
+    a_move_is_known(blocks, shared);
+    match blocks_gone(alloc, blocks, &target.entry.node, shared) {
+        Ok(gone) => plan_onto_lost(alloc, blocks, source, target, other, gone, shared),
         Err(why) => Err(refusal_of(why)),
     }
 }
 
-/// The blocks that go with one link of a node.
-fn blocks_gone_with(node: &NodeFound) -> u32
-    ensures value { node.now.facts.size ≤ 1073741824 → result ≡ blocks_gone node.now.facts }
-    ensures bound { result ≤ 1048576 }
+/// Plans such a move, with which so many blocks go.
+///
+/// # Errors
+/// As `plan_onto`.
+fn plan_onto_lost<'a, S: Blocks>(
+    alloc: Global,
+    blocks: &mut S,
+    source: &Named,
+    target: &Named,
+    other: &Name,
+    gone: u32,
+    shared: &'a Shared,
+) -> Result<Plan<'a>, Refusal>
+    requires may { MayPlan S.tells (S.state blocks.old) shared.now }
+    requires from_dir { IsNumber (S.state blocks.old).books.geom.i source.now.dir }
+    requires from_entry { MayBeEntry (S.state blocks.old).books.geom.i source.now.entry }
+    requires onto_dir { IsNumber (S.state blocks.old).books.geom.i target.now.dir }
+    requires onto_entry { MayBeEntry (S.state blocks.old).books.geom.i target.now.entry }
+    requires known { IsTrue S.tells → (from : List (List ℕ)) × (to : List (List ℕ))
+        × IsMove (files_in (S.state blocks.old) nothing_drafted) from to source.now target.now.dir target.now.count (Some target.now.entry)
+        other.now }
+    requires gone { IsTrue S.tells → LosesBlocks (S.state blocks.old) shared.now target.now.entry.node gone }
+    requires few { gone ≤ 1048576 }
+    ensures plans { (from to : List (List ℕ))
+        → (IsTrue S.tells → IsMove (files_in (S.state blocks.old) nothing_drafted) from to source.now target.now.dir target.now.count
+        (Some target.now.entry) other.now) → Plans S.tells (Rename from to) result (S.state blocks.old) (S.state blocks.new) }
+    ensures made { OnChange result (λ draft cost nodes. MayBeMade S.tells draft cost nodes (S.state blocks.new)) }
 {
-    if node.facts.links == 1 {
-        blocks_for(node.facts.size.min(LARGEST_FILE) as u32)
-    } else {
-        0
+    calls_compose::<S>();
+    a_draft_may_begin(blocks);
+    a_file_has_its_blocks::<S>();
+    a_move_is_known(blocks, shared);
+    a_move_is_mapped();
+    alterations_add_up();
+    blocks_have_the_map_of_their_tree();
+    counts_tell_what_is_shared::<S>();
+    the_map_gives_the_figures();
+    the_map_gives_the_refusal();
+    the_map_gives_the_reply();
+    let bitmap = blocks.geom().bitmap_blocks();
+    let figures = moving(bitmap, 0, release(u64::from(source.count)) + gone);
+    match has_room(blocks, &figures) {
+        Ok(()) => {}
+        Err(why) => return Err(why),
+    }
+    match draft_onto(alloc, blocks, source, target, other, shared) {
+        Ok(draft) => {
+            a_draft_that_leaves_snapshots_makes_its_tree(blocks);
+            Ok(Plan::Change {
+                draft,
+                cost: figures.cost,
+                nodes: use_after(&target.entry.node),
+            })
+        }
+        Err(why) => Err(refusal_of(why)),
     }
 }
 
@@ -332,8 +380,9 @@ fn plan_within<'a, S: Blocks>(
     blocks: &mut S,
     source: &Named,
     other: &Name,
+    shared: &'a Shared,
 ) -> Result<Plan<'a>, Refusal>
-    requires may { MayPlan S.tells (S.state blocks.old) }
+    requires may { MayPlan S.tells (S.state blocks.old) shared.now }
     requires dir { IsNumber (S.state blocks.old).books.geom.i source.now.dir }
     requires entry { MayBeEntry (S.state blocks.old).books.geom.i source.now.entry }
     requires known { IsTrue S.tells → (from : List (List ℕ)) × (to : List (List ℕ))
@@ -344,12 +393,12 @@ fn plan_within<'a, S: Blocks>(
     ensures made { OnChange result (λ draft cost nodes. MayBeMade S.tells draft cost nodes (S.state blocks.new)) }
 {
     calls_compose::<S>();
-    a_move_is_known(blocks);
+    a_move_is_known(blocks, shared);
     a_move_is_mapped();
     alterations_add_up();
     blocks_have_the_map_of_their_tree();
     paths_lead_to_inodes();
-    the_map_gives_the_costs();
+    the_map_gives_the_figures();
     the_map_gives_the_refusal();
     the_map_gives_the_reply();
     let figures = moving(blocks.geom().bitmap_blocks(), 0, 0);
@@ -357,12 +406,15 @@ fn plan_within<'a, S: Blocks>(
         Ok(()) => {}
         Err(why) => return Err(why),
     }
-    match draft_within(alloc, blocks, source, other) {
-        Ok(draft) => Ok(Plan::Change {
-            draft,
-            cost: figures.cost,
-            nodes: NodeUse::Stays,
-        }),
+    match draft_within(alloc, blocks, source, other, shared) {
+        Ok(draft) => {
+            a_draft_that_leaves_snapshots_makes_its_tree(blocks);
+            Ok(Plan::Change {
+                draft,
+                cost: figures.cost,
+                nodes: NodeUse::Stays,
+            })
+        }
         Err(why) => Err(refusal_of(why)),
     }
 }
@@ -379,8 +431,9 @@ fn plan_across<'a, S: Blocks>(
     into: u32,
     count: u32,
     other: &Name,
+    shared: &'a Shared,
 ) -> Result<Plan<'a>, Refusal>
-    requires may { MayPlan S.tells (S.state blocks.old) }
+    requires may { MayPlan S.tells (S.state blocks.old) shared.now }
     requires dir { IsNumber (S.state blocks.old).books.geom.i source.now.dir }
     requires entry { MayBeEntry (S.state blocks.old).books.geom.i source.now.entry }
     requires into { IsNumber (S.state blocks.old).books.geom.i into }
@@ -395,12 +448,12 @@ fn plan_across<'a, S: Blocks>(
 {
     calls_compose::<S>();
     a_disk_is_small(blocks);
-    a_move_is_known(blocks);
+    a_move_is_known(blocks, shared);
     a_move_is_mapped();
     alterations_add_up();
     blocks_have_the_map_of_their_tree();
     paths_lead_to_inodes();
-    the_map_gives_the_costs();
+    the_map_gives_the_figures();
     the_map_gives_the_refusal();
     the_map_gives_the_reply();
     let bitmap = blocks.geom().bitmap_blocks();
@@ -413,19 +466,22 @@ fn plan_across<'a, S: Blocks>(
         Ok(()) => {}
         Err(why) => return Err(why),
     }
-    match draft_across(alloc, blocks, source, into, count, other) {
-        Ok(draft) => Ok(Plan::Change {
-            draft,
-            cost: figures.cost,
-            nodes: NodeUse::Stays,
-        }),
+    match draft_across(alloc, blocks, source, into, count, other, shared) {
+        Ok(draft) => {
+            a_draft_that_leaves_snapshots_makes_its_tree(blocks);
+            Ok(Plan::Change {
+                draft,
+                cost: figures.cost,
+                nodes: NodeUse::Stays,
+            })
+        }
         Err(why) => Err(refusal_of(why)),
     }
 }
 
 /// What a rename comes upon, where the tree accepts it, is known; and what is at the second path has no slots.
-fn a_move_is_known<S: Blocks>(blocks: &S)
-    requires begin { MayBegin S.tells (S.state blocks.now) }
+fn a_move_is_known<S: Blocks>(blocks: &S, shared: &Shared)
+    requires begin { MayBegin S.tells (S.state blocks.now) shared.now }
     ensures knows { IsTrue S.tells → (from to : List (List ℕ)) (source : Named) (into count : ℕ) (found : Option Entry) (other : List ℕ)
         → IsMove (files_in (S.state blocks.now) nothing_drafted) from to source into count found other
         → KnowsMove (files_in (S.state blocks.now) nothing_drafted) from to source into count found other }
@@ -434,14 +490,14 @@ fn a_move_is_known<S: Blocks>(blocks: &S)
         → IsMove (files_in (S.state blocks.now) nothing_drafted) from to source target.dir target.count (Some target.entry) other
         → (k : KnowsMove (files_in (S.state blocks.now) nothing_drafted) from to source target.dir target.count (Some target.entry) other)
         → MayMoveOnto (S.state blocks.now) source target k.name other
-        × (blocks_lost (inodes (S.state blocks.now)) to ≡ blocks_gone target.entry.node.facts) × (target.entry.node.facts.size ≤ 1073741824) }
+        × HasFacts (inodes (S.state blocks.now)) to target.entry.node.facts.links target.entry.node.facts.size
+        × (target.entry.node.facts.size ≤ 1073741824)
+        × LeadsTo (inodes (S.state blocks.now)) to target.entry.node.number }
 {
-    a_draft_begins(blocks);
+    a_draft_may_begin(blocks);
     a_directory_has_whole_slots::<S>();
     a_file_fits_the_disk(blocks);
     a_name_stands_at_its_place();
-    blocks_have_a_map();
-    files_have_one_map();
     blocks_have_the_map_of_their_tree();
     the_node_at_a_path_gives_the_inode();
     what_a_path_comes_to_gives_the_walk();

@@ -21,11 +21,12 @@ ghost use Rattle.fs_dirs.specs.Reading.{IsOpened};
 ghost use Rattle.fs_commands.specs.Looks.{LeadsToFound, ComesTo, HasEntry, IsWithin, MayBeEntry};
 ghost use Rattle.fs_session.specs.Sessions.{MayBegin};
 
+use crate::begins::a_draft_may_begin;
 use base_types::Name;
 use crash_stands::slots_name_nodes_in_use;
 use engine_blocks::{Blocks, calls_compose};
 use fs_dirs::{Directory, find_in_directory, walk, walk_to_parent};
-use fs_files::{Draft, FileFacts, FileRefusal, Nodes, a_draft_begins};
+use fs_files::{Draft, FileFacts, FileRefusal, Nodes, Shared};
 use fs_inodes::{a_name_stands_at_its_place, walks_are_the_same};
 use fs_session::blocks_have_the_map_of_their_tree;
 use lang_tree::{Path, Refusal};
@@ -69,8 +70,9 @@ pub(crate) fn find_node<S: Blocks>(
     alloc: Global,
     blocks: &mut S,
     path: &Path,
+    shared: &Shared,
 ) -> Result<Result<NodeFound, Refusal>, FileRefusal>
-    requires begin { MayBegin S.tells (S.state blocks.old) }
+    requires begin { MayBegin S.tells (S.state blocks.old) shared.now }
     ensures found { IsTrue S.tells → IfOk result (λ found. (t : Tree) → IsTreeOf (S.state blocks.old).books.geom (S.state blocks.old).map t
         → LeadsToFound (files_in (S.state blocks.old) nothing_drafted) path.now found) }
     ensures there { IsTrue S.tells → IfOk result
@@ -80,9 +82,9 @@ pub(crate) fn find_node<S: Blocks>(
     ensures refused { IfErr result LookRefused }
     ensures looks { LooksOnly S.tells (fails_reading result) (S.state blocks.old) (S.state blocks.new) }
 {
-    a_draft_begins(blocks);
+    a_draft_may_begin(blocks);
     blocks_have_the_map_of_their_tree();
-    let draft = Draft::new(alloc);
+    let draft = Draft::beside(alloc, shared);
     find_in(&draft, blocks, path)
 }
 
@@ -127,19 +129,20 @@ pub(crate) fn look_up<S: Blocks>(
     alloc: Global,
     blocks: &mut S,
     path: &Path,
+    shared: &Shared,
 ) -> Result<Result<Spot, Refusal>, FileRefusal>
-    requires begin { MayBegin S.tells (S.state blocks.old) }
+    requires begin { MayBegin S.tells (S.state blocks.old) shared.now }
     ensures comes { IsTrue S.tells → IfOk result (λ spot. (t : Tree) → IsTreeOf (S.state blocks.old).books.geom (S.state blocks.old).map t
         → ComesTo (files_in (S.state blocks.old) nothing_drafted) path.now spot) }
     ensures within { IfOk result (λ spot. IfOk spot (IsWithin (S.state blocks.old).books.geom.i)) }
     ensures refused { IfErr result LookRefused }
     ensures looks { LooksOnly S.tells (fails_reading result) (S.state blocks.old) (S.state blocks.new) }
 {
-    a_draft_begins(blocks);
+    a_draft_may_begin(blocks);
     calls_compose::<S>();
     blocks_have_the_map_of_their_tree();
     walks_are_the_same();
-    let draft = Draft::new(alloc);
+    let draft = Draft::beside(alloc, shared);
     let above = match walk_to_parent(&draft, blocks, path)? {
         Ok(Some(above)) => above,
         Ok(None) => return Ok(Ok(Spot::Root)),

@@ -3,50 +3,57 @@
 
 ghost use Rattle.std.specs.Prelude.{◌≡◌, ◌≢◌, ◌≤◌, ◌-◌, [], ℕ, IsTrue, false, List, length, None, Some, Ok as Fine, IfOk, IfErr, IfSome, OnOk};
 ghost use Rattle.layout_bytes.specs.declared.slot.Slot.{Slot};
+ghost use Rattle.lang_tree.specs.Sharing.{SharedNodes};
 ghost use Rattle.lang_tree.specs.Tree.{Tree};
 ghost use Rattle.crash_stands.specs.Inodes.{Inode, Inodes, ADir};
 ghost use Rattle.crash_stands.specs.Stands.{IsTreeOf};
-ghost use Rattle.fs_inodes.specs.Figures.{slots_above};
+ghost use Rattle.fs_inodes.specs.Figures.{blocks_lost, slots_above};
 ghost use Rattle.fs_inodes.specs.Lookups.{walk_on};
 ghost use Rattle.fs_inodes.specs.Refusals.{rmdir_reason};
 ghost use Rattle.fs_files.specs.Calls.{files_in, places_in, LookRefused};
 ghost use Rattle.fs_files.specs.Content.{fails_reading};
 ghost use Rattle.fs_files.specs.Drafts.{nothing_drafted};
 ghost use Rattle.fs_files.specs.Effects.{LooksOnly};
+ghost use Rattle.fs_files.specs.Shared.{is_kept};
 ghost use Rattle.fs_files.specs.Sound.{IsDraftOf};
 ghost use Rattle.fs_dirs.specs.Changing.{Alters};
 ghost use Rattle.fs_dirs.specs.Directories.{IsNumber, inodes_in};
 ghost use Rattle.lang_tree.specs.declared.command.Cmd.TheVariants.{Unlink, Rmdir};
 ghost use Rattle.lang_tree.specs.Values.{value_of};
 ghost use Rattle.fs_commands.specs.declared.paths.Spot.TheVariants.{Inside};
-ghost use Rattle.fs_commands.specs.Figures.{AreFiguresOf, HasFacts};
-ghost use Rattle.fs_commands.specs.Looks.{ComesTo, IsWithin, MayBeEntry, ShowsFacts, entry_number};
+ghost use Rattle.fs_commands.specs.Figures.{AreFiguresOf, LosesBlocks};
+ghost use Rattle.fs_commands.specs.Looks.{ComesTo, IsNoSnapshot, IsWithin, MayBeEntry, ShowsFacts, entry_number};
 ghost use Rattle.fs_session.specs.Plans.{IsAnswer, MayBeMade, OnChange, Plans};
 ghost use Rattle.fs_commands.specs.Removing.{IsFound, IsLoss, IsNamed, KnowsLoss, LosesLink, LosesName, MayLose, blocks_gone, lose_cmd, use_after};
 ghost use Rattle.fs_commands.specs.Removing.{lose_reason};
+ghost use Rattle.fs_session.specs.Commands.{places_of};
+ghost use Rattle.fs_session.specs.Snapshots.{LeavesSnapshots};
 ghost use Rattle.fs_session.specs.Sessions.{MayBegin, MayPlan, Stands, inodes};
 ghost use Rattle.fs_session.specs.Space.{ArePlaced, none_renewed};
 
+use crate::begins::a_draft_may_begin;
 use crate::facts::{the_node_at_a_path_gives_the_inode, what_a_path_comes_to_gives_the_walk};
-use crate::figures::{rmdir_figures, the_map_gives_the_costs, unlink_figures};
+use crate::figures::{rmdir_figures, unlink_figures};
 use crate::look::is_dir;
 use crate::paths::{Entry, NodeFound, Spot, look_up};
 use crate::prices::small_drafts_are_within_the_cost;
 use crate::refusals::refusal_of;
-use base_types::limits::{LARGEST_FILE, MOST_LINKS, ROOT};
+use crate::sharing::blocks_gone;
+use base_types::limits::{MOST_LINKS, ROOT};
 use crash_stands::{blocks_have_a_map, files_have_one_map};
 use engine_blocks::{Blocks, calls_compose};
 use fs_dirs::{alterations_add_up, count_slots, directories_are_read, take_slot};
 use fs_files::{
-    Draft, FileFacts, FileRefusal, a_directory_has_whole_slots, a_draft_begins,
-    a_file_fits_the_disk, a_file_has_its_blocks, where_nothing_is_kept,
+    Draft, FileFacts, FileRefusal, Shared, a_directory_has_whole_slots, a_file_fits_the_disk,
+    a_file_has_its_blocks,
 };
 use fs_inodes::{
-    a_lost_path_is_mapped, a_name_stands_at_its_place, the_map_gives_the_refusal,
-    walks_are_the_same,
+    a_lost_path_is_mapped, a_name_stands_at_its_place, the_map_gives_the_figures,
+    the_map_gives_the_refusal, walks_are_the_same,
 };
 use fs_session::{
-    NodeUse, Plan, a_node_in_use_has_links, blocks_have_the_map_of_their_tree, has_room,
+    NodeUse, Plan, a_draft_that_leaves_snapshots_makes_its_tree, a_node_in_use_has_links,
+    blocks_have_the_map_of_their_tree, counts_tell_what_is_shared, has_room,
 };
 use lang_tree::{Figures, Kind, Path, Refusal, Reply};
 use std::alloc::Global;
@@ -67,12 +74,13 @@ pub(crate) fn plan_unlink<'a, S: Blocks>(
     alloc: Global,
     blocks: &mut S,
     path: &Path,
+    shared: &'a Shared,
 ) -> Result<Plan<'a>, Refusal>
-    requires may { MayPlan S.tells (S.state blocks.old) }
+    requires may { MayPlan S.tells (S.state blocks.old) shared.now }
     ensures plans { Plans S.tells (Unlink path.now) result (S.state blocks.old) (S.state blocks.new) }
     ensures made { OnChange result (λ draft cost nodes. MayBeMade S.tells draft cost nodes (S.state blocks.new)) }
 {
-    plan_loss(alloc, blocks, Kind::File, path)
+    plan_loss(alloc, blocks, Kind::File, path, shared)
 }
 
 /// Plans an rmdir.
@@ -83,12 +91,13 @@ pub(crate) fn plan_rmdir<'a, S: Blocks>(
     alloc: Global,
     blocks: &mut S,
     path: &Path,
+    shared: &'a Shared,
 ) -> Result<Plan<'a>, Refusal>
-    requires may { MayPlan S.tells (S.state blocks.old) }
+    requires may { MayPlan S.tells (S.state blocks.old) shared.now }
     ensures plans { Plans S.tells (Rmdir path.now) result (S.state blocks.old) (S.state blocks.new) }
     ensures made { OnChange result (λ draft cost nodes. MayBeMade S.tells draft cost nodes (S.state blocks.new)) }
 {
-    plan_loss(alloc, blocks, Kind::Dir, path)
+    plan_loss(alloc, blocks, Kind::Dir, path, shared)
 }
 
 /// Plans that a path to a node of this kind goes.
@@ -100,8 +109,9 @@ fn plan_loss<'a, S: Blocks>(
     blocks: &mut S,
     kind: Kind,
     path: &Path,
+    shared: &'a Shared,
 ) -> Result<Plan<'a>, Refusal>
-    requires may { MayPlan S.tells (S.state blocks.old) }
+    requires may { MayPlan S.tells (S.state blocks.old) shared.now }
     ensures plans { Plans S.tells (lose_cmd kind path.now) result (S.state blocks.old) (S.state blocks.new) }
     ensures made { OnChange result (λ draft cost nodes. MayBeMade S.tells draft cost nodes (S.state blocks.new)) }
 {
@@ -109,12 +119,12 @@ fn plan_loss<'a, S: Blocks>(
     blocks_have_the_map_of_their_tree();
     the_map_gives_the_refusal();
     what_a_path_comes_to_gives_the_walk();
-    let spot = match look_up(alloc, blocks, path) {
+    let spot = match look_up(alloc, blocks, path, shared) {
         Ok(spot) => spot,
         Err(why) => return Err(refusal_of(why)),
     };
     match spot {
-        Ok(spot) => plan_loss_at(alloc, blocks, kind, path, &spot),
+        Ok(spot) => plan_loss_at(alloc, blocks, kind, path, &spot, shared),
         Err(why) => Ok(Plan::Answer(Reply::Refused(why))),
     }
 }
@@ -129,8 +139,9 @@ fn plan_loss_at<'a, S: Blocks>(
     kind: Kind,
     path: &Path,
     spot: &Spot,
+    shared: &'a Shared,
 ) -> Result<Plan<'a>, Refusal>
-    requires may { MayPlan S.tells (S.state blocks.old) }
+    requires may { MayPlan S.tells (S.state blocks.old) shared.now }
     requires comes { IsTrue S.tells → ComesTo (files_in (S.state blocks.old) nothing_drafted) path.now (Fine spot.now) }
     requires within { IsWithin (S.state blocks.old).books.geom.i spot.now }
     ensures plans { Plans S.tells (lose_cmd kind path.now) result (S.state blocks.old) (S.state blocks.new) }
@@ -141,13 +152,13 @@ fn plan_loss_at<'a, S: Blocks>(
     the_map_gives_the_refusal();
     what_a_path_comes_to_gives_the_walk();
     match *spot {
-        Spot::Root => plan_root_loss(alloc, blocks, kind),
+        Spot::Root => plan_root_loss(alloc, blocks, kind, shared),
         Spot::Inside { dir, count, entry } => {
-            what_stands_there_is_shown(blocks);
+            what_stands_there_is_shown(blocks, shared);
             match entry_to_lose(kind, &entry) {
                 Ok(entry) => {
                     let named = Named { dir, count, entry };
-                    plan_name_loss(alloc, blocks, kind, &named)
+                    plan_name_loss(alloc, blocks, kind, &named, shared)
                 }
                 Err(why) => Ok(Plan::Answer(Reply::Refused(why))),
             }
@@ -163,15 +174,16 @@ fn plan_root_loss<'a, S: Blocks>(
     alloc: Global,
     blocks: &mut S,
     kind: Kind,
+    shared: &'a Shared,
 ) -> Result<Plan<'a>, Refusal>
-    requires may { MayPlan S.tells (S.state blocks.old) }
+    requires may { MayPlan S.tells (S.state blocks.old) shared.now }
     ensures plans { Plans S.tells (lose_cmd kind []) result (S.state blocks.old) (S.state blocks.new) }
     ensures answers { IsAnswer result }
 {
     calls_compose::<S>();
     blocks_have_the_map_of_their_tree();
     the_map_gives_the_refusal();
-    match root_refusal(alloc, blocks, kind) {
+    match root_refusal(alloc, blocks, kind, shared) {
         Ok(why) => Ok(Plan::Answer(Reply::Refused(why))),
         Err(why) => Err(refusal_of(why)),
     }
@@ -198,14 +210,16 @@ pub(crate) fn lose_link<S: Blocks>(
         → OnOk result (ArePlaced none_renewed (places_in (S.state blocks.old) draft.old) (places_in (S.state blocks.new) draft.new) []) }
     ensures draft { OnOk result (IsDraftOf S.tells (S.state blocks.new) draft.new) }
     ensures kept { OnOk result (draft.new.kept ≡ draft.old.kept) }
-    ensures alters { IsTrue S.tells → draft.old.kept ≡ [] → OnOk result (Alters 1 [] (blocks_gone node.now.facts) draft.old draft.new) }
+    ensures leaves { IsTrue S.tells → OnOk result (IsNoSnapshot (files_in (S.state blocks.old) draft.old node.now.number)
+        → LeavesSnapshots (files_in (S.state blocks.old) draft.old) (files_in (S.state blocks.new) draft.new)
+        (places_in (S.state blocks.old) draft.old) (places_in (S.state blocks.new) draft.new)) }
+    ensures alters { IsTrue S.tells → OnOk result
+        (Alters 1 [] (blocks_gone (is_kept draft.old.kept) node.now.facts (places_in (S.state blocks.old) draft.old node.now.number)) draft.old draft.new) }
     ensures refused { IfErr result LookRefused }
     ensures looks { LooksOnly S.tells (fails_reading result) (S.state blocks.old) (S.state blocks.new) }
 {
-    a_file_has_its_blocks::<S>();
     a_node_in_use_has_links();
     alterations_add_up();
-    where_nothing_is_kept();
     let links = node.facts.links;
     if links == 1 {
         return draft.drop_node(alloc, blocks, node.number);
@@ -269,20 +283,21 @@ fn root_refusal<S: Blocks>(
     alloc: Global,
     blocks: &mut S,
     kind: Kind,
+    shared: &Shared,
 ) -> Result<Refusal, FileRefusal>
-    requires begin { MayBegin S.tells (S.state blocks.old) }
+    requires begin { MayBegin S.tells (S.state blocks.old) shared.now }
     ensures reason { IsTrue S.tells → IfOk result (λ why. (t : Tree) → IsTreeOf (S.state blocks.old).books.geom (S.state blocks.old).map t
         → lose_reason kind (inodes (S.state blocks.old)) [] ≡ Some why) }
     ensures refused { IfErr result LookRefused }
     ensures looks { LooksOnly S.tells (fails_reading result) (S.state blocks.old) (S.state blocks.new) }
 {
-    a_draft_begins(blocks);
+    a_draft_may_begin(blocks);
     blocks_have_the_map_of_their_tree();
     blocks.geom().lawful();
     match kind {
         Kind::File => Ok(Refusal::IsDir),
         Kind::Dir => {
-            let draft = Draft::new(alloc);
+            let draft = Draft::beside(alloc, shared);
             let count = count_slots(&draft, blocks, ROOT)?;
             Ok(root_refusal_by(count))
         }
@@ -308,25 +323,28 @@ fn draft_loss<'a, S: Blocks>(
     alloc: Global,
     blocks: &mut S,
     named: &Named,
+    shared: &'a Shared,
 ) -> Result<Draft<'a>, FileRefusal>
-    requires begin { MayBegin S.tells (S.state blocks.old) }
+    requires begin { MayBegin S.tells (S.state blocks.old) shared.now }
     requires stands { IsTrue S.tells → Stands (S.state blocks.old) }
     requires dir { IsNumber (S.state blocks.old).books.geom.i named.now.dir }
     requires entry { MayBeEntry (S.state blocks.old).books.geom.i named.now.entry }
     requires named { IsTrue S.tells → (name : List ℕ) × IsNamed (files_in (S.state blocks.old) nothing_drafted) name named.now }
     ensures draft { IfOk result (λ draft. IsDraftOf S.tells (S.state blocks.new) draft) }
-    ensures kept { IfOk result (λ draft. draft.kept ≡ []) }
+    ensures kept { IfOk result (λ draft. draft.kept ≡ shared.now) }
+    ensures leaves { IsTrue S.tells → IfOk result (λ draft. LeavesSnapshots (files_in (S.state blocks.old) nothing_drafted)
+        (files_in (S.state blocks.new) draft) (places_of (S.state blocks.old)) (places_in (S.state blocks.new) draft)) }
     ensures loses { IsTrue S.tells → IfOk result (λ draft. (name : List ℕ) → IsNamed (files_in (S.state blocks.old) nothing_drafted) name named.now
         → LosesName (S.state blocks.old) (S.state blocks.new) draft name named.now) }
     ensures refused { IfErr result LookRefused }
     ensures looks { LooksOnly S.tells (fails_reading result) (S.state blocks.old) (S.state blocks.new) }
 {
-    a_draft_begins(blocks);
+    a_draft_may_begin(blocks);
     alterations_add_up();
     blocks_have_a_map();
     files_have_one_map();
     directories_are_read();
-    let mut draft = Draft::new(alloc);
+    let mut draft = Draft::beside(alloc, shared);
     match take_slot(&mut draft, alloc, blocks, named.dir, named.entry.place) {
         Ok(()) => {}
         Err(why) => return Err(why),
@@ -338,14 +356,14 @@ fn draft_loss<'a, S: Blocks>(
 }
 
 /// What inodes say of a path is what is known of the node to which it comes.
-pub(crate) fn what_stands_there_is_shown<S: Blocks>(blocks: &S)
-    requires begin { MayBegin S.tells (S.state blocks.now) }
+pub(crate) fn what_stands_there_is_shown<S: Blocks>(blocks: &S, shared: &Shared)
+    requires begin { MayBegin S.tells (S.state blocks.now) shared.now }
     ensures { IsTrue S.tells → (t : Tree) (path : List (List ℕ)) (dir count : ℕ) (e : Entry)
         → IsTreeOf (S.state blocks.now).books.geom (S.state blocks.now).map t
         → ComesTo (files_in (S.state blocks.now) nothing_drafted) path (Fine (Inside dir count (Some e)))
         → ShowsFacts (inodes (S.state blocks.now)) path e.node.facts }
 {
-    a_draft_begins(blocks);
+    a_draft_may_begin(blocks);
     a_directory_has_whole_slots::<S>();
     blocks_have_the_map_of_their_tree();
     the_node_at_a_path_gives_the_inode();
@@ -353,13 +371,13 @@ pub(crate) fn what_stands_there_is_shown<S: Blocks>(blocks: &S)
 }
 
 /// What goes from a path, and the tree accepts that it goes, is known.
-fn what_goes_is_known<S: Blocks>(blocks: &S)
-    requires begin { MayBegin S.tells (S.state blocks.now) }
+fn what_goes_is_known<S: Blocks>(blocks: &S, shared: &Shared)
+    requires begin { MayBegin S.tells (S.state blocks.now) shared.now }
     ensures { IsTrue S.tells → (t : Tree) (kind : Kind) (path : List (List ℕ)) (n : Named)
         → IsTreeOf (S.state blocks.now).books.geom (S.state blocks.now).map t → IsLoss kind (files_in (S.state blocks.now) nothing_drafted) path n
         → KnowsLoss kind (files_in (S.state blocks.now) nothing_drafted) path n }
 {
-    a_draft_begins(blocks);
+    a_draft_may_begin(blocks);
     a_directory_has_whole_slots::<S>();
     a_file_fits_the_disk::<S>(blocks);
     a_name_stands_at_its_place();
@@ -369,16 +387,14 @@ fn what_goes_is_known<S: Blocks>(blocks: &S)
     walks_are_the_same();
 }
 
-/// The figures of a command by which a name goes: from a directory of so many slots, to a node with these facts.
-fn loss_figures(kind: Kind, bitmap: u32, count: u32, facts: &FileFacts) -> Figures
-    ensures { (m : Inodes) (path : List (List ℕ)) → count ≡ slots_above m path → HasFacts m path facts.now.links facts.now.size
-        → facts.now.size ≤ 1073741824 → AreFiguresOf bitmap m (lose_cmd kind path) (value_of result) }
+/// The figures of a command by which a name goes: from a directory of so many slots, with so many blocks of its node.
+fn loss_figures(kind: Kind, bitmap: u32, count: u32, gone: u32) -> Figures
+    requires { gone ≤ 1048576 }
+    ensures { (shared : SharedNodes) (m : Inodes) (path : List (List ℕ)) → count ≡ slots_above m path → gone ≡ blocks_lost shared m path
+        → AreFiguresOf bitmap shared m (lose_cmd kind path) (value_of result) }
 {
     match kind {
-        Kind::File => {
-            let size = facts.size.min(LARGEST_FILE) as u32;
-            unlink_figures(bitmap, u64::from(count), facts.links, size)
-        }
+        Kind::File => unlink_figures(bitmap, u64::from(count), gone),
         Kind::Dir => rmdir_figures(bitmap, u64::from(count)),
     }
 }
@@ -402,8 +418,9 @@ fn plan_name_loss<'a, S: Blocks>(
     blocks: &mut S,
     kind: Kind,
     named: &Named,
+    shared: &'a Shared,
 ) -> Result<Plan<'a>, Refusal>
-    requires may { MayPlan S.tells (S.state blocks.old) }
+    requires may { MayPlan S.tells (S.state blocks.old) shared.now }
     requires dir { IsNumber (S.state blocks.old).books.geom.i named.now.dir }
     requires entry { MayBeEntry (S.state blocks.old).books.geom.i named.now.entry }
     requires loss { IsTrue S.tells → (path : List (List ℕ)) × IsLoss kind (files_in (S.state blocks.old) nothing_drafted) path named.now }
@@ -412,24 +429,60 @@ fn plan_name_loss<'a, S: Blocks>(
     ensures made { OnChange result (λ draft cost nodes. MayBeMade S.tells draft cost nodes (S.state blocks.new)) }
 {
     calls_compose::<S>();
-    what_goes_is_known(blocks);
+    what_goes_is_known(blocks, shared);
+    match blocks_gone(alloc, blocks, &named.entry.node, shared) {
+        Ok(gone) => plan_loss_of(alloc, blocks, kind, named, gone, shared),
+        Err(why) => Err(refusal_of(why)),
+    }
+}
+
+/// Plans that such a name goes, with so many blocks of its node.
+///
+/// # Errors
+/// As `plan_name_loss`.
+fn plan_loss_of<'a, S: Blocks>(
+    alloc: Global,
+    blocks: &mut S,
+    kind: Kind,
+    named: &Named,
+    gone: u32,
+    shared: &'a Shared,
+) -> Result<Plan<'a>, Refusal>
+    requires may { MayPlan S.tells (S.state blocks.old) shared.now }
+    requires dir { IsNumber (S.state blocks.old).books.geom.i named.now.dir }
+    requires entry { MayBeEntry (S.state blocks.old).books.geom.i named.now.entry }
+    requires loss { IsTrue S.tells → (path : List (List ℕ)) × IsLoss kind (files_in (S.state blocks.old) nothing_drafted) path named.now }
+    requires gone { IsTrue S.tells → LosesBlocks (S.state blocks.old) shared.now named.now.entry.node gone }
+    requires few { gone ≤ 1048576 }
+    ensures plans { (path : List (List ℕ)) → (IsTrue S.tells → IsLoss kind (files_in (S.state blocks.old) nothing_drafted) path named.now)
+        → Plans S.tells (lose_cmd kind path) result (S.state blocks.old) (S.state blocks.new) }
+    ensures made { OnChange result (λ draft cost nodes. MayBeMade S.tells draft cost nodes (S.state blocks.new)) }
+{
+    calls_compose::<S>();
+    what_goes_is_known(blocks, shared);
+    a_draft_may_begin(blocks);
+    a_file_has_its_blocks::<S>();
     blocks_have_the_map_of_their_tree();
     a_lost_path_is_mapped();
-    the_map_gives_the_costs();
+    counts_tell_what_is_shared::<S>();
+    the_map_gives_the_figures();
     the_map_gives_the_refusal();
     small_drafts_are_within_the_cost();
     let bitmap = blocks.geom().bitmap_blocks();
-    let figures = loss_figures(kind, bitmap, named.count, &named.entry.node.facts);
+    let figures = loss_figures(kind, bitmap, named.count, gone);
     match has_room(blocks, &figures) {
         Ok(()) => {}
         Err(why) => return Err(why),
     }
-    match draft_loss(alloc, blocks, named) {
-        Ok(draft) => Ok(Plan::Change {
-            draft,
-            cost: figures.cost,
-            nodes: use_after(&named.entry.node),
-        }),
+    match draft_loss(alloc, blocks, named, shared) {
+        Ok(draft) => {
+            a_draft_that_leaves_snapshots_makes_its_tree(blocks);
+            Ok(Plan::Change {
+                draft,
+                cost: figures.cost,
+                nodes: use_after(&named.entry.node),
+            })
+        }
         Err(why) => Err(refusal_of(why)),
     }
 }

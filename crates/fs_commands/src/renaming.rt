@@ -23,7 +23,6 @@ ghost use Rattle.fs_commands.specs.Renaming.{HasRoot, IsBelowRoot, ShowsEntry};
 ghost use Rattle.fs_session.specs.Sessions.{MayBegin, MayPlan, inodes};
 
 use crate::facts::what_a_path_comes_to_gives_the_walk;
-use crate::figures::the_map_gives_the_costs;
 use crate::look::is_dir;
 use crate::moving::{Goal, plan_move};
 use crate::paths::{Entry, Spot, look_up};
@@ -31,10 +30,11 @@ use crate::refusals::refusal_of;
 use crate::removing::{Named, what_stands_there_is_shown};
 use base_types::Name;
 use engine_blocks::{Blocks, calls_compose};
-use fs_files::FileFacts;
+use fs_files::{FileFacts, Shared};
 use fs_inodes::{
-    a_name_stands_at_its_place, no_tree_stands_for_damage, the_map_gives_the_refusal,
-    the_map_gives_the_reply, walks_are_the_same, what_changes_nothing_keeps_the_map,
+    a_name_stands_at_its_place, no_tree_stands_for_damage, the_map_gives_the_figures,
+    the_map_gives_the_refusal, the_map_gives_the_reply, walks_are_the_same,
+    what_changes_nothing_keeps_the_map,
 };
 use fs_session::{Plan, blocks_have_the_map_of_their_tree};
 use lang_tree::{Path, Refusal, Reply};
@@ -58,8 +58,9 @@ pub(crate) fn plan_rename<'a, S: Blocks>(
     blocks: &mut S,
     from: &Path,
     to: &Path,
+    shared: &'a Shared,
 ) -> Result<Plan<'a>, Refusal>
-    requires may { MayPlan S.tells (S.state blocks.old) }
+    requires may { MayPlan S.tells (S.state blocks.old) shared.now }
     ensures plans { Plans S.tells (Rename from.now to.now) result (S.state blocks.old) (S.state blocks.new) }
     ensures made { OnChange result (λ draft cost nodes. MayBeMade S.tells draft cost nodes (S.state blocks.new)) }
 {
@@ -67,12 +68,12 @@ pub(crate) fn plan_rename<'a, S: Blocks>(
     blocks_have_the_map_of_their_tree();
     the_map_gives_the_refusal();
     what_a_path_comes_to_gives_the_walk();
-    let spot = match look_up(alloc, blocks, from) {
+    let spot = match look_up(alloc, blocks, from, shared) {
         Ok(spot) => spot,
         Err(why) => return Err(refusal_of(why)),
     };
     match spot {
-        Ok(spot) => plan_rename_of(alloc, blocks, from, &spot, to),
+        Ok(spot) => plan_rename_of(alloc, blocks, from, &spot, to, shared),
         Err(why) => Ok(Plan::Answer(Reply::Refused(why))),
     }
 }
@@ -87,8 +88,9 @@ fn plan_rename_of<'a, S: Blocks>(
     from: &Path,
     spot: &Spot,
     to: &Path,
+    shared: &'a Shared,
 ) -> Result<Plan<'a>, Refusal>
-    requires may { MayPlan S.tells (S.state blocks.old) }
+    requires may { MayPlan S.tells (S.state blocks.old) shared.now }
     requires comes { IsTrue S.tells → ComesTo (files_in (S.state blocks.old) nothing_drafted) from.now (Fine spot.now) }
     requires within { IsWithin (S.state blocks.old).books.geom.i spot.now }
     ensures plans { Plans S.tells (Rename from.now to.now) result (S.state blocks.old) (S.state blocks.new) }
@@ -99,12 +101,12 @@ fn plan_rename_of<'a, S: Blocks>(
     the_map_gives_the_refusal();
     what_a_path_comes_to_gives_the_walk();
     match *spot {
-        Spot::Root => plan_root_rename(alloc, blocks, to),
+        Spot::Root => plan_root_rename(alloc, blocks, to, shared),
         Spot::Inside { dir, count, entry } => {
             match entry {
                 Some(entry) => {
                     let source = Named { dir, count, entry };
-                    plan_entry_rename(alloc, blocks, from, &source, to)
+                    plan_entry_rename(alloc, blocks, from, &source, to, shared)
                 }
                 None => Ok(Plan::Answer(Reply::Refused(Refusal::NotFound))),
             }
@@ -120,20 +122,21 @@ fn plan_root_rename<'a, S: Blocks>(
     alloc: Global,
     blocks: &mut S,
     to: &Path,
+    shared: &'a Shared,
 ) -> Result<Plan<'a>, Refusal>
-    requires may { MayPlan S.tells (S.state blocks.old) }
+    requires may { MayPlan S.tells (S.state blocks.old) shared.now }
     ensures plans { Plans S.tells (Rename [] to.now) result (S.state blocks.old) (S.state blocks.new) }
     ensures answers { IsAnswer result }
 {
     calls_compose::<S>();
     blocks_have_the_map_of_their_tree();
-    the_map_gives_the_costs();
+    the_map_gives_the_figures();
     the_map_gives_the_refusal();
     the_map_gives_the_reply();
     what_a_path_comes_to_gives_the_walk();
     what_changes_nothing_keeps_the_map();
-    what_is_found_is_shown(blocks);
-    let spot = match look_up(alloc, blocks, to) {
+    what_is_found_is_shown(blocks, shared);
+    let spot = match look_up(alloc, blocks, to, shared) {
         Ok(spot) => spot,
         Err(why) => return Err(refusal_of(why)),
     };
@@ -157,8 +160,9 @@ fn plan_entry_rename<'a, S: Blocks>(
     from: &Path,
     source: &Named,
     to: &Path,
+    shared: &'a Shared,
 ) -> Result<Plan<'a>, Refusal>
-    requires may { MayPlan S.tells (S.state blocks.old) }
+    requires may { MayPlan S.tells (S.state blocks.old) shared.now }
     requires dir { IsNumber (S.state blocks.old).books.geom.i source.now.dir }
     requires entry { MayBeEntry (S.state blocks.old).books.geom.i source.now.entry }
     requires comes { IsTrue S.tells → ComesTo (files_in (S.state blocks.old) nothing_drafted) from.now
@@ -170,11 +174,11 @@ fn plan_entry_rename<'a, S: Blocks>(
     blocks_have_the_map_of_their_tree();
     the_map_gives_the_refusal();
     what_a_path_comes_to_gives_the_walk();
-    what_is_found_is_shown(blocks);
+    what_is_found_is_shown(blocks, shared);
     let Some(name) = to.names().last() else {
         return Ok(Plan::Answer(Reply::Refused(onto_root_refusal(&source.entry.node.facts))));
     };
-    let spot = match look_up(alloc, blocks, to) {
+    let spot = match look_up(alloc, blocks, to, shared) {
         Ok(spot) => spot,
         Err(why) => return Err(refusal_of(why)),
     };
@@ -196,7 +200,7 @@ fn plan_entry_rename<'a, S: Blocks>(
                 source: *source,
                 goal,
             };
-            plan_entry_move(alloc, blocks, from, to, &ends, name)
+            plan_entry_move(alloc, blocks, from, to, &ends, name, shared)
         }
     }
 }
@@ -212,8 +216,9 @@ fn plan_entry_move<'a, S: Blocks>(
     to: &Path,
     ends: &Ends,
     name: &Name,
+    shared: &'a Shared,
 ) -> Result<Plan<'a>, Refusal>
-    requires may { MayPlan S.tells (S.state blocks.old) }
+    requires may { MayPlan S.tells (S.state blocks.old) shared.now }
     requires dir { IsNumber (S.state blocks.old).books.geom.i ends.now.source.dir }
     requires entry { MayBeEntry (S.state blocks.old).books.geom.i ends.now.source.entry }
     requires into { IsNumber (S.state blocks.old).books.geom.i ends.now.goal.dir }
@@ -229,12 +234,12 @@ fn plan_entry_move<'a, S: Blocks>(
 {
     calls_compose::<S>();
     blocks_have_the_map_of_their_tree();
-    the_map_gives_the_costs();
+    the_map_gives_the_figures();
     the_map_gives_the_refusal();
     the_map_gives_the_reply();
     what_a_path_comes_to_gives_the_walk();
     what_changes_nothing_keeps_the_map();
-    what_is_found_is_shown(blocks);
+    what_is_found_is_shown(blocks, shared);
     if is_node(ends.source.entry.node.number, &ends.goal.found) {
         return Ok(Plan::Answer(Reply::Ok));
     }
@@ -244,7 +249,7 @@ fn plan_entry_move<'a, S: Blocks>(
         to.is_below(from),
     ) {
         Some(why) => Ok(Plan::Answer(Reply::Refused(why))),
-        None => plan_move(alloc, blocks, &ends.source, &ends.goal, name),
+        None => plan_move(alloc, blocks, &ends.source, &ends.goal, name, shared),
     }
 }
 
@@ -331,8 +336,8 @@ fn onto_root_refusal(source: &FileFacts) -> Refusal
 }
 
 /// What inodes say of a path is what was found there. That isn't the root, which is a directory.
-fn what_is_found_is_shown<S: Blocks>(blocks: &S)
-    requires begin { MayBegin S.tells (S.state blocks.now) }
+fn what_is_found_is_shown<S: Blocks>(blocks: &S, shared: &Shared)
+    requires begin { MayBegin S.tells (S.state blocks.now) shared.now }
     ensures root { (t : Tree) → IsTreeOf (S.state blocks.now).books.geom (S.state blocks.now).map t → HasRoot (inodes (S.state blocks.now)) }
     ensures entry { IsTrue S.tells → (t : Tree) (path : List (List ℕ)) (dir count : ℕ) (found : Option EntryValue)
         → IsTreeOf (S.state blocks.now).books.geom (S.state blocks.now).map t
@@ -344,5 +349,5 @@ fn what_is_found_is_shown<S: Blocks>(blocks: &S)
     no_tree_stands_for_damage();
     walks_are_the_same();
     what_a_path_comes_to_gives_the_walk();
-    what_stands_there_is_shown(blocks);
+    what_stands_there_is_shown(blocks, shared);
 }

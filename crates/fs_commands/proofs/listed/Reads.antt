@@ -2,7 +2,7 @@
 use Rattle.std.proofs.Common.{◌≡◌, ℕ, ◌==◌, Bool, true, false, List, None, Some, option_map, option_and_then, refl, sym, subst, ap, ◌∙◌}
 use Rattle.layout_bytes.specs.declared.slot.Slot.{Slot}
 use Rattle.layout_bytes.specs.declared.node.NodeKind.{NodeKind}
-use Rattle.layout_bytes.specs.declared.node.NodeKind.TheVariants.{Free, Dir, File}
+use Rattle.layout_bytes.specs.declared.node.NodeKind.TheVariants.{Free, Dir, File, Snapshot}
 use Rattle.lang_tree.specs.Tree.{Tree}
 use Rattle.crash_stands.specs.Files.{FileNode}
 use Rattle.crash_stands.specs.Inodes.{Inode, Inodes, ADir, AFile, inode_by, inode_of, inodes_of}
@@ -27,6 +27,7 @@ map_stays tells failed s t v u looks alike m tree h = record {
 -- what reads as a directory
 dir_by : (kind : NodeKind) (links : ℕ) (bytes : List ℕ) (inode : Inode) → is_dir kind ≡ true → inode_by kind links bytes ≡ Some inode → (slots : List Slot) × (inode ≡ ADir slots)
 dir_by Free links bytes inode dir reads = absurd cc
+dir_by Snapshot links bytes inode dir reads = absurd cc
 dir_by File links bytes inode dir reads = absurd cc
 dir_by Dir links bytes (ADir slots) dir reads = (slots, refl)
 dir_by Dir links bytes (AFile l b) dir reads = absurd (not_file (links == 1) _ l b reads)

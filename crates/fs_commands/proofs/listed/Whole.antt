@@ -2,7 +2,7 @@
 use Rattle.std.proofs.Common.{◌≡◌, ℕ, ◌+◌, List, [], ◌∷◌, ◌++◌, length, take, Option, Some, refl, sym, subst, ap, ap₂, ◌∙◌, arith, append_assoc, append-nil, length-append}
 use Rattle.std.proofs.lemmas.List.{take_all}
 use Rattle.std.proofs.lemmas.List.Elements.{All-pop}
-use Rattle.std.specs.FinMap.{get, empty}
+use Rattle.std.specs.FinMap.{get}
 use Rattle.std.specs.Io.KnownBytes.{Appends}
 use Rattle.std.proofs.KnownBytes.{Appends-trans}
 use Rattle.base_types.specs.Seal.{Blocks}
@@ -10,7 +10,7 @@ use Rattle.layout_geometry.specs.Geometry.{Geometry}
 use Rattle.base_io.specs.Prefix.{TakesPrefix}
 use Rattle.lang_tree.specs.Tree.{Tree, Dir, IsSound}
 use Rattle.lang_tree.specs.Names.{path_count}
-use Rattle.lang_tree.specs.Listing.{listing}
+use Rattle.lang_tree.specs.Listing.{path_lines}
 use Rattle.lang_tree.specs.Step.{Session}
 use Rattle.crash_stands.specs.Files.{files_of}
 use Rattle.crash_stands.specs.Inodes.{Inodes, inodes_of}
@@ -19,7 +19,7 @@ use Rattle.crash_stands.specs.Stands.{IsTreeOf}
 use Rattle.crash_stands.specs.Walks.{LeadsTo}
 use Rattle.fs_inodes.specs.Listing.{at_and_below, lines_below}
 use Rattle.engine_blocks.specs.State.{State}
-use Rattle.fs_files.specs.Drafts.{DraftState, nothing_drafted}
+use Rattle.fs_files.specs.Drafts.{DraftState, begun_beside}
 use Rattle.fs_files.specs.NodeMaps.{NodeMap, nodes_in}
 use Rattle.fs_dirs.specs.Directories.{IsNumber, inodes_in}
 use Rattle.fs_commands.specs.declared.listing.Frame.{Frame}
@@ -39,7 +39,7 @@ abbrev pub CountsPaths : Type 0
 CountsPaths = (limit : ℕ) (t : Tree) (p : List (List ℕ)) (n : ℕ) → IsSound limit t → get t.names p ≡ Some n → get t.nodes n ≡ Some Dir → path_count t.names n ≡ 1
 
 module _ (s : State) (v : NodeMap) (w : Walk) (path : w.path.items ≡ []) (frames : w.frames.items ≡ []) (left : w.left ≡ s.books.geom.i)
-    (sound : (limit : ℕ) (m : Inodes) (t : Tree) → IsMapOf limit m t → IsSound limit t) (counts : CountsPaths) (whole : (t : Tree) → t.snapshots ≡ empty → listing t ≡ lines_below t []) where
+    (sound : (limit : ℕ) (m : Inodes) (t : Tree) → IsMapOf limit m t → IsSound limit t) (counts : CountsPaths) (root : (t : Tree) → path_lines t.names t.nodes ≡ lines_below t []) where
   all_paths : (t : Tree) → at_and_below t w.path.items ++ to_come t w ≡ at_and_below t []
   all_paths t = ap₂ (λ p fs. at_and_below t p ++ paths_left t p 0 fs) path frames ∙ append-nil (at_and_below t [])
 
@@ -50,15 +50,15 @@ module _ (s : State) (v : NodeMap) (w : Walk) (path : w.path.items ≡ []) (fram
     room = omega (arith, ap (dirs_among t) (all_paths t), left, few_dirs s.books.geom.i t (sound s.books.geom.i m t h.map) (λ p n at dir. counts s.books.geom.i t p n (sound s.books.geom.i m t h.map) at dir));
   }
 
-  root : (m : Inodes) → LeadsTo m w.path.items 1
-  root m = subst (λ p. LeadsTo m p 1) (sym path) refl
+  at_root : (m : Inodes) → LeadsTo m w.path.items 1
+  at_root m = subst (λ p. LeadsTo m p 1) (sym path) refl
 
-  pub whole_front : (old new : Option (List ℕ)) → FrontAtNode s v w 1 old new → (m : Inodes) (t : Tree) → IsMapIn s v m t → TakesPrefix old new (listing t)
-  whole_front old new front m t h = subst (TakesPrefix old new) (ap (lines_of t) (all_paths t) ∙ sym (whole t h.map.shows.alone)) (front m t h (root m) (begins m t h))
+  pub whole_front : (old new : Option (List ℕ)) → FrontAtNode s v w 1 old new → (m : Inodes) (t : Tree) → IsMapIn s v m t → TakesPrefix old new (path_lines t.names t.nodes)
+  whole_front old new front m t h = subst (TakesPrefix old new) (ap (lines_of t) (all_paths t) ∙ sym (root t)) (front m t h (at_root m) (begins m t h))
 
   pub whole_writes : (new : Walk) (old now : Option (List ℕ)) → AtNode s v w 1 (λ m t. HasWritten m t (at_and_below t w.path.items ++ to_come t w) new old now)
       → (m : Inodes) (t : Tree) → IsMapIn s v m t → HasWritten m t (at_and_below t []) new old now
-  whole_writes new old now goes m t h = subst (λ paths. HasWritten m t paths new old now) (all_paths t) (goes m t h (root m) (begins m t h))
+  whole_writes new old now goes m t h = subst (λ paths. HasWritten m t paths new old now) (all_paths t) (goes m t h (at_root m) (begins m t h))
 
 -- A turn.
 
@@ -97,10 +97,10 @@ module _ (start s : State) (v u : NodeMap) (before : Option (List ℕ)) (w : Wal
     all_lines : lines_of t so_far.seen ++ lines_of t (coming s u mid frame t) ≡ lines_of t (at_and_below t [])
     all_lines = ap (λ l. lines_of t so_far.seen ++ lines_of t l) (sym same_left) ∙ sym (lines_join t so_far.seen (to_come t w)) ∙ ap (lines_of t) (sym so_far.rest)
 
-  pub turn_front : (new : Option (List ℕ)) → IsSecond → ((t : Tree) → t.snapshots ≡ empty → listing t ≡ lines_below t []) → ((m : Inodes) (t : Tree) → IsMapIn start v m t → IsMapIn s u m t) → FrontAtFrame s u mid frame now new
-      → (m : Inodes) (t : Tree) → IsMapIn start v m t → TakesPrefix before new (listing t)
-  turn_front new second whole stays front m t h =
-      subst (TakesPrefix before new) (all_lines m t h ∙ sym (whole t h.map.shows.alone))
+  pub turn_front : (new : Option (List ℕ)) → IsSecond → ((t : Tree) → path_lines t.names t.nodes ≡ lines_below t []) → ((m : Inodes) (t : Tree) → IsMapIn start v m t → IsMapIn s u m t) → FrontAtFrame s u mid frame now new
+      → (m : Inodes) (t : Tree) → IsMapIn start v m t → TakesPrefix before new (path_lines t.names t.nodes)
+  turn_front new second root stays front m t h =
+      subst (TakesPrefix before new) (all_lines m t h ∙ sym (root t))
       (second before now new (lines_of t (so_far m t h).seen) (lines_of t (coming s u mid frame t)) (so_far m t h).wrote (front m t (stays m t h) (deepest m t h) (goes_on m t h)))
 
   pub turn_writes : (new : Walk) (after : Option (List ℕ)) → ((m : Inodes) (t : Tree) → IsMapIn start v m t → IsMapIn s u m t) → AtFrame s u mid frame (λ m t. HasWritten m t (coming s u mid frame t) new now after)
@@ -118,16 +118,16 @@ module _ (start s : State) (v u : NodeMap) (before : Option (List ℕ)) (w : Wal
       }
 
 -- The end: where no directory is left, all is written.
-pub ended : (m : Inodes) (t : Tree) (w : Walk) (before after : Option (List ℕ)) → w.frames.items ≡ [] → (t.snapshots ≡ empty → listing t ≡ lines_below t []) → t.snapshots ≡ empty
-    → HasWritten m t (at_and_below t []) w before after → Appends before after (listing t)
-ended m t w before after frames whole alone h =
+pub ended : (m : Inodes) (t : Tree) (w : Walk) (before after : Option (List ℕ)) → w.frames.items ≡ [] → path_lines t.names t.nodes ≡ lines_below t []
+    → HasWritten m t (at_and_below t []) w before after → Appends before after (path_lines t.names t.nodes)
+ended m t w before after frames root h =
     subst (Appends before after)
-    (ap (lines_of t) (sym (append-nil h.seen) ∙ ap (λ fs. h.seen ++ paths_left t w.path.items 0 fs) (sym frames) ∙ sym h.rest) ∙ sym (whole alone)) h.wrote
+    (ap (lines_of t) (sym (append-nil h.seen) ∙ ap (λ fs. h.seen ++ paths_left t w.path.items 0 fs) (sym frames) ∙ sym h.rest) ∙ sym root) h.wrote
 
 -- The blocks of a session.
 
 -- what holds of each tree of this map holds of the session's
-pub in_session : (s : State) (d : DraftState) (P : Tree → Type 0) → d ≡ nothing_drafted → ((g : Geometry) (m : Blocks) (t : Tree) → IsTreeOf g m t → IsMapOf g.i (inodes_of (files_of g m)) t)
+pub in_session : {counts : List ℕ} (s : State) (d : DraftState) (P : Tree → Type 0) → d ≡ begun_beside counts → ((g : Geometry) (m : Blocks) (t : Tree) → IsTreeOf g m t → IsMapOf g.i (inodes_of (files_of g m)) t)
     → ((m : Inodes) (t : Tree) → IsMapIn s (nodes_in s d) m t → P t) → (f : Session) → IsSession s f → P f.tree
 in_session s d P none law holds f h =
     holds (inodes_in s d) f.tree (record { same = refl; map = subst (λ e. IsMapOf s.books.geom.i (inodes_in s e) f.tree) (sym none) (law s.books.geom s.map f.tree h.tree) })

@@ -13,7 +13,7 @@ use Rattle.fs_inodes.specs.Changes.{slot_of}
 use Rattle.engine_blocks.specs.State.{Bookkeeping, State}
 use Rattle.fs_files.specs.declared.look.FileFacts.{FileFacts}
 use Rattle.fs_files.specs.Calls.{facts_of, files_in}
-use Rattle.fs_files.specs.Drafts.{DraftState, nothing_drafted}
+use Rattle.fs_files.specs.Drafts.{DraftState, begun_beside, nothing_drafted}
 use Rattle.fs_files.specs.Effects.{LooksOnly}
 use Rattle.fs_dirs.specs.declared.lookup.Directory.{Directory}
 use Rattle.fs_dirs.specs.declared.lookup.Found.{Found}
@@ -45,7 +45,7 @@ module _ (files : Files) (dir : ℕ) (slots : List Slot) (name : List ℕ) (at :
       absurd (is_used (files found.node) x.0 (ap (inodes_of files) (same_Some found.node r.0 (finds.node ∙ r.2)) ∙ x.1) unknown)
 
 -- what the walk to the directory above a path comes to in an empty draft
-pub above_as : (s : State) (d : DraftState) (path : List (List ℕ)) (end r : Result (Option Directory) Refusal) → d ≡ nothing_drafted → end ≡ r
+pub above_as : {counts : List ℕ} (s : State) (d : DraftState) (path : List (List ℕ)) (end r : Result (Option Directory) Refusal) → d ≡ begun_beside counts → end ≡ r
     → ((t : Tree) → IsMapOf s.books.geom.i (inodes_in s d) t → EndsAtParent (inodes_in s d) path end)
     → (t : Tree) → IsMapOf s.books.geom.i (inodes_in s nothing_drafted) t → EndsAtParent (inodes_in s nothing_drafted) path r
 above_as s d path end r none is ends t map =
@@ -78,7 +78,7 @@ comes_inside files path names name dir entry same is ends has =
     (parent path, name, last_name path names name same is, ends.1, subst (λ n. HasEntry files dir.number n name entry) (sym ends.2.2) (has slots ends.2.1))
 
 -- after looks an empty draft has the map that it had
-module _ (tells : Bool) (s t : State) (d : DraftState) (none : d ≡ nothing_drafted) (told : IsTrue tells) (looks : LooksOnly tells false s t) where
+module _ {counts : List ℕ} (tells : Bool) (s t : State) (d : DraftState) (none : d ≡ begun_beside counts) (told : IsTrue tells) (looks : LooksOnly tells false s t) where
   same : files_in t d ≡ files_in s nothing_drafted
   same = files_stay tells s t d none told looks
 

@@ -4,7 +4,7 @@ use Rattle.std.proofs.lemmas.Bool.{true≢false, lt-ltb, eqb-true}
 use Rattle.std.proofs.lemmas.Option.{none-some, same_Some}
 use Rattle.layout_bytes.specs.declared.slot.Slot.{Slot}
 use Rattle.layout_bytes.specs.declared.node.NodeKind.{NodeKind}
-use Rattle.layout_bytes.specs.declared.node.NodeKind.TheVariants.{Free, Dir, File}
+use Rattle.layout_bytes.specs.declared.node.NodeKind.TheVariants.{Free, Dir, File, Snapshot}
 use Rattle.layout_bytes.specs.Bytes.{when}
 use Rattle.crash_stands.specs.Files.{FileNode, Files}
 use Rattle.crash_stands.specs.Inodes.{Inode, ADir, AFile, inode_by, inode_of, inodes_of}
@@ -38,6 +38,7 @@ any_slots (s ∷ slots) size e = sym (lt-ltb 0 size (omega (arith, e)))
 
 tells : (kind : NodeKind) (links : ℕ) (bytes : List ℕ) (inode : Inode) → inode_by kind links bytes ≡ Some inode → ((slots : List Slot) → kind ≡ Dir → inode ≡ ADir slots → length bytes ≡ 64 * length slots) → Tells kind links bytes (Some inode)
 tells Free links bytes inode reads size = absurd (none-some inode reads)
+tells Snapshot links bytes inode reads size = absurd (none-some inode reads)
 tells File links bytes inode reads size = subst (λ i. Tells File links bytes (Some i)) (same_Some (AFile links bytes) inode reads) (record { dir = refl; file = refl; links_are = refl; bytes_are = λ file. refl; slots_are = λ dir. absurd (true≢false (sym dir)) })
 tells Dir links bytes (AFile l b) reads size = absurd (not_file (links == 1) _ l b reads)
 tells Dir links bytes (ADir slots) reads size = record {
@@ -51,6 +52,7 @@ tells Dir links bytes (ADir slots) reads size = record {
 -- what is told of a node's kind and links, whatever size it has
 pub kind_told : (kind : NodeKind) (links : ℕ) (bytes : List ℕ) (inode : Inode) → inode_by kind links bytes ≡ Some inode → (is_dir_inode (Some inode) ≡ is_dir kind) × (links_in (Some inode) ≡ links)
 kind_told Free links bytes inode reads = absurd (none-some inode reads)
+kind_told Snapshot links bytes inode reads = absurd (none-some inode reads)
 kind_told File links bytes inode reads = subst (λ i. (is_dir_inode (Some i) ≡ false) × (links_in (Some i) ≡ links)) (same_Some (AFile links bytes) inode reads) (refl, refl)
 kind_told Dir links bytes (AFile l b) reads = absurd (not_file (links == 1) _ l b reads)
 kind_told Dir links bytes (ADir slots) reads = (refl, one_link links (links == 1) _ slots refl reads)
@@ -58,6 +60,7 @@ kind_told Dir links bytes (ADir slots) reads = (refl, one_link links (links == 1
 -- a node that is no directory is a file
 pub file_told : (kind : NodeKind) (links : ℕ) (bytes : List ℕ) (inode : Inode) → inode_by kind links bytes ≡ Some inode → is_dir kind ≡ false → inode_by kind links bytes ≡ Some (AFile links bytes)
 file_told Free links bytes inode reads none = absurd (none-some inode reads)
+file_told Snapshot links bytes inode reads none = absurd (none-some inode reads)
 file_told File links bytes inode reads none = refl
 file_told Dir links bytes inode reads none = absurd (true≢false none)
 

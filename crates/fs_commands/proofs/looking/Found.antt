@@ -11,18 +11,17 @@ use Rattle.crash_stands.specs.Inodes.{Inode, inode_of, inodes_of}
 use Rattle.crash_stands.specs.Maps.{IsMapOf}
 use Rattle.fs_files.specs.declared.look.FileFacts.{FileFacts}
 use Rattle.fs_files.specs.Calls.{facts_of, files_in}
-use Rattle.fs_files.specs.Drafts.{DraftState, nothing_drafted, drafted}
+use Rattle.fs_files.specs.Drafts.{DraftState, begun_beside, nothing_drafted, drafted}
 use Rattle.fs_files.specs.Effects.{LooksAndSettles, LooksOnly}
 use Rattle.fs_files.specs.Sound.{IsDraftOf}
 use Rattle.fs_dirs.specs.Directories.{IsNumber}
-use Rattle.engine_blocks.specs.Running.{HasNoBare}
 use Rattle.fs_files.specs.declared.refusal.FileRefusal.{FileRefusal}
 use Rattle.fs_session.specs.declared.unused.NodeUse.{NodeUse}
 use Rattle.fs_commands.specs.declared.paths.NodeFound.{NodeFound}
 use Rattle.fs_commands.specs.Looks.{LeadsToFound}
 use Rattle.fs_session.specs.Sessions.{KeepsUsed, MayBegin}
 use Rattle.fs_files.specs.Asks.{MayLook, MayLookAt, MayRead}
-use Rattle.crash_stands.specs.Stands.{AreSound, IsTreeOf}
+use Rattle.crash_stands.specs.Stands.{IsTreeOf}
 pub use Rattle.fs_files.specs.NodeMaps.{draft_stays}
 pub use Rattle.fs_files.specs.Places.{looks_more}
 use Rattle.fs_files.specs.NodeMaps.{NodeMap, same_nodes}
@@ -50,29 +49,29 @@ is_used None x e none = none-some x e
 is_used (Some file) x e none = none-some (facts_of file) none
 
 -- after looks an empty draft has the files that it had
-pub files_stay : (tells : Bool) (s t : State) (d : DraftState) → d ≡ nothing_drafted → IsTrue tells → LooksOnly tells false s t → files_in t d ≡ files_in s nothing_drafted
+pub files_stay : {counts : List ℕ} (tells : Bool) (s t : State) (d : DraftState) → d ≡ begun_beside counts → IsTrue tells → LooksOnly tells false s t → files_in t d ≡ files_in s nothing_drafted
 files_stay tells s t d none told looks = same_files tells false s t d looks told ∙ ap (files_in s) none
 
 -- how a draft begins
 abbrev pub BeginsDraft : Bool → State → Type 0
-BeginsDraft tells s = HasNoBare s.books.running → (IsTrue tells → AreSound s.books.geom s.map) → IsDraftOf tells s nothing_drafted
+BeginsDraft tells s = (counts : List ℕ) → MayBegin tells s counts → IsDraftOf tells s (begun_beside counts)
 
 -- a node may be looked at in a draft that began, also behind reads
-pub draft_begun : (tells : Bool) (s : State) (d : DraftState) → d ≡ nothing_drafted → MayBegin tells s → BeginsDraft tells s → IsDraftOf tells s d
-draft_begun tells s d none may law = subst (IsDraftOf tells s) (sym none) (law may.none_bare may.sound)
+pub draft_begun : {counts : List ℕ} (tells : Bool) (s : State) (d : DraftState) → d ≡ begun_beside counts → MayBegin tells s counts → BeginsDraft tells s → IsDraftOf tells s d
+draft_begun {counts} tells s d none may law = subst (IsDraftOf tells s) (sym none) (law counts may)
 
-pub look_begins : (tells : Bool) (s : State) (d : DraftState) (k : ℕ) → d ≡ nothing_drafted → MayBegin tells s → IsNumber s.books.geom.i k → BeginsDraft tells s → MayLook tells s d k
+pub look_begins : {counts : List ℕ} (tells : Bool) (s : State) (d : DraftState) (k : ℕ) → d ≡ begun_beside counts → MayBegin tells s counts → IsNumber s.books.geom.i k → BeginsDraft tells s → MayLook tells s d k
 look_begins tells s d k none may number law = record { going = may.going; from = number.from; upto = number.upto; may = draft_begun tells s d none may law }
 
 -- what a look in an empty draft finds, it finds in the blocks as they are
-pub found_begun : (s : State) (d : DraftState) (path : List (List ℕ)) (r : Result (Result NodeFound Refusal) FileRefusal) → d ≡ nothing_drafted
+pub found_begun : {counts : List ℕ} (s : State) (d : DraftState) (path : List (List ℕ)) (r : Result (Result NodeFound Refusal) FileRefusal) → d ≡ begun_beside counts
     → ((t : Tree) → IsTreeOf s.books.geom s.map t → IsMapOf s.books.geom.i (inodes_of (files_of s.books.geom s.map)) t)
     → IfOk r (λ found. (t : Tree) → IsMapOf s.books.geom.i (inodes_of (files_in s d)) t → LeadsToFound (files_in s d) path found)
     → IfOk r (λ found. (t : Tree) → IsTreeOf s.books.geom s.map t → LeadsToFound (files_in s nothing_drafted) path found)
 found_begun s d path (Ok found) none map h = λ t stands. subst (λ e. IsMapOf s.books.geom.i (inodes_of (files_in s e)) t → LeadsToFound (files_in s e) path found) none (h t) (map t stands)
 found_begun s d path (Err why) none map h = tt
 
-pub there_begun : (s : State) (d : DraftState) (r : Result (Result NodeFound Refusal) FileRefusal) → d ≡ nothing_drafted
+pub there_begun : {counts : List ℕ} (s : State) (d : DraftState) (r : Result (Result NodeFound Refusal) FileRefusal) → d ≡ begun_beside counts
     → IfOk r (λ found. IfOk found (λ f. (x : FileNode) × (files_in s d f.number ≡ Some x) × (f.facts ≡ facts_of x)))
     → IfOk r (λ found. IfOk found (λ f. (x : FileNode) × (files_in s nothing_drafted f.number ≡ Some x) × (f.facts ≡ facts_of x)))
 there_begun s d r none h = subst (λ e. IfOk r (λ found. IfOk found (λ f. (x : FileNode) × (files_in s e f.number ≡ Some x) × (f.facts ≡ facts_of x)))) none h

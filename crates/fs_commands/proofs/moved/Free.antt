@@ -6,11 +6,15 @@ use Rattle.crash_stands.specs.Files.{Files}
 use Rattle.crash_stands.specs.Inodes.{inodes_of}
 use Rattle.crash_stands.specs.Walks.{node_in}
 use Rattle.fs_inodes.specs.Changes.{slot_of, with_slot, MovesSlot}
+use Rattle.fs_files.specs.Calls.{IsWithPlaces}
 use Rattle.fs_dirs.specs.Changing.{IsWithSlots}
 use Rattle.fs_commands.specs.declared.removing.Named.{Named}
 use Rattle.fs_commands.specs.Moving.{HasNamed, LacksName}
 use Rattle.fs_session.specs.declared.unused.NodeUse.TheVariants.{Stays}
 use Rattle.fs_session.specs.Sessions.{KeepsUsed}
+use Rattle.fs_session.specs.Snapshots.{LeavesSnapshots}
+use Rattle.fs_commands.proofs.keeping.Begun.{slots_leave}
+use Rattle.fs_commands.proofs.keeping.Leaves.{leaves_then}
 use Rattle.fs_commands.proofs.moved.Onto.{place_within}
 use Rattle.fs_commands.proofs.moved.Slots.{within, across, slots_same}
 use Rattle.fs_commands.proofs.removed.Slots.{slots_used}
@@ -25,6 +29,10 @@ module _ (f0 f1 : Files) (source : Named) (name other : List ℕ) (hs : HasNamed
       within (inodes_of f0) (inodes_of f1) source.dir source.entry.node.number source.entry.place name other hs.slots law hs.dir hs.slot (place_within (inodes_of f0) name source hs)
       (subst (λ (xs : List Slot). place_of other xs ≡ None) same free.none) (subst (λ (xs : List Slot). node_in xs other ≡ None) same free.nothing) one.inodes
 
+  -- the snapshots stay as they are
+  pub leaves_within : (p0 p1 : ℕ → List ℕ) (own : List ℕ) → IsWithPlaces p0 p1 source.dir own → LeavesSnapshots f0 f1 p0 p1
+  leaves_within p0 p1 own placed = slots_leave f0 f1 p0 p1 source.dir own placed hs.slots (set hs.slots source.entry.place (slot_of source.entry.node.number other)) hs.dir one
+
   pub used_within : KeepsUsed Stays f0 f1
   used_within = slots_used f0 f1 source.dir (set hs.slots source.entry.place (slot_of source.entry.node.number other)) one
 
@@ -33,6 +41,11 @@ module _ (f0 f1 f2 : Files) (source : Named) (into count : ℕ) (name other : Li
     (one : IsWithSlots f0 f1 into (free.slots ++ slot_of source.entry.node.number other ∷ [])) (two : IsWithSlots f1 f2 source.dir (without_at source.entry.place hs.slots)) where
   pub moves_across : MovesSlot (inodes_of f0) (inodes_of f2) source.dir into source.entry.node.number name other
   moves_across = across (inodes_of f0) (inodes_of f1) (inodes_of f2) source.dir into source.entry.node.number source.entry.place name other hs.slots free.slots apart hs.dir free.dir_is hs.slot free.none free.nothing one.inodes two.inodes
+
+  pub leaves_across : (p0 p1 p2 : ℕ → List ℕ) (own cut : List ℕ) → IsWithPlaces p0 p1 into own → IsWithPlaces p1 p2 source.dir cut → LeavesSnapshots f0 f2 p0 p2
+  leaves_across p0 p1 p2 own cut first second = leaves_then f0 f1 f2 p0 p1 p2
+      (slots_leave f0 f1 p0 p1 into own first free.slots (free.slots ++ slot_of source.entry.node.number other ∷ []) free.dir_is one)
+      (slots_leave f1 f2 p1 p2 source.dir cut second hs.slots (without_at source.entry.place hs.slots) (one.inodes.others source.dir apart ∙ hs.dir) two)
 
   pub used_across : KeepsUsed Stays f0 f2
   used_across = λ l u.

@@ -1,31 +1,34 @@
 -- What a rename that was found, and that the tree accepts, is: the two names, where they stand, and that its draft may begin.
-use Rattle.std.proofs.Common.{◌≡◌, ◌≢◌, ℕ, ◌+◌, ◌^◌, ◌==◌, ◌≤◌, ◌&&◌, if◌then◌else◌, Bool, true, false, not, List, [], ◌∷◌, ◌++◌, length, is_some, Option, None, Some, option_map, option_and_then, IfSome, Ok, refl, sym, subst, ap, ap₂, ◌∙◌, arith}
+use Rattle.std.proofs.Common.{◌≡◌, ◌≢◌, ℕ, ◌+◌, ◌^◌, ◌≤◌, ◌&&◌, if◌then◌else◌, Bool, IsTrue, true, false, not, List, [], ◌∷◌, ◌++◌, length, is_some, Option, None, Some, option_map, option_and_then, IfSome, Ok, refl, sym, subst, ap, ap₂, ◌∙◌, arith}
 use Rattle.std.proofs.lemmas.Bool.{true≢false, ne_eqb}
 use Rattle.std.proofs.lemmas.Option.{same_Some}
 use Rattle.lang_tree.specs.declared.command.Refusal.{Refusal}
 use Rattle.lang_tree.specs.declared.command.Refusal.TheVariants.{NotDir, IsDir, NotEmpty, BelowItself}
 use Rattle.lang_tree.specs.Conditions.{when}
-use Rattle.lang_tree.specs.Figures.{blocks_for}
 use Rattle.lang_tree.specs.Paths.{is_below}
 use Rattle.lang_tree.specs.Walk.{are_same}
 use Rattle.crash_stands.specs.Files.{FileNode, Files}
-use Rattle.crash_stands.specs.Inodes.{Inodes, inodes_of}
+use Rattle.crash_stands.specs.Inodes.{Inode, Inodes, inodes_of}
+use Rattle.crash_stands.specs.Walks.{LeadsTo}
 use Rattle.fs_inodes.specs.Changes.{slot_of}
-use Rattle.fs_inodes.specs.Figures.{blocks_lost, slots_above}
+use Rattle.fs_inodes.specs.Figures.{slots_above}
 use Rattle.fs_inodes.specs.Lookups.{number_at, inode_at, is_dir_inode, is_file_inode, has_slots}
 use Rattle.fs_inodes.specs.Refusals.{rename_reason, onto_reason, walk_reason, parent_reason}
 use Rattle.engine_blocks.specs.State.{State}
 use Rattle.fs_files.specs.declared.look.FileFacts.{FileFacts}
 use Rattle.fs_files.specs.Calls.{files_in, is_dir}
 use Rattle.fs_files.specs.Drafts.{nothing_drafted}
+use Rattle.fs_files.specs.Effects.{LooksOnly}
 use Rattle.fs_commands.specs.declared.paths.Entry.{Entry}
 use Rattle.fs_commands.specs.declared.paths.Spot.{Spot}
 use Rattle.fs_commands.specs.declared.paths.Spot.TheVariants.{Inside}
 use Rattle.fs_commands.specs.declared.removing.Named.{Named}
 use Rattle.fs_commands.specs.Looks.{ComesTo, HasEntry, ShowsFacts, number_of}
 use Rattle.fs_commands.specs.Moving.{HasNamed, IsMove, KnowsMove, LacksName, MayMoveOnto}
-use Rattle.fs_commands.specs.Removing.{IsFound, blocks_gone}
+use Rattle.fs_commands.specs.Removing.{IsFound}
+use Rattle.fs_commands.specs.Figures.{HasFacts}
 use Rattle.fs_session.specs.Sessions.{inodes}
+use Rattle.fs_commands.proofs.looking.Found.{same_files}
 use Rattle.fs_commands.proofs.removed.Accepted.{bare_facts, file_bare}
 use Rattle.fs_commands.proofs.moved.Slots.{slots_same}
 use Rattle.fs_commands.proofs.removed.Slots.{apart}
@@ -142,25 +145,27 @@ known_move files from to source into count found other place ends number above m
 -- it may come onto what is at the second path
 pub known_onto : (s : State) (from to : List (List ℕ)) (source target : Named) (other : List ℕ) → PlaceLaw → (move : IsMove (files_in s nothing_drafted) from to source target.dir target.count (Some target.entry) other)
     → (k : KnowsMove (files_in s nothing_drafted) from to source target.dir target.count (Some target.entry) other)
-    → ShowsFacts (inodes s) from source.entry.node.facts → ShowsFacts (inodes s) to target.entry.node.facts → number_at (inodes s) to ≡ Some target.entry.node.number
+    → ShowsFacts (inodes s) from source.entry.node.facts → ShowsFacts (inodes s) to target.entry.node.facts → number_at (inodes s) to ≡ Some target.entry.node.number → (inode : Inode) → inodes s target.entry.node.number ≡ Some inode
     → ((x : FileNode) → files_in s nothing_drafted target.entry.node.number ≡ Some x → length x.bytes + 1024 ≤ 2 ^ 30)
-    → MayMoveOnto s source target k.name other × (blocks_lost (inodes s) to ≡ blocks_gone target.entry.node.facts) × (target.entry.node.facts.size ≤ 1073741824)
-known_onto s from to source target other place move k a b there fits =
+    → MayMoveOnto s source target k.name other × HasFacts (inodes s) to target.entry.node.facts.links target.entry.node.facts.size × (target.entry.node.facts.size ≤ 1073741824) × LeadsTo (inodes s) to target.entry.node.number
+known_onto s from to source target other place move k a b there inode shown fits =
     let bare = onto_bare (inodes s) from to source.entry.node.facts target.entry.node.facts a b (onto_accepted (inodes s) from to move.accepted k.apart) in
     let own : has_slots (inodes s target.entry.node.number) ≡ false = ap has_slots (sym (ap (option_and_then (inodes s)) there)) ∙ bare in
     let onto = entry_named (files_in s nothing_drafted) other target place k.entry in
-    let numbers = bare_facts (inodes s) to target.entry.node.facts b bare in
     let found = entry_found (files_in s nothing_drafted) target.dir target.count other target.entry k.entry in (
       record {
         from = k.named;
         onto = onto;
         found = found;
+        inode = inode;
+        shown = shown;
         not_node = move.apart;
         not_from = apart (inodes s) source.dir target.entry.node.number source.entry.place k.named.slots (slot_of source.entry.node.number k.name) k.named.dir k.named.slot own;
         not_into = apart (inodes s) target.dir target.entry.node.number target.entry.place onto.slots (slot_of target.entry.node.number other) onto.dir onto.slot own;
       },
-      sym (ap₂ (λ l n. if l == 1 then blocks_for n else 0) numbers.0 numbers.1),
+      bare_facts (inodes s) to target.entry.node.facts b bare,
       omega (arith, fits found.file found.is, ap (λ (f : FileFacts). f.size) found.facts),
+      there,
     )
 
 -- to a free name of the source's directory
@@ -172,3 +177,8 @@ move_within files from to source into count other same move =
     let here = subst (λ k. IsMove files from to source k count None other) (sym same) move in
     let equal = same_count files source.dir count source.count here.target_comes.1 here.source_comes.1 None (Some source.entry) here.target_comes.4 here.source_comes.4 in
     subst (λ n. IsMove files from to source source.dir n None other) equal here
+
+-- what moves is there still behind reads
+pub move_still : (tells : Bool) (s t : State) (from to : List (List ℕ)) (source : Named) (into count : ℕ) (found : Option Entry) (other : List ℕ) → LooksOnly tells false s t → IsTrue tells
+    → IsMove (files_in s nothing_drafted) from to source into count found other → IsMove (files_in t nothing_drafted) from to source into count found other
+move_still tells s t from to source into count found other looks told move = subst (λ (files : Files). IsMove files from to source into count found other) (sym (same_files tells false s t nothing_drafted looks told)) move

@@ -8,13 +8,19 @@ use Rattle.layout_directory.specs.Directory.{without_at}
 use Rattle.crash_stands.specs.Files.{Files}
 use Rattle.crash_stands.specs.Inodes.{Inode, Inodes, ADir, AreInodesOf, inodes_of}
 use Rattle.fs_inodes.specs.Changes.{slot_of, MovesSlot}
+use Rattle.fs_files.specs.Calls.{IsWithPlaces}
 use Rattle.fs_dirs.specs.Changing.{IsWithSlots}
 use Rattle.fs_commands.specs.declared.removing.Named.{Named}
+use Rattle.fs_commands.specs.Looks.{IsNoSnapshot}
 use Rattle.fs_commands.specs.Moving.{HasNamed}
 use Rattle.fs_commands.specs.Removing.{IsFound, LosesLink, use_after}
 use Rattle.fs_session.specs.Sessions.{KeepsUsed}
+use Rattle.fs_session.specs.Snapshots.{LeavesSnapshots}
+use Rattle.fs_commands.proofs.keeping.Begun.{slots_leave}
+use Rattle.fs_commands.proofs.keeping.Leaves.{leaves_then}
+use Rattle.fs_commands.proofs.looking.InUse.{no_snapshot}
 use Rattle.fs_commands.proofs.moved.Slots.{onto, slots_same}
-use Rattle.fs_commands.proofs.removed.Slots.{found_still, lost_inode, lost_others, lost_reads, lost_used, slots_used, used_inode, uses_then}
+use Rattle.fs_commands.proofs.removed.Slots.{found_still, lost_inode, lost_others, lost_reads, lost_used, slots_used, uses_then}
 use Rattle.fs_commands.proofs.Given.{SlotsReadLaw}
 
 -- the place of a name is one of the directory's
@@ -41,7 +47,7 @@ module _ (f0 f1 : Files) (source target : Named) (name other : List ℕ) (s : Sl
 
 -- All three steps.
 module _ (f0 f1 f2 f3 : Files) (source target : Named) (name other : List ℕ) (hs : HasNamed (inodes_of f0) name source) (ht : HasNamed (inodes_of f0) other target)
-    (not_node : target.entry.node.number ≢ source.entry.node.number) (not_from : target.entry.node.number ≢ source.dir) (not_into : target.entry.node.number ≢ target.dir) (found : IsFound f0 target.entry.node)
+    (not_node : target.entry.node.number ≢ source.entry.node.number) (not_from : target.entry.node.number ≢ source.dir) (not_into : target.entry.node.number ≢ target.dir) (found : IsFound f0 target.entry.node) (inode : Inode) (shown : inodes_of f0 target.entry.node.number ≡ Some inode)
     (reads0 : AreInodesOf f0 (inodes_of f0)) (one : IsWithSlots f0 f1 target.dir (set ht.slots target.entry.place (slot_of source.entry.node.number other)))
     (mid : Between (inodes_of f1) source.dir source.count) (two : IsWithSlots f1 f2 source.dir (without_at source.entry.place mid.slots))
     (still_read : SlotsReadLaw) where
@@ -53,8 +59,19 @@ module _ (f0 f1 f2 f3 : Files) (source target : Named) (name other : List ℕ) (
   found2 = found_still f1 f2 source.dir (without_at source.entry.place mid.slots) two target.entry.node not_from
       (found_still f0 f1 target.dir (set ht.slots target.entry.place (slot_of source.entry.node.number other)) one target.entry.node not_into found)
 
-  pub inode2 : (x : Inode) × (inodes_of f2 target.entry.node.number ≡ Some x)
-  inode2 = used_inode f2 reads2 target.entry.node.number found2.file found2.is
+  pub shown2 : inodes_of f2 target.entry.node.number ≡ Some inode
+  shown2 = two.inodes.others target.entry.node.number not_from ∙ one.inodes.others target.entry.node.number not_into ∙ shown
+
+  -- it is no snapshot
+  pub plain2 : IsNoSnapshot (f2 target.entry.node.number)
+  plain2 = no_snapshot (f2 target.entry.node.number) inode shown2
+
+  -- the snapshots stay as they are where the last step leaves them
+  pub leaves3 : (p0 p1 p2 p3 : ℕ → List ℕ) (own cut : List ℕ) → IsWithPlaces p0 p1 target.dir own → IsWithPlaces p1 p2 source.dir cut → LeavesSnapshots f2 f3 p2 p3 → LeavesSnapshots f0 f3 p0 p3
+  leaves3 p0 p1 p2 p3 own cut first second third = leaves_then f0 f2 f3 p0 p2 p3
+      (leaves_then f0 f1 f2 p0 p1 p2
+      (slots_leave f0 f1 p0 p1 target.dir own first ht.slots (set ht.slots target.entry.place (slot_of source.entry.node.number other)) ht.dir one)
+      (slots_leave f1 f2 p1 p2 source.dir cut second mid.slots (without_at source.entry.place mid.slots) mid.is two)) third
 
   module _ (three : LosesLink f2 f3 target.entry.node.number) where
     pub moves : MovesSlot (inodes_of f0) (inodes_of f3) source.dir target.dir source.entry.node.number name other
@@ -68,4 +85,4 @@ module _ (f0 f1 f2 f3 : Files) (source target : Named) (name other : List ℕ) (
     used3 = uses_then (use_after target.entry.node) f0 f2 f3
         (λ l u. slots_used f1 f2 source.dir (without_at source.entry.place mid.slots) two l
         (slots_used f0 f1 target.dir (set ht.slots target.entry.place (slot_of source.entry.node.number other)) one l u))
-        (lost_used f2 f3 target.entry.node three found2 reads2)
+        (lost_used f2 f3 target.entry.node three found2 inode shown2)

@@ -9,19 +9,20 @@ use Rattle.lang_tree.specs.declared.command.Kind.TheVariants.{Dir, File}
 use Rattle.lang_tree.specs.declared.command.Refusal.{Refusal}
 use Rattle.lang_tree.specs.declared.command.Refusal.TheVariants.{Exists, NoNode, IsDir, TooManyLinks}
 use Rattle.lang_tree.specs.declared.command.Reply.TheVariants.{Ok as Done}
-use Rattle.lang_tree.specs.Conditions.{when, first_reason, refusal}
-use Rattle.lang_tree.specs.Figures.{adding, growth}
+use Rattle.lang_tree.specs.Conditions.{when, first_reason, least_unused, refusal}
+use Rattle.lang_tree.specs.Figures.{Figures, adding, growth}
+use Rattle.lang_tree.specs.Sharing.{BlocksAlone, SharedNodes}
 use Rattle.lang_tree.specs.Paths.{parent}
-use Rattle.lang_tree.specs.Step.{Session, step, answered}
-use Rattle.lang_tree.specs.Tree.{Dir as DirThing, File as FileThing}
+use Rattle.lang_tree.specs.Step.{Session, changes_snapshots, step, answered}
+use Rattle.lang_tree.specs.Tree.{Snapshots, Dir as DirThing, File as FileThing}
 use Rattle.lang_tree.specs.Walk.{refusal_in}
 use Rattle.crash_stands.specs.Files.{Files}
 use Rattle.crash_stands.specs.Inodes.{Inode, Inodes, AFile, inode_of, inodes_of}
 use Rattle.crash_stands.specs.Maps.{IsMapOf}
 use Rattle.crash_stands.specs.Walks.{LeadsTo}
 use Rattle.fs_inodes.specs.Changes.{AddsSlot, new_inode, slot_of}
-use Rattle.fs_inodes.specs.Figures.{cost_by, accepted_cost, slots_above}
-use Rattle.fs_inodes.specs.Lookups.{least_free, is_dir_inode, links_in, number_at, inode_at, walk_on}
+use Rattle.fs_inodes.specs.Figures.{cost_over_by, accepted_cost_over, slots_above}
+use Rattle.fs_inodes.specs.Lookups.{is_dir_inode, links_in, number_at, inode_at, walk_on}
 use Rattle.fs_inodes.specs.Refusals.{reason, make_reason, parent_reason}
 use Rattle.engine_blocks.specs.State.{State}
 use Rattle.fs_files.specs.Calls.{files_in, is_dir}
@@ -32,15 +33,15 @@ use Rattle.fs_commands.specs.declared.paths.NodeFound.{NodeFound}
 use Rattle.fs_commands.specs.declared.paths.Entry.{Entry}
 use Rattle.fs_commands.specs.declared.paths.Spot.{Spot}
 use Rattle.fs_commands.specs.declared.paths.Spot.TheVariants.{Inside}
-use Rattle.fs_session.specs.Commands.{grown_by}
+use Rattle.fs_session.specs.Commands.{alone_on, grown_on, least_number, shared_on}
 use Rattle.fs_commands.specs.Looks.{ComesTo, LeadsToFound, number_of}
 use Rattle.fs_commands.specs.Making.{AcceptsName, MayAppear, MayLink, first_thing, make_cmd}
+use Rattle.fs_session.specs.NothingKept.{puts_no_bytes, renews_without_bytes}
 use Rattle.fs_session.specs.Sessions.{IsSession, inodes}
 use Rattle.fs_commands.proofs.looking.Facts.{inode_is, kind_told, file_told}
 use Rattle.fs_commands.proofs.looking.Spots.{above}
 use Rattle.fs_commands.proofs.FirstReason.{alone, first_more}
 use Rattle.fs_commands.proofs.Given.{RefusalLaw, FiguresLaw, EndsLaw}
-use Rattle.fs_session.specs.NothingKept.{figures_unshared}
 
 -- What the laws on what a path comes to say.
 
@@ -56,21 +57,32 @@ SlotsLaw = (files : Files) (path : List (List ℕ)) (dir count : ℕ) (entry : O
 -- The reasons.
 
 -- a command is refused for the reason of making
-made_reason : (limit : ℕ) (m : Inodes) (kind : Kind) (path : List (List ℕ)) → reason limit m (make_cmd kind path) ≡ make_reason limit m path
-made_reason limit m Dir path = refl
-made_reason limit m File path = refl
+made_reason : (least : Option ℕ) (kept : Snapshots) (m : Inodes) (kind : Kind) (path : List (List ℕ)) → reason least kept m (make_cmd kind path) ≡ make_reason least m path
+made_reason least kept m Dir path = refl
+made_reason least kept m File path = refl
 
-made_cost : (bitmap : ℕ) (m : Inodes) (kind : Kind) (path : List (List ℕ)) → accepted_cost bitmap m (make_cmd kind path) ≡ adding (growth (slots_above m path))
-made_cost bitmap m Dir path = refl
-made_cost bitmap m File path = refl
+made_cost : (bitmap : ℕ) (shared : SharedNodes) (alone : BlocksAlone) (limit : ℕ) (kept : Snapshots) (m : Inodes) (kind : Kind) (path : List (List ℕ))
+    → accepted_cost_over bitmap shared alone limit kept m (make_cmd kind path) ≡ adding (growth (slots_above m path))
+made_cost bitmap shared alone limit kept m Dir path = refl
+made_cost bitmap shared alone limit kept m File path = refl
 
 made_done : (f : Session) (kind : Kind) (path : List (List ℕ)) → (answered f (make_cmd kind path) None).1 ≡ Done
 made_done f Dir path = refl
 made_done f File path = refl
 
-made_grows : (m : Inodes) (kind : Kind) (path : List (List ℕ)) → grown_by m (make_cmd kind path) ≡ number_at m (parent path)
-made_grows m Dir path = refl
-made_grows m File path = refl
+made_grows : (s : State) (kind : Kind) (path : List (List ℕ)) → grown_on s (make_cmd kind path) ≡ number_at (inodes s) (parent path)
+made_grows s Dir path = refl
+made_grows s File path = refl
+
+-- it puts no bytes into a file
+made_puts_none : (kind : Kind) (path : List (List ℕ)) → puts_no_bytes (make_cmd kind path) ≡ true
+made_puts_none Dir path = refl
+made_puts_none File path = refl
+
+-- and leaves the snapshots
+made_keeps : (kind : Kind) (path : List (List ℕ)) → changes_snapshots (make_cmd kind path) ≡ false
+made_keeps Dir path = refl
+made_keeps File path = refl
 
 -- the directory above a path is where its parent leads
 pub parent_leads : EndsLaw → (files : Files) (path : List (List ℕ)) (dir count : ℕ) (entry : Option Entry) → ComesTo files path (Ok (Inside dir count entry)) → LeadsTo (inodes_of files) (parent path) dir
@@ -86,16 +98,30 @@ module _ (old : State) (f : Session) (h : IsSession old f) (map : IsMapOf old.bo
   its_map : IsMapOf f.limit (inodes old) f.tree
   its_map = subst (λ n. IsMapOf n (inodes old) f.tree) (sym h.limit) map
 
+  -- the least unused number, and the reason against a command
+  abbrev least_in : Option ℕ
+  least_in = least_unused f.limit f.tree
+
+  abbrev against : Cmd → Option Refusal
+  against cmd = reason least_in f.tree.snapshots m cmd
+
+  -- what it takes once it is accepted
+  abbrev takes : Cmd → Figures
+  takes cmd = accepted_cost_over (bitmap_blocks old.books.geom) (shared_on old f) (alone_on old f) f.limit f.tree.snapshots m cmd
+
   -- what holds of each command that gives a name to a directory, once the tree has no reason against it
-  pub accepts : RefusalLaw → FiguresLaw → EndsLaw → SlotsLaw → (cmd : Cmd) (path : List (List ℕ)) (dir count : ℕ) → ComesTo files path (Ok (Inside dir count None)) → reason f.limit m cmd ≡ None
-      → (answered f cmd None).1 ≡ Done → accepted_cost (bitmap_blocks old.books.geom) m cmd ≡ adding (growth (slots_above m path)) → grown_by m cmd ≡ number_at m (parent path) → AcceptsName old f cmd dir count
-  accepts law figured ends counted cmd path dir count comes none done costs grown =
+  pub accepts : RefusalLaw → FiguresLaw → EndsLaw → SlotsLaw → (cmd : Cmd) (path : List (List ℕ)) (dir count : ℕ) → ComesTo files path (Ok (Inside dir count None)) → against cmd ≡ None
+      → (answered f cmd None).1 ≡ Done → takes cmd ≡ adding (growth (slots_above m path)) → grown_on old cmd ≡ number_at m (parent path) → puts_no_bytes cmd ≡ true → changes_snapshots cmd ≡ false → AcceptsName old f cmd dir count
+  accepts law figured ends counted cmd path dir count comes none done costs grown no_bytes keeps =
       let accepted : refusal f.limit f.tree cmd ≡ None = law f.limit m f.tree cmd its_map ∙ none in
       record {
         accepted = accepted;
         answer = ap (λ r. (answered f cmd r).1) accepted ∙ done;
         grows = grown ∙ parent_leads ends files path dir count None comes;
-        figures = figures_unshared old f cmd ∙ figured (bitmap_blocks old.books.geom) f m cmd its_map ∙ ap (cost_by (bitmap_blocks old.books.geom) m cmd) none ∙ costs ∙ ap (λ n. adding (growth n)) (sym (counted files path dir count None comes));
+        renews = renews_without_bytes old f cmd no_bytes;
+        keeps = keeps;
+        figures = figured (bitmap_blocks old.books.geom) (shared_on old f) (alone_on old f) f m cmd its_map
+            ∙ ap (cost_over_by (bitmap_blocks old.books.geom) (shared_on old f) (alone_on old f) f.limit f.tree.snapshots m cmd) none ∙ costs ∙ ap (λ n. adding (growth n)) (sym (counted files path dir count None comes));
         slots = comes.4.slots;
         is_dir = comes.4.dir;
         count = comes.4.count;
@@ -104,30 +130,31 @@ module _ (old : State) (f : Session) (h : IsSession old f) (map : IsMapOf old.bo
   -- a new node
   module _ (law : RefusalLaw) (kind : Kind) (path : List (List ℕ)) where
     pub node_refused : (why : Refusal) → MayAppear files path (Err why) → refusal f.limit f.tree (make_cmd kind path) ≡ Some why
-    node_refused why e = law f.limit m f.tree (make_cmd kind path) its_map ∙ made_reason f.limit m kind path
-        ∙ first_more (parent_reason m path) (when (is_some (number_at m path)) Exists) (when (is_none (least_free f.limit m)) NoNode ∷ []) why e
+    node_refused why e = law f.limit m f.tree (make_cmd kind path) its_map ∙ made_reason least_in f.tree.snapshots m kind path
+        ∙ first_more (parent_reason m path) (when (is_some (number_at m path)) Exists) (when (is_none least_in) NoNode ∷ []) why e
 
-    module _ (none_against : ParentLaw) (at : NumberLaw) (v : Vacancy) (comes : MayAppear files path (Ok v)) where
-      reason_is : (least : Option ℕ) → least_free old.books.geom.i m ≡ least → make_reason f.limit m path ≡ when (is_none least) NoNode
+    module _ (none_against : ParentLaw) (at : NumberLaw) (least_is : least_in ≡ least_number old) (v : Vacancy) (comes : MayAppear files path (Ok v)) where
+      reason_is : (least : Option ℕ) → least_number old ≡ least → make_reason least_in m path ≡ when (is_none least) NoNode
       reason_is least e =
-          ap (λ r. first_reason (r ∷ when (is_some (number_at m path)) Exists ∷ when (is_none (least_free f.limit m)) NoNode ∷ [])) (none_against files path (Inside v.dir v.count None) comes.0)
-          ∙ ap (λ o. first_reason (when (is_some o) Exists ∷ when (is_none (least_free f.limit m)) NoNode ∷ [])) (at files path (Inside v.dir v.count None) comes.0)
-          ∙ ap (λ o. first_reason (when (is_none o) NoNode ∷ [])) (ap (λ n. least_free n m) h.limit ∙ e) ∙ alone (when (is_none least) NoNode)
+          ap (λ r. first_reason (r ∷ when (is_some (number_at m path)) Exists ∷ when (is_none least_in) NoNode ∷ [])) (none_against files path (Inside v.dir v.count None) comes.0)
+          ∙ ap (λ o. first_reason (when (is_some o) Exists ∷ when (is_none least_in) NoNode ∷ [])) (at files path (Inside v.dir v.count None) comes.0)
+          ∙ ap (λ o. first_reason (when (is_none o) NoNode ∷ [])) (least_is ∙ e) ∙ alone (when (is_none least) NoNode)
 
-      pub no_node_left : least_free old.books.geom.i m ≡ None → refusal f.limit f.tree (make_cmd kind path) ≡ Some NoNode
-      no_node_left e = law f.limit m f.tree (make_cmd kind path) its_map ∙ made_reason f.limit m kind path ∙ reason_is None e
+      pub no_node_left : least_number old ≡ None → refusal f.limit f.tree (make_cmd kind path) ≡ Some NoNode
+      no_node_left e = law f.limit m f.tree (make_cmd kind path) its_map ∙ made_reason least_in f.tree.snapshots m kind path ∙ reason_is None e
 
-      pub node_accepted : FiguresLaw → EndsLaw → SlotsLaw → (node : ℕ) → least_free old.books.geom.i m ≡ Some node → AcceptsName old f (make_cmd kind path) v.dir v.count
+      pub node_accepted : FiguresLaw → EndsLaw → SlotsLaw → (node : ℕ) → least_number old ≡ Some node → AcceptsName old f (make_cmd kind path) v.dir v.count
       node_accepted figured ends counted node e =
-          accepts law figured ends counted (make_cmd kind path) path v.dir v.count comes.0 (made_reason f.limit m kind path ∙ reason_is (Some node) e) (made_done f kind path) (made_cost (bitmap_blocks old.books.geom) m kind path) (made_grows m kind path)
+          accepts law figured ends counted (make_cmd kind path) path v.dir v.count comes.0 (made_reason least_in f.tree.snapshots m kind path ∙ reason_is (Some node) e) (made_done f kind path)
+          (made_cost (bitmap_blocks old.books.geom) (shared_on old f) (alone_on old f) f.limit f.tree.snapshots m kind path) (made_grows old kind path) (made_puts_none kind path) (made_keeps kind path)
 
       -- what the draft makes is the map of the tree with the new node
       pub node_mapped : EndsLaw
           → ((s : Session) (m new : Inodes) (up : List (List ℕ)) (name : List ℕ) (dir node : ℕ) → IsMapOf s.limit m s.tree → refusal s.limit s.tree (Mkdir (up ++ name ∷ [])) ≡ None
-          → LeadsTo m up dir → least_free s.limit m ≡ Some node → AddsSlot m new dir node name (new_inode DirThing) → IsMapOf s.limit new (step s (Mkdir (up ++ name ∷ []))).0.tree)
+          → LeadsTo m up dir → least_unused s.limit s.tree ≡ Some node → AddsSlot m new dir node name (new_inode DirThing) → IsMapOf s.limit new (step s (Mkdir (up ++ name ∷ []))).0.tree)
           → ((s : Session) (m new : Inodes) (up : List (List ℕ)) (name : List ℕ) (dir node : ℕ) → IsMapOf s.limit m s.tree → refusal s.limit s.tree (Create (up ++ name ∷ [])) ≡ None
-          → LeadsTo m up dir → least_free s.limit m ≡ Some node → AddsSlot m new dir node name (new_inode (FileThing [])) → IsMapOf s.limit new (step s (Create (up ++ name ∷ []))).0.tree)
-          → (new : Inodes) (node : ℕ) → refusal f.limit f.tree (make_cmd kind path) ≡ None → least_free old.books.geom.i m ≡ Some node → AddsSlot m new v.dir node v.name (new_inode (first_thing kind))
+          → LeadsTo m up dir → least_unused s.limit s.tree ≡ Some node → AddsSlot m new dir node name (new_inode (FileThing [])) → IsMapOf s.limit new (step s (Create (up ++ name ∷ []))).0.tree)
+          → (new : Inodes) (node : ℕ) → refusal f.limit f.tree (make_cmd kind path) ≡ None → least_number old ≡ Some node → AddsSlot m new v.dir node v.name (new_inode (first_thing kind))
           → IsMapOf f.limit new (step f (make_cmd kind path)).0.tree
       node_mapped ends mkdir create new node accepted least adds =
           let up = comes.1.0 in
@@ -138,8 +165,8 @@ module _ (old : State) (f : Session) (h : IsSession old f) (map : IsMapOf old.bo
         where
           by : (kind : Kind) (up : List (List ℕ)) → LeadsTo m up v.dir → refusal f.limit f.tree (make_cmd kind (up ++ v.name ∷ [])) ≡ None → AddsSlot m new v.dir node v.name (new_inode (first_thing kind))
               → IsMapOf f.limit new (step f (make_cmd kind (up ++ v.name ∷ []))).0.tree
-          by Dir up leads accepted adds = mkdir f m new up v.name v.dir node its_map accepted leads (ap (λ n. least_free n m) h.limit ∙ least) adds
-          by File up leads accepted adds = create f m new up v.name v.dir node its_map accepted leads (ap (λ n. least_free n m) h.limit ∙ least) adds
+          by Dir up leads accepted adds = mkdir f m new up v.name v.dir node its_map accepted leads (least_is ∙ least) adds
+          by File up leads accepted adds = create f m new up v.name v.dir node its_map accepted leads (least_is ∙ least) adds
 
   -- a link
   module _ (law : RefusalLaw) (path other : List (List ℕ)) where
@@ -165,7 +192,7 @@ module _ (old : State) (f : Session) (h : IsSession old f) (map : IsMapOf old.bo
           let t = kind_told walked.1.0.kind walked.1.0.links walked.1.0.bytes used.0 used.1 in
           (ap is_dir_inode at_path ∙ t.0 ∙ ap (λ (q : FileFacts). is_dir q.kind) (sym walked.1.2), ap links_in at_path ∙ t.1 ∙ ap (λ (q : FileFacts). q.links) (sym walked.1.2))
 
-      past_walk : reason f.limit m (Link path other) ≡ first_reason later
+      past_walk : against (Link path other) ≡ first_reason later
       past_walk = ap (λ r. first_reason (refusal_in r ∷ later)) walked.0
 
       pub link_refused : (why : Refusal) → MayAppear files other (Err why) → refusal f.limit f.tree (Link path other) ≡ Some why
@@ -175,7 +202,7 @@ module _ (old : State) (f : Session) (h : IsSession old f) (map : IsMapOf old.bo
 
       module _ (none_against : ParentLaw) (at : NumberLaw) (v : Vacancy) (comes : MayAppear files other (Ok v)) where
         -- the reasons that are left are those of the node
-        link_reason_is : (dir many : Bool) → is_dir found.facts.kind ≡ dir → nat_le 65535 found.facts.links ≡ many → reason f.limit m (Link path other) ≡ first_reason (when dir IsDir ∷ when many TooManyLinks ∷ [])
+        link_reason_is : (dir many : Bool) → is_dir found.facts.kind ≡ dir → nat_le 65535 found.facts.links ≡ many → against (Link path other) ≡ first_reason (when dir IsDir ∷ when many TooManyLinks ∷ [])
         link_reason_is dir many d n =
             past_walk
             ∙ ap (λ r. first_reason (r ∷ when (is_some (number_at m other)) Exists ∷ when (is_dir_inode (inode_at m path)) IsDir ∷ when (nat_le 65535 (links_in (inode_at m path))) TooManyLinks ∷ [])) (none_against files other (Inside v.dir v.count None) comes.0)
@@ -192,7 +219,7 @@ module _ (old : State) (f : Session) (h : IsSession old f) (map : IsMapOf old.bo
         -- it is accepted, and a slot for the file makes its tree
         module _ (figured : FiguresLaw) (counted : SlotsLaw) (file : is_dir found.facts.kind ≡ false) (few : found.facts.links < 65535) where
           link_accepted : AcceptsName old f (Link path other) v.dir v.count
-          link_accepted = accepts law figured ends counted (Link path other) other v.dir v.count comes.0 (link_reason_is false false file (lt-leb 65535 found.facts.links few)) refl refl refl
+          link_accepted = accepts law figured ends counted (Link path other) other v.dir v.count comes.0 (link_reason_is false false file (lt-leb 65535 found.facts.links few)) refl refl refl refl refl
 
           is_file : m found.number ≡ Some (AFile found.facts.links walked.1.0.bytes)
           is_file =

@@ -8,7 +8,7 @@ use Rattle.layout_geometry.specs.Geometry.{Geometry}
 use Rattle.layout_extent.specs.Runs.{stretches}
 use Rattle.layout_bytes.specs.declared.slot.Slot.{Slot}
 use Rattle.layout_bytes.specs.declared.node.Node.{Node}
-use Rattle.layout_bytes.specs.declared.node.NodeKind.TheVariants.{Dir as DirNode, File as FileKind}
+use Rattle.layout_bytes.specs.declared.node.NodeKind.TheVariants.{Dir as DirNode, File as FileKind, Snapshot}
 use Rattle.lang_tree.specs.declared.command.Kind.{Kind}
 use Rattle.lang_tree.specs.declared.command.Kind.TheVariants.{Dir, File}
 use Rattle.lang_tree.specs.Figures.{adding, growth}
@@ -19,7 +19,7 @@ use Rattle.fs_inodes.specs.Changes.{AddsSlot, new_inode, slot_of}
 use Rattle.engine_blocks.specs.State.{Bookkeeping, State, reusable_blocks}
 use Rattle.fs_files.specs.Calls.{files_in, places_in, places_or_none, IsUsed, IsLeastUnused, IsWithFile, IsWithPlaces}
 use Rattle.fs_files.specs.Bytes.{blocks_for}
-use Rattle.fs_files.specs.Drafts.{DraftState, drafted, nothing_drafted}
+use Rattle.fs_files.specs.Drafts.{DraftState, begun_beside, drafted, nothing_drafted}
 use Rattle.fs_files.specs.Effects.{LooksOnly, LooksAndSettles}
 use Rattle.fs_dirs.specs.Changing.{Alters, IsWithSlots}
 use Rattle.fs_dirs.specs.Directories.{inodes_in}
@@ -30,6 +30,7 @@ use Rattle.fs_session.specs.Sessions.{AreUsedBelow, inodes}
 use Rattle.fs_session.specs.Space.{ArePlaced, none_renewed}
 use Rattle.fs_commands.proofs.Placing.{placed_grown, placed_then}
 use Rattle.fs_commands.proofs.Given.{PriceLaw, SumLaw}
+use Rattle.fs_commands.proofs.keeping.Begun.{altered_beside}
 use Rattle.fs_commands.proofs.looking.InUse.{still_used}
 use Rattle.lang_tree.specs.Sharing.{none_shared}
 use Rattle.fs_session.specs.NothingKept.{runs_behind}
@@ -68,17 +69,14 @@ found_is limit n old P Q (Some k) from upto unused before some none = by (cases_
         other (inl low) = let u = before k some.0.from low in absurd (none-some u.0 (sym some.0.unused ∙ u.1))
         other (inr h) = let u = some.0.below n from (omega (arith, h, ne)) in absurd (none-some u.0 (sym unused ∙ u.1))
 
--- a number without an inode is that of no node in use
-pub no_node : (files : Files) → ((k : ℕ) (file : FileNode) → files k ≡ Some file → (i : Inode) × (inode_of file ≡ Some i)) → (k : ℕ) → inodes_of files k ≡ None → files k ≡ None
-no_node files reads k none = by (files k) refl
-  where
-    by : (o : Option FileNode) → files k ≡ o → o ≡ None
-    by None is = refl
-    by (Some f) is = let r = reads k f is in absurd (none-some r.0 (sym none ∙ ap (option_and_then inode_of) is ∙ r.1))
-
 -- a directory is no file
 pub dir_no_file : (slots : List Slot) (links : ℕ) (bytes : List ℕ) → Some (ADir slots) ≡ Some (AFile links bytes) → ⊥
 dir_no_file slots links bytes e = absurd cc
+
+-- a new node is no snapshot
+pub plain_kind : (kind : Kind) → node_kind kind ≢ Snapshot
+plain_kind Dir e = absurd cc
+plain_kind File e = absurd cc
 
 -- what a new node of each kind reads as
 pub first_read : inode_of (record { kind = DirNode; links = 1; bytes = [] }) ≡ Some (new_inode DirThing) → inode_of (record { kind = FileKind; links = 1; bytes = [] }) ≡ Some (new_inode (FileThing []))
@@ -86,9 +84,13 @@ pub first_read : inode_of (record { kind = DirNode; links = 1; bytes = [] }) ≡
 first_read dir file Dir = dir
 first_read dir file File = file
 
--- A slot was added to a draft in which nothing was, and then the node that it names became y.
+-- each node in use that is no snapshot reads as an inode
+abbrev pub DoesRead : Files → Type 0
+DoesRead files = (k : ℕ) (file : FileNode) → files k ≡ Some file → file.kind ≢ Snapshot → (i : Inode) × (inode_of file ≡ Some i)
+
+-- A slot was added to a draft that began beside what is kept, and then the node that it names became y.
 module _ (tells : Bool) (old mid now : State) (d e : DraftState) (dir node : ℕ) (name : List ℕ) (slots : List Slot) (x : Inode) (y : FileNode) (at : inodes old dir ≡ Some (ADir slots)) (apart : dir ≢ node)
-    (reads : (k : ℕ) (file : FileNode) → files_in old nothing_drafted k ≡ Some file → (i : Inode) × (inode_of file ≡ Some i))
+    (reads : DoesRead (files_in old nothing_drafted))
     (slotted : IsWithSlots (files_in old nothing_drafted) (files_in mid d) dir (slots ++ slot_of node name ∷ [])) (set : IsWithFile (files_in mid d) (files_in now e) node (Some y)) (reads_as : inode_of y ≡ Some x) where
   -- the slot is there
   pub slot_added : AddsSlot (inodes old) (inodes_in now e) dir node name x
@@ -100,29 +102,29 @@ module _ (tells : Bool) (old mid now : State) (d e : DraftState) (dir node : ℕ
     others = λ k up other. ap (option_and_then inode_of) (set.others k other) ∙ slotted.inodes.others k up;
   }
 
-  -- each node in use reads as an inode
-  pub all_read : (k : ℕ) (file : FileNode) → files_in now e k ≡ Some file → (i : Inode) × (inode_of file ≡ Some i)
-  all_read k file is = by (cases_eq k node) (cases_eq k dir)
+  -- each node in use that is no snapshot reads as an inode still
+  pub all_read : DoesRead (files_in now e)
+  all_read k file is plain = by (cases_eq k node) (cases_eq k dir)
     where
       by : (k ≡ node) ⊎ (k ≢ node) → (k ≡ dir) ⊎ (k ≢ dir) → (i : Inode) × (inode_of file ≡ Some i)
       by (inl same) o = (x, ap (option_and_then inode_of) (sym is ∙ ap (files_in now e) same ∙ set.own) ∙ reads_as)
       by (inr n) (inl o) = (ADir (slots ++ slot_of node name ∷ []), ap (option_and_then inode_of) (sym is ∙ set.others k n) ∙ ap (inodes_in mid d) o ∙ slotted.inodes.here)
-      by (inr n) (inr o) = reads k file (sym (slotted.others k o) ∙ sym (set.others k n) ∙ is)
+      by (inr n) (inr o) = reads k file (sym (slotted.others k o) ∙ sym (set.others k n) ∙ is) plain
 
-  module _ (alters : Alters 2 (take (growth (length slots)) (reusable_blocks mid.books)) 0 nothing_drafted d) (then_alters : Alters 1 [] 0 d e)
+  module _ (counts : List ℕ) (alters : Alters 2 (take (growth (length slots)) (reusable_blocks mid.books)) 0 (begun_beside counts) d) (then_alters : Alters 1 [] 0 d e)
       (settles : LooksAndSettles tells false false old mid) (looks : LooksOnly tells false mid now) (rests : growth (length slots) ≤ length (reusable_blocks old.books) → LooksOnly tells false old mid)
       (grown : IsWithPlaces (places_of old) (places_in mid d) dir (places_of old dir ++ take (growth (length slots)) (reusable_blocks mid.books))) (then_placed : ArePlaced none_renewed (places_in mid d) (places_in now e) [])
       (room : growth (length slots) ≤ length (reusable_blocks mid.books)) (runs : stretches (places_of old dir ++ take (growth (length slots)) (reusable_blocks mid.books)) ≤ 28)
       (both : SumLaw)
       (priced : PriceLaw)
-      (read : (files : Files) → ((k : ℕ) (file : FileNode) → files k ≡ Some file → (x : Inode) × (inode_of file ≡ Some x)) → AreInodesOf files (inodes_of files)) where
+      (read : (files : Files) → DoesRead files → AreInodesOf files (inodes_of files)) where
     -- the blocks by which the directory grows
     abbrev more : List ℕ
     more = take (growth (length slots)) (reusable_blocks mid.books)
 
     -- what both calls altered
     all : Alters 3 (more ++ []) 0 nothing_drafted e
-    all = both 2 1 0 0 more [] nothing_drafted d e alters then_alters
+    all = altered_beside counts 3 (more ++ []) 0 e (both 2 1 0 0 more [] (begun_beside counts) d e alters then_alters)
 
     -- it costs no more than a name more does
     within : (g : Geometry) → IsWithinCost g e (adding (growth (length slots))).cost

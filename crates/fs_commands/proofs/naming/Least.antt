@@ -1,12 +1,10 @@
 -- The least number that no node has, from a search of the node table.
-use Rattle.std.proofs.Common.{◌≡◌, ◌≢◌, ◌⊎◌, inl, inr, ℕ, zero, suc, ◌+◌, ◌≤◌, ◌<◌, Bool, true, false, cond, is_none, is_some, not, find, List, [], ◌∷◌, Option, None, Some, option_map, option_and_then, Result, Ok, Err, IfOk, IfSome, sym, refl, ap, ◌∙◌, arith}
+use Rattle.std.proofs.Common.{◌≡◌, ◌≢◌, ◌⊎◌, inl, inr, ℕ, zero, suc, ◌+◌, ◌≤◌, ◌<◌, Bool, true, false, cond, is_none, is_some, not, find, List, [], ◌∷◌, Option, None, Some, option_map, Result, Ok, Err, IfOk, IfSome, sym, refl, ap, ◌∙◌, arith}
 use Rattle.std.specs.Prelude.{IfNone}
 use Rattle.std.specs.List.{range_with_len}
 use Rattle.std.proofs.lemmas.Bool.{cases_eq}
 use Rattle.std.proofs.lemmas.Option.{none-some, same_Some}
 use Rattle.crash_stands.specs.Files.{FileNode, Files}
-use Rattle.crash_stands.specs.Inodes.{Inode, Inodes, inode_of, inodes_of}
-use Rattle.fs_inodes.specs.Lookups.{least_free}
 use Rattle.fs_files.specs.declared.refusal.FileRefusal.{FileRefusal}
 use Rattle.fs_files.specs.declared.look.FileFacts.{FileFacts}
 use Rattle.fs_files.specs.Calls.{facts_of, IsUsed, IsLeastUnused}
@@ -32,24 +30,24 @@ first_none test a (suc n) all =
     ap (λ b. cond b (Some a) (find test (range_with_len (a + 1) n))) (all a (omega arith) (omega arith))
     ∙ first_none test (a + 1) n (λ l above below. all l (omega (arith, above)) (omega (arith, below)))
 
-module _ (limit : ℕ) (files : Files) (reads : (k : ℕ) (file : FileNode) → files k ≡ Some file → (x : Inode) × (inode_of file ≡ Some x)) where
-  -- a node in use reads as an inode
-  pub used_inode : (l : ℕ) → IsUsed files l → (x : Inode) × (inodes_of files l ≡ Some x)
-  used_inode l used = let x = reads l used.0 used.1 in (x.0, ap (option_and_then inode_of) used.1 ∙ x.1)
+-- the least of the table that no node in use has
+abbrev pub least_of_files : ℕ → Files → Option ℕ
+least_of_files limit files = find (λ n. is_none (files n)) (range_with_len 1 limit)
 
-  not_free : (l : ℕ) → IsUsed files l → is_none (inodes_of files l) ≡ false
-  not_free l used = ap is_none (used_inode l used).1
+module _ (limit : ℕ) (files : Files) where
+  not_free : (l : ℕ) → IsUsed files l → is_none (files l) ≡ false
+  not_free l used = ap is_none used.1
 
-  pub least_is : (k : ℕ) → IsLeastUnused limit files k → Some k ≡ least_free limit (inodes_of files)
+  pub least_is : (k : ℕ) → IsLeastUnused limit files k → Some k ≡ least_of_files limit files
   least_is k h =
-      sym (first_at (λ n. is_none (inodes_of files n)) 1 limit k h.from (omega (arith, h.upto)) (ap (λ o. is_none (option_and_then inode_of o)) h.unused) (λ l above below. not_free l (h.below l above below)))
+      sym (first_at (λ n. is_none (files n)) 1 limit k h.from (omega (arith, h.upto)) (ap is_none h.unused) (λ l above below. not_free l (h.below l above below)))
 
-  pub none_is : ((l : ℕ) → 1 ≤ l → l ≤ limit → IsUsed files l) → None ≡ least_free limit (inodes_of files)
-  none_is all = sym (first_none (λ n. is_none (inodes_of files n)) 1 limit (λ l above below. not_free l (all l above (omega (arith, below)))))
+  pub none_is : ((l : ℕ) → 1 ≤ l → l ≤ limit → IsUsed files l) → None ≡ least_of_files limit files
+  none_is all = sym (first_none (λ n. is_none (files n)) 1 limit (λ l above below. not_free l (all l above (omega (arith, below)))))
 
   -- what a search of the table answers
   pub least_of : (P : ℕ → Type 0) (Q : Type 0) (r : Result (Option ℕ) FileRefusal) → IfOk r (λ found. IfSome found (λ n. IsLeastUnused limit files n × P n))
-      → IfOk r (λ found. IfNone found (((l : ℕ) → 1 ≤ l → l ≤ limit → IsUsed files l) × Q)) → IfOk r (λ found. found ≡ least_free limit (inodes_of files))
+      → IfOk r (λ found. IfNone found (((l : ℕ) → 1 ≤ l → l ≤ limit → IsUsed files l) × Q)) → IfOk r (λ found. found ≡ least_of_files limit files)
   least_of P Q (Err why) some none = tt
   least_of P Q (Ok None) some none = none_is none.0
   least_of P Q (Ok (Some n)) some none = least_is n some.0
@@ -74,11 +72,6 @@ used_before limit files P (Err why) h = tt
 used_before limit files P (Ok None) h = tt
 used_before limit files P (Ok (Some n)) h = h.0.below
 
--- what an answer says wherever a tree stands
-pub ok_given : {A E T : Type 0} (P : T → Type 0) (Q : A → Type 0) (r : Result A E) → ((t : T) → P t → IfOk r Q) → IfOk r (λ a. (t : T) → P t → Q a)
-ok_given P Q (Ok a) h = h
-ok_given P Q (Err why) h = tt
-
 -- the least number that no node has is none's
 passes : (test : ℕ → Bool) (xs : List ℕ) (k : ℕ) → find test xs ≡ Some k → test k ≡ true
 passes test [] k e = absurd (none-some k e)
@@ -92,5 +85,5 @@ nothing_there : {A : Type 0} (o : Option A) → is_none o ≡ true → o ≡ Non
 nothing_there None e = refl
 nothing_there (Some x) e = absurd cc
 
-pub least_unused : (limit : ℕ) (m : Inodes) (k : ℕ) → least_free limit m ≡ Some k → m k ≡ None
-least_unused limit m k e = nothing_there (m k) (passes (λ n. is_none (m n)) (range_with_len 1 limit) k e)
+pub least_unused : (limit : ℕ) (files : Files) (k : ℕ) → least_of_files limit files ≡ Some k → files k ≡ None
+least_unused limit files k e = nothing_there (files k) (passes (λ n. is_none (files n)) (range_with_len 1 limit) k e)

@@ -11,7 +11,7 @@ use Rattle.lang_tree.specs.Step.{Session, step, answered}
 use Rattle.engine_blocks.specs.Calls.{IsSound}
 use Rattle.engine_blocks.specs.State.{Bookkeeping, State}
 use Rattle.fs_session.specs.declared.plan.Plan.TheVariants.{Answer}
-use Rattle.fs_session.specs.Commands.{figures_on, shared_on, FindsRuns}
+use Rattle.fs_session.specs.Commands.{alone_on, figures_on, shared_on, FindsRuns}
 use Rattle.fs_session.specs.Plans.{IsRight}
 use Rattle.fs_session.specs.Space.{HasRoom, left_of}
 
@@ -29,7 +29,7 @@ runs_for_nothing old settled f cmd e k some grown = absurd (omega (arith, some, 
 -- the tree refuses the command
 pub tree_refuses : (old now : State) (f : Session) (cmd : Cmd) (why : Refusal) → IsSound old.books → now.books ≡ old.books → refusal f.limit f.tree cmd ≡ Some why → IsRight cmd (Answer (Refused why)) old now f
 tree_refuses old now f cmd why sound books e =
-    let none : figures_on old f cmd ≡ nothing = ap (figures_over_by (bitmap_blocks old.books.geom) (shared_on old f) f.tree cmd) e in
+    let none : figures_on old f cmd ≡ nothing = ap (figures_over_by (bitmap_blocks old.books.geom) (shared_on old f) (alone_on old f) f.limit f.tree cmd) e in
     record {
       answer = sym (ap (λ r. (answered f cmd r).1) e);
       session = ap (λ r. (answered f cmd r).0) e;

@@ -1,14 +1,14 @@
 -- Reads and settlings one behind the other, and plans that end with a reply, a draft or a refusal after reads alone.
-use Rattle.std.proofs.Common.{◌≡◌, inl, inr, ℕ, Bool, false, IsTrue, List, None, Some, Result, Ok, Err, refl, sym, subst, ap, ◌∙◌, arith, ◌≤◌, ◌+◌, ◌^◌}
+use Rattle.std.proofs.Common.{◌≡◌, inl, inr, ℕ, Bool, false, IsTrue, List, Option, None, Some, Result, Ok, Err, refl, sym, subst, ap, ◌∙◌, arith, ◌≤◌, ◌+◌, ◌^◌}
 use Rattle.base_types.specs.Counts.{after_call}
 use Rattle.disk_contract.specs.Disk.{writes_in}
 use Rattle.lang_tree.specs.declared.command.Cmd.{Cmd}
 use Rattle.lang_tree.specs.declared.command.Refusal.{Refusal}
 use Rattle.lang_tree.specs.declared.command.Reply.TheVariants.{Ok as Done, Refused}
-use Rattle.lang_tree.specs.Conditions.{refusal}
+use Rattle.lang_tree.specs.Conditions.{least_unused, refusal}
 use Rattle.lang_tree.specs.Figures.{Figures, nothing}
 use Rattle.lang_tree.specs.Step.{Session, step}
-use Rattle.lang_tree.specs.Tree.{Tree}
+use Rattle.lang_tree.specs.Tree.{Snapshots, Tree}
 use Rattle.engine_blocks.specs.State.{Bookkeeping, State}
 use Rattle.engine_blocks.specs.Calls.{IsSound, MovesPipeline}
 use Rattle.engine_blocks.specs.Crashes.{Advances}
@@ -132,7 +132,7 @@ quiet_settling file.NoMemory h = refl
 quiet_settling why h = absurd h
 
 -- no room is no fault of the disk
-lacks_quietly : (k : Bookkeeping) (n : Figures) (why : Refusal) → LacksRoom k n why → (is_read_fault (Err why) ≡ false) × (is_disk_fault (Err why) ≡ false)
+pub lacks_quietly : (k : Bookkeeping) (n : Figures) (why : Refusal) → LacksRoom k n why → (is_read_fault (Err why) ≡ false) × (is_disk_fault (Err why) ≡ false)
 lacks_quietly k n why (inl full) = (ap (λ (w : Refusal). is_read_fault (Err w)) full.is, ap (λ (w : Refusal). is_disk_fault (Err w)) full.is)
 lacks_quietly k n why (inr big) = (ap (λ (w : Refusal). is_read_fault (Err w)) big.is, ap (λ (w : Refusal). is_disk_fault (Err w)) big.is)
 
@@ -200,9 +200,9 @@ module _ {S : Type 0} (tells : Bool) (state : S → State) (rests : Rests tells 
 
     -- the reason that the inode map gives
     pub reason_plan : MapLaw → RefusalLaw → (cmd : Cmd) (old new : S) (why : Refusal) → (state old).books.stopped ≡ false
-        → (IsTrue tells → (u : Tree) → IsTreeOf (state old).books.geom (state old).map u → (limit : ℕ) → reason limit (inodes (state old)) cmd ≡ Some why) → LooksOnly tells false (state old) (state new) → Plans tells cmd (Ok (Answer (Refused why))) (state old) (state new)
+        → (IsTrue tells → (u : Tree) → IsTreeOf (state old).books.geom (state old).map u → (least : Option ℕ) (kept : Snapshots) → reason least kept (inodes (state old)) cmd ≡ Some why) → LooksOnly tells false (state old) (state new) → Plans tells cmd (Ok (Answer (Refused why))) (state old) (state new)
     reason_plan map law cmd old new why going refuses looks =
-        refusal_plan cmd old new why going (λ told f h. law f.limit (inodes (state old)) f.tree cmd (session_map map (state old) f h) ∙ refuses told f.tree h.tree f.limit) looks
+        refusal_plan cmd old new why going (λ told f h. law f.limit (inodes (state old)) f.tree cmd (session_map map (state old) f h) ∙ refuses told f.tree h.tree (least_unused f.limit f.tree) f.tree.snapshots) looks
 
 -- a look that was refused says nothing of growth
 pub cut_growth : (n : ℕ) (with_more : List ℕ → List ℕ) (old new : Bookkeeping) (why : FileRefusal) → LookRefused why → GrowthRefused n with_more old new why

@@ -10,15 +10,17 @@ use Rattle.lang_tree.specs.declared.command.Refusal.TheVariants.{IsDir, NotDir, 
 use Rattle.lang_tree.specs.declared.command.Reply.TheVariants.{Ok as Done}
 use Rattle.lang_tree.specs.Conditions.{refusal, when, first_reason}
 use Rattle.lang_tree.specs.Figures.{removing, release, blocks_for}
-use Rattle.lang_tree.specs.Step.{Session, step, answered}
+use Rattle.lang_tree.specs.Sharing.{BlocksAlone, SharedNodes, alone_from, shared_at}
+use Rattle.lang_tree.specs.Step.{Session, step, answered, changes_snapshots}
+use Rattle.lang_tree.specs.Tree.{Snapshots}
 use Rattle.lang_tree.specs.Walk.{refusal_in}
 use Rattle.crash_stands.specs.Files.{FileNode, Files}
 use Rattle.crash_stands.specs.Inodes.{Inode, Inodes, ADir, AFile, inodes_of}
 use Rattle.crash_stands.specs.Maps.{IsMapOf}
 use Rattle.crash_stands.specs.Walks.{LeadsTo}
 use Rattle.fs_inodes.specs.Changes.{slot_of, TakesSlot}
-use Rattle.fs_inodes.specs.Figures.{accepted_cost, slots_above}
-use Rattle.fs_inodes.specs.Lookups.{is_dir_inode, is_file_inode, has_slots, links_in, bytes_of, walk_on, inode_at}
+use Rattle.fs_inodes.specs.Figures.{accepted_cost_over, blocks_lost, slots_above}
+use Rattle.fs_inodes.specs.Lookups.{is_dir_inode, is_file_inode, has_slots, links_in, bytes_of, walk_on, inode_at, number_at}
 use Rattle.fs_inodes.specs.Refusals.{reason, walk_reason}
 use Rattle.fs_files.specs.declared.look.FileFacts.{FileFacts}
 use Rattle.fs_files.specs.Calls.{facts_of, is_dir}
@@ -27,7 +29,8 @@ use Rattle.fs_commands.specs.declared.paths.Spot.TheVariants.{Inside}
 use Rattle.fs_commands.specs.declared.removing.Named.{Named}
 use Rattle.fs_commands.specs.Figures.{HasFacts}
 use Rattle.fs_commands.specs.Looks.{ComesTo, HasEntry, ShowsFacts}
-use Rattle.fs_commands.specs.Removing.{IsLoss, IsNamed, KnowsLoss, blocks_gone, lose_cmd, lose_reason}
+use Rattle.fs_commands.specs.Removing.{IsLoss, IsNamed, KnowsLoss, lose_cmd, lose_reason}
+use Rattle.fs_session.specs.NothingKept.{puts_no_bytes}
 use Rattle.fs_commands.proofs.FirstReason.{no_reason, no_when}
 use Rattle.fs_commands.proofs.Given.{EndsLaw, PlaceLaw}
 
@@ -53,8 +56,8 @@ entry_slot files dir count name e h law =
     let r = law h.slots name e.place (sym h.place) in
     r.1 ∙ ap (λ n. Some (slot_of n name)) (sym (same_Some e.node.number r.0 (h.node ∙ r.2)))
 
-pub named_entry : (files : Files) (path : List (List ℕ)) (n : Named) (c : ComesTo files path (Ok (Inside n.dir n.count (Some n.entry)))) → PlaceLaw → LeadsTo (inodes_of files) path n.entry.node.number → has_slots (inode_at (inodes_of files) path) ≡ false → IsNamed files c.1 n
-named_entry files path n c law leads bare =
+pub named_entry : (files : Files) (path : List (List ℕ)) (n : Named) (c : ComesTo files path (Ok (Inside n.dir n.count (Some n.entry)))) → PlaceLaw → LeadsTo (inodes_of files) path n.entry.node.number → (inode : Inode) → inodes_of files n.entry.node.number ≡ Some inode → has_slots (inode_at (inodes_of files) path) ≡ false → IsNamed files c.1 n
+named_entry files path n c law leads inode shown bare =
     let h = c.4 in
     record {
       slots = h.slots;
@@ -62,6 +65,8 @@ named_entry files path n c law leads bare =
       count = h.count;
       slot = entry_slot files n.dir n.count c.1 n.entry h law;
       node = record { file = h.facts.0; is = h.facts.1; facts = h.facts.2 };
+      inode = inode;
+      shown = shown;
       bare = ap has_slots (sym (ap (option_and_then (inodes_of files)) leads)) ∙ bare;
     }
 
@@ -88,13 +93,12 @@ bare_facts m path f shows bare = (sym shows.links, by (is_dir f.kind) refl)
 -- The figures.
 
 -- they are those of a name less, with the blocks that go
-pub accepted_removes : (kind : Kind) (bitmap : ℕ) (m : Inodes) (path : List (List ℕ)) (count : ℕ) (f : FileFacts) → lose_reason kind m path ≡ None → count ≡ slots_above m path → HasFacts m path f.links f.size
-    → accepted_cost bitmap m (lose_cmd kind path) ≡ removing bitmap (release count + blocks_gone f)
-accepted_removes File bitmap m path count f accepted above facts =
-    ap₂ (λ c g. removing bitmap (release c + g)) (sym above) (sym (ap₂ (λ l s. if l == 1 then blocks_for s else 0) facts.0 facts.1))
-accepted_removes Dir bitmap m path count f accepted above facts =
-    let gone : blocks_gone f ≡ 0 = none (inode_at m path) file (ap₂ (λ l s. if l == 1 then blocks_for s else 0) facts.0 facts.1) in
-    ap (λ n. removing bitmap n) {x = release (slots_above m path)} {y = release count + blocks_gone f} (omega (arith, ap release above, gone))
+pub accepted_removes : (kind : Kind) (bitmap : ℕ) (shared : SharedNodes) (alone : BlocksAlone) (limit : ℕ) (kept : Snapshots) (m : Inodes) (path : List (List ℕ)) (count gone : ℕ) → lose_reason kind m path ≡ None → count ≡ slots_above m path → gone ≡ blocks_lost shared m path
+    → accepted_cost_over bitmap shared alone limit kept m (lose_cmd kind path) ≡ removing bitmap (release count + gone)
+accepted_removes File bitmap shared alone limit kept m path count gone accepted above lost = ap₂ (λ c g. removing bitmap (release c + g)) (sym above) (sym lost)
+accepted_removes Dir bitmap shared alone limit kept m path count gone accepted above lost =
+    let none : gone ≡ 0 = lost ∙ nothing (inode_at m path) file in
+    ap (λ n. removing bitmap n) {x = release (slots_above m path)} {y = release count + gone} (omega (arith, ap release above, none))
   where
     file : is_file_inode (inode_at m path) ≡ false
     file =
@@ -105,16 +109,25 @@ accepted_removes Dir bitmap m path count f accepted above facts =
     either true n = refl
     either false n = refl
 
-    none : (i : Option Inode) → is_file_inode i ≡ false → blocks_gone f ≡ (if links_in i == 1 then blocks_for (length (bytes_of i)) else 0) → blocks_gone f ≡ 0
-    none None e is = is ∙ either (0 == 1) 0
-    none (Some (ADir slots)) e is = is
-    none (Some (AFile links bytes)) e is = absurd (true≢false e)
+    nothing : (i : Option Inode) → is_file_inode i ≡ false → (if links_in i == 1 then alone_from (shared_at shared (number_at m path)) 0 (blocks_for (length (bytes_of i))) else 0) ≡ 0
+    nothing None e = either (0 == 1) 0
+    nothing (Some (ADir slots)) e = either (links_in (Some (ADir slots)) == 1) 0
+    nothing (Some (AFile links bytes)) e = absurd (true≢false e)
 
 -- What the tree makes of it.
 
-pub reason_is : (kind : Kind) (limit : ℕ) (m : Inodes) (path : List (List ℕ)) → reason limit m (lose_cmd kind path) ≡ lose_reason kind m path
-reason_is File limit m path = refl
-reason_is Dir limit m path = refl
+pub reason_is : (kind : Kind) (least : Option ℕ) (kept : Snapshots) (m : Inodes) (path : List (List ℕ)) → reason least kept m (lose_cmd kind path) ≡ lose_reason kind m path
+reason_is File least kept m path = refl
+reason_is Dir least kept m path = refl
+
+-- it puts no bytes into a file, and leaves the snapshots
+pub lose_puts_none : (kind : Kind) (path : List (List ℕ)) → puts_no_bytes (lose_cmd kind path) ≡ true
+lose_puts_none File path = refl
+lose_puts_none Dir path = refl
+
+pub lose_keeps : (kind : Kind) (path : List (List ℕ)) → changes_snapshots (lose_cmd kind path) ≡ false
+lose_keeps File path = refl
+lose_keeps Dir path = refl
 
 pub loss_done : (kind : Kind) (f : Session) (path : List (List ℕ)) → refusal f.limit f.tree (lose_cmd kind path) ≡ None → (step f (lose_cmd kind path)).1 ≡ Done
 loss_done File f path e = ap (λ r. (answered f (Unlink path) r).1) e
@@ -137,9 +150,9 @@ loss_mapped kind law f m new path up name dir node is map accepted leads takes =
 
 -- What is known of what goes.
 pub known_loss : (kind : Kind) (files : Files) (path : List (List ℕ)) (n : Named) → (loss : IsLoss kind files path n) → PlaceLaw → EndsLaw
-    → n.count ≡ slots_above (inodes_of files) path → (leads : LeadsTo (inodes_of files) path n.entry.node.number) → ((x : FileNode) → files n.entry.node.number ≡ Some x → ShowsFacts (inodes_of files) path (facts_of x))
+    → n.count ≡ slots_above (inodes_of files) path → (leads : LeadsTo (inodes_of files) path n.entry.node.number) → (inode : Inode) → inodes_of files n.entry.node.number ≡ Some inode → ((x : FileNode) → files n.entry.node.number ≡ Some x → ShowsFacts (inodes_of files) path (facts_of x))
     → ((x : FileNode) → files n.entry.node.number ≡ Some x → length x.bytes + 1024 ≤ 2 ^ 30) → KnowsLoss kind files path n
-known_loss kind files path n loss place ends above leads shows fits =
+known_loss kind files path n loss place ends above leads inode shown shows fits =
     let c = loss.comes in
     let bare = accepted_bare kind (inodes_of files) path loss.accepted in
     let x = c.4.facts in
@@ -148,8 +161,9 @@ known_loss kind files path n loss place ends above leads shows fits =
       name = c.1;
       is = c.2;
       leads = ends (inodes_of files) c.0 n.dir c.3;
-      named = named_entry files path n c place leads bare;
+      named = named_entry files path n c place leads inode shown bare;
       above = above;
+      to_node = leads;
       facts = bare_facts (inodes_of files) path n.entry.node.facts (subst (λ (f : FileFacts). ShowsFacts (inodes_of files) path f) (sym x.2) (shows x.0 x.1)) bare;
       small = omega (arith, fits x.0 x.1, ap (λ (f : FileFacts). f.size) x.2);
       accepted = loss.accepted;

@@ -1,5 +1,5 @@
 -- Whether what stands under a name may go, from what its path comes to.
-use Rattle.std.proofs.Common.{◌≡◌, ◌≢◌, ◌≤◌, ℕ, Bool, IsTrue, List, [], ◌∷◌, ◌++◌, length, Option, None, Some, IfSome, Result, Ok, Err, sym, subst, ◌∙◌}
+use Rattle.std.proofs.Common.{◌≡◌, ◌≢◌, ◌≤◌, ℕ, Bool, false, IsTrue, List, [], ◌∷◌, ◌++◌, length, Option, None, Some, IfSome, Result, Ok, Err, sym, subst, ◌∙◌}
 use Rattle.lang_tree.specs.declared.command.Cmd.{Cmd}
 use Rattle.lang_tree.specs.declared.command.Kind.{Kind}
 use Rattle.lang_tree.specs.declared.command.Refusal.{Refusal}
@@ -7,13 +7,18 @@ use Rattle.crash_stands.specs.Files.{Files}
 use Rattle.crash_stands.specs.Inodes.{Inodes, inodes_of}
 use Rattle.fs_inodes.specs.Lookups.{walk_on}
 use Rattle.engine_blocks.specs.State.{State, reusable_blocks}
+use Rattle.fs_files.specs.Calls.{files_in}
+use Rattle.fs_files.specs.Drafts.{nothing_drafted}
+use Rattle.fs_files.specs.Effects.{LooksOnly}
 use Rattle.fs_commands.specs.declared.paths.Entry.{Entry}
 use Rattle.fs_commands.specs.declared.paths.Spot.TheVariants.{Inside}
+use Rattle.fs_commands.specs.declared.removing.Named.{Named}
 use Rattle.fs_session.specs.declared.plan.Plan.{Plan}
 use Rattle.fs_session.specs.Commands.{figures_on}
 use Rattle.fs_commands.specs.Looks.{ComesTo, ShowsFacts, entry_number}
 use Rattle.fs_session.specs.Plans.{Plans, PlanIs}
 use Rattle.fs_commands.specs.Removing.{IsLoss, MayLose, lose_reason}
+use Rattle.fs_commands.proofs.looking.Found.{same_files}
 
 -- a path with a last name isn't the root
 pub not_root : (path up : List (List ℕ)) (name : List ℕ) → path ≡ up ++ name ∷ [] → path ≢ []
@@ -53,3 +58,7 @@ plans_as tells cmd other result s t same plans = record {
   quiet = λ told f h enough. plans.quiet told f h (subst (λ (c : Cmd). (figures_on s f c).need ≤ length (reusable_blocks s.books)) (sym (same told)) enough);
   settles = plans.settles;
 }
+
+-- what goes is there still behind reads
+pub loss_still : (tells : Bool) (s t : State) (kind : Kind) (path : List (List ℕ)) (n : Named) → LooksOnly tells false s t → IsTrue tells → IsLoss kind (files_in s nothing_drafted) path n → IsLoss kind (files_in t nothing_drafted) path n
+loss_still tells s t kind path n looks told loss = subst (λ (files : Files). IsLoss kind files path n) (sym (same_files tells false s t nothing_drafted looks told)) loss

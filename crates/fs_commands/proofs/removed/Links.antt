@@ -5,14 +5,14 @@ use Rattle.std.proofs.lemmas.Option.{none-some, same_Some}
 use Rattle.base_types.specs.Seal.{Blocks}
 use Rattle.layout_geometry.specs.Geometry.{Geometry}
 use Rattle.layout_bytes.specs.declared.node.NodeKind.{NodeKind}
-use Rattle.layout_bytes.specs.declared.node.NodeKind.TheVariants.{Free, Dir, File}
+use Rattle.layout_bytes.specs.declared.node.NodeKind.TheVariants.{Free, Dir, File, Snapshot}
 use Rattle.layout_bytes.specs.Bytes.{when}
-use Rattle.lang_tree.specs.Figures.{blocks_for}
 use Rattle.crash_stands.specs.Files.{FileNode, Files, files_of}
 use Rattle.crash_stands.specs.Inodes.{Inode, AFile, IsInodeOf, inode_by, inode_of, inodes_of}
 use Rattle.fs_inodes.specs.Changes.{one_link_less}
 use Rattle.fs_files.specs.declared.look.FileFacts.{FileFacts}
 use Rattle.fs_files.specs.Calls.{IsWithFile, with_links}
+use Rattle.fs_files.specs.Growing.{alone}
 use Rattle.fs_commands.specs.declared.paths.NodeFound.{NodeFound}
 use Rattle.fs_commands.specs.Removing.{IsFound, LosesLink, blocks_gone}
 use Rattle.fs_commands.proofs.Given.{LinksLaw}
@@ -40,6 +40,7 @@ on_one (Err e) p on = tt
 -- what has more links than one is a file, and reads as one with one link less
 less : (kind : NodeKind) (links : ℕ) (bytes : List ℕ) (inode : Inode) → links ≢ 1 → inode_by kind links bytes ≡ Some inode → IsInodeOf (Some (record { kind = kind; links = links - 1; bytes = bytes })) (one_link_less inode)
 less Free links bytes inode more reads = absurd (none-some inode reads)
+less Snapshot links bytes inode more reads = absurd (none-some inode reads)
 less Dir links bytes inode more reads = absurd (dir_links links bytes inode more reads)
 less File links bytes inode more reads = subst (λ (i : Inode). IsInodeOf (Some (record { kind = File; links = links - 1; bytes = bytes })) (one_link_less i)) (same_Some (AFile links bytes) inode reads) (file (links == 1) refl)
   where
@@ -50,6 +51,7 @@ less File links bytes inode more reads = subst (λ (i : Inode). IsInodeOf (Some 
 -- it has as many links as a number on the disk, of those that a node keeps
 kept_links : (kind : NodeKind) (links : ℕ) (bytes : List ℕ) (inode : Inode) → (1 ≤ links) × (kind ≡ File → links ≤ 65535) → links ≢ 1 → inode_by kind links bytes ≡ Some inode → (2 ≤ links) × (links ≤ 65535)
 kept_links Free links bytes inode has more reads = absurd (none-some inode reads)
+kept_links Snapshot links bytes inode has more reads = absurd (none-some inode reads)
 kept_links Dir links bytes inode has more reads = absurd (dir_links links bytes inode more reads)
 kept_links File links bytes inode has more reads = (omega (arith, has.0, more), has.1 refl)
 
@@ -75,14 +77,13 @@ link_kept old new node found inode n reads more is set =
 -- What is altered.
 
 -- no block goes where a link stays
-pub none_gone : (f : FileFacts) → f.links ≢ 1 → 0 ≡ blocks_gone f
-none_gone f more = by (f.links == 1) refl
+pub none_gone : (kept : ℕ → Bool) (f : FileFacts) (places : List ℕ) → f.links ≢ 1 → 0 ≡ blocks_gone kept f places
+none_gone kept f places more = by (f.links == 1) refl
   where
-    by : (b : Bool) → (f.links == 1) ≡ b → 0 ≡ (if f.links == 1 then blocks_for f.size else 0)
+    by : (b : Bool) → (f.links == 1) ≡ b → 0 ≡ (if f.links == 1 then length (alone kept places) else 0)
     by true e = absurd (more (eqb-true f.links 1 e))
-    by false e = sym (ap (λ b. if b then blocks_for f.size else 0) e)
+    by false e = sym (ap (λ b. if b then length (alone kept places) else 0) e)
 
--- and all of its blocks with the last one
-pub all_gone : (files : Files) (node : NodeFound) (found : IsFound files node) (many : ℕ) → node.facts.links ≡ 1 → many ≡ blocks_for (length found.file.bytes) → many ≡ blocks_gone node.facts
-all_gone files node found many last is =
-    is ∙ ap blocks_for (sym (ap (λ (f : FileFacts). f.size) found.facts)) ∙ sym (ap (λ b. if b then blocks_for node.facts.size else 0) (eq-eqb node.facts.links 1 last))
+-- and all of its own that aren't kept with the last one
+pub all_gone : (kept : ℕ → Bool) (f : FileFacts) (places : List ℕ) → f.links ≡ 1 → length (alone kept places) ≡ blocks_gone kept f places
+all_gone kept f places last = sym (ap (λ b. if b then length (alone kept places) else 0) (eq-eqb f.links 1 last))

@@ -3,9 +3,9 @@ use Rattle.std.proofs.Common.{⊎_elim, ◌≡◌, ◌≢◌, ◌⊎◌, inl, in
 use Rattle.std.proofs.lemmas.Bool.{cases_eq, true≢false, eqb-true, eq-eqb}
 use Rattle.std.proofs.lemmas.Option.{none-some}
 use Rattle.layout_bytes.specs.declared.node.NodeKind.{NodeKind}
-use Rattle.layout_bytes.specs.declared.node.NodeKind.TheVariants.{Free, Dir, File}
+use Rattle.layout_bytes.specs.declared.node.NodeKind.TheVariants.{Free, Dir, File, Snapshot}
 use Rattle.layout_bytes.specs.declared.slot.Slot.{Slot}
-use Rattle.crash_stands.specs.Files.{FileNode, Files}
+use Rattle.crash_stands.specs.Files.{Files}
 use Rattle.crash_stands.specs.Inodes.{Inode, Inodes, ADir, AFile, IsInodeOf, AreInodesOf, inode_by, inode_of, inodes_of}
 use Rattle.fs_inodes.specs.Changes.{one_link_less}
 use Rattle.fs_inodes.specs.Lookups.{has_slots, is_list}
@@ -19,16 +19,6 @@ use Rattle.fs_session.specs.declared.unused.NodeUse.TheVariants.{Dropped, Stays,
 use Rattle.fs_session.specs.Sessions.{KeepsUsed}
 use Rattle.fs_commands.proofs.removed.Links.{dir_links}
 use Rattle.fs_commands.proofs.looking.InUse.{node_there, own_inode, read_still}
-
--- A node and its inode.
-
--- a node in use reads as an inode
-pub used_inode : (files : Files) → AreInodesOf files (inodes_of files) → (k : ℕ) (x : FileNode) → files k ≡ Some x → (inode : Inode) × (inodes_of files k ≡ Some inode)
-used_inode files reads k x is = by (inodes_of files k) refl (subst (λ (o : Option FileNode). IsInodeOf o (inodes_of files k)) is (reads k))
-  where
-    by : (i : Option Inode) → inodes_of files k ≡ i → IsInodeOf (Some x) (inodes_of files k) → (inode : Inode) × (inodes_of files k ≡ Some inode)
-    by None e h = absurd (subst (λ (i : Option Inode). IsInodeOf (Some x) i) e h)
-    by (Some inode) e h = (inode, e)
 
 -- a directory in which a slot has a place isn't a node without slots
 pub apart : (m : Inodes) (dir node place : ℕ) (slots : List Slot) (s : Slot) → m dir ≡ Some (ADir slots) → slice_get slots place ≡ Some s → has_slots (m node) ≡ false → node ≢ dir
@@ -67,6 +57,7 @@ module _ (old new : Files) (k : ℕ) (lost : LosesLink old new k) where
 -- a node with more links than one is in use still
 more_left : (kind : NodeKind) (links : ℕ) (bytes : List ℕ) (inode : Inode) → links ≢ 1 → inode_by kind links bytes ≡ Some inode → (left : Inode) × (one_link_less inode ≡ Some left)
 more_left Free links bytes inode more reads = absurd (none-some inode reads)
+more_left Snapshot links bytes inode more reads = absurd (none-some inode reads)
 more_left Dir links bytes inode more reads = absurd (dir_links links bytes inode more reads)
 more_left File links bytes (ADir slots) more reads = absurd cc
 more_left File links bytes (AFile l b) more reads = by (l == 1) refl
@@ -78,13 +69,12 @@ more_left File links bytes (AFile l b) more reads = by (l == 1) refl
     by true e = absurd (more (same ∙ eqb-true l 1 e))
     by false e = (AFile (l - 1) b, ap (λ t. if t then None else Some (AFile (l - 1) b)) e)
 
-module _ (old new : Files) (node : NodeFound) (lost : LosesLink old new node.number) (found : IsFound old node) (reads : AreInodesOf old (inodes_of old)) where
+module _ (old new : Files) (node : NodeFound) (lost : LosesLink old new node.number) (found : IsFound old node) (inode : Inode) (shown : inodes_of old node.number ≡ Some inode) where
   stays_used : node.facts.links ≢ 1 → IsUsed new node.number
   stays_used more =
       let x = found.file in
-      let inode = used_inode old reads node.number x found.is in
-      let left = more_left x.kind x.links x.bytes inode.0 (λ e. more (ap (λ (f : FileFacts). f.links) found.facts ∙ e)) (sym (ap (option_and_then inode_of) found.is) ∙ inode.1) in
-      let there = node_there (new node.number) left.0 (lost_inode old new node.number lost ∙ ap (option_and_then one_link_less) inode.1 ∙ left.1) in
+      let left = more_left x.kind x.links x.bytes inode (λ e. more (ap (λ (f : FileFacts). f.links) found.facts ∙ e)) (sym (ap (option_and_then inode_of) found.is) ∙ shown) in
+      let there = node_there (new node.number) left.0 (lost_inode old new node.number lost ∙ ap (option_and_then one_link_less) shown ∙ left.1) in
       (there.0, there.1)
 
   -- the other nodes in use stay so, and the node itself where it had more links

@@ -12,7 +12,7 @@ use Rattle.crash_stands.specs.Inodes.{Inodes}
 use Rattle.crash_stands.specs.Maps.{IsMapOf}
 use Rattle.crash_stands.specs.Stands.{IsTreeOf}
 use Rattle.crash_stands.specs.Walks.{LeadsTo}
-use Rattle.fs_inodes.specs.Figures.{cost_by, move_cost}
+use Rattle.fs_inodes.specs.Figures.{cost_over_by, move_cost}
 use Rattle.fs_inodes.specs.Lookups.{number_at, walk_on}
 use Rattle.fs_inodes.specs.Refusals.{parent_reason, rename_reason}
 use Rattle.fs_inodes.specs.Replies.{reply_by}
@@ -20,13 +20,12 @@ use Rattle.engine_blocks.specs.Calls.{IsSound}
 use Rattle.engine_blocks.specs.State.{State}
 use Rattle.fs_files.specs.Effects.{LooksOnly}
 use Rattle.fs_session.specs.declared.plan.Plan.TheVariants.{Answer}
-use Rattle.fs_session.specs.Commands.{figures_on}
+use Rattle.fs_session.specs.Commands.{alone_on, figures_on, shared_on}
 use Rattle.fs_session.specs.Plans.{Plans}
 use Rattle.fs_session.specs.Sessions.{inodes}
 use Rattle.fs_commands.proofs.planning.Looking.{done_plan, reason_plan}
 use Rattle.fs_commands.proofs.renamed.Reasons.{same_accepted, same_is}
 use Rattle.fs_commands.proofs.Given.{RefusalLaw, FiguresLaw, ReplyLaw, MapLaw, Rests, session_map}
-use Rattle.fs_session.specs.NothingKept.{figures_unshared}
 
 -- a rename of a node to itself leaves the session as it is
 abbrev SameLaw : Type 0
@@ -35,7 +34,7 @@ SameLaw = (s : Session) (m : Inodes) (from to : List (List ℕ)) (node : ℕ) �
 -- the tree refuses it
 pub refused_rename : {S : Type 0} (tells : Bool) (state : S → State) → Rests tells state → ((s : S) → IsSound (state s).books) → MapLaw → RefusalLaw → (from to : List (List ℕ)) (old new : S) (why : Refusal) → (state old).books.stopped ≡ false
     → (IsTrue tells → (u : Tree) → IsTreeOf (state old).books.geom (state old).map u → rename_reason (inodes (state old)) from to ≡ Some why) → LooksOnly tells false (state old) (state new) → Plans tells (Rename from to) (Ok (Answer (Refused why))) (state old) (state new)
-refused_rename tells state rests sound map law from to old new why going refuses = reason_plan tells state rests sound map law (Rename from to) old new why going (λ told u h limit. refuses told u h)
+refused_rename tells state rests sound map law from to old new why going refuses = reason_plan tells state rests sound map law (Rename from to) old new why going (λ told u h least kept. refuses told u h)
 
 -- both paths lead to one node
 pub record LeadToOne (m : Inodes) (from to : List (List ℕ)) : Type 0 where
@@ -54,13 +53,13 @@ module _ (s : State) (f : Session) (from to : List (List ℕ)) (map : IsMapOf f.
   stays : ReplyLaw → SameLaw → step f (Rename from to) ≡ (f, Done)
   stays replies same =
       ap₂ (λ (a : Session) b. (a, b)) (same f (inodes s) from to one.node map one.from_leads one.to_leads)
-      (replies f (inodes s) (Rename from to) map refl ∙ ap (reply_by (inodes s) (Rename from to)) one.accepted)
+      (replies f (inodes s) (Rename from to) map refl ∙ ap (reply_by f.tree.snapshots (inodes s) (Rename from to)) one.accepted)
 
   no_figures : FiguresLaw → figures_on s f (Rename from to) ≡ nothing
   no_figures counted =
-      figures_unshared s f (Rename from to) ∙ counted (bitmap_blocks s.books.geom) f (inodes s) (Rename from to) map
-      ∙ ap (cost_by (bitmap_blocks s.books.geom) (inodes s) (Rename from to)) one.accepted
-      ∙ ap (λ b. if b then nothing else move_cost (bitmap_blocks s.books.geom) (inodes s) from to) one.same
+      counted (bitmap_blocks s.books.geom) (shared_on s f) (alone_on s f) f (inodes s) (Rename from to) map
+      ∙ ap (cost_over_by (bitmap_blocks s.books.geom) (shared_on s f) (alone_on s f) f.limit f.tree.snapshots (inodes s) (Rename from to)) one.accepted
+      ∙ ap (λ b. if b then nothing else move_cost (bitmap_blocks s.books.geom) (shared_on s f) (inodes s) from to) one.same
 
 pub same_rename : {S : Type 0} (tells : Bool) (state : S → State) → Rests tells state → ((s : S) → IsSound (state s).books) → MapLaw → ReplyLaw → SameLaw → FiguresLaw → (from to : List (List ℕ)) (old new : S) → (state old).books.stopped ≡ false
     → (IsTrue tells → (u : Tree) → IsTreeOf (state old).books.geom (state old).map u → LeadToOne (inodes (state old)) from to) → LooksOnly tells false (state old) (state new) → Plans tells (Rename from to) (Ok (Answer Done)) (state old) (state new)

@@ -1,7 +1,7 @@
 -- A path that leads to a file, and why another leads to none.
 use Rattle.std.proofs.Common.{◌≡◌, ◌≢◌, ℕ, Bool, false, List, [], ◌∷◌, None, Some, Result, Ok, Err, refl, ap, ap₂}
 use Rattle.layout_bytes.specs.declared.node.NodeKind.{NodeKind}
-use Rattle.layout_bytes.specs.declared.node.NodeKind.TheVariants.{Free, Dir, File}
+use Rattle.layout_bytes.specs.declared.node.NodeKind.TheVariants.{Free, Dir, File, Snapshot}
 use Rattle.lang_tree.specs.declared.command.Refusal.{Refusal}
 use Rattle.lang_tree.specs.declared.command.Refusal.TheVariants.{IsDir}
 use Rattle.lang_tree.specs.Conditions.{when, first_reason}
@@ -11,11 +11,12 @@ use Rattle.fs_inodes.specs.Lookups.{is_dir_inode, inode_at, walk_on}
 use Rattle.fs_inodes.specs.Refusals.{file_reason}
 use Rattle.fs_files.specs.Calls.{is_dir}
 
--- a node in use that is no directory is a file
-pub no_dir : (kind : NodeKind) → kind ≢ Free → is_dir kind ≡ false → kind ≡ File
-no_dir Free used e = absurd (used refl)
-no_dir Dir used e = absurd cc
-no_dir File used e = refl
+-- a node in use that is no directory and no snapshot is a file
+pub no_dir : (kind : NodeKind) → kind ≢ Free → kind ≢ Snapshot → is_dir kind ≡ false → kind ≡ File
+no_dir Free used other e = absurd (used refl)
+no_dir Dir used other e = absurd cc
+no_dir File used other e = refl
+no_dir Snapshot used other e = absurd (other refl)
 
 -- a walk that leads nowhere
 pub walk_fails : (m : Inodes) (path : List (List ℕ)) (why : Refusal) → walk_on m 1 path ≡ Err why → file_reason m path ≡ Some why

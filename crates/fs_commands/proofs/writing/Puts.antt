@@ -1,10 +1,12 @@
 -- The commands that put bytes into a file, as one: what they answer, take and make.
-use Rattle.std.proofs.Common.{◌≡◌, inl, inr, ℕ, ◌<◌, List, length, replicate, None, Some, refl, sym, subst, ap, ◌∙◌}
+use Rattle.std.proofs.Common.{◌≡◌, inl, inr, ℕ, ◌+◌, ◌<◌, min, false, List, length, replicate, None, Some, refl, sym, subst, ap, ◌∙◌}
+use Rattle.std.specs.FinMap.{get}
 use Rattle.lang_tree.specs.declared.command.Cmd.{Cmd}
 use Rattle.lang_tree.specs.declared.command.Cmd.TheVariants.{Write, Fill}
 use Rattle.lang_tree.specs.Conditions.{refusal}
-use Rattle.lang_tree.specs.Figures.{figures, figures_by, write_figures}
-use Rattle.lang_tree.specs.Step.{Session, step, answered, written, write}
+use Rattle.lang_tree.specs.Sharing.{BlocksAlone, SharedNodes, SharedPlaces, figures_over, figures_over_by, is_renewed, shared_at, write_over_figures}
+use Rattle.lang_tree.specs.Tree.{Tree}
+use Rattle.lang_tree.specs.Step.{Session, changes_snapshots, step, answered, written, write}
 use Rattle.lang_tree.specs.Walk.{content}
 use Rattle.crash_stands.specs.Inodes.{Inodes, AFile}
 use Rattle.crash_stands.specs.Maps.{IsMapOf}
@@ -12,6 +14,7 @@ use Rattle.crash_stands.specs.Walks.{LeadsTo}
 use Rattle.fs_inodes.specs.Changes.{Sets}
 use Rattle.fs_inodes.specs.Lookups.{number_at}
 use Rattle.fs_session.specs.Commands.{grown_by}
+use Rattle.fs_session.specs.Space.{grown_in, touched_by}
 use Rattle.fs_commands.specs.Writing.{PutsBytes}
 
 -- what other bytes of a file make of the inode map, for a command
@@ -20,24 +23,35 @@ Maps cmd path offset bytes = (s : Session) (m new : Inodes) (node links : ℕ) (
     → Sets m new node (Some (AFile links (written offset bytes old))) → IsMapOf s.limit new (step s cmd).0.tree
 
 pub record PutsSo (cmd : Cmd) (path : List (List ℕ)) (offset : ℕ) (bytes : List ℕ) : Type 0 where
-  pub takes : (bitmap : ℕ) (f : Session) → refusal f.limit f.tree cmd ≡ None → figures bitmap f cmd ≡ write_figures bitmap (length (content f.tree path)) offset (length bytes)
+  pub takes : (bitmap : ℕ) (shared : SharedNodes) (alone : BlocksAlone) (f : Session) → refusal f.limit f.tree cmd ≡ None
+      → figures_over bitmap shared alone f cmd ≡ write_over_figures bitmap (shared_at shared (get f.tree.names path)) (length (content f.tree path)) offset (length bytes)
   pub answer : (f : Session) → refusal f.limit f.tree cmd ≡ None → (step f cmd).1 ≡ (write f path offset bytes).1
   pub grown : (m : Inodes) → grown_by m cmd ≡ number_at m path
+  pub lies : (f : Session) → grown_in f cmd ≡ get f.tree.names path
+  pub touches : (t : Tree) (shared : SharedPlaces) → touched_by t cmd shared ≡ is_renewed shared (min offset (length (content t path))) (offset + length bytes)
+  pub keeps : changes_snapshots cmd ≡ false
   pub maps : Maps cmd path offset bytes
 
 write_so : (path : List (List ℕ)) (offset : ℕ) (bytes : List ℕ) → Maps (Write path offset bytes) path offset bytes → PutsSo (Write path offset bytes) path offset bytes
 write_so path offset bytes law = record {
-  takes = λ bitmap f accepted. ap (λ r. figures_by bitmap f.tree (Write path offset bytes) r) accepted;
+  takes = λ bitmap shared alone f accepted. ap (λ r. figures_over_by bitmap shared alone f.limit f.tree (Write path offset bytes) r) accepted;
   answer = λ f accepted. ap (λ r. (answered f (Write path offset bytes) r).1) accepted;
   grown = λ m. refl;
+  lies = λ f. refl;
+  touches = λ t shared. refl;
+  keeps = refl;
   maps = law;
 }
 
 fill_so : (path : List (List ℕ)) (offset n byte : ℕ) (bytes : List ℕ) → bytes ≡ replicate n byte → n ≡ length bytes → Maps (Fill path offset n byte) path offset bytes → PutsSo (Fill path offset n byte) path offset bytes
 fill_so path offset n byte bytes is size law = record {
-  takes = λ bitmap f accepted. ap (λ r. figures_by bitmap f.tree (Fill path offset n byte) r) accepted ∙ ap (λ m. write_figures bitmap (length (content f.tree path)) offset m) size;
+  takes = λ bitmap shared alone f accepted. ap (λ r. figures_over_by bitmap shared alone f.limit f.tree (Fill path offset n byte) r) accepted
+      ∙ ap (λ m. write_over_figures bitmap (shared_at shared (get f.tree.names path)) (length (content f.tree path)) offset m) size;
   answer = λ f accepted. ap (λ r. (answered f (Fill path offset n byte) r).1) accepted ∙ ap (λ xs. (write f path offset xs).1) (sym is);
   grown = λ m. refl;
+  lies = λ f. refl;
+  touches = λ t shared. ap (λ m. is_renewed shared (min offset (length (content t path))) (offset + m)) size;
+  keeps = refl;
   maps = law;
 }
 

@@ -2,6 +2,8 @@ use Rattle.std.proofs.Common.{true, false, inl, inr, Err, refl, sym}
 use Rattle.std.proofs.lemmas.Bool.{false≢true}
 use Rattle.lang_tree.specs.declared.command.Refusal.TheVariants.{DiskFault}
 use Rattle.fs_session.specs.Staying.{between_ticks, stands_ticks}
+use Rattle.fs_commands.specs.Known.{counts_in, number_in}
+use Rattle.fs_commands.proofs.snapped.Knows.{knows_same}
 use Rattle.fs_commands.proofs.commands.begin.Goals as goal
 
 pub run-requires-clause-between : goal.run-requires-clause-between
@@ -33,3 +35,11 @@ returns-in-Err-clause-between g c =
 pub run-requires-clause-stands : goal.run-requires-clause-stands
 run-requires-clause-stands g c = λ told.
     stands_ticks g.S.Blocks.tells false (g.S.Blocks.state c.args.blocks.now) (g.S.Blocks.state c.tick.new.self) (record { moves = c.in-Ok.ensures.moves; waits = c.in-Ok.ensures.waits; ticks = c.in-Ok.ensures.ticks; writes = c.in-Ok.ensures.writes; serves = λ told alone well. c.in-Ok.ensures.serves told alone; ring = λ told alone well. c.in-Ok.ensures.ring told alone }) told (c.requires.stands told)
+
+pub run-requires-clause-knows : goal.run-requires-clause-knows
+run-requires-clause-knows g c = λ told.
+    knows_same (g.S.Blocks.state c.args.blocks.now) (g.S.Blocks.state c.tick.new.self) (counts_in c.args.known.now) (number_in c.args.known.now) c.in-Ok.ensures.moves.pipeline.geom (c.in-Ok.ensures.moves.map told) (c.requires.knows told)
+
+pub returns-in-Err-clause-knows : goal.returns-in-Err-clause-knows
+returns-in-Err-clause-knows g c = λ told.
+    knows_same (g.S.Blocks.state c.args.blocks.now) (g.S.Blocks.state c.tick.new.self) (counts_in c.args.known.now) (number_in c.args.known.now) c.in-Err.ensures.moves.pipeline.geom (c.in-Err.ensures.moves.map told) (c.requires.knows told)

@@ -5,13 +5,13 @@ use Rattle.lang_tree.specs.Values.{value_of}
 use Rattle.fs_commands.proofs.figures.new_name_figures.Goals as goal
 
 pub returns-clause-mkdir : goal.returns-clause-mkdir
-returns-clause-mkdir c = λ bitmap m path above.
-    c.figures_come_from_inodes.ensures bitmap m (Mkdir path) (value_of c.adding.result) (c.adding.ensures ∙ ap adding (c.growth.ensures.value ∙ ap growth above))
+returns-clause-mkdir c = λ bitmap shared m path above.
+    c.figures_come_from_inodes.ensures bitmap shared m (Mkdir path) (value_of c.adding.result) (λ alone limit kept. (c.adding.ensures ∙ ap adding (c.growth.ensures.value ∙ ap growth above)))
 
 pub returns-clause-create : goal.returns-clause-create
-returns-clause-create c = λ bitmap m path above.
-    c.figures_come_from_inodes.ensures bitmap m (Create path) (value_of c.adding.result) (c.adding.ensures ∙ ap adding (c.growth.ensures.value ∙ ap growth above))
+returns-clause-create c = λ bitmap shared m path above.
+    c.figures_come_from_inodes.ensures bitmap shared m (Create path) (value_of c.adding.result) (λ alone limit kept. (c.adding.ensures ∙ ap adding (c.growth.ensures.value ∙ ap growth above)))
 
 pub returns-clause-link : goal.returns-clause-link
-returns-clause-link c = λ bitmap m path other above.
-    c.figures_come_from_inodes.ensures bitmap m (Link path other) (value_of c.adding.result) (c.adding.ensures ∙ ap adding (c.growth.ensures.value ∙ ap growth above))
+returns-clause-link c = λ bitmap shared m path other above.
+    c.figures_come_from_inodes.ensures bitmap shared m (Link path other) (value_of c.adding.result) (λ alone limit kept. (c.adding.ensures ∙ ap adding (c.growth.ensures.value ∙ ap growth above)))

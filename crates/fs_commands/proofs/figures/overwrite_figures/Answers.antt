@@ -1,15 +1,20 @@
-use Rattle.std.proofs.Common.{◌∙◌, ap, ap₂}
+use Rattle.std.proofs.Common.{◌∙◌, ◌+◌, ◌==◌, min, ℕ, length, sym, subst, ap, arith}
+use Rattle.std.proofs.lemmas.Bool.{cond-false, ne_eqb}
 use Rattle.lang_tree.specs.declared.command.Cmd.TheVariants.{Write, Fill}
-use Rattle.lang_tree.specs.Figures.{write_figures}
+use Rattle.lang_tree.specs.Figures.{nothing}
+use Rattle.lang_tree.specs.Sharing.{shared_at, shared_met, write_over_figures, writing_over}
 use Rattle.lang_tree.specs.Values.{value_of}
+use Rattle.fs_inodes.specs.Lookups.{bytes_of, inode_at, number_at}
+use Rattle.fs_commands.proofs.counting.Costs.{overwritten_costs}
 use Rattle.fs_commands.proofs.figures.overwrite_figures.Goals as goal
 
 pub returns-clause-write : goal.returns-clause-write
-returns-clause-write c = λ m path bytes size count.
-    c.figures_come_from_inodes.ensures c.args.bitmap m (Write path c.args.offset bytes) (value_of c.write_figures.result)
-    (c.write_figures.ensures ∙ ap₂ (λ a b. write_figures c.args.bitmap a c.args.offset b) size count)
+returns-clause-write c = λ shared m path bytes size count met.
+    c.figures_come_from_inodes.ensures c.args.bitmap shared m (Write path c.args.offset bytes) (value_of c.writing_over.result)
+    (λ alone limit kept. overwritten_costs c.args.bitmap (shared_at shared (number_at m path)) c.args.size (length (bytes_of (inode_at m path))) c.args.offset c.args.count c.args.met c.min.result (value_of c.writing_over.result) c.requires.some size c.min.ensures met (c.writing_over.ensures (shared_at shared (number_at m path)))
+    ∙ ap (λ n. write_over_figures c.args.bitmap (shared_at shared (number_at m path)) (length (bytes_of (inode_at m path))) c.args.offset n) count)
 
 pub returns-clause-fill : goal.returns-clause-fill
-returns-clause-fill c = λ m path byte size.
-    c.figures_come_from_inodes.ensures c.args.bitmap m (Fill path c.args.offset c.args.count byte) (value_of c.write_figures.result)
-    (c.write_figures.ensures ∙ ap (λ a. write_figures c.args.bitmap a c.args.offset c.args.count) size)
+returns-clause-fill c = λ shared m path byte size met.
+    c.figures_come_from_inodes.ensures c.args.bitmap shared m (Fill path c.args.offset c.args.count byte) (value_of c.writing_over.result)
+    (λ alone limit kept. overwritten_costs c.args.bitmap (shared_at shared (number_at m path)) c.args.size (length (bytes_of (inode_at m path))) c.args.offset c.args.count c.args.met c.min.result (value_of c.writing_over.result) c.requires.some size c.min.ensures met (c.writing_over.ensures (shared_at shared (number_at m path))))

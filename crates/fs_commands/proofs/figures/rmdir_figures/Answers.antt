@@ -5,5 +5,5 @@ use Rattle.lang_tree.specs.Values.{value_of}
 use Rattle.fs_commands.proofs.figures.rmdir_figures.Goals as goal
 
 pub returns : goal.returns
-returns c = λ m path above.
-    c.figures_come_from_inodes.ensures c.args.bitmap m (Rmdir path) (value_of c.removing.result) (c.removing.ensures ∙ ap (removing c.args.bitmap) (c.release.ensures.value ∙ ap release above))
+returns c = λ shared m path above.
+    c.figures_come_from_inodes.ensures c.args.bitmap shared m (Rmdir path) (value_of c.removing.result) (λ alone limit kept. c.removing.ensures ∙ ap (removing c.args.bitmap) (c.release.ensures.value ∙ ap release above))

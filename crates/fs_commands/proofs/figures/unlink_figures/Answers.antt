@@ -5,6 +5,6 @@ use Rattle.lang_tree.specs.Values.{value_of}
 use Rattle.fs_commands.proofs.figures.unlink_figures.Goals as goal
 
 pub returns : goal.returns
-returns c = λ m path above facts.
-    c.figures_come_from_inodes.ensures c.args.bitmap m (Unlink path) (value_of c.removing.result)
-    (c.removing.ensures ∙ ap₂ (λ a b. removing c.args.bitmap (a + b)) (c.release.ensures.value ∙ ap release above) (c.blocks_gone.ensures.value m path facts))
+returns c = λ shared m path above gone.
+    c.figures_come_from_inodes.ensures c.args.bitmap shared m (Unlink path) (value_of c.removing.result)
+    (λ alone limit kept. c.removing.ensures ∙ ap₂ (λ a b. removing c.args.bitmap (a + b)) (c.release.ensures.value ∙ ap release above) gone)

@@ -3,7 +3,7 @@ use Rattle.crash_stands.specs.Maps.{IsMapOf}
 use Rattle.fs_inodes.specs.Lookups.{bytes_of, inode_at, is_dir_inode}
 use Rattle.fs_files.specs.declared.look.FileFacts.{FileFacts}
 use Rattle.fs_files.specs.Calls.{files_in}
-use Rattle.fs_files.specs.Drafts.{nothing_drafted}
+use Rattle.fs_files.specs.Drafts.{begun_beside, nothing_drafted}
 use Rattle.fs_dirs.specs.Directories.{inodes_in}
 use Rattle.fs_commands.proofs.writing.Written.{file_bytes, file_reads}
 use Rattle.fs_commands.proofs.found.a_file_is_at_its_path.Goals as goal
@@ -25,5 +25,5 @@ returns g c = λ told f path found h file walk.
       file = ap is_dir_inode (at ∙ file_reads x file.3);
       size = bytes;
       holds = ap (λ (xs : List ℕ). length xs) (c.paths_lead_to_inodes.ensures.bytes s.books.geom.i m f.tree path map) ∙ bytes;
-      most = omega (arith, size, c.a_file_fits_the_disk.ensures nothing_drafted found.number x told (c.a_draft_begins.ensures.draft c.requires.begin.none_bare c.requires.begin.sound) file.1);
+      most = omega (arith, size, c.a_file_fits_the_disk.ensures (begun_beside c.args.shared.now) found.number x told (c.a_draft_may_begin.ensures c.args.shared.now c.requires.begin) file.1);
     }

@@ -12,7 +12,7 @@ use Rattle.fs_commands.proofs.listing.list_from_root.Goals as goal
 pub returns-in_err-show-clause-front : goal.returns-in_err-show-clause-front
 returns-in_err-show-clause-front g c = λ told.
     let s = g.S.Blocks.state c.args.blocks.now in
-    on_err _ _ (whole_front s (g.N.Nodes.nodes s c.args.files.now) _ c.new.ensures.items c.new-2.ensures.items (c.i.ensures ∙ ap (λ (x : Geometry). x.i) c.geom-geom.ensures) c.a_map_is_of_one_tree.ensures.sound c.paths_are_counted.ensures.directory c.a_listing_goes_down.ensures.whole
+    on_err _ _ (whole_front s (g.N.Nodes.nodes s c.args.files.now) _ c.new.ensures.items c.new-2.ensures.items (c.i.ensures ∙ ap (λ (x : Geometry). x.i) c.geom-geom.ensures) c.a_map_is_of_one_tree.ensures.sound c.paths_are_counted.ensures.directory c.a_listing_goes_down.ensures.root
     _ _ (c.in_err-show.ensures.front told))
 
 pub loop-frame-init : goal.loop-frame-init
@@ -22,7 +22,7 @@ loop-frame-init g c =
       looks = c.in_ok-show.ensures.lists.looks;
       faults = c.in_ok-show.ensures.lists.pushes.1;
       numbers = c.in_ok-show.ensures.numbers;
-      text = λ told. whole_writes s (g.N.Nodes.nodes s c.args.files.now) _ c.new.ensures.items c.new-2.ensures.items (c.i.ensures ∙ ap (λ (x : Geometry). x.i) c.geom-geom.ensures) c.a_map_is_of_one_tree.ensures.sound c.paths_are_counted.ensures.directory c.a_listing_goes_down.ensures.whole
+      text = λ told. whole_writes s (g.N.Nodes.nodes s c.args.files.now) _ c.new.ensures.items c.new-2.ensures.items (c.i.ensures ∙ ap (λ (x : Geometry). x.i) c.geom-geom.ensures) c.a_map_is_of_one_tree.ensures.sound c.paths_are_counted.ensures.directory c.a_listing_goes_down.ensures.root
           _ _ _ (c.in_ok-show.ensures.writes told);
     }
 
@@ -65,9 +65,9 @@ returns-in_err-turn-clause-front g c = λ told.
     let s = g.S.Blocks.state c.args.blocks.now in
     let mid = g.S.Blocks.state c.loop-frame.blocks in
     on_err _ _ (turn_front s mid (g.N.Nodes.nodes s c.args.files.now) (g.N.Nodes.nodes mid c.args.files.now) (g.K.Sink.taken c.args.out.now) c.loop-frame.walk c.in-Some.frame _ refl c.in-Some.ensures.items refl (g.K.Sink.taken c.loop-frame.out) (c.loop-frame.invariant.text told)
-    _ c.prefixes_join.ensures.second c.a_listing_goes_down.ensures.whole (map_stays g.S.Blocks.tells false s mid _ _ c.loop-frame.invariant.looks (c.laws.ensures.same false c.args.blocks.now c.loop-frame.blocks c.loop-frame.invariant.looks told)) (c.in_err-turn.ensures.front told))
+    _ c.prefixes_join.ensures.second c.a_listing_goes_down.ensures.root (map_stays g.S.Blocks.tells false s mid _ _ c.loop-frame.invariant.looks (c.laws.ensures.same false c.args.blocks.now c.loop-frame.blocks c.loop-frame.invariant.looks told)) (c.in_err-turn.ensures.front told))
 
 pub returns-clause-all : goal.returns-clause-all
 returns-clause-all g c = λ told m t h.
     let none : c.loop-frame.walk.frames.items ≡ [] = search rules in
-    ended m t c.loop-frame.walk _ _ none (c.a_listing_goes_down.ensures.whole t) h.map.shows.alone (c.loop-frame.invariant.text told m t h)
+    ended m t c.loop-frame.walk _ _ none (c.a_listing_goes_down.ensures.root t) (c.loop-frame.invariant.text told m t h)

@@ -1,6 +1,7 @@
 use Rattle.std.proofs.Common.{Ok, subst}
 use Rattle.lang_tree.specs.declared.command.Cmd.TheVariants.{Link}
 use Rattle.fs_commands.specs.Making.{MayAppear}
+use Rattle.fs_commands.proofs.keeping.Begun.{plain_behind}
 use Rattle.fs_commands.proofs.planning.Behind.{counted_still, may_plan_still, may_appear_still, found_still, used_still}
 use Rattle.fs_commands.proofs.planning.Before.{looked_first}
 use Rattle.fs_commands.proofs.planning.Looking.{refusal_plan, cut_short}
@@ -18,6 +19,9 @@ link_in-requires-clause-there g c = λ told.
 
 pub link_in-requires-clause-used : goal.link_in-requires-clause-used
 link_in-requires-clause-used g c = λ told. used_still g.S.Blocks.tells _ _ c.in-Ok-Ok.ensures.looks told c.args.found.now.number (c.requires.used told)
+
+pub link_in-requires-clause-plain : goal.link_in-requires-clause-plain
+link_in-requires-clause-plain g c = λ told. plain_behind g.S.Blocks.tells _ _ c.in-Ok-Ok.ensures.looks told c.args.found.now.number (c.requires.plain told)
 
 pub returns-in-Ok-Ok-clause-plans : goal.returns-in-Ok-Ok-clause-plans
 returns-in-Ok-Ok-clause-plans g c = λ path walked.

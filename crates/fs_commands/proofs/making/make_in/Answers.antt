@@ -25,12 +25,12 @@ returns-in-Ok-Some-clause-plans g c = λ path appears.
     let looks = c.in-Ok-Some.ensures.looks in
     looked_first g.S.Blocks.tells g.S.Blocks.state c.calls_compose.ensures.rests c.calls_compose.ensures.advances (make_cmd c.args.kind path) _ c.args.blocks.now c.least_unused.new.blocks _ c.requires.may.begin.going looks
     (c.make_node.ensures.plans path (λ told. may_appear_still g.S.Blocks.tells _ _ looks told path (Ok c.args.vacancy.now) (appears told))
-    (λ told. let t = c.requires.may.stands told in least_still g.S.Blocks.tells _ _ looks told c.in-Ok-Some.node (sym (c.in-Ok-Some.ensures.least told t.0 t.1) ∙ c.in-Ok-Some.field-0-is)))
+    (λ told. least_still g.S.Blocks.tells _ _ looks told c.in-Ok-Some.node (sym (c.in-Ok-Some.ensures.least told) ∙ c.in-Ok-Some.field-0-is)))
 
 pub returns-in-Ok-None-clause-plans : goal.returns-in-Ok-None-clause-plans
 returns-in-Ok-None-clause-plans g c = λ path appears.
     refusal_plan g.S.Blocks.tells g.S.Blocks.state c.calls_compose.ensures.rests g.met.S.Blocks.is_sound (make_cmd c.args.kind path) c.args.blocks.now c.least_unused.new.blocks NoNode c.requires.may.begin.going
-    (λ told f h. c.the_tree_makes_nodes.ensures.no_node c.args.blocks.now f c.args.kind path c.args.vacancy.now h (appears told) (sym (c.in-Ok-None.ensures.least told f.tree h.tree) ∙ c.in-Ok-None.field-0-is)) c.in-Ok-None.ensures.looks
+    (λ told f h. c.the_tree_makes_nodes.ensures.no_node c.args.blocks.now f c.args.kind path c.args.vacancy.now h (appears told) (sym (c.in-Ok-None.ensures.least told) ∙ c.in-Ok-None.field-0-is)) c.in-Ok-None.ensures.looks
 
 pub returns-in-Err-clause-plans : goal.returns-in-Err-clause-plans
 returns-in-Err-clause-plans g c = λ path appears.

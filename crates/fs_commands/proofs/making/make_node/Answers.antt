@@ -4,11 +4,14 @@ use Rattle.lang_tree.specs.Step.{Session}
 use Rattle.lang_tree.specs.Values.{value_of}
 use Rattle.fs_inodes.specs.Changes.{new_inode}
 use Rattle.engine_blocks.specs.Running.{Running}
+use Rattle.fs_files.specs.Calls.{files_in}
+use Rattle.fs_files.specs.Drafts.{nothing_drafted}
 use Rattle.fs_dirs.specs.Directories.{inodes_in}
 use Rattle.fs_commands.specs.Making.{AcceptsName, AddsName, first_thing, make_cmd}
 use Rattle.fs_session.specs.declared.unused.NodeUse.TheVariants.{Taken}
 use Rattle.fs_session.specs.Plans.{Plans}
-use Rattle.fs_session.specs.Sessions.{IsSession, inodes}
+use Rattle.fs_session.specs.Sessions.{IsSession}
+use Rattle.fs_commands.proofs.keeping.Leaves.{stands_settled, stays_beside}
 use Rattle.fs_commands.proofs.looking.Found.{settled_files, uses_of}
 use Rattle.fs_commands.proofs.naming.Least.{least_unused}
 use Rattle.fs_commands.proofs.naming.Planning.{named_plan, name_refused}
@@ -35,23 +38,30 @@ returns-in-Ok-draft_node-clause-plans g c = λ path appears least.
     (λ told f h.
     let slots = (accepts told f h).slots in
     let adds : AddsName s new d v.dir node v.name (new_inode (first_thing c.args.kind)) slots = subst (λ name. AddsName s new d v.dir node name (new_inode (first_thing c.args.kind)) slots) c.copy.ensures
-    (c.in-Ok-draft_node.ensures.names told f.tree slots h.tree (least_unused s.books.geom.i (inodes s) node (least told)) (accepts told f h).is_dir) in
+    (c.in-Ok-draft_node.ensures.names told f.tree slots h.tree (least_unused s.books.geom.i (files_in s nothing_drafted) node (least told)) (accepts told f h).is_dir) in
     record {
       node = node;
       name = v.name;
       inode = new_inode (first_thing c.args.kind);
       adds = adds;
       map = c.the_tree_makes_nodes.ensures.map c.args.blocks.now (inodes_in new d) f c.args.kind path v node h (appears told) (least told) adds.adds;
+      stays = stays_beside g.S.Blocks.tells false false s new d c.args.shared.now c.in-Ok-draft_node.ensures.settles c.requires.may.begin c.in-Ok-draft_node.ensures.kept told (c.in-Ok-draft_node.ensures.leaves told);
     })
 
 pub returns-in-Ok-draft_node-clause-made : goal.returns-in-Ok-draft_node-clause-made
 returns-in-Ok-draft_node-clause-made g c =
+    let s = g.S.Blocks.state c.args.blocks.now in
+    let new = g.S.Blocks.state c.draft_node.new.blocks in
+    let d = c.in-Ok-draft_node.draft in
     let settles = c.in-Ok-draft_node.ensures.settles in
     record {
       draft = c.in-Ok-draft_node.ensures.draft;
-      kept = c.in-Ok-draft_node.ensures.kept;
+      sound = λ told sound m drafted.
+          let t = stands_settled g.S.Blocks.tells false false s new settles told (c.requires.may.stands told) in
+          c.a_draft_that_leaves_snapshots_makes_its_tree.ensures.sound told d m t.0 t.1 c.in-Ok-draft_node.ensures.draft
+          (stays_beside g.S.Blocks.tells false false s new d c.args.shared.now settles c.requires.may.begin c.in-Ok-draft_node.ensures.kept told (c.in-Ok-draft_node.ensures.leaves told)) drafted;
       weight = omega (arith, c.in-Ok.ensures.room.weight, ap (λ (r : Running). r.weight) settles.pipeline.running, settles.pipeline.room);
-      used = λ told. uses_of (Taken c.args.node) (g.S.Blocks.state c.args.blocks.now) (g.S.Blocks.state c.draft_node.new.blocks) c.in-Ok-draft_node.draft (settled_files g.S.Blocks.tells false false _ _ settles told) (c.in-Ok-draft_node.ensures.used told);
+      used = λ told. uses_of (Taken c.args.node) s new d (settled_files g.S.Blocks.tells false false s new settles told) (c.in-Ok-draft_node.ensures.used told);
     }
 
 pub returns-in-Err-draft_node-clause-plans : goal.returns-in-Err-draft_node-clause-plans
@@ -62,4 +72,4 @@ returns-in-Err-draft_node-clause-plans g c = λ path appears least.
     subst (λ why. Plans g.S.Blocks.tells (make_cmd c.args.kind path) (Err why) s new) (sym c.refusal_of.ensures)
     (name_refused g.S.Blocks.tells (make_cmd c.args.kind path) s new v.dir v.count (value_of c.new_name_figures-figures.result) c.requires.may.begin.going (c.new_name_figures-figures.ensures.value ∙ ap (λ n. adding (growth n)) c.from.ensures)
     c.in-Ok.ensures.room (λ told f h. c.the_tree_makes_nodes.ensures.accepted c.args.blocks.now f c.args.kind path v c.args.node h (appears told) (least told)) c.in-Err-draft_node.ensures.quiet
-    (g.met.S.Blocks.is_sound c.draft_node.new.blocks) c.a_disk_is_small.ensures.disk (λ told. c.a_disk_is_small.ensures.places told c.requires.may.begin v.dir) c.in-Err-draft_node.why c.in-Err-draft_node.ensures.settles c.in-Err-draft_node.ensures.refused)
+    (g.met.S.Blocks.is_sound c.draft_node.new.blocks) c.a_disk_is_small.ensures.disk (λ told. c.a_disk_is_small.ensures.places told c.args.shared.now c.requires.may.begin v.dir) c.in-Err-draft_node.why c.in-Err-draft_node.ensures.settles c.in-Err-draft_node.ensures.refused)

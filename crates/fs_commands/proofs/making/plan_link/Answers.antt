@@ -1,6 +1,7 @@
 use Rattle.std.proofs.Common.{Ok, subst}
 use Rattle.lang_tree.specs.declared.command.Cmd.TheVariants.{Link}
 use Rattle.fs_commands.specs.Looks.{LeadsToFound}
+use Rattle.fs_commands.proofs.keeping.Begun.{plain_behind, walked_plain}
 use Rattle.fs_commands.proofs.planning.Behind.{may_plan_still, found_still}
 use Rattle.fs_commands.proofs.planning.Before.{looked_first}
 use Rattle.fs_commands.proofs.planning.Looking.{refusal_plan, cut_short}
@@ -10,6 +11,14 @@ use Rattle.fs_commands.proofs.making.plan_link.Goals as goal
 
 pub link_to-requires-clause-may : goal.link_to-requires-clause-may
 link_to-requires-clause-may g c = may_plan_still g.S.Blocks.tells _ _ c.in-Ok-Ok.ensures.looks c.requires.may
+
+pub link_to-requires-clause-plain : goal.link_to-requires-clause-plain
+link_to-requires-clause-plain g c = λ told.
+    let s = g.S.Blocks.state c.args.blocks.now in
+    let t = c.requires.may.stands told in
+    let found = subst (LeadsToFound (files_in s nothing_drafted) c.args.path.now) c.in-Ok-Ok.field-0-is (c.in-Ok-Ok.ensures.found told t.0 t.1) in
+    plain_behind g.S.Blocks.tells _ _ c.in-Ok-Ok.ensures.looks told c.in-Ok-Ok.found.number
+    (walked_plain c.walks_are_the_same.ensures.ends s.books.geom.i (files_in s nothing_drafted) t.0 c.args.path.now c.in-Ok-Ok.found.number (c.blocks_have_the_map_of_their_tree.ensures.map s.books.geom s.map t.0 t.1) found.0)
 
 pub returns-in-Ok-Ok-clause-plans : goal.returns-in-Ok-Ok-clause-plans
 returns-in-Ok-Ok-clause-plans g c =

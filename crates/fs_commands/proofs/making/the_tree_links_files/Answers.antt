@@ -16,5 +16,5 @@ returns g c =
       refused = λ s f path other found why h walked e. link_refused (g.S.Blocks.state s) f h (map (g.S.Blocks.state s) f h) law path other ends found walked why e;
       directory = λ s f path other found v h walked e dir. link_directory (g.S.Blocks.state s) f h (map (g.S.Blocks.state s) f h) law path other ends found walked comes.parent comes.number v e dir;
       many = λ s f path other found v h walked e file most. link_many (g.S.Blocks.state s) f h (map (g.S.Blocks.state s) f h) law path other ends found walked comes.parent comes.number v e file most;
-      accepted = λ s f path other found v h walked e file few. link_made (g.S.Blocks.state s) f h (map (g.S.Blocks.state s) f h) law path other ends found walked comes.parent comes.number v e c.the_map_gives_the_costs.ensures comes.slots file few c.a_new_path_is_mapped.ensures.link;
+      accepted = λ s f path other found v h walked e file few. link_made (g.S.Blocks.state s) f h (map (g.S.Blocks.state s) f h) law path other ends found walked comes.parent comes.number v e c.the_map_gives_the_figures.ensures.over comes.slots file few c.a_new_path_is_mapped.ensures.link;
     }

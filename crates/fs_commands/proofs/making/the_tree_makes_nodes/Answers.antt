@@ -11,10 +11,11 @@ returns g c =
     let law = c.the_map_gives_the_refusal.ensures.refusal in
     let ends = c.walks_are_the_same.ensures.ends in
     let comes = c.what_a_path_comes_to_gives_the_walk.ensures in
+    let least = c.counts_tell_what_is_shared.ensures.least in
     record {
       refused = λ s f kind path why h e. node_refused (g.S.Blocks.state s) f h (map (g.S.Blocks.state s) f h) law kind path why e;
-      no_node = λ s f kind path v h e least. no_node_left (g.S.Blocks.state s) f h (map (g.S.Blocks.state s) f h) law kind path comes.parent comes.number v e least;
-      accepted = λ s f kind path v node h e least. node_accepted (g.S.Blocks.state s) f h (map (g.S.Blocks.state s) f h) law kind path comes.parent comes.number v e c.the_map_gives_the_costs.ensures ends comes.slots node least;
-      map = λ s new f kind path v node h e least adds. node_mapped (g.S.Blocks.state s) f h (map (g.S.Blocks.state s) f h) law kind path comes.parent comes.number v e ends c.a_new_node_is_mapped.ensures.mkdir c.a_new_node_is_mapped.ensures.create new node
-          (node_accepted (g.S.Blocks.state s) f h (map (g.S.Blocks.state s) f h) law kind path comes.parent comes.number v e c.the_map_gives_the_costs.ensures ends comes.slots node least).accepted least adds;
+      no_node = λ s f kind path v h e none. no_node_left (g.S.Blocks.state s) f h (map (g.S.Blocks.state s) f h) law kind path comes.parent comes.number (least s f h) v e none;
+      accepted = λ s f kind path v node h e is. node_accepted (g.S.Blocks.state s) f h (map (g.S.Blocks.state s) f h) law kind path comes.parent comes.number (least s f h) v e c.the_map_gives_the_figures.ensures.over ends comes.slots node is;
+      map = λ s new f kind path v node h e is adds. node_mapped (g.S.Blocks.state s) f h (map (g.S.Blocks.state s) f h) law kind path comes.parent comes.number (least s f h) v e ends c.a_new_node_is_mapped.ensures.mkdir c.a_new_node_is_mapped.ensures.create new node
+          (node_accepted (g.S.Blocks.state s) f h (map (g.S.Blocks.state s) f h) law kind path comes.parent comes.number (least s f h) v e c.the_map_gives_the_figures.ensures.over ends comes.slots node is).accepted is adds;
     }

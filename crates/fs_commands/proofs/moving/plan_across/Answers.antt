@@ -1,6 +1,7 @@
 use Rattle.std.proofs.Common.{◌++◌, false, take, None, Err, refl, sym, subst, ap, ◌∙◌, arith, IsTrue, ℕ, List}
 use Rattle.std.proofs.lemmas.Option.{same_Some}
 use Rattle.layout_geometry.specs.Geometry.{Geometry, bitmap_blocks}
+use Rattle.layout_extent.specs.Renew.{renew}
 use Rattle.lang_tree.specs.declared.command.Cmd.TheVariants.{Rename}
 use Rattle.lang_tree.specs.declared.command.Refusal.{Refusal}
 use Rattle.lang_tree.specs.Figures.{Figures, growth, release}
@@ -8,11 +9,12 @@ use Rattle.lang_tree.specs.Values.{value_of}
 use Rattle.engine_blocks.specs.Running.{Running}
 use Rattle.engine_blocks.specs.State.{reusable_blocks}
 use Rattle.fs_files.specs.Calls.{GrowthRefused, files_in}
-use Rattle.fs_session.specs.Commands.{GrowsInRuns, IsCalm, places_of}
-use Rattle.fs_session.specs.Plans.{Plans}
-use Rattle.fs_session.specs.Sessions.{inodes, IsSession}
-use Rattle.fs_commands.proofs.growing.Refused.{growth_refused}
-use Rattle.fs_commands.proofs.moved.Planned.{across_counted, counted_as, grown_into, may_move_away, move_made, planned_move, MoveIs, move_is}
+use Rattle.fs_session.specs.Commands.{GrowsInRuns, IsCalm, figures_on, places_of, renewed_on}
+use Rattle.fs_session.specs.Plans.{Plans, StaysBeside}
+use Rattle.fs_session.specs.Sessions.{IsSession}
+use Rattle.fs_commands.proofs.keeping.Looked.{settled_sound, settled_stays}
+use Rattle.fs_commands.proofs.growing.Refused.{growth_refused, refused_alike}
+use Rattle.fs_commands.proofs.moved.Planned.{across_counted, counted_as, grown_into, may_move_away, move_made, move_renews, move_stands, planned_move, MoveIs, move_is}
 use Rattle.fs_session.specs.declared.unused.NodeUse.TheVariants.{Stays}
 use Rattle.fs_commands.proofs.looking.Found.{settled_files}
 use Rattle.fs_commands.proofs.planning.Looking.{growth_plan, full_plan}
@@ -23,9 +25,9 @@ use Rattle.lang_tree.specs.Step.{Session}
 use Rattle.fs_files.specs.Drafts.{nothing_drafted}
 use Rattle.fs_session.specs.Space.{HasRoom}
 use Rattle.fs_commands.proofs.moving.plan_across.Goals as goal
-use Rattle.fs_commands.proofs.moving.plan_across.Goals.{After-moving-figures}
+use Rattle.fs_commands.proofs.moving.plan_across.Goals.{After-moving-figures, In-Ok-draft_across}
 use Rattle.lang_tree.specs.Sharing.{none_shared}
-use Rattle.fs_session.specs.NothingKept.{grows_so_far}
+use Rattle.fs_session.specs.NothingKept.{grows_unrenewed}
 
 -- what is known of the rename, and that it is weighed by its figures
 weighed : (g : given.Over) (c : goal.After-moving-figures g) (from to : List (List ℕ)) → IsTrue g.S.Blocks.tells → IsMove (files_in (g.S.Blocks.state c.args.blocks.now) nothing_drafted) from to c.args.source.now c.args.into c.args.count None c.args.other.now → (f : Session) → IsSession (g.S.Blocks.state c.args.blocks.now) f
@@ -35,7 +37,7 @@ weighed g c from to told move f h =
     let map = session_map c.blocks_have_the_map_of_their_tree.ensures.map s f h in
     let known = c.a_move_is_known.ensures.knows told from to c.args.source.now c.args.into c.args.count None c.args.other.now move in
     move_is s f from to c.args.source.now c.args.into c.args.count None c.args.other.now (growth c.args.count) (release c.args.source.now.count) _ known map move.accepted c.the_map_gives_the_refusal.ensures.refusal
-    (across_counted s f from to c.args.source.now c.args.other.now map move.accepted c.the_map_gives_the_costs.ensures c.args.into c.args.count known c.paths_lead_to_inodes.ensures.in_one c.requires.apart)
+    (across_counted s f from to c.args.source.now c.args.other.now map move.accepted c.the_map_gives_the_figures.ensures.over c.args.into c.args.count known c.paths_lead_to_inodes.ensures.in_one c.requires.apart)
     (counted_as c.bitmap_blocks-bitmap.result c.growth.result c.release.result (bitmap_blocks s.books.geom) (growth c.args.count) (release c.args.source.now.count) _ c.moving-figures.ensures
     (c.bitmap_blocks-bitmap.ensures ∙ ap (λ (k : Geometry). bitmap_blocks k) c.geom.ensures) (c.growth.ensures.value ∙ ap growth c.from.ensures) (c.release.ensures.value ∙ ap release c.from-2.ensures))
 
@@ -50,6 +52,11 @@ returns-in-Err-clause-plans g c = λ from to move.
     full_plan g.S.Blocks.tells g.S.Blocks.state c.calls_compose.ensures.rests (Rename from to) c.args.blocks.now (value_of c.moving-figures.result) c.in-Err.why c.requires.may.begin.going c.in-Err.ensures.refused
     (λ told f h. let a = weighed g (goal.at.returns-in-Err-clause-plans g c).After-moving-figures from to told (move told) f h in (a.accepted, a.figures))
 
+-- the snapshots stay as they are
+stays : (g : given.Over) (c : goal.In-Ok-draft_across g) → IsTrue g.S.Blocks.tells → StaysBeside c.in-Ok-draft_across.draft (g.S.Blocks.state c.draft_across.new.blocks)
+stays g c = settled_stays g.S.Blocks.tells (g.S.Blocks.state c.args.blocks.now) (g.S.Blocks.state c.draft_across.new.blocks) c.args.shared.now c.in-Ok-draft_across.draft
+    c.in-Ok-draft_across.ensures.settles c.requires.may c.in-Ok-draft_across.ensures.kept c.in-Ok-draft_across.ensures.leaves
+
 pub returns-in-Ok-draft_across-clause-plans : goal.returns-in-Ok-draft_across-clause-plans
 returns-in-Ok-draft_across-clause-plans g c = λ from to move.
     let s = g.S.Blocks.state c.args.blocks.now in
@@ -57,17 +64,18 @@ returns-in-Ok-draft_across-clause-plans g c = λ from to move.
     let source = c.args.source.now in
     let fs = value_of c.moving-figures.result in
     let settles = c.in-Ok-draft_across.ensures.settles in
-    let weighs = λ (told : IsTrue g.S.Blocks.tells). weighed g (goal.at.returns-in-Ok-draft_across-clause-plans g c).After-moving-figures from to told (move told) in
+    let at = goal.at.returns-in-Ok-draft_across-clause-plans g c in
+    let weighs = λ (told : IsTrue g.S.Blocks.tells). weighed g at.After-moving-figures from to told (move told) in
     record {
       is = λ told f h.
           let a = weighs told f h in
           let may = may_move_away s from to source c.args.into c.args.count c.args.other.now c.requires.apart a.known in
           let grows = c.in-Ok-draft_across.ensures.grows told a.known.name may in
           planned_move s now f from to source c.args.into c.args.count None c.args.other.now 5 (release source.count) (growth c.args.count) fs (take (growth c.args.count) (reusable_blocks now.books)) c.in-Ok-draft_across.draft Stays a
-          (c.in-Ok-draft_across.ensures.moves told a.known.name may) c.in-Ok.ensures.room
+          (c.in-Ok-draft_across.ensures.moves told a.known.name may) (stays g at.In-Ok-draft_across told) c.in-Ok.ensures.room
           (omega arith) refl grows.enough (c.in-Ok-draft_across.ensures.rests told a.known.name may) settles.pipeline.geom
-          (λ k some grown. grows_so_far s f (Rename from to) now.books k _ (subst (λ n. GrowsInRuns none_shared s now.books k n) (sym (ap (λ (n : Figures). n.need) a.counted))
-          (subst (λ l. GrowsInRuns none_shared s now.books l (growth c.args.count)) (same_Some c.args.into k (sym (grown_into (inodes s) from to source.dir c.args.into a.known.name c.args.other.now a.known.paths) ∙ grown)) grows)))
+          (λ k some grown. grows_unrenewed s f (Rename from to) (move_renews s f from to) now.books k _ (subst (λ n. GrowsInRuns none_shared s now.books k n) (sym (ap (λ (n : Figures). n.need) a.counted))
+          (subst (λ l. GrowsInRuns none_shared s now.books l (growth c.args.count)) (same_Some c.args.into k (sym (grown_into s from to source.dir c.args.into a.known.name c.args.other.now a.known.paths) ∙ grown)) grows)))
           c.a_move_is_mapped.ensures.rename c.the_map_gives_the_reply.ensures.reply c.alterations_add_up.ensures.price;
       going = c.requires.may.begin.going;
       quiet = λ told f h.
@@ -81,7 +89,8 @@ returns-in-Ok-draft_across-clause-made g c =
     let s = g.S.Blocks.state c.args.blocks.now in
     let source = c.args.source.now in
     let pipeline = c.in-Ok-draft_across.ensures.settles.pipeline in
-    move_made g.S.Blocks.tells s (g.S.Blocks.state c.draft_across.new.blocks) c.in-Ok-draft_across.draft (value_of c.moving-figures.result) c.in-Ok-draft_across.ensures.draft c.in-Ok-draft_across.ensures.kept
+    move_made g.S.Blocks.tells s (g.S.Blocks.state c.draft_across.new.blocks) c.in-Ok-draft_across.draft (value_of c.moving-figures.result) c.in-Ok-draft_across.ensures.draft
+    (settled_sound g.S.Blocks.tells s (g.S.Blocks.state c.draft_across.new.blocks) c.args.shared.now c.in-Ok-draft_across.draft c.in-Ok-draft_across.ensures.settles c.requires.may c.in-Ok-draft_across.ensures.kept c.in-Ok-draft_across.ensures.leaves c.a_draft_that_leaves_snapshots_makes_its_tree.ensures.sound c.in-Ok-draft_across.ensures.draft)
     (ap (λ (r : Running). r.weight) pipeline.running) pipeline.room c.in-Ok.ensures.room (settled_files g.S.Blocks.tells false false _ _ c.in-Ok-draft_across.ensures.settles)
     (λ told.
     let m = c.requires.known told in
@@ -100,9 +109,10 @@ returns-in-Err-draft_across-clause-plans g c = λ from to move.
     (λ told f h.
     let a = weighs told f h in
     growth_refused s now f (Rename from to) c.args.into (g.met.S.Blocks.is_sound c.draft_across.new.blocks) c.in-Err-draft_across.ensures.settles.pipeline c.a_disk_is_small.ensures.disk a.accepted (subst (λ (n : Figures). HasRoom s.books n) (sym a.figures) c.in-Ok.ensures.room)
-    (grown_into (inodes s) from to source.dir c.args.into a.known.name c.args.other.now a.known.paths) (c.a_disk_is_small.ensures.places told c.requires.may.begin c.args.into) why
+    (grown_into s from to source.dir c.args.into a.known.name c.args.other.now a.known.paths) (c.a_disk_is_small.ensures.places told c.args.shared.now c.requires.may.begin c.args.into) why
+    (refused_alike (figures_on s f (Rename from to)).need (λ more. places_of s c.args.into ++ more) (λ more. renew (renewed_on s f (Rename from to) c.args.into) 0 (places_of s c.args.into) more) s.books now.books (move_stands s f from to c.args.into) why
     (subst (λ n. GrowthRefused n (λ more. places_of s c.args.into ++ more) s.books now.books why) (sym (ap (λ (n : Figures). n.need) a.counted))
-    (c.in-Err-draft_across.ensures.refused told a.known.name (may_move_away s from to source c.args.into c.args.count c.args.other.now c.requires.apart a.known))))
+    (c.in-Err-draft_across.ensures.refused told a.known.name (may_move_away s from to source c.args.into c.args.count c.args.other.now c.requires.apart a.known)))))
     (λ told f h.
     let a = weighs told f h in
     subst (λ n. IsCalm n s now) (sym (ap (λ (n : Figures). n.need) a.counted)) (c.in-Err-draft_across.ensures.quiet told a.known.name (may_move_away s from to source c.args.into c.args.count c.args.other.now c.requires.apart a.known)))

@@ -1,63 +1,30 @@
-use Rattle.std.proofs.Common.{ap, ◌∙◌, IsTrue, ℕ, List}
-use Rattle.layout_geometry.specs.Geometry.{Geometry, bitmap_blocks}
-use Rattle.lang_tree.specs.Values.{value_of}
-use Rattle.fs_commands.specs.Removing.{lose_cmd, IsLoss}
-use Rattle.fs_session.specs.Sessions.{inodes, IsSession}
-use Rattle.fs_commands.proofs.planning.Looking.{full_plan, looked_change, cut_short}
-use Rattle.fs_commands.proofs.removed.Accepted.{law_of}
-use Rattle.fs_commands.proofs.removed.Planned.{LossIs, loss_is, makes_loss, loss_made}
-use Rattle.fs_commands.proofs.removing.plan_name_loss.Given as given
-use Rattle.fs_commands.proofs.Given.{session_map}
-use Rattle.lang_tree.specs.Step.{Session}
-use Rattle.fs_files.specs.Calls.{files_in}
-use Rattle.fs_files.specs.Drafts.{nothing_drafted}
+use Rattle.fs_commands.specs.Removing.{lose_cmd}
+use Rattle.fs_commands.proofs.planning.Before.{looked_first}
+use Rattle.fs_commands.proofs.planning.Behind.{loses_still, may_plan_still}
+use Rattle.fs_commands.proofs.planning.Looking.{cut_short}
+use Rattle.fs_commands.proofs.removed.Decided.{loss_still}
 use Rattle.fs_commands.proofs.removing.plan_name_loss.Goals as goal
-use Rattle.fs_commands.proofs.removing.plan_name_loss.Goals.{After-loss_figures-figures}
 
--- what goes, and that the command is weighed by its figures
-weighed : (g : given.Over) (c : goal.After-loss_figures-figures g) (path : List (List ℕ)) → IsTrue g.S.Blocks.tells → IsLoss c.args.kind (files_in (g.S.Blocks.state c.args.blocks.now) nothing_drafted) path c.args.named.now → (f : Session) → IsSession (g.S.Blocks.state c.args.blocks.now) f
-    → LossIs c.args.kind (g.S.Blocks.state c.args.blocks.now) path c.args.named.now f (value_of c.loss_figures-figures.result)
-weighed g c path told loss f h =
-    let s = g.S.Blocks.state c.args.blocks.now in
-    let known = c.what_goes_is_known.ensures told f.tree c.args.kind path c.args.named.now h.tree loss in
-    loss_is c.args.kind s path c.args.named.now f _ c.bitmap_blocks-bitmap.result known (session_map c.blocks_have_the_map_of_their_tree.ensures.map s f h) c.the_map_gives_the_refusal.ensures.refusal c.the_map_gives_the_costs.ensures
-    (c.bitmap_blocks-bitmap.ensures ∙ ap (λ (k : Geometry). bitmap_blocks k) c.geom.ensures) (c.loss_figures-figures.ensures (inodes s) path known.above known.facts known.small)
+pub plan_loss_of-requires-clause-may : goal.plan_loss_of-requires-clause-may
+plan_loss_of-requires-clause-may g c = may_plan_still g.S.Blocks.tells _ _ c.in-Ok.ensures.looks c.requires.may
 
-pub draft_loss-requires-clause-named : goal.draft_loss-requires-clause-named
-draft_loss-requires-clause-named g c = λ told.
+pub plan_loss_of-requires-clause-loss : goal.plan_loss_of-requires-clause-loss
+plan_loss_of-requires-clause-loss g c = λ told.
+    let loss = c.requires.loss told in
+    (loss.0, loss_still g.S.Blocks.tells _ _ c.args.kind loss.0 c.args.named.now c.in-Ok.ensures.looks told loss.1)
+
+pub plan_loss_of-requires-clause-gone : goal.plan_loss_of-requires-clause-gone
+plan_loss_of-requires-clause-gone g c = λ told.
     let t = c.requires.may.stands told in
     let loss = c.requires.loss told in
     let known = c.what_goes_is_known.ensures told t.0 c.args.kind loss.0 c.args.named.now t.1 loss.1 in
-    (known.name, known.named)
+    loses_still g.S.Blocks.tells _ _ c.in-Ok.ensures.looks told c.args.shared.now c.args.named.now.entry.node c.in-Ok.gone (c.in-Ok.ensures.gone told known.small)
+
+pub returns-in-Ok-clause-plans : goal.returns-in-Ok-clause-plans
+returns-in-Ok-clause-plans g c = λ path loss.
+    looked_first g.S.Blocks.tells g.S.Blocks.state c.calls_compose.ensures.rests c.calls_compose.ensures.advances (lose_cmd c.args.kind path) _ c.args.blocks.now c.blocks_gone.new.blocks _ c.requires.may.begin.going c.in-Ok.ensures.looks
+    (c.plan_loss_of.ensures.plans path (λ told. loss_still g.S.Blocks.tells _ _ c.args.kind path c.args.named.now c.in-Ok.ensures.looks told (loss told)))
 
 pub returns-in-Err-clause-plans : goal.returns-in-Err-clause-plans
 returns-in-Err-clause-plans g c = λ path loss.
-    full_plan g.S.Blocks.tells g.S.Blocks.state c.calls_compose.ensures.rests (lose_cmd c.args.kind path) c.args.blocks.now (value_of c.loss_figures-figures.result) c.in-Err.why c.requires.may.begin.going c.in-Err.ensures.refused
-    (λ told f h. let a = weighed g (goal.at.returns-in-Err-clause-plans g c).After-loss_figures-figures path told (loss told) f h in (a.accepted, a.figures))
-
-pub returns-in-Ok-draft_loss-clause-plans : goal.returns-in-Ok-draft_loss-clause-plans
-returns-in-Ok-draft_loss-clause-plans g c = λ path loss.
-    let looks = c.in-Ok-draft_loss.ensures.looks in
-    looked_change g.S.Blocks.tells g.S.Blocks.state c.calls_compose.ensures.rests (lose_cmd c.args.kind path) c.args.blocks.now c.draft_loss.new.blocks c.in-Ok-draft_loss.draft (value_of c.loss_figures-figures.result).cost c.use_after.result c.requires.may.begin.going
-    (λ told f h.
-    let a = weighed g (goal.at.returns-in-Ok-draft_loss-clause-plans g c).After-loss_figures-figures path told (loss told) f h in
-    makes_loss c.args.kind (g.S.Blocks.state c.args.blocks.now) path c.args.named.now f _ a (g.S.Blocks.state c.draft_loss.new.blocks) c.in-Ok-draft_loss.draft c.in-Ok.ensures.room (c.in-Ok-draft_loss.ensures.loses told a.known.name a.known.named)
-    (law_of c.args.kind c.a_lost_path_is_mapped.ensures.unlink c.a_lost_path_is_mapped.ensures.rmdir) c.small_drafts_are_within_the_cost.ensures.removing looks.books)
-    looks
-
-pub returns-in-Ok-draft_loss-clause-made : goal.returns-in-Ok-draft_loss-clause-made
-returns-in-Ok-draft_loss-clause-made g c =
-    let s = g.S.Blocks.state c.args.blocks.now in
-    let now = g.S.Blocks.state c.draft_loss.new.blocks in
-    let n = c.args.named.now in
-    loss_made g.S.Blocks.tells s now c.in-Ok-draft_loss.draft n (value_of c.loss_figures-figures.result) c.use_after.result c.in-Ok-draft_loss.ensures.draft c.in-Ok-draft_loss.ensures.kept c.in-Ok-draft_loss.ensures.looks c.in-Ok.ensures.room
-    c.use_after.ensures
-    (λ told.
-    let t = c.requires.may.stands told in
-    let loss = c.requires.loss told in
-    let known = c.what_goes_is_known.ensures told t.0 c.args.kind loss.0 n t.1 loss.1 in
-    (c.in-Ok-draft_loss.ensures.loses told known.name known.named).used)
-
-pub returns-in-Err-draft_loss-clause-plans : goal.returns-in-Err-draft_loss-clause-plans
-returns-in-Err-draft_loss-clause-plans g c = λ path loss.
-    cut_short g.S.Blocks.tells g.S.Blocks.state c.calls_compose.ensures.rests (lose_cmd c.args.kind path) c.args.blocks.now c.draft_loss.new.blocks c.in-Err-draft_loss.why c.refusal_of.result c.refusal_of.ensures c.requires.may.begin.going c.in-Err-draft_loss.ensures.refused c.in-Err-draft_loss.ensures.looks
+    cut_short g.S.Blocks.tells g.S.Blocks.state c.calls_compose.ensures.rests (lose_cmd c.args.kind path) c.args.blocks.now c.blocks_gone.new.blocks c.in-Err.why c.refusal_of.result c.refusal_of.ensures c.requires.may.begin.going c.in-Err.ensures.refused c.in-Err.ensures.looks

@@ -18,7 +18,7 @@ use Rattle.fs_commands.proofs.renaming.plan_entry_move.Goals.{After-move_refusal
 
 pub returns-then-is_node-clause-plans : goal.returns-then-is_node-clause-plans
 returns-then-is_node-clause-plans g c =
-    same_rename g.S.Blocks.tells g.S.Blocks.state c.calls_compose.ensures.rests g.met.S.Blocks.is_sound c.blocks_have_the_map_of_their_tree.ensures.map c.the_map_gives_the_reply.ensures.reply c.what_changes_nothing_keeps_the_map.ensures.same_node c.the_map_gives_the_costs.ensures c.args.from.now c.args.to.now c.args.blocks.now c.args.blocks.now c.requires.may.begin.going
+    same_rename g.S.Blocks.tells g.S.Blocks.state c.calls_compose.ensures.rests g.met.S.Blocks.is_sound c.blocks_have_the_map_of_their_tree.ensures.map c.the_map_gives_the_reply.ensures.reply c.what_changes_nothing_keeps_the_map.ensures.same_node c.the_map_gives_the_figures.ensures.over c.args.from.now c.args.to.now c.args.blocks.now c.args.blocks.now c.requires.may.begin.going
     (λ told tree h.
     let shown = c.what_is_found_is_shown.ensures.entry told tree c.args.from.now c.args.ends.now.source.dir c.args.ends.now.source.count (Some c.args.ends.now.source.entry) h (c.requires.comes told) in
     let law = c.what_a_path_comes_to_gives_the_walk.ensures in

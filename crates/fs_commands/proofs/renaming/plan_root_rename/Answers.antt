@@ -18,7 +18,7 @@ returns-in-Err-clause-plans g c =
 
 pub returns-in-Root-clause-plans : goal.returns-in-Root-clause-plans
 returns-in-Root-clause-plans g c =
-    same_rename g.S.Blocks.tells g.S.Blocks.state c.calls_compose.ensures.rests g.met.S.Blocks.is_sound c.blocks_have_the_map_of_their_tree.ensures.map c.the_map_gives_the_reply.ensures.reply c.what_changes_nothing_keeps_the_map.ensures.same_node c.the_map_gives_the_costs.ensures [] c.args.to.now c.args.blocks.now c.look_up.new.blocks c.requires.may.begin.going
+    same_rename g.S.Blocks.tells g.S.Blocks.state c.calls_compose.ensures.rests g.met.S.Blocks.is_sound c.blocks_have_the_map_of_their_tree.ensures.map c.the_map_gives_the_reply.ensures.reply c.what_changes_nothing_keeps_the_map.ensures.same_node c.the_map_gives_the_figures.ensures.over [] c.args.to.now c.args.blocks.now c.look_up.new.blocks c.requires.may.begin.going
     (λ told tree h.
     let comes = subst (ComesTo (files_in (g.S.Blocks.state c.args.blocks.now) nothing_drafted) c.args.to.now) (c.in-Ok-spot.is ∙ ap Ok c.in-Root.is) (c.in-Ok.ensures.comes told tree h) in
     let law = c.what_a_path_comes_to_gives_the_walk.ensures in

@@ -28,7 +28,7 @@ returns-in-Ok-Ok-clause-plans g c =
 pub returns-in-Ok-Err-clause-plans : goal.returns-in-Ok-Err-clause-plans
 returns-in-Ok-Err-clause-plans g c =
     reason_plan g.S.Blocks.tells g.S.Blocks.state c.calls_compose.ensures.rests g.met.S.Blocks.is_sound c.blocks_have_the_map_of_their_tree.ensures.map c.the_map_gives_the_refusal.ensures.refusal (Truncate c.args.path.now c.args.size) c.args.blocks.now c.find_file.new.blocks c.in-Ok-Err.why c.requires.may.begin.going
-    (λ told t h limit. first_more _ _ (when (is_too_large c.args.size) TooLarge ∷ []) c.in-Ok-Err.why (subst (LeadsToFile (files_in (g.S.Blocks.state c.args.blocks.now) nothing_drafted) c.args.path.now) c.in-Ok-Err.field-0-is (c.in-Ok-Err.ensures.file told t h))) c.in-Ok-Err.ensures.looks
+    (λ told t h least kept. first_more _ _ (when (is_too_large c.args.size) TooLarge ∷ []) c.in-Ok-Err.why (subst (LeadsToFile (files_in (g.S.Blocks.state c.args.blocks.now) nothing_drafted) c.args.path.now) c.in-Ok-Err.field-0-is (c.in-Ok-Err.ensures.file told t h))) c.in-Ok-Err.ensures.looks
 
 pub returns-in-Err-clause-plans : goal.returns-in-Err-clause-plans
 returns-in-Err-clause-plans g c =

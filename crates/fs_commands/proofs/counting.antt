@@ -1,0 +1,4 @@
+pub mod Costs
+pub mod Touched
+pub mod Nodes
+pub mod Met

@@ -1,0 +1,14 @@
+pub mod Bytes
+pub mod Live
+pub mod Kept
+pub mod Sizes
+pub mod Drafting
+pub mod Answers
+pub mod Placed
+pub mod Added
+pub mod Planned
+pub mod Lines
+pub mod Knows
+pub mod Counted
+pub mod Made
+pub mod Fresh

@@ -1,0 +1,23 @@
+use Rattle.std.proofs.Common.{false, ◌≡◌, ◌+◌, ◌-◌, ◌<◌, ap, ap₂, ◌∙◌, arith}
+use Rattle.layout_geometry.specs.Geometry.{table_start}
+use Rattle.crash_stands.specs.Places.{table_blocks}
+use Rattle.fs_files.specs.Places.{looks_more}
+use Rattle.fs_commands.proofs.gathered.Tables.{table_read}
+use Rattle.fs_commands.proofs.snapped.Bytes.{table_more}
+use Rattle.fs_commands.proofs.snapshot_drafts.push_table.Goals as goal
+
+pub loop-slot-preserved : goal.loop-slot-preserved
+loop-slot-preserved g c =
+    let s = g.S.Blocks.state c.args.blocks.now in
+    let t = g.S.Blocks.state c.loop-slot.blocks in
+    let slot = c.loop-slot.slot in
+    let e = c.geom-geom.ensures in
+    let count : c.data_start.result - c.table_start.result ≡ table_blocks s.books.geom = ap₂ (λ a b. a - b) c.data_start.ensures c.table_start.ensures ∙ ap table_blocks e in
+    let place : c.table_start-in-loop-slot.result + slot ≡ table_start s.books.geom + slot = ap (λ n. n + slot) (c.table_start-in-loop-slot.ensures ∙ ap table_start e) in
+    let low : slot < table_blocks s.books.geom = omega (arith, count, c.loop-slot-test.true) in
+    record {
+      looks = looks_more g.S.Blocks.tells false s t (g.S.Blocks.state c.get.new.self) c.loop-slot.invariant.looks
+          (record { books = c.in_ok-get.ensures.books; counts = c.in_ok-get.ensures.counts; map = c.in_ok-get.ensures.map; crash = c.in_ok-get.ensures.crash });
+      bytes = λ told. table_more s.books.geom s.map c.args.bytes.now.items c.loop-slot.bytes.items c.push_kept.new.bytes.items c.get.new.into slot (c.loop-slot.invariant.bytes told) c.in_ok-push_kept.ensures.bytes
+          (table_read g.S.Blocks.tells s t slot _ c.get.new.into c.loop-slot.invariant.looks told place low (λ defined. c.in_ok-get.ensures.block told defined));
+    }

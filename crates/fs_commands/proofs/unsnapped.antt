@@ -1,0 +1,10 @@
+pub mod Going
+pub mod Once
+pub mod Counts
+pub mod Lost
+pub mod Keepers
+pub mod Taken
+pub mod Planned
+pub mod Found
+pub mod Known
+pub mod Rest
