@@ -6,8 +6,8 @@ ghost use Rattle.disk_memory.specs.MemDisk.{state_of as disk_state};
 ghost use Rattle.engine_store.specs.StoreOf.{state_of};
 ghost use Rattle.lang_tree.specs.Listing.{listing};
 ghost use Rattle.lang_tree.specs.Step.{Session};
-ghost use Rattle.fs_commands.specs.Opened.{blocks_in, unused_in};
-ghost use Rattle.fs_session.specs.Sessions.{IsBetween, IsSession};
+ghost use Rattle.fs_commands.specs.Opened.{IsReady, blocks_in};
+ghost use Rattle.fs_session.specs.Sessions.{IsSession};
 ghost use Rattle.cmd_host.specs.Listed.{IsReadable};
 
 use crate::text::TextSink;
@@ -23,7 +23,7 @@ use std::alloc::Global;
 /// # Errors
 /// Out of memory.
 pub fn listing_text(alloc: Global, fs: &mut Fs<Store<MemDisk>>) -> Result<Vec<u8>, NoMemory>
-    requires between { IsBetween true (state_of disk_state (blocks_in fs.old)) (unused_in fs.old) }
+    requires ready { IsReady true (λ s. state_of disk_state s) fs.old }
     requires going { (state_of disk_state (blocks_in fs.old)).books.stopped ≡ false }
     requires readable { IsReadable (state_of disk_state (blocks_in fs.old)) }
     ensures { IfOk result (λ text. (f : Session) → IsSession (state_of disk_state (blocks_in fs.old)) f → text.items ≡ listing f.tree) }

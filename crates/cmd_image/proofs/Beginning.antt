@@ -1,5 +1,5 @@
 -- How a run begins: over a store that was just mounted, whose file system was opened.
-use Rattle.std.proofs.Common.{◌≡◌, ℕ, ◌+◌, Bool, false, true, true≢false, IsTrue, List, [], ◌∷◌, length, take, take_all, Option, None, refl, sym, ap, ap₂, ◌∙◌, subst, arith}
+use Rattle.std.proofs.Common.{◌≡◌, ℕ, ◌+◌, Bool, false, true, true≢false, IsTrue, List, [], ◌∷◌, length, take, take_all, Option, None, sym, ap, ap₂, ◌∙◌, subst, arith}
 use mathlib.Core.Path.{fun_ext}
 use Rattle.base_types.specs.Seal.{Blocks}
 use Rattle.disk_contract.specs.declared.bay.Mark.{Mark}
@@ -20,6 +20,7 @@ use Rattle.fs_files.specs.Calls.{places_of}
 use Rattle.fs_files.specs.Effects.{LooksOnly}
 use Rattle.fs_session.specs.DiskRoom.{IsRoomOf}
 use Rattle.fs_session.specs.Memory.{room_of}
+use Rattle.fs_session.specs.Snapshots.{kept_lists}
 use Rattle.fs_session.specs.Room.{left_in}
 use Rattle.fs_session.specs.Serving.{room_on}
 use Rattle.fs_session.specs.Sessions.{IsSession}
@@ -55,7 +56,7 @@ module _ (tells : Bool) (told : IsTrue tells) (first : disk.State) (s : State) (
     held = ap (λ (k : Bookkeeping). k.running.held) looks.books ∙ begun.held;
     is_room = subst (λ (k : Geometry). IsRoomOf k root (room_of u)) (ap (λ (k : Bookkeeping). k.geom) looks.books) (room root session);
     places = λ k. ap (λ (m : Blocks). places_of u.books.geom m k) (looks.map told) ∙ ap (λ (b : Bookkeeping). places_of b.geom s.map k) looks.books;
-    kept = λ name k. refl;
+    kept = λ name k. ap (λ (m : Blocks). kept_lists u.books.geom m name k) (looks.map told) ∙ ap (λ (b : Bookkeeping). kept_lists b.geom s.map name k) looks.books;
     all = all;
   }
 

@@ -5,7 +5,7 @@ use Rattle.base_types.specs.Counts.{after_call}
 use Rattle.base_types.specs.Seal.{Blocks}
 use Rattle.layout_geometry.specs.Geometry.{Geometry}
 use Rattle.lang_tree.specs.declared.command.Cmd.{Cmd}
-use Rattle.lang_tree.specs.declared.command.Cmd.TheVariants.{Mkdir, Create, Write, Fill, Read, Truncate, Link, Unlink, Rmdir, Rename, Stat, List as ListNames, Osync, Dsync, Durable, Dwait, Poll, Bad}
+use Rattle.lang_tree.specs.declared.command.Cmd.TheVariants.{Mkdir, Create, Write, Fill, Read, Truncate, Link, Unlink, Rmdir, Rename, Stat, List as ListNames, Snap, Unsnap, Snaps, At, Osync, Dsync, Durable, Dwait, Poll, Bad}
 use Rattle.lang_tree.specs.declared.command.Refusal.{Refusal}
 use Rattle.lang_tree.specs.declared.command.Refusal.TheVariants as because
 use Rattle.lang_tree.specs.declared.command.Reply.{Reply}
@@ -42,6 +42,10 @@ none_or_one (Rmdir path) = inr (λ e. false≢true (ap is_none e))
 none_or_one (Rename from to) = inr (λ e. false≢true (ap is_none e))
 none_or_one (Stat path) = inr (λ e. false≢true (ap is_none e))
 none_or_one (ListNames path) = inr (λ e. false≢true (ap is_none e))
+none_or_one (Snap name) = inr (λ e. false≢true (ap is_none e))
+none_or_one (Unsnap name) = inr (λ e. false≢true (ap is_none e))
+none_or_one Snaps = inr (λ e. false≢true (ap is_none e))
+none_or_one (At name look) = inr (λ e. false≢true (ap is_none e))
 
 -- A failed read was counted once, or none, and so was another call that failed, by which blocks that went on stop; and where the blocks have stopped such a call was counted.
 pub record Counted (unread failed : Bool) (old new : State) : Type 0 where
@@ -79,6 +83,7 @@ calm_refusal because.Stopped of = (refl, refl)
 calm_refusal because.Spent of = (refl, refl)
 calm_refusal because.NoMemory of = (refl, refl)
 calm_refusal (because.NoPoint last) of = (refl, refl)
+calm_refusal because.NoSnap of = (refl, refl)
 
 calm_reply : (r : Reply) → ((why : Refusal) → r ≡ replies.Refused why → (is_of_disk why ≡ false) ⊎ (why ≡ because.NoMemory)) → (is_unread r ≡ false) × (is_failed r ≡ false)
 calm_reply replies.Ok of = (refl, refl)
@@ -173,6 +178,10 @@ module _ {S : Type 0} (tells : Bool) (state : S → State) where
   ran (Rename from to) result mid new runs = carried (Rename from to) result mid new runs
   ran (Stat path) result mid new runs = carried (Stat path) result mid new runs
   ran (ListNames path) result mid new runs = carried (ListNames path) result mid new runs
+  ran (Snap name) result mid new runs = carried (Snap name) result mid new runs
+  ran (Unsnap name) result mid new runs = carried (Unsnap name) result mid new runs
+  ran Snaps result mid new runs = carried Snaps result mid new runs
+  ran (At name look) result mid new runs = carried (At name look) result mid new runs
   ran Bad result mid new runs = carried Bad result mid new runs
 
   -- the counts of a tick in which no call failed, and those of what came behind it
@@ -265,6 +274,10 @@ module _ {S : Type 0} (tells : Bool) (state : S → State) where
       says_ran (Rename from to) result mid h runs = says_carried (Rename from to) result mid h runs
       says_ran (Stat path) result mid h runs = says_carried (Stat path) result mid h runs
       says_ran (ListNames path) result mid h runs = says_carried (ListNames path) result mid h runs
+      says_ran (Snap name) result mid h runs = says_carried (Snap name) result mid h runs
+      says_ran (Unsnap name) result mid h runs = says_carried (Unsnap name) result mid h runs
+      says_ran Snaps result mid h runs = says_carried Snaps result mid h runs
+      says_ran (At name look) result mid h runs = says_carried (At name look) result mid h runs
       says_ran Bad result mid h runs = says_carried Bad result mid h runs
 
       -- a command that is refused at once, by no call of the disk

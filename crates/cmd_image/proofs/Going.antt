@@ -1,5 +1,5 @@
 -- A run of one command more.
-use Rattle.std.proofs.Common.{◌≡◌, ◌⊎◌, inl, inr, ℕ, ◌+◌, ◌-◌, ◌*◌, ◌^◌, ◌<◌, ◌≤◌, Bool, false, true, IsTrue, List, [], ◌∷◌, ◌++◌, length, length-append, take, take_all, slice_get, Some, refl, sym, ap, ◌∙◌, subst, arith}
+use Rattle.std.proofs.Common.{◌≡◌, ◌⊎◌, inl, inr, ℕ, ◌+◌, ◌-◌, ◌*◌, ◌^◌, ◌<◌, ◌≤◌, Bool, true, IsTrue, List, [], ◌∷◌, ◌++◌, length, length-append, take, take_all, slice_get, Some, refl, sym, ap, ◌∙◌, subst, arith}
 use Rattle.std.proofs.lemmas.List.{take-append-le}
 use Rattle.std.proofs.lemmas.Bool.{leb-true}
 use Rattle.base_types.specs.Seal.{Blocks}
@@ -9,7 +9,7 @@ use Rattle.disk_contract.specs.Cell.{has_lost}
 use Rattle.disk_contract.specs.Disk as disk
 use Rattle.disk_contract.specs.Disk.{writes_in}
 use Rattle.disk_contract.specs.Manner.{Manner, HasFailedBy}
-use Rattle.layout_geometry.specs.Geometry.{Geometry, bitmap_blocks}
+use Rattle.layout_geometry.specs.Geometry.{Geometry}
 use Rattle.crash_argument.specs.Points.{MountedSession}
 use Rattle.lang_tree.specs.declared.command.Cmd.{Cmd}
 use Rattle.lang_tree.specs.declared.command.Refusal.TheVariants as because
@@ -21,8 +21,8 @@ use Rattle.engine_blocks.specs.Crashes.{Advances}
 use Rattle.engine_blocks.specs.State.{Bookkeeping, State}
 use Rattle.fs_session.specs.Applying.{is_spent}
 use Rattle.fs_session.specs.Sessions.{IsSession}
-use Rattle.cmd_session.specs.Budget.{KeepsBudget, SpendsByMarks, weight_after}
-use Rattle.cmd_session.specs.Going.{GoesByLog, session_at}
+use Rattle.cmd_session.specs.Budget.{KeepsBudget, SpendsByMarks}
+use Rattle.cmd_session.specs.Going.{GoesByLog}
 use Rattle.cmd_session.specs.Histories.{session_after}
 use Rattle.cmd_session.specs.Pacing.{Pace}
 use Rattle.cmd_session.specs.Serving.{HasServed}
@@ -64,8 +64,7 @@ pub record Stepped (cmd : Cmd) (reply : Reply) (mark : Mark) (s u : State) : Typ
   pub budget : (g : Geometry) (t : Tree) (mounted begun : ℕ) (cmds : List Cmd) (replies : List Reply) (moments : List ℕ) → HasServed g t mounted cmds replies moments s → KeepsBudget g t begun cmds replies s → KeepsBudget g t begun (cmds ++ cmd ∷ []) (replies ++ reply ∷ []) u
   pub spends : (g : Geometry) (t : Tree) (mounted : ℕ) (cmds : List Cmd) (replies : List Reply) (moments : List ℕ) → HasServed g t mounted cmds replies moments s → KeepsBudget g t (writes_in (take mounted u.crash.log)) (cmds ++ cmd ∷ []) (replies ++ reply ∷ []) u
       → SpendsByMarks g (session_on g.i t) mounted s.crash.log cmds replies moments → SpendsByMarks g (session_on g.i t) mounted u.crash.log (cmds ++ cmd ∷ []) (replies ++ reply ∷ []) (moments ++ length u.crash.log ∷ [])
-  pub goes : (mount : MountedSession) (base : Blocks) (m : Manner) (first : Pace) (t : Tree) (cmds : List Cmd) (replies : List Reply) (moments : List ℕ) → HasServed mount.geom t mount.mounted cmds replies moments s → (s.books.stopped ≡ false → s.books.running.weight ≡ weight_after (bitmap_blocks mount.geom) (session_at mount t) 0 cmds replies)
-      → GoesByLog mount base m first t cmds replies moments s → GoesByLog mount base m first t (cmds ++ cmd ∷ []) (replies ++ reply ∷ []) (moments ++ length u.crash.log ∷ []) u
+  pub goes : (mount : MountedSession) (base : Blocks) (m : Manner) (first : Pace) (t : Tree) (cmds : List Cmd) (replies : List Reply) (moments : List ℕ) → HasServed mount.geom t mount.mounted cmds replies moments s → GoesByLog mount base m first t cmds replies moments s → GoesByLog mount base m first t (cmds ++ cmd ∷ []) (replies ++ reply ∷ []) (moments ++ length u.crash.log ∷ []) u
   pub advances : Advances s u
   pub turns : u.books.turns ≤ s.books.turns + 2 ^ 20
   pub counted : (f : Session) → IsSession s f → Counted (is_unread reply) (is_failed reply) s u
@@ -87,11 +86,8 @@ module _ (first : disk.State) (cmd : Cmd) (reply : Reply) (mark : Mark) (s u : S
   at_mount : HasServed h.mount.geom h.tree h.mount.mounted cmds replies h.moments s
   at_mount = subst (λ (g : Geometry). HasServed g h.tree h.mount.mounted cmds replies h.moments s) (sym h.is_mount.geom) (subst (λ (n : ℕ). HasServed h.geom h.tree n cmds replies h.moments s) (sym h.is_mount.mounted) h.served)
 
-  weighs : s.books.stopped ≡ false → s.books.running.weight ≡ weight_after (bitmap_blocks h.mount.geom) (session_at h.mount h.tree) 0 cmds replies
-  weighs = subst (λ (g : Geometry). s.books.stopped ≡ false → s.books.running.weight ≡ weight_after (bitmap_blocks g) (session_on g.i h.tree) 0 cmds replies) (sym h.is_mount.geom) h.budget.weight
-
   goes_now : GoesByLog h.mount first.base first.manner (pace_at_mount first h.mounted (session_on h.geom.i h.tree) h.first_room) h.tree (cmds ++ cmd ∷ []) (replies ++ reply ∷ []) (h.moments ++ length u.crash.log ∷ []) u
-  goes_now = step.goes h.mount first.base first.manner (pace_at_mount first h.mounted (session_on h.geom.i h.tree) h.first_room) h.tree cmds replies h.moments at_mount weighs h.goes
+  goes_now = step.goes h.mount first.base first.manner (pace_at_mount first h.mounted (session_on h.geom.i h.tree) h.first_room) h.tree cmds replies h.moments at_mount h.goes
 
   -- the first events are the same
   front : take h.mounted u.crash.log ≡ take h.mounted s.crash.log

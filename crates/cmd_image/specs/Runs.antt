@@ -25,6 +25,7 @@ use Rattle.crash_argument.specs.Points.{MountedSession}
 use Rattle.fs_files.specs.Calls.{places_of}
 use Rattle.fs_session.specs.DiskRoom.{IsRoomOf, RunsOn}
 use Rattle.fs_session.specs.Room.{Room, left_in}
+use Rattle.fs_session.specs.Snapshots.{kept_lists}
 use Rattle.cmd_session.specs.Budget.{SpendsByMarks, budget_of}
 use Rattle.cmd_session.specs.Ending.{HasRun}
 use Rattle.cmd_session.specs.Pacing.{Pace, PacesBy}
@@ -114,13 +115,13 @@ pub record AreMarks (mounted : ℕ) (replies : List Reply) (moments : List ℕ) 
 
 -- The run.
 
--- The room in which a session begins that was mounted with a map: nothing is weighed, held or kept, each node has its blocks of the map, in order, and as many data blocks may be taken as the tree leaves.
+-- The room in which a session begins that was mounted with a map: nothing is weighed or held, each node has its blocks of the map, in order, snapshots keep those that they keep in the map, and as many data blocks may be taken as the tree leaves.
 pub record IsRoomAtMount (g : Geometry) (map : Blocks) (f : Session) (r : Room) : Type 0 where
   pub weight : r.weight ≡ 0
   pub held : r.held ≡ 0
   pub is_room : IsRoomOf g f r
   pub places : (k : ℕ) → r.places k ≡ places_of g map k
-  pub kept : (name : List ℕ) (k : ℕ) → r.kept name k ≡ []
+  pub kept : (name : List ℕ) (k : ℕ) → r.kept name k ≡ kept_lists g map name k
   pub all : length r.takeable ≡ left_in g f r
 
 -- The journal's numbers after a mount of this disk: at most two above the turn of the newest header there, or at most one above the number of the last record of its run.

@@ -13,8 +13,8 @@ ghost use Rattle.engine_blocks.specs.Crashes.{IsBegun};
 ghost use Rattle.fs_files.specs.Effects.{LooksOnly};
 ghost use Rattle.engine_store.specs.StoreOf.{state_of};
 ghost use Rattle.fs_commands.specs.Listing.{CountsPushes};
-ghost use Rattle.fs_commands.specs.Opened.{blocks_in, unused_in};
-ghost use Rattle.fs_session.specs.Sessions.{IsBetween, IsSession};
+ghost use Rattle.fs_commands.specs.Opened.{IsReady, blocks_in};
+ghost use Rattle.fs_session.specs.Sessions.{IsSession};
 ghost use Rattle.cmd_image.specs.declared.show_refusal.ShowRefusal.TheVariants.{Fault};
 ghost use Rattle.cmd_image.specs.Mounted.{IsFresh, IsMarkOf, IsMountedOn, HasSession, ShowsDisk, answer_of, is_fault, of_bay};
 ghost use Rattle.cmd_image.specs.Shows.{HasFaultReason, HasImage, HasShowCause, LeavesBay, Lists, Refuses, fails_pushing, says_nothing};
@@ -134,7 +134,7 @@ fn list_shown<D: Disk + Drop, K: Sink>(
     out: &mut K,
 ) -> Left<D>
     requires going { (state_of D.state (blocks_in fs)).books.stopped ≡ false }
-    requires between { IsBetween D.tells (state_of D.state (blocks_in fs)) (unused_in fs) }
+    requires ready { IsReady D.tells (λ s. state_of D.state s) fs }
     requires empty { marks.items ≡ [] }
     requires room { vec_len marks < vec_capacity marks }
     ensures shows { (first : State) → IsMountedOn D.tells false first (state_of D.state (blocks_in fs))
@@ -165,7 +165,7 @@ fn write_listing<D: Disk + Drop, K: Sink>(
     out: &mut K,
 ) -> Result<(), ShowRefusal>
     requires going { (state_of D.state (blocks_in fs.old)).books.stopped ≡ false }
-    requires between { IsBetween D.tells (state_of D.state (blocks_in fs.old)) (unused_in fs.old) }
+    requires ready { IsReady D.tells (λ s. state_of D.state s) fs.old }
     ensures all { IsTrue D.tells → OnOk result ((f : Session) → IsSession (state_of D.state (blocks_in fs.old)) f
         → Appends (K.taken out.old) (K.taken out.new) (listing f.tree)) }
     ensures front { IsTrue D.tells → OnErr result ((f : Session) → IsSession (state_of D.state (blocks_in fs.old)) f

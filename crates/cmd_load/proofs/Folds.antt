@@ -60,16 +60,16 @@ rename_frees : (bitmap : ℕ) (t : Tree) (from to : List (List ℕ)) (b : Bool) 
 rename_frees bitmap t from to true none = refl
 rename_frees bitmap t from to false none = move_frees bitmap t from to none
 
-accepted_frees : (bitmap : ℕ) (t : Tree) (cmd : Cmd) → IsLoadCommand cmd → (accepted_figures bitmap t cmd).cost ≡ 0 → (accepted_figures bitmap t cmd).freed ≡ 0
-accepted_frees bitmap t (Write path offset bytes) is none = write_frees bitmap (length (content t path)) offset (length bytes)
-accepted_frees bitmap t (Fill path offset count byte) is none = write_frees bitmap (length (content t path)) offset count
-accepted_frees bitmap t (Truncate path size) is none = truncate_frees bitmap (length (content t path)) size none
-accepted_frees bitmap t (Rename from to) is none = rename_frees bitmap t from to (is_same_node t from to) none
-accepted_frees bitmap t other is none = grind arith
+accepted_frees : (bitmap limit : ℕ) (t : Tree) (cmd : Cmd) → IsLoadCommand cmd → (accepted_figures bitmap limit t cmd).cost ≡ 0 → (accepted_figures bitmap limit t cmd).freed ≡ 0
+accepted_frees bitmap limit t (Write path offset bytes) is none = write_frees bitmap (length (content t path)) offset (length bytes)
+accepted_frees bitmap limit t (Fill path offset count byte) is none = write_frees bitmap (length (content t path)) offset count
+accepted_frees bitmap limit t (Truncate path size) is none = truncate_frees bitmap (length (content t path)) size none
+accepted_frees bitmap limit t (Rename from to) is none = rename_frees bitmap t from to (is_same_node t from to) none
+accepted_frees bitmap limit t other is none = grind arith
 
-pub frees_by : (bitmap : ℕ) (t : Tree) (cmd : Cmd) (o : Option Refusal) → IsLoadCommand cmd → (figures_by bitmap t cmd o).cost ≡ 0 → (figures_by bitmap t cmd o).freed ≡ 0
-frees_by bitmap t cmd (Some why) is none = refl
-frees_by bitmap t cmd None is none = accepted_frees bitmap t cmd is none
+pub frees_by : (bitmap limit : ℕ) (t : Tree) (cmd : Cmd) (o : Option Refusal) → IsLoadCommand cmd → (figures_by bitmap limit t cmd o).cost ≡ 0 → (figures_by bitmap limit t cmd o).freed ≡ 0
+frees_by bitmap limit t cmd (Some why) is none = refl
+frees_by bitmap limit t cmd None is none = accepted_frees bitmap limit t cmd is none
 
 -- The first of three reasons.
 
@@ -172,7 +172,7 @@ module _ (p : Progress) (cmd : Cmd) (law : IsLoadCommand cmd) (alone : p.session
               (omega (arith, done.spends.weight, weight, done_weight next, ap (λ (k : Figures). k.cost) figures_same))
               (omega (arith, done.spends.held, held, done_held next, ap (λ (k : Figures). k.freed) figures_same))
           by (Some why) at =
-              let figures : figures_of p cmd ≡ nothing = ap (λ (o : Option Refusal). figures_by (bitmap_blocks shape) f.tree cmd o) at in
+              let figures : figures_of p cmd ≡ nothing = ap (λ (o : Option Refusal). figures_by (bitmap_blocks shape) f.limit f.tree cmd o) at in
               let weighs : room.weight ≡ p.weight = omega (arith, done.spends.weight, weight, ap (λ (k : Figures). k.cost) (figures_same ∙ figures)) in
               let holds : room.held ≡ p.held = omega (arith, done.spends.held, held, ap (λ (k : Figures). k.freed) (figures_same ∙ figures)) in
               let same : (f, Refused why) ≡ (next, reply) = ap (answered f cmd) (sym at) ∙ done.answer in

@@ -8,7 +8,7 @@ use Rattle.std.proofs.lemmas.List.Sums.{count_by-le-length}
 use Rattle.std.proofs.lemmas.Slice.Zip.{length-zip}
 use Rattle.layout_extent.specs.Runs.{is_break, stretches}
 use Rattle.lang_tree.specs.declared.command.Cmd.{Cmd}
-use Rattle.lang_tree.specs.declared.command.Cmd.TheVariants.{Write, Fill, Truncate, Rename}
+use Rattle.lang_tree.specs.declared.command.Cmd.TheVariants.{Write, Fill, Truncate, Rename, Snap}
 use Rattle.lang_tree.specs.declared.command.Refusal.{Refusal}
 use Rattle.lang_tree.specs.Conditions.{refusal}
 use Rattle.lang_tree.specs.Figures.{Figures, accepted_figures, blocks_for, directory_blocks, figures_by, growth, move_figures, nothing, truncate_figures, write_figures, are_in_one, blocks_gone, moving, release, shrinking, siblings, writing}
@@ -18,7 +18,7 @@ use Rattle.lang_tree.specs.Tree.{Tree, Thing, Dir, File}
 use Rattle.layout_geometry.specs.Geometry.{bitmap_blocks}
 use Rattle.fs_session.specs.NothingKept.{CostsAsAlone, alone_costs, alone_runs, no_snapshot}
 use Rattle.fs_session.specs.Room.{HoldsTree, Room, Scatters, figures_in}
-use Rattle.fs_session.specs.Space.{grown_path}
+use Rattle.fs_session.specs.Space.{grown_in, grown_path}
 use Rattle.cmd_load.specs.Summary.{shape}
 use Rattle.cmd_load.specs.Trees.{IsLoadTree}
 use Rattle.cmd_load.proofs.Fullness.{few_names}
@@ -85,29 +85,33 @@ rename_need : (bitmap : ℕ) (t : Tree) (from to : List (List ℕ)) (b : Bool) �
 rename_need bitmap t from to true = omega arith
 rename_need bitmap t from to false = move_need bitmap t from to
 
-accepted_need : (bitmap : ℕ) (t : Tree) (cmd : Cmd) → IsLoadCommand cmd → (accepted_figures bitmap t cmd).need ≤ 13
-accepted_need bitmap t (Write path offset bytes) is = write_need bitmap (length (content t path)) offset (length bytes) is
-accepted_need bitmap t (Fill path offset count byte) is = write_need bitmap (length (content t path)) offset count is
-accepted_need bitmap t (Truncate path size) is = truncate_need bitmap (length (content t path)) size is
-accepted_need bitmap t (Rename from to) is = rename_need bitmap t from to (is_same_node t from to)
-accepted_need bitmap t other is = grind arith
+accepted_need : (bitmap limit : ℕ) (t : Tree) (cmd : Cmd) → IsLoadCommand cmd → (accepted_figures bitmap limit t cmd).need ≤ 13
+accepted_need bitmap limit t (Write path offset bytes) is = write_need bitmap (length (content t path)) offset (length bytes) is
+accepted_need bitmap limit t (Fill path offset count byte) is = write_need bitmap (length (content t path)) offset count is
+accepted_need bitmap limit t (Truncate path size) is = truncate_need bitmap (length (content t path)) size is
+accepted_need bitmap limit t (Rename from to) is = rename_need bitmap t from to (is_same_node t from to)
+accepted_need bitmap limit t other is = grind arith
 
-need_by : (bitmap : ℕ) (t : Tree) (cmd : Cmd) (o : Option Refusal) → IsLoadCommand cmd → (figures_by bitmap t cmd o).need ≤ 13
-need_by bitmap t cmd (Some why) is = omega arith
-need_by bitmap t cmd None is = accepted_need bitmap t cmd is
+need_by : (bitmap limit : ℕ) (t : Tree) (cmd : Cmd) (o : Option Refusal) → IsLoadCommand cmd → (figures_by bitmap limit t cmd o).need ≤ 13
+need_by bitmap limit t cmd (Some why) is = omega arith
+need_by bitmap limit t cmd None is = accepted_need bitmap limit t cmd is
 
 few_needed : CostsAsAlone → (f : Session) (r : Room) (cmd : Cmd) → f.tree.snapshots ≡ empty → IsLoadCommand cmd → (figures_in shape f r cmd).need ≤ 13
-few_needed unshared f r cmd alone is = subst (λ (n : Figures). n.need ≤ 13) (sym (alone_costs shape f r alone unshared cmd)) (need_by (bitmap_blocks shape) f.tree cmd (refusal f.limit f.tree cmd) is)
+few_needed unshared f r cmd alone is = subst (λ (n : Figures). n.need ≤ 13) (sym (alone_costs shape f r alone unshared cmd)) (need_by (bitmap_blocks shape) f.limit f.tree cmd (refusal f.limit f.tree cmd) is)
 
 -- Its node is at some path.
 
-grown_at : (f : Session) (k : ℕ) (o : Option (List (List ℕ))) → option_and_then (get f.tree.names) o ≡ Some k → (path : List (List ℕ)) × (get f.tree.names path ≡ Some k)
-grown_at f k None e = cc e
-grown_at f k (Some path) e = (path, e)
+at_path : (f : Session) (k : ℕ) (o : Option (List (List ℕ))) → option_and_then (get f.tree.names) o ≡ Some k → (path : List (List ℕ)) × (get f.tree.names path ≡ Some k)
+at_path f k None e = cc e
+at_path f k (Some path) e = (path, e)
+
+grown_at : (f : Session) (cmd : Cmd) (k : ℕ) → IsLoadCommand cmd → grown_in f cmd ≡ Some k → (path : List (List ℕ)) × (get f.tree.names path ≡ Some k)
+grown_at f (Snap name) k law e = absurd law
+grown_at f cmd k law e = at_path f k (grown_path cmd) e
 
 pub never_scattered : CostsAsAlone → (f : Session) (r : Room) (cmd : Cmd) (why : Refusal) → IsLoadCommand cmd → IsLoadTree f.tree → f.tree.snapshots ≡ empty → HoldsTree shape f.tree r → Scatters shape f r cmd (figures_in shape f r cmd).need why → ⊥
 never_scattered unshared f r cmd why law is alone holds s =
-    let at = grown_at f s.node (grown_path cmd) s.grows in
+    let at = grown_at f cmd s.node law s.grows in
     let own = few_places f.tree r at.0 s.node is alone holds at.1 in
     let need = (figures_in shape f r cmd).need in
     omega (

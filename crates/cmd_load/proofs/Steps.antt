@@ -25,7 +25,7 @@ none_behind p cmd law none = by (is_refusal (answer_to p cmd).1)
   where
     synced : (b : Bool) → (if b then 0 else p.weight + (figures_of p cmd).cost) ≡ 0 → (if b then 0 else p.held + (figures_of p cmd).freed) ≡ 0
     synced true e = refl
-    synced false e = omega (arith, none (omega (arith, e)), frees_by (bitmap_blocks shape) p.session.tree cmd (refusal p.session.limit p.session.tree cmd) law (omega (arith, e)))
+    synced false e = omega (arith, none (omega (arith, e)), frees_by (bitmap_blocks shape) p.session.limit p.session.tree cmd (refusal p.session.limit p.session.tree cmd) law (omega (arith, e)))
 
     by : (b : Bool) → (if b then record p { refused = p.refused + 1 } else done_by p cmd (answer_to p cmd).0).weight ≡ 0 → (if b then record p { refused = p.refused + 1 } else done_by p cmd (answer_to p cmd).0).held ≡ 0
     by true e = none e
@@ -47,7 +47,7 @@ module _ (p : Progress) (made : ℕ) (cmd : Cmd) (reply : Reply) (old new : Stat
   next = (a.answers p.session s.session).0
 
   came : Comes p cmd reply next (room_of new)
-  came = comes p (room_of old) reply next (room_of new) s.session.tree.map.shows.alone unshared s.weight s.held low s.none s.tree calm cmd law
+  came = comes p (room_of old) reply next (room_of new) s.tree.alone unshared s.weight s.held low s.none s.tree calm cmd law
       (subst (λ (g : Geometry). AnswersOn g p.session (room_of old) cmd reply next (room_of new)) s.geom (a.answers p.session s.session).3)
 
   counted : (n : ℕ) (b : Bool) → p.refused ≤ n → p.refused + (if b then 1 else 0) ≤ n + 1

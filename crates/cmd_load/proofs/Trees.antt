@@ -16,7 +16,7 @@ use Rattle.std.proofs.lemmas.Option.{same_Some, none-some}
 use Rattle.base_types.specs.Draws.{drawn, draws, next_state}
 use Rattle.lang_load.specs.Load.{command, kind_of, kinds, name, next_command, next_kind, part, parts, path}
 use Rattle.lang_tree.specs.declared.command.Cmd.{Cmd}
-use Rattle.lang_tree.specs.declared.command.Cmd.TheVariants.{Mkdir, Create, Write, Fill, Truncate, Link, Unlink, Rmdir, Rename, Osync, Dsync, Dwait}
+use Rattle.lang_tree.specs.declared.command.Cmd.TheVariants.{Mkdir, Create, Write, Fill, Truncate, Link, Unlink, Rmdir, Rename, Osync, Dsync, Dwait, Snap, Unsnap}
 use Rattle.lang_tree.specs.declared.command.Refusal.{Refusal}
 use Rattle.lang_tree.specs.declared.command.Reply.TheVariants.{Ok as Done}
 use Rattle.lang_tree.specs.Conditions.{least_unused}
@@ -253,6 +253,31 @@ files_kept = record {
     out t path h None = h
     out t path h (Some n) = unused t.nodes n h (path_count (remove t.names path) n == 0)
 
+alone_kept : IsKept (λ t. t.snapshots ≡ empty)
+alone_kept = record {
+  made = λ limit t path thing law small h. make t path thing h (least_unused limit t);
+  changed = λ t path change same h. change_at t change h (get t.names path);
+  tied = λ t path other law h. link t other h (get t.names path);
+  gone = λ t path h. out t path h (get t.names path);
+  shifted = λ t from to law h. h;
+}
+  where
+    make : (t : Tree) (path : List (List ℕ)) (thing : Thing) → t.snapshots ≡ empty → (o : Option ℕ) → (with_node t path thing o).snapshots ≡ empty
+    make t path thing h None = h
+    make t path thing h (Some n) = h
+
+    change_at : (t : Tree) (change : List ℕ → List ℕ) → t.snapshots ≡ empty → (o : Option ℕ) → (edited_at t change o).snapshots ≡ empty
+    change_at t change h None = h
+    change_at t change h (Some n) = h
+
+    link : (t : Tree) (other : List (List ℕ)) → t.snapshots ≡ empty → (o : Option ℕ) → (linked_by t other o).snapshots ≡ empty
+    link t other h None = h
+    link t other h (Some n) = h
+
+    out : (t : Tree) (path : List (List ℕ)) → t.snapshots ≡ empty → (o : Option ℕ) → (removed_by t path o).snapshots ≡ empty
+    out t path h None = h
+    out t path h (Some n) = h
+
 -- What a command keeps.
 
 module _ (P : Tree → Type 0) (kept : IsKept P) where
@@ -291,6 +316,8 @@ module _ (P : Tree → Type 0) (kept : IsKept P) where
   accepted_keeps s Osync law h = sync_keeps s s.changed h
   accepted_keeps s Dsync law h = sync_keeps s s.changed h
   accepted_keeps s (Dwait n) law h = absurd law
+  accepted_keeps s (Snap n) law h = absurd law
+  accepted_keeps s (Unsnap n) law h = absurd law
   accepted_keeps s other law h = h
 
   answered_keeps : (s : Session) (cmd : Cmd) (o : Option Refusal) → IsLoadCommand cmd → P s.tree → P (answered s cmd o).0.tree
@@ -302,10 +329,12 @@ pub answered_tree : (s : Session) (cmd : Cmd) (o : Option Refusal) → IsLoadCom
 answered_tree s cmd o law h = record {
   files = answered_keeps (λ t. Small t.nodes) files_kept s cmd o law h.files;
   names = answered_keeps (λ t. AreNamed t.names) names_kept s cmd o law h.names;
+  alone = answered_keeps (λ t. t.snapshots ≡ empty) alone_kept s cmd o law h.alone;
 }
 
 pub start_tree : (limit : ℕ) → IsLoadTree (start limit).tree
 start_tree limit = record {
   files = nodes_put empty 1 Dir tt (λ n bytes e. absurd (none-some (File bytes) (sym (get-empty nat_cmp n) ∙ e)));
   names = names_put empty [] 1 refl (λ p n e. absurd (none-some n (sym (get-empty path_cmp p) ∙ e)));
+  alone = refl;
 }

@@ -3,8 +3,8 @@
 ghost use Rattle.std.specs.Prelude.{◌≡◌, true, false, if◌then◌else◌, IfOk};
 ghost use Rattle.disk_memory.specs.MemDisk.{state_of as disk_state};
 ghost use Rattle.engine_store.specs.StoreOf.{state_of};
-ghost use Rattle.fs_commands.specs.Opened.{blocks_in, unused_in};
-ghost use Rattle.fs_session.specs.Sessions.{IsBetween, Stands};
+ghost use Rattle.fs_commands.specs.Opened.{IsReady, blocks_in};
+ghost use Rattle.fs_session.specs.Sessions.{Stands};
 ghost use Rattle.lang_tree.specs.Points.{is_refusal};
 ghost use Rattle.cmd_load.specs.Serving.{IsAnswered, has_run_out};
 
@@ -22,10 +22,10 @@ use std::alloc::Global;
 
 /// Answers one command.
 pub(crate) fn answer(alloc: Global, fs: &mut System, cmd: &Cmd) -> Reply
-    requires between { IsBetween true (state_of disk_state (blocks_in fs.old)) (unused_in fs.old) }
+    requires ready { IsReady true (λ s. state_of disk_state s) fs.old }
     requires stands { Stands (state_of disk_state (blocks_in fs.old)) }
     ensures answered { IsAnswered cmd.now result (state_of disk_state (blocks_in fs.old)) (state_of disk_state (blocks_in fs.new)) }
-    ensures between { IsBetween true (state_of disk_state (blocks_in fs.new)) (unused_in fs.new) }
+    ensures ready { IsReady true (λ s. state_of disk_state s) fs.new }
     ensures stands { Stands (state_of disk_state (blocks_in fs.new)) }
 {
     a_command_is_answered_in_a_room_that_came_back::<Store<MemDisk>>();
@@ -63,7 +63,8 @@ pub(crate) fn refusals_in(reply: &Reply) -> Result<u32, NoMemory>
             | Refusal::ReadFault
             | Refusal::Stopped
             | Refusal::Spent
-            | Refusal::NoPoint { .. },
+            | Refusal::NoPoint { .. }
+            | Refusal::NoSnap,
         ) => Ok(1),
         Reply::Ok
         | Reply::Bytes(_)

@@ -3,8 +3,8 @@
 ghost use Rattle.std.specs.Prelude.{◌≡◌, ◌≤◌, true, IfOk};
 ghost use Rattle.disk_memory.specs.MemDisk.{state_of as disk_state};
 ghost use Rattle.engine_store.specs.StoreOf.{state_of};
-ghost use Rattle.fs_commands.specs.Opened.{blocks_in, unused_in};
-ghost use Rattle.fs_session.specs.Sessions.{IsBetween, Stands};
+ghost use Rattle.fs_commands.specs.Opened.{IsReady, blocks_in};
+ghost use Rattle.fs_session.specs.Sessions.{Stands};
 ghost use Rattle.cmd_load.specs.Serving.{Serves};
 ghost use Rattle.cmd_load.specs.Summary.{at_first, summary_of};
 
@@ -40,7 +40,7 @@ pub fn load(alloc: Global, seed: u32, count: u32) -> Result<Summary, NoMemory>
 fn run(alloc: Global, mut fs: System, seed: u32, count: u32) -> Result<Summary, NoMemory>
     requires most { count ≤ 2000 }
     requires begun { Serves at_first 0 (state_of disk_state (blocks_in fs)) }
-    requires between { IsBetween true (state_of disk_state (blocks_in fs)) (unused_in fs) }
+    requires ready { IsReady true (λ s. state_of disk_state s) fs }
     requires stands { Stands (state_of disk_state (blocks_in fs)) }
     ensures { IfOk result (λ summary. summary ≡ summary_of seed count) }
 {
@@ -54,7 +54,7 @@ fn run(alloc: Global, mut fs: System, seed: u32, count: u32) -> Result<Summary, 
 fn run_on(alloc: Global, fs: &mut System, seed: u32, count: u32) -> Result<Summary, NoMemory>
     requires most { count ≤ 2000 }
     requires begun { Serves at_first 0 (state_of disk_state (blocks_in fs.old)) }
-    requires between { IsBetween true (state_of disk_state (blocks_in fs.old)) (unused_in fs.old) }
+    requires ready { IsReady true (λ s. state_of disk_state s) fs.old }
     requires stands { Stands (state_of disk_state (blocks_in fs.old)) }
     ensures { IfOk result (λ summary. summary ≡ summary_of seed count) }
 {

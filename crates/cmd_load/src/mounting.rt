@@ -3,8 +3,8 @@
 ghost use Rattle.std.specs.Prelude.{true, IfOk};
 ghost use Rattle.disk_memory.specs.MemDisk.{state_of as disk_state};
 ghost use Rattle.engine_store.specs.StoreOf.{state_of};
-ghost use Rattle.fs_commands.specs.Opened.{blocks_in, unused_in};
-ghost use Rattle.fs_session.specs.Sessions.{IsBetween, Stands};
+ghost use Rattle.fs_commands.specs.Opened.{IsReady, blocks_in};
+ghost use Rattle.fs_session.specs.Sessions.{Stands};
 ghost use Rattle.cmd_load.specs.Serving.{Serves};
 ghost use Rattle.cmd_load.specs.Summary.{at_first};
 
@@ -25,7 +25,7 @@ pub(crate) type System = Fs<Store<MemDisk>>;
 /// Out of memory.
 pub(crate) fn mount(alloc: Global, seed: u32) -> Result<System, NoMemory>
     ensures serves { IfOk result (λ fs. Serves at_first 0 (state_of disk_state (blocks_in fs))) }
-    ensures between { IfOk result (λ fs. IsBetween true (state_of disk_state (blocks_in fs)) (unused_in fs)) }
+    ensures ready { IfOk result (λ fs. IsReady true (λ s. state_of disk_state s) fs) }
     ensures stands { IfOk result (λ fs. Stands (state_of disk_state (blocks_in fs))) }
 {
     match begin(alloc, &geom(), &behaviour(seed)) {

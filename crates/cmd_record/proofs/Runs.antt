@@ -24,7 +24,7 @@ use Rattle.cmd_trace.specs.Contents.{Each, front_of}
 use Rattle.cmd_trace.specs.Line.{command_line, geometry_line, event_lines}
 use Rattle.cmd_trace.specs.Trace.{Ascend, entry}
 use Rattle.lang_tree.specs.declared.command.Cmd.{Cmd}
-use Rattle.lang_tree.specs.declared.command.Cmd.TheVariants.{Mkdir, Create, Write, Fill, Read, Truncate, Link, Unlink, Rmdir, Rename, Stat, List as ListNames, Osync, Dsync, Durable, Dwait, Poll, Bad}
+use Rattle.lang_tree.specs.declared.command.Cmd.TheVariants.{Mkdir, Create, Write, Fill, Read, Truncate, Link, Unlink, Rmdir, Rename, Stat, List as ListNames, Snap, Unsnap, Snaps, At, Osync, Dsync, Durable, Dwait, Poll, Bad}
 use Rattle.lang_tree.specs.declared.command.Refusal.TheVariants.{DiskFault, Spent, Stopped}
 use Rattle.lang_tree.specs.declared.command.Reply.{Reply}
 use Rattle.lang_tree.specs.declared.command.Reply.TheVariants.{Bad as NotUnderstood, Refused}
@@ -94,6 +94,10 @@ module _ (g : Geometry) (f : Session) (r : Room) (is : IsRoomOf g f r) where
   ends_in_room true (Rename from to) = inl (Stopped, inl refl, refl, refl, refl)
   ends_in_room true (Stat path) = inl (Stopped, inl refl, refl, refl, refl)
   ends_in_room true (ListNames path) = inl (Stopped, inl refl, refl, refl, refl)
+  ends_in_room true (Snap name) = inl (Stopped, inl refl, refl, refl, refl)
+  ends_in_room true (Unsnap name) = inl (Stopped, inl refl, refl, refl, refl)
+  ends_in_room true Snaps = inl (Stopped, inl refl, refl, refl, refl)
+  ends_in_room true (At name look) = inl (Stopped, inl refl, refl, refl, refl)
   ends_in_room false Osync = inr (record { back = r; comes_back = back_at_once g f r is; answers = inr (inr (refl, refl, kept)); is_room = is })
   ends_in_room false Dsync = inr (record { back = r; comes_back = back_at_once g f r is; answers = inr (inr (refl, refl, kept)); is_room = is })
   ends_in_room false Durable = inr (record { back = r; comes_back = back_at_once g f r is; answers = inr (DiskFault, inl refl, refl, refl, refl); is_room = is })
@@ -111,6 +115,10 @@ module _ (g : Geometry) (f : Session) (r : Room) (is : IsRoomOf g f r) where
   ends_in_room false (Rename from to) = inr (record { back = r; comes_back = back_at_once g f r is; answers = inr (DiskFault, inl refl, refl, refl, refl); is_room = is })
   ends_in_room false (Stat path) = inr (record { back = r; comes_back = back_at_once g f r is; answers = inr (DiskFault, inl refl, refl, refl, refl); is_room = is })
   ends_in_room false (ListNames path) = inr (record { back = r; comes_back = back_at_once g f r is; answers = inr (DiskFault, inl refl, refl, refl, refl); is_room = is })
+  ends_in_room false (Snap name) = inr (record { back = r; comes_back = back_at_once g f r is; answers = inr (DiskFault, inl refl, refl, refl, refl); is_room = is })
+  ends_in_room false (Unsnap name) = inr (record { back = r; comes_back = back_at_once g f r is; answers = inr (DiskFault, inl refl, refl, refl, refl); is_room = is })
+  ends_in_room false Snaps = inr (record { back = r; comes_back = back_at_once g f r is; answers = inr (DiskFault, inl refl, refl, refl, refl); is_room = is })
+  ends_in_room false (At name look) = inr (record { back = r; comes_back = back_at_once g f r is; answers = inr (DiskFault, inl refl, refl, refl, refl); is_room = is })
 
   all_end : (over : Bool) (cmds : List Cmd) → RunsOn g f r cmds (ending_replies over cmds) f r
   all_end over [] = (refl, refl)
@@ -375,7 +383,7 @@ pub records_on : (cmd : Cmd) (reply : Reply) (old new : State) → IsAnswered cm
 records_on cmd reply old new a laws known lawful set past text r =
     let g = set.shape in
     let ran = ran_on cmd reply old new a lawful g r.mounted past r.replies r.marks r.ran in
-    let goes = a.goes (session_by g r.mounted) (formatted g) set.manner (pace_at_first g r.mounted) (start g.i).tree past r.replies r.marks r.ran.served r.ran.budget.weight r.paced.goes in
+    let goes = a.goes (session_by g r.mounted) (formatted g) set.manner (pace_at_first g r.mounted) (start g.i).tree past r.replies r.marks r.ran.served r.paced.goes in
     let paced = paced_on cmd reply old new a g set.manner r.ran.after r.mounted past r.replies r.marks r.ran.session r.paced goes in
     subst (λ (xs : List ℕ). Records set (past ++ cmd ∷ []) xs new)
     (text_on g old.crash.log new.crash.log r.mounted past r.replies r.marks cmd reply a.grows r.ran.served.answered r.ran.served.marked r.ran.served.ascend

@@ -1,5 +1,5 @@
 -- Traces of wrong programs, each refused by a field of the clause.
-use Rattle.std.proofs.Common.{◌≡◌, ◌≢◌, ◌⊎◌, inl, inr, ⊎_elim, ℕ, zero, suc, ◌+◌, ◌<◌, ◌≤◌, ◌==◌, ◌&&◌, ◌||◌, not, if◌then◌else◌, Bool, true, false, List, [], ◌∷◌, ◌++◌, length, take, drop, Option, Some, None, refl, sym, ap, ◌∙◌, subst, arith}
+use Rattle.std.proofs.Common.{◌≡◌, ◌≢◌, ◌⊎◌, inl, inr, ⊎_elim, ℕ, zero, suc, ◌+◌, ◌<◌, ◌≤◌, ◌&&◌, not, if◌then◌else◌, Bool, true, false, List, [], ◌∷◌, ◌++◌, length, take, drop, Option, Some, None, refl, sym, ap, ◌∙◌, subst, arith}
 use Rattle.std.proofs.Props.{props}
 use Rattle.std.proofs.Math.Logic.{∥∥₁_elim, ∥∥₁_map}
 use Rattle.std.proofs.Math.Seq.{take-take}
@@ -27,10 +27,11 @@ use Rattle.lang_tree.specs.declared.command.Refusal.TheVariants.{DiskFault}
 use Rattle.lang_tree.specs.declared.command.Reply.{Reply}
 use Rattle.lang_tree.specs.declared.command.Reply.TheVariants.{Known, Refused, Synced}
 use Rattle.lang_tree.specs.Conditions.{refusal}
-use Rattle.lang_tree.specs.Figures.{figures_by}
+use Rattle.lang_tree.specs.Sharing.{BlocksAlone, SharedNodes, figures_over_by}
 use Rattle.lang_tree.specs.Points.{is_refusal, is_sync}
 use Rattle.lang_tree.specs.Tree.{Tree}
 use Rattle.cmd_session.specs.Budget.{commits, sync_budget}
+use Rattle.fs_session.specs.Room.{alone_by, shared_by}
 use Rattle.cmd_session.specs.Pacing.{FailsSince, OrdersAtOnce, Pace, StepsBy, TellsRing}
 use Rattle.cmd_session.specs.Records.{own_records}
 use Rattle.cmd_session.specs.Taking.{CameIn, Span, makes_point, places_wanted}
@@ -87,14 +88,14 @@ writes_none g m log mounted cmd reply new step other = omega (
 -- Waits.
 
 module _ (s : MountedSession) (base : Blocks) (m : Manner) (log : List Event) (reply : Reply) (old new : Pace) where
-  pub waits_in_none : (step : StepsBy s base m log Osync reply old new) → Goes m reply old → IsUnwritten s (take step.room.behind log) → places_wanted reply old.taken.weight (own_records s log step.room.behind new.events) ≤ s.geom.j → WaitsForNothing m log old new
+  pub waits_in_none : (step : StepsBy s base m log Osync reply old new) → Goes m reply old → IsUnwritten s (take step.room.behind log) → places_wanted reply old.room.room.weight (own_records s log step.room.behind new.events) ≤ s.geom.j → WaitsForNothing m log old new
   waits_in_none step goes none fits = by (step.does.ring meant goes.going goes.unspent goes.alone)
     where
       meant : Osync ≢ Rattle.lang_tree.specs.declared.command.Cmd.TheVariants.Bad
       meant is = cc
 
       wanted : ℕ
-      wanted = places_wanted reply old.taken.weight (own_records s log step.room.behind new.events)
+      wanted = places_wanted reply old.room.room.weight (own_records s log step.room.behind new.events)
 
       by : TellsRing s base (take step.room.behind log) old.taken.records ⊎ ((new.events ≡ step.room.behind) × (reply ≡ Refused DiskFault)) → WaitsForNothing m log old new
       by (inl ring) = step.does.calm meant goes.going goes.unspent goes.alone (inr (∥∥₁_map ring.header (λ (h : (header : Header) × IsNewestAtRest s.geom.n (cell_of base (take step.room.behind log)) header). (
@@ -104,11 +105,11 @@ module _ (s : MountedSession) (base : Blocks) (m : Manner) (log : List Event) (r
       by (inr all) = λ p polled. ((step.ticks meant goes.going goes.unspent p polled).0, subst (λ (n : ℕ). Rattle.disk_contract.specs.Disk.GrowsByWrites p.log (take n log)) (sym all.0) (step.room.ticks meant goes.going goes.unspent p polled).1)
 
   pub waits_to_look : (path : List (List ℕ)) → StepsBy s base m log (Stat path) reply old new → Goes m reply old → WaitsForNothing m log old new
-  waits_to_look path step goes = step.does.calm (λ is. cc) goes.going goes.unspent goes.alone (omega (arith, none old.taken.session.tree (refusal old.taken.session.limit old.taken.session.tree (Stat path))))
+  waits_to_look path step goes = step.does.calm (λ is. cc) goes.going goes.unspent goes.alone (omega (arith, none (shared_by s.geom old.taken.session.tree old.room.room) (alone_by s.geom old.taken.session.tree old.room.room) old.taken.session.limit old.taken.session.tree (refusal old.taken.session.limit old.taken.session.tree (Stat path))))
     where
-      none : (t : Tree) (why : Option Refusal) → (figures_by (bitmap_blocks s.geom) t (Stat path) why).need ≡ 0
-      none t None = refl
-      none t (Some why) = refl
+      none : (shared : SharedNodes) (alone : BlocksAlone) (limit : ℕ) (t : Tree) (why : Option Refusal) → (figures_over_by (bitmap_blocks s.geom) shared alone limit t (Stat path) why).need ≡ 0
+      none shared alone limit t None = refl
+      none shared alone limit t (Some why) = refl
 
   -- a write that was accepted by then was so by later moments
   accepted_later : (t behind begun upto : ℕ) → behind ≤ begun → behind ≤ upto → is_accepted t (take behind log) ≡ true → is_accepted t (take begun (take upto log)) ≡ true
@@ -116,7 +117,7 @@ module _ (s : MountedSession) (base : Blocks) (m : Manner) (log : List Event) (r
       ap (is_accepted t) (sym (take-append-drop behind (take begun (take upto log))))
       ∙ accepted_on t (take behind (take begun (take upto log))) (drop behind (take begun (take upto log))) (ap (is_accepted t) (take-take behind begun (take upto log) early ∙ take-take behind upto log late) ∙ is)
 
-  pub heard_behind : (p : Polled) (t : ℕ) → (step : StepsBy s base m log Dsync reply old new) → Goes m reply old → OrdersAtOnce s base (take step.room.behind log) old.taken (places_wanted reply old.taken.weight (own_records s log step.room.behind new.events)) → after_polls m 64 old.polls (take old.events log) ≡ Some p
+  pub heard_behind : (p : Polled) (t : ℕ) → (step : StepsBy s base m log Dsync reply old new) → Goes m reply old → OrdersAtOnce s base (take step.room.behind log) old.room.room.weight (places_wanted reply old.room.room.weight (own_records s log step.room.behind new.events)) → after_polls m 64 old.polls (take old.events log) ≡ Some p
       → ((k : ℕ) (span : Span) → slice_get old.taken.spans k ≡ Some span → CameIn (take new.events log) span t → ⊥) → is_noticed t p.log ≡ false → IsNoticed t (take new.events log) → is_accepted t (take step.room.behind log) ≡ false
   heard_behind p t step goes finds polled others not_yet noticed = by (step.does.waits refl goes.going goes.unspent goes.alone finds p polled t noticed)
     where

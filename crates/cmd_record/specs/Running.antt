@@ -28,7 +28,7 @@ use Rattle.fs_session.specs.Room.{Room, IsFirstRoom}
 use Rattle.fs_session.specs.DiskRoom.{AnswersOn, IsRoomOf, RunsOn}
 use Rattle.fs_session.specs.Applying.{is_spent}
 use Rattle.fs_session.specs.Sessions.{IsSession}
-use Rattle.cmd_session.specs.Budget.{KeepsBudget, SpendsByMarks, budget_of, weight_after}
+use Rattle.cmd_session.specs.Budget.{KeepsBudget, SpendsByMarks, budget_of}
 use Rattle.cmd_session.specs.Ending.{HasRun, ending_marks, ending_replies}
 use Rattle.cmd_session.specs.Going.{BeginsByLog, GoesByLog, pace_of, session_at}
 use Rattle.cmd_session.specs.Pacing.{Pace}
@@ -105,8 +105,7 @@ pub record IsAnswered (cmd : Cmd) (reply : Reply) (old new : State) : Type 0 whe
   pub turns : new.books.turns ≤ old.books.turns + 2 ^ 20
   pub spent : (f : Session) → IsSession old f → reply ≡ Refused Spent → is_spent old.books ≡ true
   -- a run that goes by the log of its disk does so with this command more
-  pub goes : (mount : MountedSession) (base : Blocks) (m : Manner) (first : Pace) (t : Tree) (cmds : List Cmd) (replies : List Reply) (marks : List ℕ) → HasServed mount.geom t mount.mounted cmds replies marks old → (old.books.stopped ≡ false → old.books.running.weight ≡ weight_after (bitmap_blocks mount.geom) (session_at mount t) 0 cmds replies)
-      → GoesByLog mount base m first t cmds replies marks old → GoesByLog mount base m first t (cmds ++ cmd ∷ []) (replies ++ reply ∷ []) (marks ++ length new.crash.log ∷ []) new
+  pub goes : (mount : MountedSession) (base : Blocks) (m : Manner) (first : Pace) (t : Tree) (cmds : List Cmd) (replies : List Reply) (marks : List ℕ) → HasServed mount.geom t mount.mounted cmds replies marks old → GoesByLog mount base m first t cmds replies marks old → GoesByLog mount base m first t (cmds ++ cmd ∷ []) (replies ++ reply ∷ []) (marks ++ length new.crash.log ∷ []) new
 
 -- However the commands go on behind these, with such a command first, the text and that command's line begin the trace of some run.
 pub record GoesOnWith (g : Geometry) (cmds : List Cmd) (text : List ℕ) (cmd : Cmd) (more : List Cmd) : Type 0 where

@@ -30,11 +30,10 @@ ghost use Rattle.cmd_record.specs.Traces.{Serves, ServesBy, IsTrace, contents};
 ghost use Rattle.cmd_record.specs.Weights.{blocks_needed, places_by_weight};
 ghost use Rattle.cmd_record.specs.WrongTraces.{Goes, IsHeard, IsUnwritten, LosesOwn, WaitsForNothing};
 
-use cmd_session::what_was_issued_was_accepted;
+use cmd_session::{a_command_costs_at_most_so_much, what_was_issued_was_accepted};
 use cmd_trace::equal_traces_have_equal_contents;
 use crash_stands::images_alike_below_n_stand_for_the_same;
 use fs_session::a_command_takes_no_more_blocks_than_it_needs;
-use lang_tree::{commands_keep_snapshots, nothing_shared_costs_nothing};
 
 /// Whoever has the text has the geometry, the events of the disk and how many of them are the mount's, the
 /// commands, the replies and their marks: they are the same in all that a text begins a trace of. So it is
@@ -68,16 +67,16 @@ pub fn the_last_point_stands_where_accepted_writes_do()
 
 /// Nothing is waited for that need not come back. Where the records of all syncs so far would fit the ring by what
 /// they weigh, with this one's, a sync finds its places by the log, unless the disk failed its tick. Where the
-/// blocks that all commands so far needed leave as many data blocks as a command needs, that many may be taken.
+/// blocks that all commands so far needed at most leave as many data blocks as a command needs, that many may be taken.
 pub fn what_need_not_come_back_is_there()
     ensures places { (g : Geometry) (m : Manner) (log : List Event) (mounted : ℕ) (cmds : List Cmd) (replies : List Reply) (marks : List ℕ)
         (last next : Pace) (cmd : Cmd) (reply : Reply)
         → PacesBy (session_by g mounted) (formatted g) m log (pace_at_first g mounted) cmds replies marks last
         → (step : StepsBy (session_by g mounted) (formatted g) m log cmd reply last next)
         → is_sync cmd ≡ true → last.over ≡ false → reply ≢ Refused Spent → m.waits_alone ≡ true
-        → places_by_weight g (start g.i) 0 cmds replies + sync_places last.taken.weight ≤ g.j
-        → OrdersAtOnce (session_by g mounted) (formatted g) (take step.room.behind log) last.taken
-        (places_wanted reply last.taken.weight (own_records (session_by g mounted) log step.room.behind next.events))
+        → places_by_weight g (start g.i) 0 cmds replies + sync_places last.room.room.weight ≤ g.j
+        → OrdersAtOnce (session_by g mounted) (formatted g) (take step.room.behind log) last.room.room.weight
+        (places_wanted reply last.room.room.weight (own_records (session_by g mounted) log step.room.behind next.events))
         ⊎ ((next.events ≡ step.room.behind) × (reply ≡ Refused DiskFault)) }
     ensures blocks { (g : Geometry) (m : Manner) (log : List Event) (mounted : ℕ) (cmds : List Cmd) (replies : List Reply) (marks : List ℕ)
         (last : Pace) (need : ℕ)
@@ -85,8 +84,7 @@ pub fn what_need_not_come_back_is_there()
         → blocks_needed g (start g.i) cmds replies + need ≤ g.n - data_start g → need ≤ length last.room.room.takeable }
 {
     a_command_takes_no_more_blocks_than_it_needs();
-    commands_keep_snapshots();
-    nothing_shared_costs_nothing();
+    a_command_costs_at_most_so_much();
 }
 
 /// Traces that a wrong program could write are refused, each by a field of the clause. A command that lost a write is
@@ -105,13 +103,13 @@ pub fn wrong_traces_are_refused()
         → writes_in (take new.events log) ≤ writes_in (take mounted log) }
     ensures empty { (s : MountedSession) (base : Blocks) (m : Manner) (log : List Event) (reply : Reply) (old new : Pace)
         → (step : StepsBy s base m log Osync reply old new) → Goes m reply old → IsUnwritten s (take step.room.behind log)
-        → places_wanted reply old.taken.weight (own_records s log step.room.behind new.events) ≤ s.geom.j → WaitsForNothing m log old new }
+        → places_wanted reply old.room.room.weight (own_records s log step.room.behind new.events) ≤ s.geom.j → WaitsForNothing m log old new }
     ensures looks { (s : MountedSession) (base : Blocks) (m : Manner) (log : List Event) (path : List (List ℕ)) (reply : Reply)
         (old new : Pace) → StepsBy s base m log (Stat path) reply old new → Goes m reply old → WaitsForNothing m log old new }
     ensures home { (s : MountedSession) (base : Blocks) (m : Manner) (log : List Event) (reply : Reply) (old new : Pace) (p : Polled)
         (t : ℕ) → (step : StepsBy s base m log Dsync reply old new) → Goes m reply old
-        → OrdersAtOnce s base (take step.room.behind log) old.taken
-        (places_wanted reply old.taken.weight (own_records s log step.room.behind new.events))
+        → OrdersAtOnce s base (take step.room.behind log) old.room.room.weight
+        (places_wanted reply old.room.room.weight (own_records s log step.room.behind new.events))
         → after_polls m 64 old.polls (take old.events log) ≡ Some p
         → ((k : ℕ) (span : Span) → slice_get old.taken.spans k ≡ Some span → CameIn (take new.events log) span t → ⊥) → is_noticed t p.log ≡ false
         → IsNoticed t (take new.events log) → is_accepted t (take step.room.behind log) ≡ false }

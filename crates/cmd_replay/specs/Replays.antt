@@ -12,6 +12,7 @@ use Rattle.cmd_session.specs.Images.{StandsMounted}
 use Rattle.cmd_replay.specs.declared.refusal.ReplayRefusal.{ReplayRefusal}
 use Rattle.cmd_replay.specs.declared.refusal.ReplayRefusal.TheVariants.{Choice, Damaged, Spent, NoMemory}
 use Rattle.cmd_replay.specs.Images.{RefusesImage}
+use Rattle.cmd_replay.specs.Named.{AreAlike}
 use Rattle.cmd_replay.specs.Newest.{IsNewest}
 use Rattle.cmd_replay.specs.Points.{points_in, floor_at, top_at}
 
@@ -34,12 +35,12 @@ pub record LeavesImage (g : Geometry) (log : List Event) (moment : ℕ) (choice 
   pub may : IsTrue (can_choose choice moment log)
   pub is : AreBlocksOf g.n (chosen choice (formatted g) (take moment log)) image
 
--- The image stands for a tree, whose listing was found. Of the sync points from floor to top at the moment the newest one with that tree was found, or there is none.
+-- The image stands for a tree, whose listing was found. Of the sync points from floor to top at the moment the newest one with that tree, numbers of snapshots aside, was found, or there is none.
 pub record ShowsFound (c : Contents) (moment : ℕ) (image : List (List ℕ)) (found : Found) : Type 0 where
   pub tree : Tree
   pub stands : StandsMounted (length image) (blocks_of image) tree
   pub text : found.text ≡ listing tree
-  pub newest : IsNewest (λ t. t ≡ tree) (points_in c) (floor_at moment c) (top_at moment c) found.point
+  pub newest : IsNewest (λ t. AreAlike t tree) (points_in c) (floor_at moment c) (top_at moment c) found.point
 
 -- the crash leaves an image, and this holds of it
 abbrev pub OfImage : Contents → ℕ → ChoiceState → (List (List ℕ) → Type 0) → Type 0

@@ -24,6 +24,10 @@ pub(crate) fn is_sync(cmd: &Cmd) -> bool
         | Cmd::Rename(_, _)
         | Cmd::Stat(_)
         | Cmd::List(_)
+        | Cmd::Snap(_)
+        | Cmd::Unsnap(_)
+        | Cmd::Snaps
+        | Cmd::At(_, _)
         | Cmd::Durable
         | Cmd::Dwait(_)
         | Cmd::Poll
@@ -71,7 +75,8 @@ pub(crate) fn may_have_written(reply: &Reply) -> bool
             | Refusal::Stopped
             | Refusal::Spent
             | Refusal::NoMemory
-            | Refusal::NoPoint { .. },
+            | Refusal::NoPoint { .. }
+            | Refusal::NoSnap,
         ) => false,
         Reply::Ok
         | Reply::Bytes(_)

@@ -2,9 +2,8 @@
 //! and of an image are of these. They run nothing.
 
 ghost use Rattle.std.specs.Prelude.{◌≡◌, ◌<◌, ◌^◌, ℕ, slice_get, slice_index, Some};
-ghost use Rattle.std.specs.FinMap.{empty};
 ghost use Rattle.base_types.specs.Seal.{Blocks};
-ghost use Rattle.cmd_replay.specs.Named.{HasBytes, HasLawfulNames};
+ghost use Rattle.cmd_replay.specs.Named.{AreAlike, HasAllBytes, HasBytes, HasLawfulNames, IsListable};
 ghost use Rattle.cmd_replay.specs.Points.{points_in};
 ghost use Rattle.lang_script.specs.Values.{IsCommand};
 ghost use Rattle.crash_stands.specs.Stands.{StandsFor};
@@ -14,7 +13,7 @@ ghost use Rattle.lang_tree.specs.declared.command.Cmd.{Cmd};
 ghost use Rattle.lang_tree.specs.Listing.{listing};
 ghost use Rattle.lang_tree.specs.Points.{Point};
 ghost use Rattle.lang_tree.specs.Step.{Session, start, step};
-ghost use Rattle.lang_tree.specs.Tree.{Tree, IsSound};
+ghost use Rattle.lang_tree.specs.Tree.{Tree};
 
 use crash_stands::a_tree_that_stands_is_sound;
 use lang_tree::{
@@ -24,19 +23,19 @@ use lang_tree::{
 use layout_geometry::geometries_are_within_limits;
 use layout_journal::journal_blocks_keep_to_their_bounds;
 
-/// Two trees without snapshots and with one listing are one tree, where both are sound with numbers of 64 bits and
-/// their names are lawful, and the bytes of one of them are below 256.
+/// Two trees with one listing are alike: they are one tree but for the numbers of snapshots, which a listing doesn't
+/// show. Both are to be listable, with numbers of 64 bits, and the bytes of one of them are to be below 256. And trees
+/// that are alike have one listing.
 pub fn a_listing_says_the_tree()
-    ensures { (limit more : ℕ) (s t : Tree) → limit < 2 ^ 64 → more < 2 ^ 64 → IsSound limit s → IsSound more t → HasLawfulNames s → HasLawfulNames t
-        → HasBytes s → s.snapshots ≡ empty → t.snapshots ≡ empty → listing s ≡ listing t → s ≡ t }
-{
-    without_snapshots_there_are_paths_and_nodes();
-}
+    ensures alike { (limit more : ℕ) (s t : Tree) → limit < 2 ^ 64 → more < 2 ^ 64 → IsListable limit s → IsListable more t → HasAllBytes s
+        → listing s ≡ listing t → AreAlike s t }
+    ensures listing { (s t : Tree) → AreAlike s t → listing s ≡ listing t }
+{}
 
-/// The tree that an image stands for is sound, with numbers of 64 bits, and its names are lawful. Where each byte of
-/// the image is below 256, so is each byte of the tree's files.
+/// The tree that an image stands for is listable, with numbers of 64 bits. Where each byte of the image is below 256, so
+/// is each byte of the tree's files.
 pub fn what_stands_has_lawful_names()
-    ensures names { (n : ℕ) (img : Blocks) (t : Tree) → StandsFor n img t → (i : ℕ) × (i < 2 ^ 64) × IsSound i t × HasLawfulNames t }
+    ensures names { (n : ℕ) (img : Blocks) (t : Tree) → StandsFor n img t → (i : ℕ) × (i < 2 ^ 64) × IsListable i t }
     ensures bytes { (n : ℕ) (img : Blocks) (t : Tree) → ((b i : ℕ) → slice_index (img b) i < 256) → StandsFor n img t → HasBytes t }
 {
     geometries_are_within_limits();
@@ -53,15 +52,14 @@ pub fn commands_keep_names_lawful()
     ensures step_bytes { (s : Session) (cmd : Cmd) → IsCommand cmd → HasBytes s.tree → HasBytes (step s cmd).0.tree }
 {}
 
-/// The tree of each sync point of a trace is sound, with at most as many numbers as the geometry says; its names are
-/// lawful, its bytes are below 256, and it has no snapshot.
+/// The tree of each sync point of a trace is listable, with at most as many numbers as the geometry says, and its bytes
+/// are below 256.
 pub fn points_of_a_trace_have_lawful_names()
-    ensures sound { (c : Contents) → IsTrace c → (number : ℕ) (p : Point) → slice_get (points_in c) number ≡ Some p → IsSound c.geometry.i p.tree }
-    ensures names { (c : Contents) → IsTrace c → (number : ℕ) (p : Point) → slice_get (points_in c) number ≡ Some p → HasLawfulNames p.tree }
-    ensures bytes { (c : Contents) → IsTrace c → (number : ℕ) (p : Point) → slice_get (points_in c) number ≡ Some p → HasBytes p.tree }
-    ensures alone { (c : Contents) → IsTrace c → (number : ℕ) (p : Point) → slice_get (points_in c) number ≡ Some p → p.tree.snapshots ≡ empty }
+    ensures names { (c : Contents) → IsTrace c → (number : ℕ) (p : Point) → slice_get (points_in c) number ≡ Some p → IsListable c.geometry.i p.tree }
+    ensures bytes { (c : Contents) → IsTrace c → (number : ℕ) (p : Point) → slice_get (points_in c) number ≡ Some p → HasAllBytes p.tree }
 {
     geometries_are_within_limits();
     commands_keep_a_tree_sound();
     commands_keep_snapshots();
+    without_snapshots_there_are_paths_and_nodes();
 }

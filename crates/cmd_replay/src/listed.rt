@@ -10,8 +10,8 @@ ghost use Rattle.lang_tree.specs.Tree.{Tree};
 ghost use Rattle.lang_tree.specs.Step.{Session};
 ghost use Rattle.lang_tree.specs.Listing.{listing};
 ghost use Rattle.crash_stands.specs.Stands.{IsTreeOf};
-ghost use Rattle.fs_commands.specs.Opened.{blocks_in, unused_in};
-ghost use Rattle.fs_session.specs.Sessions.{IsBetween, IsSession};
+ghost use Rattle.fs_commands.specs.Opened.{IsReady, blocks_in};
+ghost use Rattle.fs_session.specs.Sessions.{IsSession};
 ghost use Rattle.cmd_session.specs.Images.{StandsMounted};
 ghost use Rattle.cmd_replay.specs.Images.{RefusesImage};
 ghost use Rattle.cmd_host.specs.Listed.{IsReadable};
@@ -104,7 +104,7 @@ fn list_store(alloc: Global, store: Store<MemDisk>) -> Result<Vec<u8>, ReplayRef
 /// # Errors
 /// Out of memory.
 fn list_fs(alloc: Global, mut fs: Fs<Store<MemDisk>>) -> Result<Vec<u8>, NoMemory>
-    requires between { IsBetween true (state_of disk_state (blocks_in fs)) (unused_in fs) }
+    requires ready { IsReady true (λ s. state_of disk_state s) fs }
     requires going { (state_of disk_state (blocks_in fs)).books.stopped ≡ false }
     requires readable { IsReadable (state_of disk_state (blocks_in fs)) }
     ensures { IfOk result (λ text. (f : Session) → IsSession (state_of disk_state (blocks_in fs)) f → text.items ≡ listing f.tree) }

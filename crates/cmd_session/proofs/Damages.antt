@@ -1,5 +1,5 @@
 -- An image in which something is broken stands for no tree, and what is said of an image by one answer isn't said by another.
-use Rattle.std.proofs.Common.{◌≡◌, ⊎_elim, ℕ, ◌+◌, ◌*◌, ◌/◌, ◌%◌, ◌&&◌, ◌||◌, not, ◌==◌, ◌<◌, ◌≤◌, Bool, true, false, List, [], Some, sym, ◌∙◌, ap₂, subst, arith}
+use Rattle.std.proofs.Common.{◌≡◌, ⊎_elim, ℕ, ◌+◌, ◌*◌, ◌/◌, ◌&&◌, ◌||◌, not, ◌<◌, ◌≤◌, Bool, true, false, List, [], Some, sym, ◌∙◌, ap₂, subst, arith}
 use Rattle.std.proofs.lemmas.Bool.{and_from, cases_lt, cond-true, le-leb, le-ltb, lt-ltb}
 use mathlib.Core.Path.{fun_ext}
 use Rattle.base_types.specs.Seal.{Blocks}
@@ -16,9 +16,11 @@ use Rattle.crash_stands.specs.Stands.{IsTreeOf}
 use Rattle.fs_check.specs.declared.block_damage.BlockDamage.{BlockDamage}
 use Rattle.fs_check.specs.declared.block_damage.BlockDamage.TheVariants.{WrongBit}
 use Rattle.fs_check.specs.declared.damage.TreeDamage.{TreeDamage}
+use Rattle.fs_check.specs.declared.snapshot_damage.SnapshotDamage.{SnapshotDamage}
 use Rattle.fs_check.specs.declared.checking.Damage.{Damage}
 use Rattle.fs_check.specs.declared.checking.Damage.TheVariants as damage
 use Rattle.fs_check.specs.Broken.{IsBroken as IsBrokenBlock, bitmap_of}
+use Rattle.fs_check.specs.BrokenSnapshots.{IsBroken as IsBrokenSnapshot}
 use Rattle.fs_check.specs.Damage.{IsBroken as IsBrokenTree}
 use Rattle.fs_check.specs.Whole as fsck
 use Rattle.cmd_session.specs.declared.images.ImageDamage.{ImageDamage}
@@ -33,6 +35,7 @@ pub record ImageLaws : Type 0 where
   pub bounds : (n : ℕ) (b : List ℕ) (h : Header) → header_of n b ≡ Some h → IsWithinDisk n h
   pub limits : (g : Geometry) → geometry_fits g ≡ true → IsGeometry g
   pub blocks : (g : Geometry) (m : Blocks) (what : BlockDamage) (t : Tree) → IsBrokenBlock g m what → IsTreeOf g m t → ⊥
+  pub snapshot : (g : Geometry) (m : Blocks) (what : SnapshotDamage) (t : Tree) → IsBrokenSnapshot g m what → IsTreeOf g m t → ⊥
   pub tree : (g : Geometry) (m : Blocks) (what : TreeDamage) (t : Tree) → IsBrokenTree g.i (files_of g m) what → IsTreeOf g m t → ⊥
 
 -- A wrong bit of the bitmap.
@@ -76,6 +79,7 @@ module _ (laws : ImageLaws) (n : ℕ) (at : Blocks) where
 
   none_broken : (g : Geometry) (m : Blocks) (what : Damage) (t : Tree) → fsck.IsDamaged g m what → IsTreeOf g m t → ⊥
   none_broken g m (damage.Blocks what) t broken tree = laws.blocks g m what t broken tree
+  none_broken g m (damage.Snapshot what) t broken tree = laws.snapshot g m what t broken tree
   none_broken g m (damage.Tree what) t broken tree = laws.tree g m what t broken tree
 
   -- no tree stands where something is broken

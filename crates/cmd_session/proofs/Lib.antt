@@ -6,7 +6,9 @@ pub mod Issuing
 pub mod Losses
 pub mod Serving
 pub mod Opening
+pub mod Costing
 pub mod Weights
+pub mod RoomWeights
 pub mod Spending
 pub mod Moments
 pub mod Ending

@@ -105,8 +105,8 @@ module _ (ses : MountedSession) (base : Blocks) (m : Manner) (log more : List Ev
   finds_shorter : (behind wanted : ℕ) → behind ≤ length log → FindsPlaces ses base (take behind (log ++ more)) wanted → FindsPlaces ses base (take behind log) wanted
   finds_shorter behind wanted low = subst (λ (es : List Event). FindsPlaces ses base es wanted) (front behind low)
 
-  orders_shorter : (behind wanted : ℕ) (t : Taken) → behind ≤ length log → OrdersAtOnce ses base (take behind (log ++ more)) t wanted → OrdersAtOnce ses base (take behind log) t wanted
-  orders_shorter behind wanted t low = subst (λ (es : List Event). OrdersAtOnce ses base es t wanted) (front behind low)
+  orders_shorter : (behind wanted weight : ℕ) → behind ≤ length log → OrdersAtOnce ses base (take behind (log ++ more)) weight wanted → OrdersAtOnce ses base (take behind log) weight wanted
+  orders_shorter behind wanted weight low = subst (λ (es : List Event). OrdersAtOnce ses base es weight wanted) (front behind low)
 
   writes_longer : (weight behind begun mark : ℕ) → behind ≤ begun → mark ≤ length log → WritesRecordBy ses base m log weight behind begun mark → WritesRecordBy ses base m (log ++ more) weight behind begun mark
   writes_longer weight behind begun mark from low w = grind (arith, w.commit, same_own, w.own, w.size, w.upto, w.writes, front, w.fits, finds_shorter)
@@ -118,20 +118,20 @@ module _ (ses : MountedSession) (base : Blocks) (m : Manner) (log more : List Ev
       record {
         begun = does.begun;
         from = does.from;
-        taken = does.taken ∙ ap (λ (own : List Commit). taken_by ses.geom p.taken cmd reply own (record { begun = does.begun; mark = q.events })) (sym same);
+        taken = does.taken ∙ ap (λ (own : List Commit). taken_by p.taken p.room.room.weight cmd reply own (record { begun = does.begun; mark = q.events })) (sym same);
         ring = λ meant going unspent alone. subst (λ (es : List Event). TellsRing ses base es p.taken.records ⊎ ((q.events ≡ behind) × (reply ≡ Refused because.DiskFault))) (sym (front behind within)) (does.ring meant going unspent alone);
-        written = λ done going some. writes_longer p.taken.weight behind does.begun q.events does.from low_next (does.written done going some);
+        written = λ done going some. writes_longer p.room.room.weight behind does.begun q.events does.from low_next (does.written done going some);
         idle = λ done going none. ap writes_in (front q.events low_next) ∙ does.idle done going none ∙ ap writes_in (sym (front behind within));
         unwritten = does.unwritten;
         calm = λ meant going unspent alone finds.
             subst (λ (es : List Event). PollsThenWrites m 64 p.polls es q.polls (take q.events (log ++ more))) (sym (front p.events low))
             (subst (λ (es : List Event). PollsThenWrites m 64 p.polls (take p.events log) q.polls es) (sym (front q.events low_next))
-            (does.calm meant going unspent alone (subst (λ (own : List Commit). FindsRoom ses base (take behind log) p.taken p.room.room p.durable (places_wanted reply p.taken.weight own) cmd) same
-            (subst (λ (es : List Event). FindsRoom ses base es p.taken p.room.room p.durable (places_wanted reply p.taken.weight (own_records ses (log ++ more) behind q.events)) cmd) (front behind within) finds))));
+            (does.calm meant going unspent alone (subst (λ (own : List Commit). FindsRoom ses base (take behind log) p.taken p.room.room p.durable (places_wanted reply p.room.room.weight own) cmd) same
+            (subst (λ (es : List Event). FindsRoom ses base es p.taken p.room.room p.durable (places_wanted reply p.room.room.weight (own_records ses (log ++ more) behind q.events)) cmd) (front behind within) finds))));
         waits = λ is going unspent alone finds x polled.
             subst (λ (es : List Event). HearsIn (q.taken.spans ++ (if is_refusal reply then record { begun = behind; mark = q.events } ∷ [] else [])) x.log es) (sym (front q.events low_next))
-            (does.waits is going unspent alone (subst (λ (own : List Commit). OrdersAtOnce ses base (take behind log) p.taken (places_wanted reply p.taken.weight own)) same
-            (orders_shorter behind (places_wanted reply p.taken.weight (own_records ses (log ++ more) behind q.events)) p.taken within finds)) x (ap (λ (es : List Event). after_polls m 64 p.polls es) (sym (front p.events low)) ∙ polled));
+            (does.waits is going unspent alone (subst (λ (own : List Commit). OrdersAtOnce ses base (take behind log) p.room.room.weight (places_wanted reply p.room.room.weight own)) same
+            (orders_shorter behind (places_wanted reply p.room.room.weight (own_records ses (log ++ more) behind q.events)) p.room.room.weight within finds)) x (ap (λ (es : List Event). after_polls m 64 p.polls es) (sym (front p.events low)) ∙ polled));
         waits_upto = λ n is going unspent alone x polled.
             subst (λ (es : List Event). HearsIn (take n p.taken.spans) x.log es) (sym (front q.events low_next))
             (does.waits_upto n is going unspent alone x (ap (λ (es : List Event). after_polls m 64 p.polls es) (sym (front p.events low)) ∙ polled));
@@ -142,7 +142,6 @@ module _ (ses : MountedSession) (base : Blocks) (m : Manner) (log more : List Ev
   steps_longer cmd reply p q low low_next step = let longer = answered_longer ses base m log more cmd reply p q low low_next step.room in record {
     over = step.over;
     room = longer.0;
-    weighs = step.weighs;
     does = subst (DoesBehind ses base m (log ++ more) cmd reply p q) longer.1 (does_longer cmd reply p q step.room.behind low low_next step.room.upto step.does);
     spends = omega (arith, step.spends, ap writes_in (front q.events low_next), ap writes_in (front ses.mounted mounted));
     rests = step.rests;
@@ -199,22 +198,21 @@ module _ (cmd : Cmd) (reply : Reply) (old new : State) (s : StepsOn cmd reply ol
   pub record Waits (ses : MountedSession) (base : Blocks) (m : Manner) (t : Taken) (behind : List Event) (begun : ℕ) : Type 0 where
     pub from : length behind ≤ begun
     pub ring : cmd ≢ Bad → old.books.stopped ≡ false → reply ≢ Refused because.Spent → m.waits_alone ≡ true → TellsRing ses base behind t.records ⊎ ((length new.crash.log ≡ length behind) × (reply ≡ Refused because.DiskFault))
-    pub written : is_done_sync cmd reply ≡ true → old.books.stopped ≡ false → 0 < t.weight → WritesRecordBy ses base m new.crash.log t.weight (length behind) begun (length new.crash.log)
-    pub idle : is_done_sync cmd reply ≡ true → old.books.stopped ≡ false → t.weight ≡ 0 → writes_in new.crash.log ≡ writes_in behind
+    pub written : is_done_sync cmd reply ≡ true → old.books.stopped ≡ false → 0 < old.books.running.weight → WritesRecordBy ses base m new.crash.log old.books.running.weight (length behind) begun (length new.crash.log)
+    pub idle : is_done_sync cmd reply ≡ true → old.books.stopped ≡ false → old.books.running.weight ≡ 0 → writes_in new.crash.log ≡ writes_in behind
     pub unwritten : is_sync cmd ≡ true → old.books.stopped ≡ false → reply ≡ Refused because.NoMemory → length new.crash.log ≡ length behind
-    pub calm : m.waits_alone ≡ true → cmd ≢ Bad → old.books.stopped ≡ false → reply ≢ Refused because.Spent → FindsRoom ses base behind t (room_of old) old.books.floor (places_wanted reply t.weight (own_records ses new.crash.log (length behind) (length new.crash.log))) cmd
+    pub calm : m.waits_alone ≡ true → cmd ≢ Bad → old.books.stopped ≡ false → reply ≢ Refused because.Spent → FindsRoom ses base behind t (room_of old) old.books.floor (places_wanted reply old.books.running.weight (own_records ses new.crash.log (length behind) (length new.crash.log))) cmd
         → PollsThenWrites old.counts.ticks.manner 64 old.counts.ticks.polls old.crash.log new.counts.ticks.polls new.crash.log
-    pub hears : m.waits_alone ≡ true → cmd ≡ Dsync → old.books.stopped ≡ false → reply ≢ Refused because.Spent → OrdersAtOnce ses base behind t (places_wanted reply t.weight (own_records ses new.crash.log (length behind) (length new.crash.log))) → (p : Polled) → after_polls old.counts.ticks.manner 64 old.counts.ticks.polls old.crash.log ≡ Some p
-        → HearsIn ((taken_by ses.geom t cmd reply (own_records ses new.crash.log (length behind) (length new.crash.log)) (record { begun = begun; mark = length new.crash.log })).spans ++ (if is_refusal reply then record { begun = length behind; mark = length new.crash.log } ∷ [] else [])) p.log new.crash.log
+    pub hears : m.waits_alone ≡ true → cmd ≡ Dsync → old.books.stopped ≡ false → reply ≢ Refused because.Spent → OrdersAtOnce ses base behind old.books.running.weight (places_wanted reply old.books.running.weight (own_records ses new.crash.log (length behind) (length new.crash.log))) → (p : Polled) → after_polls old.counts.ticks.manner 64 old.counts.ticks.polls old.crash.log ≡ Some p
+        → HearsIn ((taken_by t old.books.running.weight cmd reply (own_records ses new.crash.log (length behind) (length new.crash.log)) (record { begun = begun; mark = length new.crash.log })).spans ++ (if is_refusal reply then record { begun = length behind; mark = length new.crash.log } ∷ [] else [])) p.log new.crash.log
     pub hears_upto : (n : ℕ) → m.waits_alone ≡ true → cmd ≡ Dwait n → old.books.stopped ≡ false → reply ≢ Refused because.Spent → (p : Polled) → after_polls old.counts.ticks.manner 64 old.counts.ticks.polls old.crash.log ≡ Some p → HearsIn (take n t.spans) p.log new.crash.log
     pub quiet : (n : ℕ) → cmd ≡ Dwait n → old.books.stopped ≡ false → reply ≢ Refused because.Spent → writes_in new.crash.log ≡ writes_in behind
     pub knows : (n : ℕ) → cmd ≡ Durable → reply ≡ replied.Known n → new.counts.ticks.manner.waits_alone ≡ true → KnowsUpTo t.spans new.crash.log n
     pub told : (n : ℕ) → cmd ≡ Durable → reply ≡ replied.Known n → n ≡ new.books.floor
     pub promised : promised_by reply ≤ new.books.floor
     pub rises : old.books.floor ≤ new.books.floor
-    pub spends : writes_in (take (length new.crash.log) new.crash.log) ≤ writes_in (take ses.mounted new.crash.log) + (taken_by ses.geom t cmd reply (own_records ses new.crash.log (length behind) (length new.crash.log)) (record { begun = begun; mark = length new.crash.log })).budget
+    pub spends : writes_in (take (length new.crash.log) new.crash.log) ≤ writes_in (take ses.mounted new.crash.log) + (taken_by t old.books.running.weight cmd reply (own_records ses new.crash.log (length behind) (length new.crash.log)) (record { begun = begun; mark = length new.crash.log })).budget
     pub placed : StaysPlaced ses.geom base (after_reply t.session cmd reply) new
-    pub weighs : old.books.stopped ≡ false → t.weight ≡ old.books.running.weight
 
   -- a write that was lost among its events
   fails_now : (m : Manner) → reply ≡ Refused because.DiskFault → has_lost old.crash.log ≡ false → HasFailedBy m new.crash.log → FailsSince m (length old.crash.log) new.crash.log
@@ -231,7 +229,7 @@ module _ (cmd : Cmd) (reply : Reply) (old new : State) (s : StepsOn cmd reply ol
     late = record { begun = begun; mark = length new.crash.log }
 
     abbrev then_pace : Pace
-    then_pace = pace_of (taken_by ses.geom t cmd reply own late) new
+    then_pace = pace_of (taken_by t old.books.running.weight cmd reply own late) new
 
     all : take (length new.crash.log) new.crash.log ≡ new.crash.log
     all = take-length new.crash.log
@@ -255,10 +253,10 @@ module _ (cmd : Cmd) (reply : Reply) (old new : State) (s : StepsOn cmd reply ol
           subst (λ (es : List Event). PollsThenWrites m 64 old.counts.ticks.polls es new.counts.ticks.polls (take (length new.crash.log) new.crash.log)) (sym earlier)
           (subst (λ (es : List Event). PollsThenWrites m 64 old.counts.ticks.polls old.crash.log new.counts.ticks.polls es) (sym all)
           (subst (λ (x : Manner). PollsThenWrites x 64 old.counts.ticks.polls old.crash.log new.counts.ticks.polls new.crash.log) is
-          (waits.calm alone meant run unspent (subst (λ (es : List Event). FindsRoom ses base es t (room_of old) old.books.floor (places_wanted reply t.weight own) cmd) cut finds))));
+          (waits.calm alone meant run unspent (subst (λ (es : List Event). FindsRoom ses base es t (room_of old) old.books.floor (places_wanted reply old.books.running.weight own) cmd) cut finds))));
       waits = λ sync run unspent alone finds p polled.
           subst (λ (es : List Event). HearsIn (then_pace.taken.spans ++ (if is_refusal reply then record { begun = length behind; mark = length new.crash.log } ∷ [] else [])) p.log es) (sym all)
-          (waits.hears alone sync run unspent (subst (λ (es : List Event). OrdersAtOnce ses base es t (places_wanted reply t.weight own)) cut finds) p (ap (λ (x : Manner). after_polls x 64 old.counts.ticks.polls old.crash.log) is ∙ ap (λ (es : List Event). after_polls m 64 old.counts.ticks.polls es) (sym earlier) ∙ polled));
+          (waits.hears alone sync run unspent (subst (λ (es : List Event). OrdersAtOnce ses base es old.books.running.weight (places_wanted reply old.books.running.weight own)) cut finds) p (ap (λ (x : Manner). after_polls x 64 old.counts.ticks.polls old.crash.log) is ∙ ap (λ (es : List Event). after_polls m 64 old.counts.ticks.polls es) (sym earlier) ∙ polled));
       waits_upto = λ n upto run unspent alone p polled.
           subst (λ (es : List Event). HearsIn (take n t.spans) p.log es) (sym all)
           (waits.hears_upto n alone upto run unspent p (ap (λ (x : Manner). after_polls x 64 old.counts.ticks.polls old.crash.log) is ∙ ap (λ (es : List Event). after_polls m 64 old.counts.ticks.polls es) (sym earlier) ∙ polled));
@@ -273,7 +271,6 @@ module _ (cmd : Cmd) (reply : Reply) (old new : State) (s : StepsOn cmd reply ol
           over = over_now;
           room = room;
           does = subst (DoesBehind ses base m new.crash.log cmd reply (pace_of t old) then_pace) (sym behind_is) does_now;
-          weighs = waits.weighs;
           spends = waits.spends;
           rests = rests_now f session;
           ticks = λ meant run unspent.

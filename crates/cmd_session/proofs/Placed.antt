@@ -1,12 +1,13 @@
 -- Where each node's blocks lie while nothing changed since the last point: in that point's map as in the room, and so in the image that has all that was issued.
-use Rattle.std.proofs.Common.{◌≡◌, ◌⊎◌, inl, inr, ⊎_elim, ℕ, ◌+◌, ◌-◌, ◌*◌, ◌/◌, ◌%◌, ◌<◌, ◌≤◌, ◌==◌, ◌&&◌, ◌||◌, nat_le, Bool, true, false, if◌then◌else◌, List, [], ◌∷◌, ◌++◌, length, take, Option, Some, None, refl, sym, ap, ◌∙◌, subst, arith}
+use Rattle.std.proofs.Common.{◌≡◌, ◌⊎◌, inl, inr, ⊎_elim, ℕ, ◌+◌, ◌-◌, ◌<◌, ◌≤◌, ◌&&◌, ◌||◌, nat_le, nat_lt, Bool, true, false, if◌then◌else◌, List, [], ◌∷◌, ◌++◌, length, take, Option, Some, None, refl, sym, ap, ◌∙◌, subst, arith}
 use Rattle.std.proofs.Math.Logic.{∥∥₁_map}
-use Rattle.std.proofs.Math.Seq.{take-append_seam}
+use Rattle.std.proofs.Math.Seq.{take-length}
 use Rattle.std.proofs.lemmas.List.{length-append}
-use Rattle.std.proofs.lemmas.Bool.{and_from, and_parts, cases_Bool, cases_lt, false≢true, leb-true, le-leb, lt-ltb, true≢false}
-use Rattle.std.specs.FinMap.{empty, get}
+use Rattle.std.proofs.lemmas.Bool.{and_from, and_parts, cases_Bool, cases_lt, false≢true, leb-true, le-leb, lt-ltb, or_parts, true≢false}
+use Rattle.std.specs.FinMap.{get}
 use Rattle.base_types.specs.Seal.{Blocks}
-use Rattle.layout_geometry.specs.Geometry.{Geometry, IsGeometry, bitmap_start, data_start}
+use Rattle.layout_geometry.specs.Geometry.{Geometry, IsGeometry, bitmap_blocks, bitmap_start, data_start}
+use Rattle.layout_extent.specs.Renew.{renew}
 use Rattle.layout_bytes.specs.Bitmap.{is_set}
 use Rattle.layout_bytes.specs.Bytes.{when}
 use Rattle.layout_bytes.specs.Node.{node_at}
@@ -16,10 +17,12 @@ use Rattle.lang_tree.specs.declared.command.Cmd.{Cmd}
 use Rattle.lang_tree.specs.declared.command.Cmd.TheVariants as cmds
 use Rattle.lang_tree.specs.declared.command.Refusal.{Refusal}
 use Rattle.lang_tree.specs.declared.command.Reply.{Reply}
-use Rattle.lang_tree.specs.Conditions.{refusal}
-use Rattle.lang_tree.specs.Points.{after_reply, may_have_written}
+use Rattle.lang_tree.specs.Conditions.{is_snapshot, refusal}
+use Rattle.lang_tree.specs.Figures.{figures}
+use Rattle.lang_tree.specs.Points.{after_reply, is_sync, may_have_written}
+use Rattle.lang_tree.specs.Sharing.{BlocksAlone, SharedNodes, figures_over}
 use Rattle.lang_tree.specs.Step.{Session, dsync, dwait, osync, step}
-use Rattle.lang_tree.specs.Tree.{Dir, File, IsSound, Thing, Tree}
+use Rattle.lang_tree.specs.Tree.{Dir, File, IsSound, Kept, Thing, Tree}
 use Rattle.crash_argument.specs.Ledger.{HoldsUnder, issued}
 use Rattle.engine_blocks.specs.Crashes.{HasLiveBlocks, HasMapOfPoint, StandsForLast}
 use Rattle.engine_blocks.specs.State.{State}
@@ -27,13 +30,14 @@ use Rattle.fs_files.specs.Calls.{places_of, places_or_none}
 use Rattle.fs_session.specs.Commands.{is_on_tree}
 use Rattle.fs_session.specs.DiskRoom.{AnswersOn, AnswersOver, BeginsOver, IsRoomOf, SyncsOver}
 use Rattle.fs_session.specs.Memory.{room_of}
-use Rattle.fs_session.specs.NothingKept.{alone_placed, no_snapshot}
-use Rattle.fs_session.specs.Room.{HoldsTree, IsDoneIn, RefusesIn, Room, figures_in}
+use Rattle.fs_session.specs.NothingKept.{renews_nothing}
+use Rattle.fs_session.specs.Room.{HoldsTree, IsDoneIn, RefusesIn, Room, alone_by, figures_in, renewed_in, shared_by}
 use Rattle.fs_session.specs.Sessions.{IsSession}
 use Rattle.cmd_session.specs.Answered.{PassesPoints, PlaceLaws, StaysPlaced}
 use Rattle.cmd_session.specs.Going.{KeepsPlaces}
 use Rattle.cmd_session.specs.Places.{LiesAt}
 use Rattle.cmd_session.specs.Taking.{makes_point}
+use Rattle.cmd_session.proofs.Costing.{needs_little}
 use Rattle.cmd_session.proofs.Rooms.{said}
 
 -- A map that has the live blocks of another one: each node has the same blocks in both.
@@ -84,22 +88,52 @@ waited_changed f n false = refl
 
 -- Rooms that hold the same tree have as many blocks of each node.
 
-module _ (g : Geometry) (limit : ℕ) (t : Tree) (sound : IsSound limit t) (alone : t.snapshots ≡ empty) (r q : Room) (holds : HoldsTree g t r) (again : HoldsTree g t q) where
+-- a number of snapshots is that of one
+abbrev NumbersNamed : Tree → Type 0
+NumbersNamed t = (n : ℕ) → is_snapshot t.snapshots n ≡ true → (name : List ℕ) × (k : Kept) × (get t.snapshots name ≡ Some k) × (k.number ≡ n)
+
+module _ (g : Geometry) (limit : ℕ) (t : Tree) (sound : IsSound limit t) (named : NumbersNamed t) (r q : Room) (holds : HoldsTree g t r) (again : HoldsTree g t q) where
   same_length : (k : ℕ) → length (q.places k) ≡ length (r.places k)
   same_length k = by (get t.nodes k) refl
     where
+      of_snapshot : (name : List ℕ) × (x : Kept) × (get t.snapshots name ≡ Some x) × (x.number ≡ k) → length (q.places k) ≡ length (r.places k)
+      of_snapshot x =
+          ap (λ (n : ℕ). length (q.places n)) (sym x.3) ∙ again.snapshots x.0 x.1 x.2 ∙ sym (holds.snapshots x.0 x.1 x.2) ∙ ap (λ (n : ℕ). length (r.places n)) x.3
+
       by : (x : Option Thing) → get t.nodes k ≡ x → length (q.places k) ≡ length (r.places k)
-      by None is = ap length (again.unused k is (no_snapshot t k alone) ∙ sym (holds.unused k is (no_snapshot t k alone)))
+      by None is = ⊎_elim (λ snapshot. of_snapshot (named k snapshot)) (λ none. ap length (again.unused k is none ∙ sym (holds.unused k is none))) (cases_Bool (is_snapshot t.snapshots k))
       by (Some (File bytes)) is = again.files k bytes is ∙ sym (holds.files k bytes is)
       by (Some Dir) is = let path = sound.reached k Dir is in again.directories path.0 k path.1 is ∙ sym (holds.directories path.0 k path.1 is)
 
--- so where these are the first of those and of others, they are those
-same_front : (xs ys more : List ℕ) → length xs ≡ length ys → xs ≡ take (length xs) (ys ++ more) → xs ≡ ys
-same_front xs ys more long is = is ∙ ap (λ (n : ℕ). take n (ys ++ more)) long ∙ take-append_seam ys more
+-- so where these are the first of those, they are those
+same_front : (xs ys : List ℕ) → length xs ≡ length ys → xs ≡ take (length xs) ys → xs ≡ ys
+same_front xs ys long is = is ∙ ap (λ (n : ℕ). take n ys) long ∙ take-length ys
+
+-- where nothing new is placed, each node has the first of its own
+placed_as_before : (renewed : ℕ → Bool) (need : ℕ) (xs ys takeable : List ℕ) → need ≡ 0 → xs ≡ take (length xs) (renew renewed 0 ys (take need takeable)) → xs ≡ take (length xs) ys
+placed_as_before renewed need xs ys takeable none is =
+    is ∙ ap (λ (n : ℕ). take (length xs) (renew renewed 0 ys (take n takeable))) none ∙ ap (take (length xs)) (renews_nothing renewed 0 ys)
+
+-- what the laws say of changes and costs
+abbrev ChangesWhereItCosts : Type 0
+ChangesWhereItCosts = (bitmap : ℕ) (s : Session) (cmd : Cmd) → is_sync cmd ≡ false → (step s cmd).0.changed ≡ (s.changed || nat_lt 0 (figures bitmap s cmd).cost)
+
+abbrev CostsWhereShared : Type 0
+CostsWhereShared = (bitmap : ℕ) (shared : SharedNodes) (alone : BlocksAlone) (s : Session) (cmd : Cmd) → nat_lt 0 (figures_over bitmap shared alone s cmd).cost ≡ nat_lt 0 (figures bitmap s cmd).cost
+
+-- no number below none
+none_below : (n : ℕ) → nat_lt 0 n ≡ false → n ≡ 0
+none_below n none = ⊎_elim (λ some. absurd (true≢false (sym (lt-ltb 0 n some) ∙ none))) (λ few. omega (arith, few)) (cases_lt 0 n)
+
+-- a command on the tree is no sync
+no_sync : (cmd : Cmd) → is_on_tree cmd ≡ true → is_sync cmd ≡ false
+no_sync cmds.Osync is = absurd (false≢true is)
+no_sync cmds.Dsync is = absurd (false≢true is)
+no_sync cmd is = refl
 
 -- One command that makes no point and leaves nothing changed: nothing was changed before it, and each node keeps its blocks.
 
-module _ (g : Geometry) (f : Session) (reply : Reply) (next : Session) (clean : next.changed ≡ false) (limit : ℕ) (sound : IsSound limit f.tree) (alone : f.tree.snapshots ≡ empty) (r room : Room) (holds : HoldsTree g f.tree r) where
+module _ (g : Geometry) (f : Session) (reply : Reply) (next : Session) (clean : next.changed ≡ false) (limit : ℕ) (sound : IsSound limit f.tree) (named : NumbersNamed f.tree) (changes : ChangesWhereItCosts) (shared : CostsWhereShared) (r room : Room) (holds : HoldsTree g f.tree r) where
   abbrev Keeps : Type 0
   Keeps = (f.changed ≡ false) × ((k : ℕ) → room.places k ≡ r.places k)
 
@@ -119,9 +153,19 @@ module _ (g : Geometry) (f : Session) (reply : Reply) (next : Session) (clean : 
       same : next ≡ f
       same = sym after ∙ same_session f cmd of_tree (ap (λ (x : Session). x.changed) after ∙ clean)
 
+      -- it costs nothing, and so needs nothing
+      free : (figures_in g f back cmd).cost ≡ 0
+      free = none_below (figures_in g f back cmd).cost
+          (shared (bitmap_blocks g) (shared_by g f.tree back) (alone_by g f.tree back) f cmd
+          ∙ (or_parts f.changed (nat_lt 0 (figures (bitmap_blocks g) f cmd).cost) (sym (changes (bitmap_blocks g) f cmd (no_sync cmd of_tree)) ∙ ap (λ (x : Session). x.changed) after ∙ clean)).1)
+
+      none : (figures_in g f back cmd).need ≡ 0
+      none = omega (arith, free, needs_little (bitmap_blocks g) (shared_by g f.tree back) (alone_by g f.tree back) f.limit f.tree cmd (refusal f.limit f.tree cmd))
+
       kept : (k : ℕ) → room.places k ≡ r.places k
-      kept k = same_front (room.places k) (r.places k) (take (figures_in g f back cmd).need back.takeable) (same_length g limit f.tree sound alone r room holds (subst (λ (x : Session). HoldsTree g x.tree room) same d.holds) k)
-          (subst (λ (at : ℕ → List ℕ). room.places k ≡ take (length (room.places k)) (at k ++ take (figures_in g f back cmd).need back.takeable)) places (alone_placed g f back alone cmd back.places room.places (take (figures_in g f back cmd).need back.takeable) d.spends.placed k))
+      kept k = same_front (room.places k) (r.places k) (same_length g limit f.tree sound named r room holds (subst (λ (x : Session). HoldsTree g x.tree room) same d.holds) k)
+          (placed_as_before (renewed_in g f back cmd k) (figures_in g f back cmd).need (room.places k) (r.places k) back.takeable none
+          (subst (λ (at : ℕ → List ℕ). room.places k ≡ take (length (room.places k)) (renew (renewed_in g f back cmd k) 0 (at k) (take (figures_in g f back cmd).need back.takeable))) places (d.spends.placed k)))
 
   synced : (cmd : Cmd) (back : Room) → back.places ≡ r.places → (step f cmd ≡ (next, reply) → f.changed ≡ false) → SyncsOver f back cmd reply next room → Keeps
   synced cmd back h1 h2 h3 = grind (arith, refused, rests)
@@ -152,6 +196,10 @@ module _ (g : Geometry) (f : Session) (reply : Reply) (next : Session) (clean : 
   over (cmds.Rename from to) back none places x = on_tree _ _ (cmds.Rename from to) back refl places x
   over (cmds.Stat path) back none places x = on_tree _ _ (cmds.Stat path) back refl places x
   over (cmds.List path) back none places x = on_tree _ _ (cmds.List path) back refl places x
+  over (cmds.Snap name) back none places x = on_tree _ _ (cmds.Snap name) back refl places x
+  over (cmds.Unsnap name) back none places x = on_tree _ _ (cmds.Unsnap name) back refl places x
+  over cmds.Snaps back none places x = on_tree _ _ cmds.Snaps back refl places x
+  over (cmds.At name look) back none places x = on_tree _ _ (cmds.At name look) back refl places x
 
   began : (P : Refusal → Type 0) (cmd : Cmd) → makes_point f cmd reply ≡ false → RefusesIn P f r reply next room ⊎ BeginsOver g f r cmd reply next room → Keeps
   began P cmd h1 h2 = grind (arith, refused, over)
@@ -175,6 +223,10 @@ module _ (g : Geometry) (f : Session) (reply : Reply) (next : Session) (clean : 
   keeps (cmds.Rename from to) none x = began _ (cmds.Rename from to) none x
   keeps (cmds.Stat path) none x = began _ (cmds.Stat path) none x
   keeps (cmds.List path) none x = began _ (cmds.List path) none x
+  keeps (cmds.Snap name) none x = began _ (cmds.Snap name) none x
+  keeps (cmds.Unsnap name) none x = began _ (cmds.Unsnap name) none x
+  keeps cmds.Snaps none x = began _ cmds.Snaps none x
+  keeps (cmds.At name look) none x = began _ (cmds.At name look) none x
 
 -- One command more, over blocks.
 
@@ -183,9 +235,9 @@ module _ (g : Geometry) (laws : PlaceLaws g) (base : Blocks) (f : Session) (cmd 
   came : old.books.point < new.books.point → (m : Blocks) → new.crash.is_point new.books.point m → (k : ℕ) → places_of g m k ≡ (room_of new).places k
   came up m is k = places_same g laws.limits new.map m (subst (λ (x : Geometry). HasLiveBlocks x new.map m) geom (p.time.made up m is)) k ∙ ap (λ (x : Geometry). places_of x new.map k) (sym geom)
 
-  keeps_on : IsSound g.i f.tree → f.tree.snapshots ≡ empty → HoldsTree g f.tree (room_of old) → (new.books.stopped ≡ false → old.books.stopped ≡ false) → (new.books.stopped ≡ false → makes_point f cmd reply ≡ true → old.books.point < new.books.point)
+  keeps_on : IsSound g.i f.tree → HoldsTree g f.tree (room_of old) → (new.books.stopped ≡ false → old.books.stopped ≡ false) → (new.books.stopped ≡ false → makes_point f cmd reply ≡ true → old.books.point < new.books.point)
       → AnswersOn g f (room_of old) cmd reply (after_reply f cmd reply) (room_of new) → KeepsPlaces g f old → KeepsPlaces g (after_reply f cmd reply) new
-  keeps_on sound alone holds before makes answers was going clean m is k = ⊎_elim (λ up. came up m is k) stayed (cases_lt old.books.point new.books.point)
+  keeps_on sound holds before makes answers was going clean m is k = ⊎_elim (λ up. came up m is k) stayed (cases_lt old.books.point new.books.point)
     where
       stayed : new.books.point ≤ old.books.point → places_of g m k ≡ (room_of new).places k
       stayed low = was (before going) same.0 m point k ∙ sym (same.1 k)
@@ -194,7 +246,7 @@ module _ (g : Geometry) (laws : PlaceLaws g) (base : Blocks) (f : Session) (cmd 
           none = ⊎_elim (λ made. absurd (omega (arith, low, makes going made))) (λ not. not) (cases_Bool (makes_point f cmd reply))
 
           same : (f.changed ≡ false) × ((j : ℕ) → (room_of new).places j ≡ (room_of old).places j)
-          same = keeps g f reply (after_reply f cmd reply) clean g.i sound alone (room_of old) (room_of new) holds cmd none answers
+          same = keeps g f reply (after_reply f cmd reply) clean g.i sound (laws.numbers f.tree.snapshots) laws.changes laws.shared (room_of old) (room_of new) holds cmd none answers
 
           number : new.books.point ≡ old.books.point
           number = omega (arith, low, p.time.advances.last)
@@ -220,10 +272,10 @@ module _ (g : Geometry) (laws : PlaceLaws g) (base : Blocks) (f : Session) (cmd 
         nodes = keeps going clean one.0 (last.each one.0 one.1);
       }
 
-  pub placed_on : IsSound g.i f.tree → f.tree.snapshots ≡ empty → HoldsTree g f.tree (room_of old) → (new.books.stopped ≡ false → old.books.stopped ≡ false) → (new.books.stopped ≡ false → makes_point f cmd reply ≡ true → old.books.point < new.books.point)
+  pub placed_on : IsSound g.i f.tree → HoldsTree g f.tree (room_of old) → (new.books.stopped ≡ false → old.books.stopped ≡ false) → (new.books.stopped ≡ false → makes_point f cmd reply ≡ true → old.books.point < new.books.point)
       → AnswersOn g f (room_of old) cmd reply (after_reply f cmd reply) (room_of new) → ((b : ℕ) → b < g.n → new.crash.base b ≡ base b) → KeepsPlaces g f old → StaysPlaced g base (after_reply f cmd reply) new
-  placed_on sound alone holds before makes answers same was =
-      let now = keeps_on sound alone holds before makes answers was in
+  placed_on sound holds before makes answers same was =
+      let now = keeps_on sound holds before makes answers was in
       record { keeps = now; lies = lies_now (after_reply f cmd reply) same now }
 
 -- The same by what is known of a run so far: this is its session, and so many of its commands made a point.
@@ -232,7 +284,7 @@ pub placed_in : (g : Geometry) (laws : PlaceLaws g) (base : Blocks) (f : Session
     → (new.books.stopped ≡ false → old.books.stopped ≡ false) → (old.books.stopped ≡ false → made ≡ old.books.point) → (new.books.stopped ≡ false → made + (if makes_point f cmd reply then 1 else 0) ≡ new.books.point)
     → ((b : ℕ) → b < g.n → new.crash.base b ≡ base b) → KeepsPlaces g f old → StaysPlaced g base (after_reply f cmd reply) new
 placed_in g laws base f made cmd reply old new p geom session room given before had has same was =
-    placed_on g laws base f cmd reply old new p (p.time.geom ∙ geom) (subst (λ (k : Geometry). IsSound k.i f.tree) geom (laws.sound old.books.geom old.map f.tree session.tree)) session.tree.map.shows.alone (subst (λ (k : Geometry). HoldsTree k f.tree (room_of old)) geom room.holds) before makes answers same was
+    placed_on g laws base f cmd reply old new p (p.time.geom ∙ geom) (subst (λ (k : Geometry). IsSound k.i f.tree) geom (laws.sound old.books.geom old.map f.tree session.tree)) (subst (λ (k : Geometry). HoldsTree k f.tree (room_of old)) geom room.holds) before makes answers same was
   where
     makes : new.books.stopped ≡ false → makes_point f cmd reply ≡ true → old.books.point < new.books.point
     makes going is = omega (arith, had (before going), has going, ap {B = ℕ} (λ (c : Bool). if c then 1 else 0) is)

@@ -77,6 +77,10 @@ module _ (g : Geometry) (f : Session) (reply : Reply) (next : Session) where
   over r (cmds.Rename from to) room x = on_tree _ _ r (cmds.Rename from to) room x
   over r (cmds.Stat path) room x = on_tree _ _ r (cmds.Stat path) room x
   over r (cmds.List path) room x = on_tree _ _ r (cmds.List path) room x
+  over r (cmds.Snap name) room x = on_tree _ _ r (cmds.Snap name) room x
+  over r (cmds.Unsnap name) room x = on_tree _ _ r (cmds.Unsnap name) room x
+  over r cmds.Snaps room x = on_tree _ _ r cmds.Snaps room x
+  over r (cmds.At name look) room x = on_tree _ _ r (cmds.At name look) room x
 
   began : (P : Refusal → Type 0) (r : Room) (cmd : Cmd) (room : Room) → RefusesIn P f r reply next room ⊎ BeginsOver g f r cmd reply next room → Said cmd
   began P r cmd room (inl why) = refused P r cmd room why
@@ -101,6 +105,10 @@ module _ (g : Geometry) (f : Session) (reply : Reply) (next : Session) where
   said r (cmds.Rename from to) room x = began _ r (cmds.Rename from to) room x
   said r (cmds.Stat path) room x = began _ r (cmds.Stat path) room x
   said r (cmds.List path) room x = began _ r (cmds.List path) room x
+  said r (cmds.Snap name) room x = began _ r (cmds.Snap name) room x
+  said r (cmds.Unsnap name) room x = began _ r (cmds.Unsnap name) room x
+  said r cmds.Snaps room x = began _ r cmds.Snaps room x
+  said r (cmds.At name look) room x = began _ r (cmds.At name look) room x
 
 -- a sync is no bad line
 pub sync_is_meant : (cmd : Cmd) → is_sync cmd ≡ true → cmd ≢ cmds.Bad
@@ -208,7 +216,7 @@ module _ (g : Geometry) (follow : (outside : Refusal → Bool) (was now : Sessio
   says_by front fits found more = grind (arith, rests_alike, old.crash.base)
 
   pub answered_by : (cmd : Cmd) (reply : Reply) (new : State) (f next : Session) (a : AnsweredIn f cmd reply next old new) (own : List Commit) (late : Span) → Grows old.crash.log new.crash.log → old.books.geom ≡ g → t.session ≡ f → (DoneInRing ses base m new.crash.log cmd reply (pace_of t old) (length a.behind) (length new.crash.log) → commit_places old.books ≤ a.free)
-      → (room : AnswersBy ses base m new.crash.log cmd reply (pace_of t old) (pace_of (taken_by g t cmd reply own late) new)) × (room.behind ≡ length a.behind)
+      → (room : AnswersBy ses base m new.crash.log cmd reply (pace_of t old) (pace_of (taken_by t old.books.running.weight cmd reply own late) new)) × (room.behind ≡ length a.behind)
   answered_by cmd reply new f next a own late grows geom session fits = (room, refl)
     where
       earlier : take (length old.crash.log) new.crash.log ≡ old.crash.log
@@ -234,7 +242,7 @@ module _ (g : Geometry) (follow : (outside : Refusal → Bool) (was now : Sessio
       told : AnswersAt g (moment_by ses base m (take (length a.behind) new.crash.log) (DoneInRing ses base m new.crash.log cmd reply (pace_of t old) (length a.behind) (length new.crash.log))) (moment_by ses base m (take (length new.crash.log) new.crash.log) ⊥) t.session (room_on old) cmd reply (after_reply t.session cmd reply) (room_on new)
       told = grind (arith, a.behind, new.crash.log, follows, cut)
 
-      room : AnswersBy ses base m new.crash.log cmd reply (pace_of t old) (pace_of (taken_by g t cmd reply own late) new)
+      room : AnswersBy ses base m new.crash.log cmd reply (pace_of t old) (pace_of (taken_by t old.books.running.weight cmd reply own late) new)
       room = record {
         behind = length a.behind;
         from = omega (arith, ap (λ (es : List Event). length es) a.begins.log, length-append old.crash.log a.begins.more);
@@ -267,8 +275,8 @@ answered_longer ses base m log more cmd reply p q low low_next a = (room, refl)
       some = d.some;
       going = d.going;
       alone = d.alone;
-      finds = subst (λ (es : List Event). FindsPlaces ses base es (places_wanted reply p.taken.weight (own_records ses log a.behind q.events))) (front a.behind within)
-          (subst (λ (own : List Commit). FindsPlaces ses base (take a.behind (log ++ more)) (places_wanted reply p.taken.weight own)) (own_longer ses log more a.behind q.events low_next) d.finds);
+      finds = subst (λ (es : List Event). FindsPlaces ses base es (places_wanted reply p.room.room.weight (own_records ses log a.behind q.events))) (front a.behind within)
+          (subst (λ (own : List Commit). FindsPlaces ses base (take a.behind (log ++ more)) (places_wanted reply p.room.room.weight own)) (own_longer ses log more a.behind q.events low_next) d.finds);
     }
 
     room : AnswersBy ses base m (log ++ more) cmd reply p q

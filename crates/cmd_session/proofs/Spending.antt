@@ -1,10 +1,10 @@
 -- Weight and budget of one command more.
-use Rattle.std.proofs.Common.{◌≡◌, ◌≢◌, ◌⊎◌, inl, inr, ⊎_elim, ℕ, ◌+◌, ◌≤◌, nat_lt, Bool, true, false, IsTrue, ◌&&◌, if◌then◌else◌, List, [], ◌∷◌, ◌++◌, length, Result, Ok, Err, refl, sym, ◌∙◌, ap, subst, arith}
+use Rattle.std.proofs.Common.{◌≡◌, ◌≢◌, ◌⊎◌, inl, inr, ⊎_elim, ℕ, ◌+◌, ◌≤◌, nat_lt, Bool, true, false, IsTrue, if◌then◌else◌, List, [], ◌∷◌, ◌++◌, length, Result, Ok, Err, refl, sym, ◌∙◌, ap, subst, arith}
 use Rattle.std.proofs.lemmas.Bool.{and_from, cases_Bool, cond-true, true≢false, false≢true}
 use Rattle.disk_contract.specs.Disk.{writes_in}
 use Rattle.layout_geometry.specs.Geometry.{Geometry, bitmap_blocks}
 use Rattle.lang_tree.specs.declared.command.Cmd.{Cmd}
-use Rattle.lang_tree.specs.declared.command.Cmd.TheVariants.{Mkdir, Create, Write, Fill, Read, Truncate, Link, Unlink, Rmdir, Rename, Stat, List as ListNames, Osync, Dsync, Durable, Dwait, Poll, Bad}
+use Rattle.lang_tree.specs.declared.command.Cmd.TheVariants.{Mkdir, Create, Write, Fill, Read, Truncate, Link, Unlink, Rmdir, Rename, Stat, List as ListNames, Snap, Unsnap, Snaps, At, Osync, Dsync, Durable, Dwait, Poll, Bad}
 use Rattle.lang_tree.specs.declared.command.Refusal.{Refusal}
 use Rattle.lang_tree.specs.declared.command.Refusal.TheVariants as because
 use Rattle.lang_tree.specs.declared.command.Reply.{Reply}
@@ -26,7 +26,7 @@ use Rattle.cmd_session.specs.Budget.{KeepsBudget, budget_of, commits, may_have_b
 use Rattle.cmd_session.specs.Histories.{session_after}
 use Rattle.cmd_session.specs.Serving.{HasServed}
 use Rattle.cmd_session.proofs.Histories.{none_some, some_none, one_less}
-use Rattle.cmd_session.proofs.Weights.{is_bad, weighs, within_weight}
+use Rattle.cmd_session.proofs.Weights.{budget_up, is_bad, weighs, weight_up, within_weight}
 
 -- The writes of one command.
 
@@ -79,6 +79,10 @@ module _ {S : Type 0} (tells : Bool) (state : S → State) (told : IsTrue tells)
   of_run f (Rename from to) result mid new h runs = of_carried (Rename from to) result 0 mid new runs
   of_run f (Stat path) result mid new h runs = of_carried (Stat path) result 0 mid new runs
   of_run f (ListNames path) result mid new h runs = of_carried (ListNames path) result 0 mid new runs
+  of_run f (Snap name) result mid new h runs = of_carried (Snap name) result 0 mid new runs
+  of_run f (Unsnap name) result mid new h runs = of_carried (Unsnap name) result 0 mid new runs
+  of_run f Snaps result mid new h runs = of_carried Snaps result 0 mid new runs
+  of_run f (At name look) result mid new h runs = of_carried (At name look) result 0 mid new runs
   of_run f Bad result mid new h runs = of_carried Bad result 0 mid new runs
 
   writes_alike : (cmd : Cmd) (reply : Reply) (old new : Bookkeeping) → MovesPipeline old new → writes_of cmd reply new ≡ writes_of cmd reply old
@@ -143,11 +147,29 @@ module _ {S : Type 0} (tells : Bool) (state : S → State) (told : IsTrue tells)
   abbrev weight : ℕ
   weight = weight_after (bitmap_blocks g) first 0 cmds replies
 
+  -- the session behind these commands
+  abbrev later : Session
+  later = session_after first cmds replies
+
   awake : (state new).books.stopped ≡ false → (state old).books.stopped ≡ false
   awake on = ⊎_elim (λ off. absurd (true≢false (sym (stays_stopped tells state cmd reply old new applies off) ∙ on))) (λ going. going) (cases_Bool (state old).books.stopped)
 
   within : commits cmd reply ≡ true → commit_writes (state old).books ≤ sync_budget weight
-  within is = omega (arith, within_weight (state old).books may, ap sync_budget (keeps.weight (commits_going tells state told cmd reply old new applies is)))
+  within is = omega (arith, within_weight (state old).books may, budget_up (state old).books.running.weight weight (keeps.weight (commits_going tells state told cmd reply old new applies is)))
 
   pub keeps_more : KeepsBudget g t begun (cmds ++ cmd ∷ []) (replies ++ reply ∷ []) (state new)
-  keeps_more = grind (arith, weighs tells state told unshared, served.geom, served.goes_on.session, keeps.weight, awake, weight_more, served.answered, writes_more, keeps.writes, budget_more, if_at_most, within)
+  keeps_more = record {
+    weight = λ going. omega (
+      arith,
+      weighs tells state told unshared g later cmd reply old new served.geom served.goes_on.session applies going,
+      weight_up (bitmap_blocks g) later (state old).books.running.weight weight cmd reply (keeps.weight (awake going)),
+      weight_more (bitmap_blocks g) first 0 cmds replies cmd reply served.answered,
+    );
+    writes = omega (
+      arith,
+      writes_more tells state told cmd reply old new stands applies,
+      keeps.writes,
+      budget_more (bitmap_blocks g) first 0 cmds replies cmd reply served.answered,
+      if_at_most (commits cmd reply) (commit_writes (state old).books) (sync_budget weight) within,
+    );
+  }

@@ -85,8 +85,8 @@ module _ {S : Type 0} (tells : Bool) (state : S → State) (told : IsTrue tells)
   room : AnsweredIn f cmd reply answer.0 s u
   room = answered_in state f cmd reply answer.0 old new answer.3 (left_over tells state told cmd reply old new x.applies k.ticked) (manner_stays tells state told cmd reply old new x.applies k.ticked)
 
-  mine : (begun : ℕ) × Own cmd reply s u waits grows mount base m tree cmds replies marks x.before x.after x.weighs over h.taken h.keeps h.of_mount.records h.of_mount.late answer.0 room h.manner begun
-  mine = own_begun cmd reply s u waits grows mount base m tree cmds replies marks x.before x.after x.weighs over h.taken h.keeps h.of_mount.records h.of_mount.late answer.0 room h.manner
+  mine : (begun : ℕ) × Own cmd reply s u waits grows mount base m tree cmds replies marks x.before x.after over h.taken h.keeps h.of_mount.records h.of_mount.late answer.0 room h.manner begun
+  mine = own_begun cmd reply s u waits grows mount base m tree cmds replies marks x.before x.after over h.taken h.keeps h.of_mount.records h.of_mount.late answer.0 room h.manner
 
   rests : s.books.stopped ≡ true → u.crash.log ≡ s.crash.log
   rests stopped = (steps.rests (inr stopped)).1.0
@@ -98,10 +98,10 @@ module _ {S : Type 0} (tells : Bool) (state : S → State) (told : IsTrue tells)
   own = own_records mount u.crash.log (length room.behind) (length u.crash.log)
 
   abbrev now_taken : Taken
-  now_taken = taken_by mount.geom h.taken cmd reply own late
+  now_taken = taken_by h.taken s.books.running.weight cmd reply own late
 
   keeps : KeepsTaken mount m tree (cmds ++ cmd ∷ []) (replies ++ reply ∷ []) u now_taken
-  keeps = keeps_on cmd reply s u waits grows mount base m tree cmds replies marks x.before x.after x.weighs over h.taken h.keeps h.of_mount.records h.of_mount.late answer.0 room h.manner mine.0 mine.1 rests
+  keeps = keeps_on cmd reply s u waits grows mount base m tree cmds replies marks x.before x.after over h.taken h.keeps h.of_mount.records h.of_mount.late answer.0 room h.manner mine.0 mine.1 rests
 
   geom : s.books.geom ≡ mount.geom
   geom = sym h.of_mount.geom
@@ -125,28 +125,27 @@ module _ {S : Type 0} (tells : Bool) (state : S → State) (told : IsTrue tells)
   behaves : Waits cmd reply s u steps grows replies x.before.goes_on.ended x.after.goes_on.ended x.after.goes_on.going mount base m h.taken room.behind mine.0
   behaves = record {
     from = mine.1.from;
-    ring = ring_on cmd reply s u waits grows mount base m tree cmds replies marks x.before x.after x.weighs over h.taken h.keeps h.of_mount.records h.of_mount.late answer.0 room h.manner;
+    ring = ring_on cmd reply s u waits grows mount base m tree cmds replies marks x.before x.after over h.taken h.keeps h.of_mount.records h.of_mount.late answer.0 room h.manner;
     written = mine.1.written;
-    idle = idle_on cmd reply s u waits grows mount base m tree cmds replies marks x.before x.after x.weighs over h.taken h.keeps h.of_mount.records h.of_mount.late answer.0 room h.manner;
-    unwritten = unwritten_on cmd reply s u waits grows mount base m tree cmds replies marks x.before x.after x.weighs over h.taken h.keeps h.of_mount.records h.of_mount.late answer.0 room h.manner;
-    calm = λ alone. calm_on cmd reply s u waits grows mount base m tree cmds replies marks x.before x.after x.weighs over h.taken h.keeps h.of_mount.records h.of_mount.late answer.0 room h.manner alone steps.ticks;
-    hears = λ alone. hears_on cmd reply s u waits grows mount base m tree cmds replies marks x.before x.after x.weighs over h.taken h.keeps h.of_mount.records h.of_mount.late answer.0 room h.manner mine.0 mine.1 alone x.disk.lawful;
-    hears_upto = λ n alone. hears_upto_on cmd reply s u waits grows mount base m tree cmds replies marks x.before x.after x.weighs over h.taken h.keeps h.of_mount.records h.of_mount.late answer.0 room h.manner mine.0 mine.1 n alone;
+    idle = idle_on cmd reply s u waits grows mount base m tree cmds replies marks x.before x.after over h.taken h.keeps h.of_mount.records h.of_mount.late answer.0 room h.manner;
+    unwritten = unwritten_on cmd reply s u waits grows mount base m tree cmds replies marks x.before x.after over h.taken h.keeps h.of_mount.records h.of_mount.late answer.0 room h.manner;
+    calm = λ alone. calm_on cmd reply s u waits grows mount base m tree cmds replies marks x.before x.after over h.taken h.keeps h.of_mount.records h.of_mount.late answer.0 room h.manner alone steps.ticks;
+    hears = λ alone. hears_on cmd reply s u waits grows mount base m tree cmds replies marks x.before x.after over h.taken h.keeps h.of_mount.records h.of_mount.late answer.0 room h.manner mine.0 mine.1 alone x.disk.lawful;
+    hears_upto = λ n alone. hears_upto_on cmd reply s u waits grows mount base m tree cmds replies marks x.before x.after over h.taken h.keeps h.of_mount.records h.of_mount.late answer.0 room h.manner mine.0 mine.1 n alone;
     quiet = λ n is going unspent. (room.wait n is going unspent).still;
-    knows = knows_on cmd reply s u waits grows mount base m tree cmds replies marks x.before x.after x.weighs over h.taken h.keeps h.of_mount.records h.of_mount.late answer.0 room h.manner;
+    knows = knows_on cmd reply s u waits grows mount base m tree cmds replies marks x.before x.after over h.taken h.keeps h.of_mount.records h.of_mount.late answer.0 room h.manner;
     told = λ n asks said. (waits.known n asks said).0;
     promised = omega (arith, x.after.goes_on.promised (length u.crash.log), floor_at_last (length u.crash.log) replies marks reply (length u.crash.log) x.before.marked (omega arith));
     rises = waits.floor;
-    spends = spends_on cmd reply s u waits grows mount base m tree cmds replies marks x.before x.after x.weighs over h.taken h.keeps h.of_mount.records h.of_mount.late answer.0 room h.manner mine.0 mine.1 rests;
+    spends = spends_on cmd reply s u waits grows mount base m tree cmds replies marks x.before x.after over h.taken h.keeps h.of_mount.records h.of_mount.late answer.0 room h.manner mine.0 mine.1 rests;
     placed = placed;
-    weighs = λ going. h.keeps.weight ∙ sym (x.weighs going);
   }
 
   abbrev end : Pace
   end = pace_of now_taken u
 
   in_room : (r : AnswersBy mount base m u.crash.log cmd reply (pace_of h.taken s) end) × (r.behind ≡ length room.behind)
-  in_room = answered_by mount.geom laws.replies m mount refl base h.taken s h.manner h.of_mount.sure cmd reply u f answer.0 room own late grows geom h.keeps.session (done_fits cmd reply s u waits grows mount base m tree cmds replies marks x.before x.after x.weighs over h.taken h.keeps h.of_mount.records h.of_mount.late answer.0 room h.manner)
+  in_room = answered_by mount.geom laws.replies m mount refl base h.taken s h.manner h.of_mount.sure cmd reply u f answer.0 room own late grows geom h.keeps.session (done_fits cmd reply s u waits grows mount base m tree cmds replies marks x.before x.after over h.taken h.keeps h.of_mount.records h.of_mount.late answer.0 room h.manner)
 
   -- while no call failed, none was counted, and no write was lost
   unlost : m.waits_alone ≡ true → u.books.stopped ≡ false → (u.counts.faults ≡ 0) × (has_lost u.crash.log ≡ false)

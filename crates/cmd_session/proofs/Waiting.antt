@@ -15,7 +15,7 @@ use Rattle.disk_contract.specs.Disk.{AreWrites, Grows, GrowsByWrites, PollsFirst
 use Rattle.disk_contract.specs.Lawful.{AreLawfulAfter, IsLawful}
 use Rattle.disk_contract.specs.Manner.{Manner, Polled, after_polls}
 use Rattle.disk_contract.specs.Logs.{writes_in-append as writes_on}
-use Rattle.layout_geometry.specs.Geometry.{Geometry, bitmap_blocks}
+use Rattle.layout_geometry.specs.Geometry.{Geometry}
 use Rattle.layout_journal.specs.declared.header.Header.{Header}
 use Rattle.layout_journal.specs.declared.record.Commit.{Commit}
 use Rattle.layout_journal.specs.Layout.{commit_of, descriptor_count}
@@ -43,7 +43,7 @@ use Rattle.fs_session.specs.Memory.{room_of}
 use Rattle.fs_session.specs.Room.{figures_in}
 use Rattle.fs_session.specs.Sessions.{IsSession}
 use Rattle.cmd_session.specs.Shared.{accepted_on}
-use Rattle.cmd_session.specs.Budget.{commits, sync_budget, sync_places, weight_after, weight_by, writes_of}
+use Rattle.cmd_session.specs.Budget.{commits, sync_budget, sync_places, writes_of}
 use Rattle.cmd_session.specs.Histories.{last_mark, session_after}
 use Rattle.cmd_session.specs.Serving.{HasServed}
 use Rattle.cmd_session.specs.Records.{own_records}
@@ -88,19 +88,11 @@ at_end (y ∷ xs) x = at_end xs x
 
 -- What a run's fold is after one command more.
 
-module _ (g : Geometry) where
-  session_more : (s : Session) (cmds : List Cmd) (replies : List Reply) (cmd : Cmd) (reply : Reply) → length cmds ≡ length replies → session_after s (cmds ++ cmd ∷ []) (replies ++ reply ∷ []) ≡ after_reply (session_after s cmds replies) cmd reply
-  session_more s [] [] cmd reply same = refl
-  session_more s [] (r ∷ replies) cmd reply same = absurd (omega (arith, same))
-  session_more s (c ∷ cmds) [] cmd reply same = absurd (omega (arith, same))
-  session_more s (c ∷ cmds) (r ∷ replies) cmd reply same = session_more (after_reply s c r) cmds replies cmd reply (omega (arith, same))
-
-  weight_more : (s : Session) (w : ℕ) (cmds : List Cmd) (replies : List Reply) (cmd : Cmd) (reply : Reply) → length cmds ≡ length replies
-      → weight_after (bitmap_blocks g) s w (cmds ++ cmd ∷ []) (replies ++ reply ∷ []) ≡ weight_by (bitmap_blocks g) (session_after s cmds replies) (weight_after (bitmap_blocks g) s w cmds replies) cmd reply
-  weight_more s w [] [] cmd reply same = refl
-  weight_more s w [] (r ∷ replies) cmd reply same = absurd (omega (arith, same))
-  weight_more s w (c ∷ cmds) [] cmd reply same = absurd (omega (arith, same))
-  weight_more s w (c ∷ cmds) (r ∷ replies) cmd reply same = weight_more (after_reply s c r) (weight_by (bitmap_blocks g) s w c r) cmds replies cmd reply (omega (arith, same))
+session_more : (s : Session) (cmds : List Cmd) (replies : List Reply) (cmd : Cmd) (reply : Reply) → length cmds ≡ length replies → session_after s (cmds ++ cmd ∷ []) (replies ++ reply ∷ []) ≡ after_reply (session_after s cmds replies) cmd reply
+session_more s [] [] cmd reply same = refl
+session_more s [] (r ∷ replies) cmd reply same = absurd (omega (arith, same))
+session_more s (c ∷ cmds) [] cmd reply same = absurd (omega (arith, same))
+session_more s (c ∷ cmds) (r ∷ replies) cmd reply same = session_more (after_reply s c r) cmds replies cmd reply (omega (arith, same))
 
 -- what stands at a place of the first n
 get_in_take : {A : Type 0} (n : ℕ) (xs : List A) (i : ℕ) (x : A) → i < n → slice_get xs i ≡ Some x → slice_get (take n xs) i ≡ Some x
@@ -210,7 +202,7 @@ some_is cs ds e = search
 
 module _ (cmd : Cmd) (reply : Reply) (old new : State) (w : WaitsOn cmd reply old new) (grows : Grows old.crash.log new.crash.log) (ses : MountedSession) (base : Blocks) (m : Manner) (tree : Tree) (asked : List Cmd) (replies : List Reply) (marks : List ℕ)
     (before : HasServed ses.geom tree ses.mounted asked replies marks old) (after : HasServed ses.geom tree ses.mounted (asked ++ cmd ∷ []) (replies ++ reply ∷ []) (marks ++ length new.crash.log ∷ []) new)
-    (weighs : old.books.stopped ≡ false → old.books.running.weight ≡ weight_after (bitmap_blocks ses.geom) (session_at ses tree) 0 asked replies) (over : new.books.stopped ≡ (old.books.stopped || is_fault reply))
+    (over : new.books.stopped ≡ (old.books.stopped || is_fault reply))
     (t : Taken) (keeps : KeepsTaken ses m tree asked replies old t) (tells : SameRecords (records_of ses base) old.crash.records) (within : ses.mounted ≤ length old.crash.log)
     (next : Session) (a : AnsweredIn (session_after (session_at ses tree) asked replies) cmd reply next old new) (is_manner : old.counts.ticks.manner ≡ m) where
   abbrev f : Session
@@ -234,9 +226,6 @@ module _ (cmd : Cmd) (reply : Reply) (old new : State) (w : WaitsOn cmd reply ol
 
   came_still : (s : Span) (ticket : ℕ) → s.begun ≤ length old.crash.log → CameIn old.crash.log s ticket → CameIn new.crash.log s ticket
   came_still s ticket low came = subst (λ (es : List Event). CameIn es s ticket) (sym grows.log) (came_longer old.crash.log grows.more s ticket low came)
-
-  weight_is : old.books.stopped ≡ false → old.books.running.weight ≡ t.weight
-  weight_is going = weighs going ∙ sym keeps.weight
 
   -- The log behind the tick, and the records that it tells.
 
@@ -282,16 +271,16 @@ module _ (cmd : Cmd) (reply : Reply) (old new : State) (w : WaitsOn cmd reply ol
   places_are x = omega (arith, x.descriptors, ap₂ (λ (m n : ℕ). descriptor_count (m + n)) x.payloads x.fresh, x.payloads)
 
   abbrev wanted : ℕ
-  wanted = places_wanted reply t.weight own
+  wanted = places_wanted reply old.books.running.weight own
 
   wanted_enough : is_sync cmd ≡ true → old.books.stopped ≡ false → 0 < old.books.running.weight → commit_places old.books ≤ wanted
   wanted_enough sync going some = by (cases_Bool (is_refusal reply))
     where
       by : (is_refusal reply ≡ true) ⊎ (is_refusal reply ≡ false) → commit_places old.books ≤ wanted
-      by (inl refused) = omega (arith, w.fits, ap sync_places (weight_is going), cond-true {A = ℕ} (is_refusal reply) (sync_places t.weight) (places_from 0 own) refused)
+      by (inl refused) = omega (arith, w.fits, cond-true {A = ℕ} (is_refusal reply) (sync_places old.books.running.weight) (places_from 0 own) refused)
       by (inr well) =
           let x = wrote sync well going some in
-          omega (arith, places_are x, cond-false {A = ℕ} (is_refusal reply) (sync_places t.weight) (places_from 0 own) well, ap (places_from 0) (own_one x), one_place x.commit)
+          omega (arith, places_are x, cond-false {A = ℕ} (is_refusal reply) (sync_places old.books.running.weight) (places_from 0 own) well, ap (places_from 0) (own_one x), one_place x.commit)
 
   -- so many fit the ring by the log
   starts_so : (header : Header) → IsNewestAtRest ses.geom.n (cell_of base behind) header → old.crash.records.starts behind header.start
@@ -305,8 +294,8 @@ module _ (cmd : Cmd) (reply : Reply) (old new : State) (w : WaitsOn cmd reply ol
     ap (λ (k : Geometry). k.j) before.geom,
   ))
 
-  fits_among : is_sync cmd ≡ true → old.books.stopped ≡ false → FreesBy old a.behind a.free → OrdersAtOnce ses base behind t wanted → FitsAmong old a.free
-  fits_among sync going frees (inl none) = inr (weight_is going ∙ none)
+  fits_among : is_sync cmd ≡ true → old.books.stopped ≡ false → FreesBy old a.behind a.free → OrdersAtOnce ses base behind old.books.running.weight wanted → FitsAmong old a.free
+  fits_among sync going frees (inl none) = inr none
   fits_among sync going frees (inr finds) = by (zero_or_some old.books.running.weight)
     where
       by : (old.books.running.weight ≡ 0) ⊎ (0 < old.books.running.weight) → FitsAmong old a.free
@@ -336,29 +325,29 @@ module _ (cmd : Cmd) (reply : Reply) (old new : State) (w : WaitsOn cmd reply ol
   ring_on meant going unspent alone = ⊎_elim (λ frees. inl (tells_ring alone going frees)) (λ all. inr (ap (λ (es : List Event). length es) all.0, all.1)) (ring_told meant going unspent alone)
 
   -- a sync of nothing that is done writes nothing
-  pub idle_on : is_done_sync cmd reply ≡ true → old.books.stopped ≡ false → t.weight ≡ 0 → writes_in new.crash.log ≡ writes_in behind
+  pub idle_on : is_done_sync cmd reply ≡ true → old.books.stopped ≡ false → old.books.running.weight ≡ 0 → writes_in new.crash.log ≡ writes_in behind
   idle_on done going none =
       let parts = parts_of (is_sync cmd) (not (is_refusal reply)) done in
       let well = not_is (is_refusal reply) parts.1 in
-      ((a.sync parts.0 going (unspent_by well)).idle well (weight_is going ∙ none)).1
+      ((a.sync parts.0 going (unspent_by well)).idle well none).1
 
   -- The writes of its record.
 
   pub record Own (begun : ℕ) : Type 0 where
     pub from : length behind ≤ begun
     pub upto : begun ≤ length new.crash.log
-    pub written : is_done_sync cmd reply ≡ true → old.books.stopped ≡ false → 0 < t.weight → WritesRecordBy ses base m new.crash.log t.weight (length behind) begun (length new.crash.log)
-    pub awaits : is_done_sync cmd reply ≡ true → old.books.stopped ≡ false → 0 < t.weight → (u : ℕ) → new.crash.awaits new.books.point u → is_accepted u (take begun new.crash.log) ≡ false
+    pub written : is_done_sync cmd reply ≡ true → old.books.stopped ≡ false → 0 < old.books.running.weight → WritesRecordBy ses base m new.crash.log old.books.running.weight (length behind) begun (length new.crash.log)
+    pub awaits : is_done_sync cmd reply ≡ true → old.books.stopped ≡ false → 0 < old.books.running.weight → (u : ℕ) → new.crash.awaits new.books.point u → is_accepted u (take begun new.crash.log) ≡ false
 
   pub own_begun : (begun : ℕ) × Own begun
   own_begun = by_done (cases_Bool (is_done_sync cmd reply))
     where
-      none : (is_done_sync cmd reply ≡ true → old.books.stopped ≡ false → 0 < t.weight → ⊥) → (begun : ℕ) × Own begun
+      none : (is_done_sync cmd reply ≡ true → old.books.stopped ≡ false → 0 < old.books.running.weight → ⊥) → (begun : ℕ) × Own begun
       none never = (length behind, record { from = omega arith; upto = behind_within; written = λ done going some. absurd (never done going some); awaits = λ done going some. absurd (never done going some) })
 
-      some : is_sync cmd ≡ true → is_refusal reply ≡ false → old.books.stopped ≡ false → 0 < t.weight → (begun : ℕ) × Own begun
+      some : is_sync cmd ≡ true → is_refusal reply ≡ false → old.books.stopped ≡ false → 0 < old.books.running.weight → (begun : ℕ) × Own begun
       some sync well going weighty =
-          let x = wrote sync well going (subst (λ n. 0 < n) (sym (weight_is going)) weighty) in (
+          let x = wrote sync well going weighty in (
             x.begun,
             record {
               from = x.from;
@@ -366,7 +355,7 @@ module _ (cmd : Cmd) (reply : Reply) (old new : State) (w : WaitsOn cmd reply ol
               written = λ done still more. record {
                 commit = x.commit;
                 own = own_one x;
-                size = omega (arith, places_are x, w.fits, ap sync_places (weight_is going));
+                size = omega (arith, places_are x, w.fits);
                 upto = x.upto;
                 writes = omega (arith, x.writes, ap writes_in (take-length new.crash.log));
                 fits = λ alone finds. x.fits (fits_by x (subst (λ (es : List Event). FindsPlaces ses base es (places_told x.commit)) before_behind finds) (ring_told (sync_is_meant cmd sync) going (unspent_by well) alone));
@@ -379,11 +368,11 @@ module _ (cmd : Cmd) (reply : Reply) (old new : State) (w : WaitsOn cmd reply ol
           fits_by x finds (inl frees) = omega (arith, places_are x, finds_free (places_told x.commit) frees finds)
           fits_by x finds (inr all) = absurd (true≢false (sym (ap is_refusal all.1) ∙ well))
 
-      by_weight : is_sync cmd ≡ true → is_refusal reply ≡ false → old.books.stopped ≡ false → (t.weight ≡ 0) ⊎ (0 < t.weight) → (begun : ℕ) × Own begun
+      by_weight : is_sync cmd ≡ true → is_refusal reply ≡ false → old.books.stopped ≡ false → (old.books.running.weight ≡ 0) ⊎ (0 < old.books.running.weight) → (begun : ℕ) × Own begun
       by_weight h1 h2 h3 h4 = grind (arith, none, some)
 
       by_going : is_sync cmd ≡ true → is_refusal reply ≡ false → (old.books.stopped ≡ true) ⊎ (old.books.stopped ≡ false) → (begun : ℕ) × Own begun
-      by_going h1 h2 h3 = grind (arith, zero_or_some t.weight, none, by_weight, zero_or_some, t.weight)
+      by_going h1 h2 h3 = grind (arith, zero_or_some old.books.running.weight, none, by_weight, zero_or_some, old.books.running.weight)
 
       by_done : (is_done_sync cmd reply ≡ true) ⊎ (is_done_sync cmd reply ≡ false) → (begun : ℕ) × Own begun
       by_done h1 = grind (arith, cases_Bool old.books.stopped, none, parts_of, by_going, not_is, old.books.stopped)
@@ -404,8 +393,8 @@ module _ (cmd : Cmd) (reply : Reply) (old new : State) (w : WaitsOn cmd reply ol
   makes_parts : makes_point t.session cmd reply ≡ true → (is_sync cmd ≡ true) × (t.session.changed ≡ true) × (may_have_written reply ≡ true)
   makes_parts made = let one = parts_of (is_sync cmd) (t.session.changed && may_have_written reply) made in let two = parts_of t.session.changed (may_have_written reply) one.1 in (one.0, two.0, two.1)
 
-  changed_is : old.books.stopped ≡ false → t.session.changed ≡ nat_lt 0 t.weight
-  changed_is going = ap (λ (s : Session). s.changed) keeps.session ∙ is_session.changed going ∙ ap (nat_lt 0) (weight_is going)
+  changed_is : old.books.stopped ≡ false → t.session.changed ≡ nat_lt 0 old.books.running.weight
+  changed_is going = ap (λ (s : Session). s.changed) keeps.session ∙ is_session.changed going
 
   done_if : makes_point t.session cmd reply ≡ true → is_fault reply ≡ false → is_done_sync cmd reply ≡ true
   done_if made calm = let parts = makes_parts made in and_from (is_sync cmd) (not (is_refusal reply)) parts.0 (is_not (is_refusal reply) (not_refused reply parts.2 calm))
@@ -414,8 +403,8 @@ module _ (cmd : Cmd) (reply : Reply) (old new : State) (w : WaitsOn cmd reply ol
   makes_none : is_sync cmd ≡ true → t.session.changed ≡ false → makes_point t.session cmd reply ≡ false
   makes_none sync none = ap (λ (b : Bool). b && (t.session.changed && may_have_written reply)) sync ∙ ap (λ (b : Bool). b && may_have_written reply) none
 
-  weighty_if : old.books.stopped ≡ false → makes_point t.session cmd reply ≡ true → 0 < t.weight
-  weighty_if going made = weighs_some t.weight (sym (changed_is going) ∙ (makes_parts made).1)
+  weighty_if : old.books.stopped ≡ false → makes_point t.session cmd reply ≡ true → 0 < old.books.running.weight
+  weighty_if going made = weighs_some old.books.running.weight (sym (changed_is going) ∙ (makes_parts made).1)
 
   -- What is taken, with the span of these writes.
   module _ (begun : ℕ) (mine : Own begun) where
@@ -423,7 +412,7 @@ module _ (cmd : Cmd) (reply : Reply) (old new : State) (w : WaitsOn cmd reply ol
     late = record { begun = begun; mark = length new.crash.log }
 
     abbrev now_taken : Taken
-    now_taken = taken_by g t cmd reply own late
+    now_taken = taken_by t old.books.running.weight cmd reply own late
 
     spans_on : new.books.stopped ≡ false → length now_taken.spans ≡ new.books.point
     spans_on going = omega (
@@ -468,7 +457,7 @@ module _ (cmd : Cmd) (reply : Reply) (old new : State) (w : WaitsOn cmd reply ol
     if_least true n = omega arith
     if_least false n = omega arith
 
-    stands : old.books.stopped ≡ false → writes_of cmd reply old.books ≤ stands_for cmd reply t.weight own
+    stands : old.books.stopped ≡ false → writes_of cmd reply old.books ≤ stands_for cmd reply old.books.running.weight own
     stands going = by (cases_Bool (is_done_sync cmd reply))
       where
         by_weight : is_sync cmd ≡ true → is_refusal reply ≡ false → (old.books.running.weight ≡ 0) ⊎ (0 < old.books.running.weight) → commit_writes old.books ≤ writes_stood_for own
@@ -489,14 +478,14 @@ module _ (cmd : Cmd) (reply : Reply) (old new : State) (w : WaitsOn cmd reply ol
         if_both true m n le = le
         if_both false m n le = omega arith
 
-        by : (is_done_sync cmd reply ≡ true) ⊎ (is_done_sync cmd reply ≡ false) → writes_of cmd reply old.books ≤ stands_for cmd reply t.weight own
+        by : (is_done_sync cmd reply ≡ true) ⊎ (is_done_sync cmd reply ≡ false) → writes_of cmd reply old.books ≤ stands_for cmd reply old.books.running.weight own
         by (inl done) =
             let parts = parts_of (is_sync cmd) (not (is_refusal reply)) done in
-            omega (arith, if_least (commits cmd reply) (commit_writes old.books), by_weight parts.0 (not_is (is_refusal reply) parts.1) (zero_or_some old.books.running.weight), cond-true {A = ℕ} (is_done_sync cmd reply) (writes_stood_for own) (if commits cmd reply then sync_budget t.weight else 0) done)
+            omega (arith, if_least (commits cmd reply) (commit_writes old.books), by_weight parts.0 (not_is (is_refusal reply) parts.1) (zero_or_some old.books.running.weight), cond-true {A = ℕ} (is_done_sync cmd reply) (writes_stood_for own) (if commits cmd reply then sync_budget old.books.running.weight else 0) done)
         by (inr not_done) = omega (
           arith,
-          if_both (commits cmd reply) (commit_writes old.books) (sync_budget t.weight) (omega (arith, w.few, ap sync_budget (weight_is going))),
-          cond-false {A = ℕ} (is_done_sync cmd reply) (writes_stood_for own) (if commits cmd reply then sync_budget t.weight else 0) not_done,
+          if_both (commits cmd reply) (commit_writes old.books) (sync_budget old.books.running.weight) w.few,
+          cond-false {A = ℕ} (is_done_sync cmd reply) (writes_stood_for own) (if commits cmd reply then sync_budget old.books.running.weight else 0) not_done,
         )
 
     mount_same : take ses.mounted new.crash.log ≡ take ses.mounted old.crash.log
@@ -515,21 +504,21 @@ module _ (cmd : Cmd) (reply : Reply) (old new : State) (w : WaitsOn cmd reply ol
         many : length now_taken.records ≡ length t.records + length (if is_done_sync cmd reply then own else [])
         many = length-append t.records (if is_done_sync cmd reply then own else [])
 
-        own_many : is_sync cmd ≡ true → is_refusal reply ≡ false → (t.weight ≡ 0) ⊎ (0 < t.weight) → length own ≡ one_if (makes_point t.session cmd reply)
+        own_many : is_sync cmd ≡ true → is_refusal reply ≡ false → (old.books.running.weight ≡ 0) ⊎ (0 < old.books.running.weight) → length own ≡ one_if (makes_point t.session cmd reply)
         own_many sync well (inl none) =
-            let idle = (a.sync sync going (unspent_by well)).idle well (weight_is going ∙ none) in
+            let idle = (a.sync sync going (unspent_by well)).idle well none in
             omega (arith, ap (λ (cs : List Commit). length cs) (own_none idle.0), ap one_if (makes_none sync (changed_is going ∙ ap (nat_lt 0) none)))
         own_many sync well (inr some) = omega (
           arith,
-          ap (λ (cs : List Commit). length cs) (own_one (wrote sync well going (subst (λ n. 0 < n) (sym (weight_is going)) some))),
-          ap one_if (and_from (is_sync cmd) (t.session.changed && may_have_written reply) sync (and_from t.session.changed (may_have_written reply) (changed_is going ∙ some_weighs t.weight some) (done_writes reply well))),
+          ap (λ (cs : List Commit). length cs) (own_one (wrote sync well going some)),
+          ap one_if (and_from (is_sync cmd) (t.session.changed && may_have_written reply) sync (and_from t.session.changed (may_have_written reply) (changed_is going ∙ some_weighs old.books.running.weight some) (done_writes reply well))),
         )
 
         done_one : is_sync cmd ≡ true → is_refusal reply ≡ false → FreesBy old a.behind a.free ⊎ ((new.crash.log ≡ a.behind) × (reply ≡ Refused because.DiskFault)) → is_done_sync cmd reply ≡ true → (length now_taken.records ≡ new.books.point) × ((more : List Commit) × (records_told ses new.crash.log ≡ now_taken.records ++ more))
         done_one sync well (inr all) done = absurd (true≢false (sym (ap is_refusal all.1) ∙ well))
         done_one sync well (inl frees) done =
             let mine_too : (if is_done_sync cmd reply then own else []) ≡ own = cond-true {A = List Commit} (is_done_sync cmd reply) own [] done in (
-              omega (arith, many, ap (λ (cs : List Commit). length cs) mine_too, own_many sync well (zero_or_some t.weight), (earlier_records alone going).0, points_on still),
+              omega (arith, many, ap (λ (cs : List Commit). length cs) mine_too, own_many sync well (zero_or_some old.books.running.weight), (earlier_records alone going).0, points_on still),
               ([], told_now ∙ ap (λ (cs : List Commit). cs ++ own) (records_behind alone going frees) ∙ ap (λ (cs : List Commit). t.records ++ cs) (sym mine_too) ∙ sym (append-nil now_taken.records)),
             )
 
@@ -552,8 +541,7 @@ module _ (cmd : Cmd) (reply : Reply) (old new : State) (w : WaitsOn cmd reply ol
 
     pub keeps_on : (old.books.stopped ≡ true → new.crash.log ≡ old.crash.log) → KeepsTaken ses m tree (asked ++ cmd ∷ []) (replies ++ reply ∷ []) new now_taken
     keeps_on rests = record {
-      session = ap (λ (s : Session). after_reply s cmd reply) keeps.session ∙ sym (session_more g (session_at ses tree) asked replies cmd reply before.answered);
-      weight = ap (λ (s : Session). weight_by (bitmap_blocks g) s t.weight cmd reply) keeps.session ∙ ap (λ (n : ℕ). weight_by (bitmap_blocks g) f n cmd reply) keeps.weight ∙ sym (weight_more g (session_at ses tree) 0 asked replies cmd reply before.answered);
+      session = ap (λ (s : Session). after_reply s cmd reply) keeps.session ∙ sym (session_more (session_at ses tree) asked replies cmd reply before.answered);
       writes = writes_now rests;
       records = records_now;
       spans = spans_on;
@@ -573,7 +561,7 @@ module _ (cmd : Cmd) (reply : Reply) (old new : State) (w : WaitsOn cmd reply ol
     abbrev Came : ℕ → Type 0
     Came ticket = ∥ ((k : ℕ) × (s : Span) × (slice_get heard_spans k ≡ Some s) × CameIn new.crash.log s ticket) ∥₁
 
-    pub hears_on : m.waits_alone ≡ true → IsLawful new.crash.log → cmd ≡ cmds.Dsync → old.books.stopped ≡ false → reply ≢ Refused because.Spent → OrdersAtOnce ses base behind t wanted → (p : Polled) → after_polls old.counts.ticks.manner 64 old.counts.ticks.polls old.crash.log ≡ Some p → HearsIn heard_spans p.log new.crash.log
+    pub hears_on : m.waits_alone ≡ true → IsLawful new.crash.log → cmd ≡ cmds.Dsync → old.books.stopped ≡ false → reply ≢ Refused because.Spent → OrdersAtOnce ses base behind old.books.running.weight wanted → (p : Polled) → after_polls old.counts.ticks.manner 64 old.counts.ticks.polls old.crash.log ≡ Some p → HearsIn heard_spans p.log new.crash.log
     hears_on alone lawful is going unspent finds p polled ticket noticed = by_ring (ring_told meant going unspent alone)
       where
         sync : is_sync cmd ≡ true
@@ -593,14 +581,14 @@ module _ (cmd : Cmd) (reply : Reply) (old new : State) (w : WaitsOn cmd reply ol
         accepted = noticed_given ticket [] new.crash.log lawful noticed
 
         -- the ticket is of a write behind the tick
-        by_weight : is_accepted ticket behind ≡ false → is_refusal reply ≡ false → FreesBy old a.behind a.free → (t.weight ≡ 0) ⊎ (0 < t.weight) → Came ticket
+        by_weight : is_accepted ticket behind ≡ false → is_refusal reply ≡ false → FreesBy old a.behind a.free → (old.books.running.weight ≡ 0) ⊎ (0 < old.books.running.weight) → Came ticket
         by_weight late_one well frees (inl none) =
-            let idle = (a.sync sync going unspent).idle well (weight_is going ∙ none) in
+            let idle = (a.sync sync going unspent).idle well none in
             let nothing : writes_in a.goes_on.more ≡ 0 = omega (arith, idle.1, ap writes_in a.goes_on.log, writes_on behind a.goes_on.more) in
             absurd (true≢false (sym accepted ∙ ap (is_accepted ticket) a.goes_on.log ∙ none_accepted ticket behind a.goes_on.more nothing ∙ late_one))
         by_weight late_one well frees (inr more) =
             let done = and_from (is_sync cmd) (not (is_refusal reply)) sync (is_not (is_refusal reply) well) in
-            let made : makes_point t.session cmd reply ≡ true = and_from (is_sync cmd) (t.session.changed && may_have_written reply) sync (and_from t.session.changed (may_have_written reply) (changed_is going ∙ some_weighs t.weight more) (done_writes reply well)) in
+            let made : makes_point t.session cmd reply ≡ true = and_from (is_sync cmd) (t.session.changed && may_have_written reply) sync (and_from t.session.changed (may_have_written reply) (changed_is going ∙ some_weighs old.books.running.weight more) (done_writes reply well)) in
             let x = mine.written done going more in
             let begun_is : begun ≡ length behind = x.fits alone (subst (λ (es : List Event). FindsPlaces ses base es (places_told x.commit)) (sym before_behind) (finds_own x.commit x.own well finds more)) in
             ∣ (
@@ -613,12 +601,12 @@ module _ (cmd : Cmd) (reply : Reply) (old new : State) (w : WaitsOn cmd reply ol
               },
             ) ∣₁
           where
-            finds_own : (commit : Commit) → own ≡ commit ∷ [] → is_refusal reply ≡ false → OrdersAtOnce ses base behind t wanted → 0 < t.weight → FindsPlaces ses base behind (places_told commit)
+            finds_own : (commit : Commit) → own ≡ commit ∷ [] → is_refusal reply ≡ false → OrdersAtOnce ses base behind old.books.running.weight wanted → 0 < old.books.running.weight → FindsPlaces ses base behind (places_told commit)
             finds_own commit one well (inl none) more = absurd (omega (arith, none, more))
-            finds_own commit one well (inr finds) more = subst (FindsPlaces ses base behind) (cond-false {A = ℕ} (is_refusal reply) (sync_places t.weight) (places_from 0 own) well ∙ ap (places_from 0) one ∙ one_place commit) finds
+            finds_own commit one well (inr finds) more = subst (FindsPlaces ses base behind) (cond-false {A = ℕ} (is_refusal reply) (sync_places old.books.running.weight) (places_from 0 own) well ∙ ap (places_from 0) one ∙ one_place commit) finds
 
         by_refusal : is_accepted ticket behind ≡ false → FreesBy old a.behind a.free → (is_refusal reply ≡ true) ⊎ (is_refusal reply ≡ false) → Came ticket
-        by_refusal late_one frees (inr well) = by_weight late_one well frees (zero_or_some t.weight)
+        by_refusal late_one frees (inr well) = by_weight late_one well frees (zero_or_some old.books.running.weight)
         by_refusal late_one frees (inl refused) = ∣ (
           length now_taken.spans,
           failed_span,
@@ -671,7 +659,7 @@ module _ (cmd : Cmd) (reply : Reply) (old new : State) (w : WaitsOn cmd reply ol
 
       by : is_sync cmd ≡ true → is_refusal reply ≡ false → FreesBy old a.behind a.free ⊎ ((new.crash.log ≡ a.behind) × (reply ≡ Refused because.DiskFault)) → commit_places old.books ≤ a.free
       by sync well (inr all) = absurd (true≢false (sym (ap is_refusal all.1) ∙ well))
-      by sync well (inl frees) = omega (arith, wanted_enough sync d.going (subst (λ n. 0 < n) (sym (weight_is d.going)) d.some), finds_free wanted frees finds)
+      by sync well (inl frees) = omega (arith, wanted_enough sync d.going d.some, finds_free wanted frees finds)
 
   -- A command with no reason to wait.
 
@@ -700,12 +688,16 @@ module _ (cmd : Cmd) (reply : Reply) (old new : State) (w : WaitsOn cmd reply ol
   needs_none (cmds.Rename from to) going finds = inr (finds_blocks (cmds.Rename from to) finds)
   needs_none (cmds.Stat path) going finds = inr (finds_blocks (cmds.Stat path) finds)
   needs_none (cmds.List path) going finds = inr (finds_blocks (cmds.List path) finds)
+  needs_none (cmds.Snap name) going finds = inr (finds_blocks (cmds.Snap name) finds)
+  needs_none (cmds.Unsnap name) going finds = inr (finds_blocks (cmds.Unsnap name) finds)
+  needs_none cmds.Snaps going finds = inr (finds_blocks cmds.Snaps finds)
+  needs_none (cmds.At name look) going finds = inr (finds_blocks (cmds.At name look) finds)
 
   pub calm_on : m.waits_alone ≡ true → (cmd ≢ cmds.Bad → old.books.stopped ≡ false → reply ≢ Refused because.Spent → PollsFirst old.counts.ticks.manner 64 old.counts.ticks.polls old.crash.log new.counts.ticks.polls new.crash.log) → cmd ≢ cmds.Bad → old.books.stopped ≡ false → reply ≢ Refused because.Spent → FindsRoom ses base behind t (room_of old) old.books.floor wanted cmd
       → PollsThenWrites old.counts.ticks.manner 64 old.counts.ticks.polls old.crash.log new.counts.ticks.polls new.crash.log
   calm_on alone polls meant going unspent finds = by (needs_none cmd going finds)
     where
-      by_ring : cmd ≡ cmds.Osync → OrdersAtOnce ses base behind t wanted → FreesBy old a.behind a.free ⊎ ((new.crash.log ≡ a.behind) × (reply ≡ Refused because.DiskFault)) → PollsThenWrites old.counts.ticks.manner 64 old.counts.ticks.polls old.crash.log new.counts.ticks.polls new.crash.log
+      by_ring : cmd ≡ cmds.Osync → OrdersAtOnce ses base behind old.books.running.weight wanted → FreesBy old a.behind a.free ⊎ ((new.crash.log ≡ a.behind) × (reply ≡ Refused because.DiskFault)) → PollsThenWrites old.counts.ticks.manner 64 old.counts.ticks.polls old.crash.log new.counts.ticks.polls new.crash.log
       by_ring is at_once (inl frees) =
           let sync = ap is_sync is in
           let order = (a.sync sync going unspent).orders is (fits_among sync going frees at_once) in

@@ -1,5 +1,6 @@
 -- What one command did over blocks on a disk, as the file system and the disk say it of any blocks; and laws of other crates, gathered. Only proofs speak of it.
-use Rattle.std.specs.Prelude.{◌≡◌, ◌≢◌, ◌⊎◌, ℕ, ◌+◌, ◌≤◌, ◌<◌, Bool, false, true, List, [], ◌∷◌, ◌++◌, length, take, Some}
+use Rattle.std.specs.Prelude.{◌≡◌, ◌≢◌, ◌⊎◌, ℕ, ◌+◌, ◌≤◌, ◌<◌, ◌||◌, nat_lt, Bool, false, true, List, [], ◌∷◌, ◌++◌, length, take, Some}
+use Rattle.std.specs.FinMap.{get}
 use Rattle.base_types.specs.Seal.{Blocks}
 use Rattle.disk_contract.specs.declared.event.Event.{Event}
 use Rattle.disk_contract.specs.Cell.{cell_of, has_lost, is_accepted, IsNoticed}
@@ -16,10 +17,13 @@ use Rattle.lang_tree.specs.declared.command.Refusal.{Refusal}
 use Rattle.lang_tree.specs.declared.command.Refusal.TheVariants.{DiskFault, NoMemory, ReadFault, Spent, Stopped}
 use Rattle.lang_tree.specs.declared.command.Reply.{Reply}
 use Rattle.lang_tree.specs.declared.command.Reply.TheVariants.{Known, Refused}
+use Rattle.lang_tree.specs.Conditions.{is_snapshot}
+use Rattle.lang_tree.specs.Figures.{figures}
 use Rattle.lang_tree.specs.Points.{after_reply, is_refusal, is_sync}
 use Rattle.lang_tree.specs.Run.{Answers}
-use Rattle.lang_tree.specs.Step.{Session}
-use Rattle.lang_tree.specs.Tree.{Tree, IsSound}
+use Rattle.lang_tree.specs.Sharing.{BlocksAlone, SharedNodes, figures_over}
+use Rattle.lang_tree.specs.Step.{Session, step}
+use Rattle.lang_tree.specs.Tree.{Kept, Snapshots, Tree, IsSound}
 use Rattle.crash_stands.specs.Stands.{IsTreeOf}
 use Rattle.engine_blocks.specs.Calls.{commit_places, commit_writes}
 use Rattle.engine_blocks.specs.Crashes.{AwaitsSince, MayAwait, StandsForLast, StillAwaits, WritesAtMost}
@@ -35,13 +39,16 @@ use Rattle.cmd_session.specs.Going.{KeepsPlaces}
 use Rattle.cmd_session.specs.Places.{LiesAt}
 use Rattle.cmd_session.specs.Serving.{IsDrawn}
 
--- What other crates say of trees that stand in blocks, of images that are alike, and of replies.
+-- What other crates say of trees that stand in blocks, of images that are alike, of replies, of numbers of snapshots, and of what costs nothing.
 pub record PlaceLaws (g : Geometry) : Type 0 where
   pub limits : IsGeometry g
   pub sound : (k : Geometry) (m : Blocks) (t : Tree) → IsTreeOf k m t → IsSound k.i t
   pub alike : (n : ℕ) (img other m : Blocks) → ((b : ℕ) → b < n → img b ≡ other b) → HeldIs n img m → HeldIs n other m
   pub newest : (n : ℕ) (img : Blocks) (s t : ℕ) (h k : Header) → Newest n img s h → Newest n img t k → (s ≡ t) × (h ≡ k)
   pub replies : (outside : Refusal → Bool) (old new : Session) (cmd : Cmd) (reply : Reply) → Answers outside old cmd reply new → new ≡ after_reply old cmd reply
+  pub numbers : (m : Snapshots) (n : ℕ) → is_snapshot m n ≡ true → (name : List ℕ) × (k : Kept) × (get m name ≡ Some k) × (k.number ≡ n)
+  pub changes : (bitmap : ℕ) (s : Session) (cmd : Cmd) → is_sync cmd ≡ false → (step s cmd).0.changed ≡ (s.changed || nat_lt 0 (figures bitmap s cmd).cost)
+  pub shared : (bitmap : ℕ) (shared : SharedNodes) (alone : BlocksAlone) (s : Session) (cmd : Cmd) → nat_lt 0 (figures_over bitmap shared alone s cmd).cost ≡ nat_lt 0 (figures bitmap s cmd).cost
 
 -- what the disk did for one command
 pub record StepsOn (cmd : Cmd) (reply : Reply) (old new : State) : Type 0 where

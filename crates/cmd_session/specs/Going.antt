@@ -6,7 +6,7 @@ use Rattle.disk_contract.specs.Cell.{has_lost}
 use Rattle.disk_contract.specs.Disk.{writes_in}
 use Rattle.disk_contract.specs.Lawful.{IsLawful}
 use Rattle.disk_contract.specs.Manner.{Manner, HasFailedBy}
-use Rattle.layout_geometry.specs.Geometry.{Geometry, IsGeometry, bitmap_blocks}
+use Rattle.layout_geometry.specs.Geometry.{Geometry, IsGeometry}
 use Rattle.layout_journal.specs.declared.record.Commit.{Commit}
 use Rattle.crash_argument.specs.Points.{MountedSession, records_told}
 use Rattle.lang_tree.specs.declared.command.Cmd.{Cmd}
@@ -21,7 +21,7 @@ use Rattle.fs_files.specs.Calls.{places_of}
 use Rattle.fs_session.specs.Applying.{Applies, PassesTime}
 use Rattle.fs_session.specs.Memory.{room_of}
 use Rattle.fs_session.specs.Serving.{room_on}
-use Rattle.cmd_session.specs.Budget.{sync_budget, sync_places, weight_after, writes_of}
+use Rattle.cmd_session.specs.Budget.{sync_budget, sync_places, writes_of}
 use Rattle.cmd_session.specs.Histories.{session_after}
 use Rattle.cmd_session.specs.Pacing.{Pace, PacesBy}
 use Rattle.cmd_session.specs.Serving.{HasServed, IsDrawn}
@@ -42,7 +42,6 @@ session_at mount t = session_on mount.geom.i t
 -- What was taken by these commands is known of the blocks. The writes since the mount, with those that are still to come for what was committed, are within the budget. While no call of the disk failed, there are as many records and spans as points, the log tells those records before any others, and a point waits only for tickets of writes that came in its span.
 pub record KeepsTaken (mount : MountedSession) (m : Manner) (tree : Tree) (cmds : List Cmd) (replies : List Reply) (s : State) (t : Taken) : Type 0 where
   pub session : t.session ≡ session_after (session_at mount tree) cmds replies
-  pub weight : t.weight ≡ weight_after (bitmap_blocks mount.geom) (session_at mount tree) 0 cmds replies
   pub writes : writes_in s.crash.log + s.books.owed ≤ writes_in (take mount.mounted s.crash.log) + t.budget
   pub records : m.waits_alone ≡ true → s.books.stopped ≡ false → (length t.records ≡ s.books.point) × ((more : List Commit) × (records_told mount s.crash.log ≡ t.records ++ more))
   pub spans : s.books.stopped ≡ false → length t.spans ≡ s.books.point
@@ -97,7 +96,6 @@ module _ {S : Type 0} (tells : Bool) (state : S → State) where
     pub drawn : IsDrawn (state new)
     pub before : HasServed mount.geom tree mount.mounted cmds replies marks (state old)
     pub after : HasServed mount.geom tree mount.mounted (cmds ++ cmd ∷ []) (replies ++ reply ∷ []) (marks ++ length (state new).crash.log ∷ []) (state new)
-    pub weighs : (state old).books.stopped ≡ false → (state old).books.running.weight ≡ weight_after (bitmap_blocks mount.geom) (session_at mount tree) 0 cmds replies
     pub places : commit_places (state old).books ≤ sync_places (state old).books.running.weight
     pub few : commit_writes (state old).books ≤ sync_budget (state old).books.running.weight
     pub writes : WritesAtMost (writes_of cmd reply (state old).books) (state old) (state new)

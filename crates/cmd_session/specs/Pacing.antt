@@ -35,13 +35,13 @@ pub record FitsUnder (s : MountedSession) (base : Blocks) (behind : List Event) 
 abbrev pub FindsPlaces : MountedSession → Blocks → List Event → ℕ → Type 0
 FindsPlaces s base behind wanted = ∥ ((header : Header) × FitsUnder s base behind wanted header) ∥₁
 
--- it needs none, as there is nothing to commit, or it finds them
-abbrev pub OrdersAtOnce : MountedSession → Blocks → List Event → Taken → ℕ → Type 0
-OrdersAtOnce s base behind t wanted = (t.weight ≡ 0) ⊎ FindsPlaces s base behind wanted
+-- with a transaction of this weight it needs none, as there is nothing to commit, or it finds them
+abbrev pub OrdersAtOnce : MountedSession → Blocks → List Event → ℕ → ℕ → Type 0
+OrdersAtOnce s base behind w wanted = (w ≡ 0) ⊎ FindsPlaces s base behind wanted
 
 -- The command has no reason to wait for the disk, in the room before it, where all points up to one are known to be durable, and where it wants so many ring places behind its tick: one that only orders needs none or finds them; one on the tree finds that as many blocks may be taken as it needs; one that waits for a point finds that it is known to be durable, or isn't there; and any other needs nothing. A dsync always has a reason.
 abbrev pub FindsRoom : MountedSession → Blocks → List Event → Taken → Room → ℕ → ℕ → Cmd → Type 0
-FindsRoom s base behind t r known wanted Osync = OrdersAtOnce s base behind t wanted
+FindsRoom s base behind t r known wanted Osync = OrdersAtOnce s base behind r.weight wanted
 FindsRoom s base behind t r known wanted Dsync = ⊥
 FindsRoom s base behind t r known wanted Durable = ⊤
 FindsRoom s base behind t r known wanted (Dwait n) = (n ≤ known) ⊎ (t.session.points < n)
@@ -83,10 +83,10 @@ is_fault _ = false
 -- a sync that is done, with something to commit, finds ring places behind so many events, while no call of the disk has failed
 pub record DoneInRing (s : MountedSession) (base : Blocks) (m : Manner) (log : List Event) (cmd : Cmd) (reply : Reply) (old : Pace) (behind mark : ℕ) : Type 0 where
   pub done : is_done_sync cmd reply ≡ true
-  pub some : 0 < old.taken.weight
+  pub some : 0 < old.room.room.weight
   pub going : old.over ≡ false
   pub alone : m.waits_alone ≡ true
-  pub finds : FindsPlaces s base (take behind log) (places_wanted reply old.taken.weight (own_records s log behind mark))
+  pub finds : FindsPlaces s base (take behind log) (places_wanted reply old.room.room.weight (own_records s log behind mark))
 
 -- One command is answered in the room that the disk's log gives. Behind the notices of its tick, and writes, just those freed blocks may be taken again whose point the newest header at rest makes sure, and on which nothing is pending.
 pub record AnswersBy (s : MountedSession) (base : Blocks) (m : Manner) (log : List Event) (cmd : Cmd) (reply : Reply) (old new : Pace) : Type 0 where
@@ -126,15 +126,15 @@ pub record DoesBehind (s : MountedSession) (base : Blocks) (m : Manner) (log : L
   -- the writes of its record come behind so many events
   pub begun : ℕ
   pub from : behind ≤ begun
-  pub taken : new.taken ≡ taken_by s.geom old.taken cmd reply (own_records s log behind new.events) (record { begun = begun; mark = new.events })
+  pub taken : new.taken ≡ taken_by old.taken old.room.room.weight cmd reply (own_records s log behind new.events) (record { begun = begun; mark = new.events })
   -- unless the disk failed the tick, which was all then
   pub ring : cmd ≢ Bad → old.over ≡ false → reply ≢ Refused Spent → m.waits_alone ≡ true → TellsRing s base (take behind log) old.taken.records ⊎ ((new.events ≡ behind) × (reply ≡ Refused DiskFault))
   -- a sync that is done writes its record, one of nothing writes nothing, and to one that finds no memory nothing happens
-  pub written : is_done_sync cmd reply ≡ true → old.over ≡ false → 0 < old.taken.weight → WritesRecordBy s base m log old.taken.weight behind begun new.events
-  pub idle : is_done_sync cmd reply ≡ true → old.over ≡ false → old.taken.weight ≡ 0 → writes_in (take new.events log) ≡ writes_in (take behind log)
+  pub written : is_done_sync cmd reply ≡ true → old.over ≡ false → 0 < old.room.room.weight → WritesRecordBy s base m log old.room.room.weight behind begun new.events
+  pub idle : is_done_sync cmd reply ≡ true → old.over ≡ false → old.room.room.weight ≡ 0 → writes_in (take new.events log) ≡ writes_in (take behind log)
   pub unwritten : is_sync cmd ≡ true → old.over ≡ false → reply ≡ Refused NoMemory → new.events ≡ behind
-  pub calm : cmd ≢ Bad → old.over ≡ false → reply ≢ Refused Spent → m.waits_alone ≡ true → FindsRoom s base (take behind log) old.taken old.room.room old.durable (places_wanted reply old.taken.weight (own_records s log behind new.events)) cmd → PollsThenWrites m 64 old.polls (take old.events log) new.polls (take new.events log)
-  pub waits : cmd ≡ Dsync → old.over ≡ false → reply ≢ Refused Spent → m.waits_alone ≡ true → OrdersAtOnce s base (take behind log) old.taken (places_wanted reply old.taken.weight (own_records s log behind new.events)) → (p : Polled) → after_polls m 64 old.polls (take old.events log) ≡ Some p
+  pub calm : cmd ≢ Bad → old.over ≡ false → reply ≢ Refused Spent → m.waits_alone ≡ true → FindsRoom s base (take behind log) old.taken old.room.room old.durable (places_wanted reply old.room.room.weight (own_records s log behind new.events)) cmd → PollsThenWrites m 64 old.polls (take old.events log) new.polls (take new.events log)
+  pub waits : cmd ≡ Dsync → old.over ≡ false → reply ≢ Refused Spent → m.waits_alone ≡ true → OrdersAtOnce s base (take behind log) old.room.room.weight (places_wanted reply old.room.room.weight (own_records s log behind new.events)) → (p : Polled) → after_polls m 64 old.polls (take old.events log) ≡ Some p
       → HearsIn (new.taken.spans ++ (if is_refusal reply then record { begun = behind; mark = new.events } ∷ [] else [])) p.log (take new.events log)
   pub waits_upto : (n : ℕ) → cmd ≡ Dwait n → old.over ≡ false → reply ≢ Refused Spent → m.waits_alone ≡ true → (p : Polled) → after_polls m 64 old.polls (take old.events log) ≡ Some p → HearsIn (take n old.taken.spans) p.log (take new.events log)
   pub quiet : (n : ℕ) → cmd ≡ Dwait n → old.over ≡ false → reply ≢ Refused Spent → writes_in (take new.events log) ≡ writes_in (take behind log)
@@ -144,8 +144,6 @@ pub record StepsBy (s : MountedSession) (base : Blocks) (m : Manner) (log : List
   pub over : new.over ≡ (old.over || is_fault reply)
   pub room : AnswersBy s base m log cmd reply old new
   pub does : DoesBehind s base m log cmd reply old new room.behind
-  -- what was taken weighs as the room has it
-  pub weighs : old.over ≡ false → old.taken.weight ≡ old.room.room.weight
   -- the writes since the mount are at most those for which the records stand, this one's included
   pub spends : writes_in (take new.events log) ≤ writes_in (take s.mounted log) + new.taken.budget
   pub rests : (cmd ≡ Bad) ⊎ ((old.over ≡ true) ⊎ (reply ≡ Refused Spent)) → (new.polls ≡ old.polls) × (new.events ≡ old.events)

@@ -9,7 +9,10 @@ ghost use Rattle.cmd_session.specs.declared.images.ImageDamage.{ImageDamage};
 ghost use Rattle.cmd_session.specs.Images.{CanBeMounted, HasDamage, IsDamaged, StandsForNone, StandsMounted};
 
 use engine_store::a_mount_has_one_answer;
-use fs_check::{Damage, broken_blocks_are_not_sound, no_tree_stands_where_it_is_broken};
+use fs_check::{
+    Damage, broken_blocks_are_not_sound, no_tree_stands_where_a_snapshot_is_broken,
+    no_tree_stands_where_it_is_broken,
+};
 use layout_geometry::geometries_are_within_limits;
 use layout_journal::{an_image_holds_one_map, journal_blocks_keep_to_their_bounds};
 use std::error::Error;
@@ -53,6 +56,7 @@ pub fn a_damaged_image_stands_for_no_tree()
     geometries_are_within_limits();
     journal_blocks_keep_to_their_bounds();
     broken_blocks_are_not_sound();
+    no_tree_stands_where_a_snapshot_is_broken();
     no_tree_stands_where_it_is_broken();
 }
 

@@ -14,13 +14,15 @@ ghost use Rattle.lang_tree.specs.Tree.{Tree};
 ghost use Rattle.crash_stands.specs.Stands.{StandsFor};
 ghost use Rattle.crash_argument.specs.Counts.{AreAtMost};
 ghost use Rattle.crash_argument.specs.Points.{MountedSession};
+ghost use Rattle.fs_session.specs.DiskRoom.{AnswersOn};
+ghost use Rattle.fs_session.specs.Room.{Room, figures_in};
 ghost use Rattle.cmd_session.specs.Accepted.{AcceptsLast};
-ghost use Rattle.cmd_session.specs.Budget.{KeepsBudget, SpendsByMarks, budget_of};
+ghost use Rattle.cmd_session.specs.Budget.{KeepsBudget, SpendsByMarks, budget_of, most_cost, most_need, weight_by};
 ghost use Rattle.cmd_session.specs.Crashes.{IsCrashConsistent};
 ghost use Rattle.cmd_session.specs.Ending.{HasRun, ending_marks, ending_replies};
 ghost use Rattle.cmd_session.specs.Going.{AnswersOnDisk, BeginsByLog, GoesByLog, pace_of, session_at};
 ghost use Rattle.cmd_session.specs.Issued.{IssuesLast};
-ghost use Rattle.cmd_session.specs.Pacing.{Pace, PacesBy};
+ghost use Rattle.cmd_session.specs.Pacing.{Pace, PacesBy, is_fault};
 ghost use Rattle.cmd_session.specs.Serving.{HasServed};
 ghost use Rattle.cmd_session.specs.Taking.{nothing_taken};
 
@@ -35,7 +37,11 @@ use fs_session::{
     a_command_serves_what_is_sure, a_command_that_needs_no_wait_makes_none,
     a_refusal_for_the_disk_has_its_cause,
 };
-use lang_tree::{a_fault_ends_the_session, a_reply_tells_the_session};
+use lang_tree::{
+    a_command_changes_where_it_costs, a_fault_ends_the_session, a_reply_tells_the_session,
+    nothing_shared_costs_nothing, numbers_of_snapshots_are_in_the_map,
+    sharing_costs_where_all_costs,
+};
 use layout_journal::{an_image_holds_one_map, images_alike_below_n_hold_the_same};
 
 /// Where the blocks with which the disk began stand for the tree of a run, what crashes leave of the run is as
@@ -56,6 +62,18 @@ pub fn the_writes_keep_within_the_budget<S: Blocks>()
         → begun ≡ writes_in (take mounted (S.state s).crash.log) + owed
         → AreAtMost mounted (S.state s).crash.log (owed + budget_of (bitmap_blocks g) (session_on g.i t) 0 cmds replies) }
 {}
+
+/// Whatever blocks snapshots keep, a command needs and costs at most so much. So it leaves no more weight, while no call
+/// of the disk fails, than where it costs all of that.
+pub fn a_command_costs_at_most_so_much()
+    ensures need { (g : Geometry) (f : Session) (r : Room) (cmd : Cmd) → (figures_in g f r cmd).need ≤ most_need (bitmap_blocks g) f cmd }
+    ensures cost { (g : Geometry) (f : Session) (r : Room) (cmd : Cmd) → (figures_in g f r cmd).cost ≤ most_cost (bitmap_blocks g) f cmd }
+    ensures weight { (g : Geometry) (f next : Session) (r room : Room) (cmd : Cmd) (reply : Reply) → is_fault reply ≡ false
+        → AnswersOn g f r cmd reply next room → room.weight ≤ weight_by (bitmap_blocks g) f r.weight cmd reply }
+    ensures more { (bitmap w v : ℕ) (f : Session) (cmd : Cmd) (reply : Reply) → w ≤ v → weight_by bitmap f w cmd reply ≤ weight_by bitmap f v cmd reply }
+{
+    nothing_shared_costs_nothing();
+}
 
 /// Up to each mark of a run on whose mount no write was owed, the writes keep within what the commands by then stand
 /// for: as the mount ends, and with one command more.
@@ -104,6 +122,9 @@ pub fn a_command_goes_by_the_log<S: Blocks>()
         → GoesByLog mount base m first t cmds replies marks (S.state old)
         → GoesByLog mount base m first t (cmds ++ cmd ∷ []) (replies ++ reply ∷ []) (marks ++ length (S.state new).crash.log ∷ []) (S.state new) }
 {
+    a_command_changes_where_it_costs();
+    sharing_costs_where_all_costs();
+    numbers_of_snapshots_are_in_the_map();
     a_command_begins_with_a_tick::<S>();
     a_command_is_answered_in_a_room_that_came_back::<S>();
     a_command_serves_what_is_sure::<S>();

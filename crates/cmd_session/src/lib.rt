@@ -9,8 +9,8 @@ mod served;
 
 pub use images::{ImageDamage, a_damaged_image_stands_for_no_tree, an_image_has_one_answer};
 pub use laws::{
-    a_command_goes_by_the_log, a_run_begins_by_the_log, a_run_may_end_at_once,
-    a_served_run_is_crash_consistent, the_writes_keep_within_the_budget,
+    a_command_costs_at_most_so_much, a_command_goes_by_the_log, a_run_begins_by_the_log,
+    a_run_may_end_at_once, a_served_run_is_crash_consistent, the_writes_keep_within_the_budget,
     the_writes_keep_within_the_budget_at_each_mark, what_was_issued_was_accepted,
 };
 pub use served::Served;

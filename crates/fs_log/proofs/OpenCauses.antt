@@ -1,5 +1,5 @@
 -- Why opening a log is refused: a question needs no room; and the making of `/log` fits what is weighed where that is nothing.
-use Rattle.std.proofs.Common.{◌≡◌, ◌≢◌, ◌⊎◌, inl, inr, ⊎_elim, ℕ, ◌+◌, ◌≤◌, nat_lt, Bool, true, false, IsTrue, List, [], Option, None, Some, Ok, refl, sym, ◌∙◌, ap, subst, arith}
+use Rattle.std.proofs.Common.{◌≡◌, ◌≢◌, ◌⊎◌, inl, inr, ⊎_elim, ℕ, ◌≤◌, nat_lt, Bool, true, false, IsTrue, List, [], Option, None, Some, Ok, refl, sym, ◌∙◌, ap, subst, arith}
 use Rattle.std.specs.FinMap.{get}
 use Rattle.std.proofs.lemmas.Bool.{false≢true, true≢false}
 use Rattle.layout_geometry.specs.Geometry.{Geometry, IsGeometry, bitmap_blocks}
@@ -11,7 +11,7 @@ use Rattle.lang_tree.specs.declared.command.Reply.{Reply}
 use Rattle.lang_tree.specs.declared.command.Reply.TheVariants as replies
 use Rattle.lang_tree.specs.Conditions.{refusal}
 use Rattle.lang_tree.specs.Figures.{Figures}
-use Rattle.lang_tree.specs.Sharing.{SharedNodes, accepted_over, figures_over_by}
+use Rattle.lang_tree.specs.Sharing.{BlocksAlone, SharedNodes, accepted_over, figures_over_by}
 use Rattle.lang_tree.specs.Run.{Answers, is_of_disk, is_of_memory}
 use Rattle.lang_tree.specs.Step.{Session, step}
 use Rattle.lang_tree.specs.Tree.{IsSound, Tree}
@@ -24,7 +24,7 @@ use Rattle.fs_session.specs.Applying.{Applies}
 use Rattle.fs_session.specs.Commands.{is_on_tree}
 use Rattle.fs_session.specs.DiskRoom.{ComesBack, IsRoomOf}
 use Rattle.fs_session.specs.Memory.{room_of}
-use Rattle.fs_session.specs.Room.{IsRefusedIn, Room, figures_in, left_in, most_weight, shared_by}
+use Rattle.fs_session.specs.Room.{IsRefusedIn, Room, figures_in, left_in, most_weight, shared_by, alone_by}
 use Rattle.fs_session.specs.Staying.{figures_stay}
 use Rattle.fs_session.specs.Sessions.{IsSession}
 use Rattle.fs_session.specs.Space.{FailsToFit}
@@ -62,9 +62,9 @@ tree_wants_none alone f cmd = by (step f cmd).1 refl
     by (replies.Known point) is = refl
     by replies.Bad is = refl
 
-no_need : (bitmap : ℕ) (shared : SharedNodes) (t : Tree) (cmd : Cmd) (why : Option Refusal) → (accepted_over bitmap shared t cmd).need ≡ 0 → (figures_over_by bitmap shared t cmd why).need ≡ 0
-no_need bitmap shared t cmd None none = none
-no_need bitmap shared t cmd (Some why) none = refl
+no_need : (bitmap : ℕ) (shared : SharedNodes) (alone : BlocksAlone) (limit : ℕ) (t : Tree) (cmd : Cmd) (why : Option Refusal) → (accepted_over bitmap shared alone limit t cmd).need ≡ 0 → (figures_over_by bitmap shared alone limit t cmd why).need ≡ 0
+no_need bitmap shared alone limit t cmd None none = none
+no_need bitmap shared alone limit t cmd (Some why) none = refl
 
 -- A command that needs no block and costs nothing isn't refused for want of any, and weighs nothing.
 module _ (g : Geometry) (f next : Session) (r room : Room) (reply : Reply) (cmd : Cmd) (by_itself : wants_blocks (step f cmd).1 ≡ false) (none : (figures_in g f r cmd).need ≡ 0) (free : (figures_in g f r cmd).cost ≤ 0) (fits : r.weight ≤ most_weight g) where
@@ -116,7 +116,7 @@ module _ {S : Type 0} (tells : Bool) (state : S → State) (rooms : RoomLaw tell
   calm_stat path applies =
       let x = rooms old new f (Stat path) reply session applies in
       let is = stat_answers g f x.0 (room_of (state old)) (room_of (state new)) reply path x.3 in
-      let none = no_need (bitmap_blocks g) (shared_by g f.tree (room_of (state old))) f.tree (Stat path) (refusal f.limit f.tree (Stat path)) refl in
+      let none = no_need (bitmap_blocks g) (shared_by g f.tree (room_of (state old))) (alone_by g f.tree (room_of (state old))) f.limit f.tree (Stat path) (refusal f.limit f.tree (Stat path)) refl in
       let fits = (room old f session).fits in (
         needs_none g f x.0 (room_of (state old)) (room_of (state new)) reply (Stat path) (tree_wants_none alone f (Stat path)) none (stat_is_free g f (room_of (state old)) path) fits is,
         weighs_none g f x.0 (room_of (state old)) (room_of (state new)) reply (Stat path) (tree_wants_none alone f (Stat path)) none (stat_is_free g f (room_of (state old)) path) fits is,
@@ -126,7 +126,7 @@ module _ {S : Type 0} (tells : Bool) (state : S → State) (rooms : RoomLaw tell
   calm_list path applies =
       let x = rooms old new f (ListNames path) reply session applies in
       let is = list_answers g f x.0 (room_of (state old)) (room_of (state new)) reply path x.3 in
-      let none = no_need (bitmap_blocks g) (shared_by g f.tree (room_of (state old))) f.tree (ListNames path) (refusal f.limit f.tree (ListNames path)) refl in
+      let none = no_need (bitmap_blocks g) (shared_by g f.tree (room_of (state old))) (alone_by g f.tree (room_of (state old))) f.limit f.tree (ListNames path) (refusal f.limit f.tree (ListNames path)) refl in
       let fits = (room old f session).fits in (
         needs_none g f x.0 (room_of (state old)) (room_of (state new)) reply (ListNames path) (tree_wants_none alone f (ListNames path)) none (list_is_free g f (room_of (state old)) path) fits is,
         weighs_none g f x.0 (room_of (state old)) (room_of (state new)) reply (ListNames path) (tree_wants_none alone f (ListNames path)) none (list_is_free g f (room_of (state old)) path) fits is,
@@ -136,7 +136,7 @@ module _ {S : Type 0} (tells : Bool) (state : S → State) (rooms : RoomLaw tell
   calm_read path offset count applies =
       let x = rooms old new f (Read path offset count) reply session applies in
       let is = read_answers g f x.0 (room_of (state old)) (room_of (state new)) reply path offset count x.3 in
-      let none = no_need (bitmap_blocks g) (shared_by g f.tree (room_of (state old))) f.tree (Read path offset count) (refusal f.limit f.tree (Read path offset count)) refl in
+      let none = no_need (bitmap_blocks g) (shared_by g f.tree (room_of (state old))) (alone_by g f.tree (room_of (state old))) f.limit f.tree (Read path offset count) (refusal f.limit f.tree (Read path offset count)) refl in
       let fits = (room old f session).fits in (
         needs_none g f x.0 (room_of (state old)) (room_of (state new)) reply (Read path offset count) (tree_wants_none alone f (Read path offset count)) none (read_is_free g f (room_of (state old)) path offset count) fits is,
         weighs_none g f x.0 (room_of (state old)) (room_of (state new)) reply (Read path offset count) (tree_wants_none alone f (Read path offset count)) none (read_is_free g f (room_of (state old)) path offset count) fits is,

@@ -13,7 +13,7 @@ use Rattle.lang_tree.specs.Conditions.{refusal}
 use Rattle.lang_tree.specs.Figures.{Figures, blocks_for, blocks_met, nothing, touches}
 use Rattle.lang_tree.specs.Refusals.{refusal_number}
 use Rattle.lang_tree.specs.Run.{Answers, is_of_disk, is_of_memory}
-use Rattle.lang_tree.specs.Sharing.{SharedNodes, SharedPlaces, accepted_over, figures_over_by, is_renewed, shared_at, shared_met, write_over_figures, writing_over}
+use Rattle.lang_tree.specs.Sharing.{BlocksAlone, SharedNodes, SharedPlaces, accepted_over, figures_over_by, is_renewed, shared_at, shared_met, write_over_figures, writing_over}
 use Rattle.lang_tree.specs.Step.{Session, osync, step}
 use Rattle.lang_tree.specs.Tree.{Tree}
 use Rattle.lang_tree.specs.Walk.{content}
@@ -23,7 +23,7 @@ use Rattle.fs_session.specs.Applying.{Applies}
 use Rattle.fs_session.specs.Commands.{is_on_tree}
 use Rattle.fs_session.specs.DiskRoom.{AnswersOn, ComesBack, SyncsOver}
 use Rattle.fs_session.specs.Memory.{room_of}
-use Rattle.fs_session.specs.Room.{IsDoneIn, IsRefusedIn, RefusesIn, Room, figures_in, left_in, most_weight, shared_by}
+use Rattle.fs_session.specs.Room.{IsDoneIn, IsRefusedIn, RefusesIn, Room, figures_in, left_in, most_weight, shared_by, alone_by}
 use Rattle.fs_session.specs.Sessions.{IsSession}
 use Rattle.fs_session.specs.Space.{FailsToFit}
 use Rattle.fs_session.specs.Staying.{figures_stay}
@@ -169,9 +169,10 @@ module _ (g : Geometry) (f next : Session) (r room : Room) (reply : Reply) where
 
 -- Costs.
 
-no_more : (bitmap : ℕ) (shared : SharedNodes) (t : Tree) (cmd : Cmd) (most : ℕ) (why : Option Refusal) → (accepted_over bitmap shared t cmd).cost ≤ most → (figures_over_by bitmap shared t cmd why).cost ≤ most
-no_more bitmap shared t cmd most None upto = upto
-no_more bitmap shared t cmd most (Some why) upto = omega arith
+no_more : (bitmap : ℕ) (shared : SharedNodes) (alone : BlocksAlone) (limit : ℕ) (t : Tree) (cmd : Cmd) (most : ℕ) (why : Option Refusal) → (accepted_over bitmap shared alone limit t cmd).cost ≤ most
+    → (figures_over_by bitmap shared alone limit t cmd why).cost ≤ most
+no_more bitmap shared alone limit t cmd most None upto = upto
+no_more bitmap shared alone limit t cmd most (Some why) upto = omega arith
 
 module _ (g : Geometry) (f : Session) (r : Room) where
   abbrev bitmap : ℕ
@@ -179,13 +180,13 @@ module _ (g : Geometry) (f : Session) (r : Room) where
 
   -- a command that asks costs nothing
   pub read_is_free : (path : List (List ℕ)) (offset count : ℕ) → (figures_in g f r (Read path offset count)).cost ≤ 0
-  read_is_free path offset count = no_more bitmap (shared_by g f.tree r) f.tree (Read path offset count) 0 (refusal f.limit f.tree (Read path offset count)) (omega arith)
+  read_is_free path offset count = no_more bitmap (shared_by g f.tree r) (alone_by g f.tree r) f.limit f.tree (Read path offset count) 0 (refusal f.limit f.tree (Read path offset count)) (omega arith)
 
   pub stat_is_free : (path : List (List ℕ)) → (figures_in g f r (StatPath path)).cost ≤ 0
-  stat_is_free path = no_more bitmap (shared_by g f.tree r) f.tree (StatPath path) 0 (refusal f.limit f.tree (StatPath path)) (omega arith)
+  stat_is_free path = no_more bitmap (shared_by g f.tree r) (alone_by g f.tree r) f.limit f.tree (StatPath path) 0 (refusal f.limit f.tree (StatPath path)) (omega arith)
 
   pub list_is_free : (path : List (List ℕ)) → (figures_in g f r (ListPath path)).cost ≤ 0
-  list_is_free path = no_more bitmap (shared_by g f.tree r) f.tree (ListPath path) 0 (refusal f.limit f.tree (ListPath path)) (omega arith)
+  list_is_free path = no_more bitmap (shared_by g f.tree r) (alone_by g f.tree r) f.limit f.tree (ListPath path) 0 (refusal f.limit f.tree (ListPath path)) (omega arith)
 
 module _ (g : Geometry) (limits : IsGeometry g) (f : Session) (r : Room) where
   abbrev bits : ℕ
@@ -197,8 +198,8 @@ module _ (g : Geometry) (limits : IsGeometry g) (f : Session) (r : Room) where
   abbrev shared : SharedNodes
   shared = shared_by g f.tree r
 
-  within : (cmd : Cmd) → (accepted_over bits shared f.tree cmd).cost ≤ most_weight g → (figures_in g f r cmd).cost ≤ most_weight g
-  within cmd upto = no_more bits shared f.tree cmd (most_weight g) (refusal f.limit f.tree cmd) upto
+  within : (cmd : Cmd) → (accepted_over bits shared (alone_by g f.tree r) f.limit f.tree cmd).cost ≤ most_weight g → (figures_in g f r cmd).cost ≤ most_weight g
+  within cmd upto = no_more bits shared (alone_by g f.tree r) f.limit f.tree cmd (most_weight g) (refusal f.limit f.tree cmd) upto
 
   pub mkdir_is_cheap : (path : List (List ℕ)) → (figures_in g f r (Mkdir path)).cost ≤ most_weight g
   mkdir_is_cheap path = within (Mkdir path) (omega (arith, room))

@@ -9,7 +9,7 @@ use Rattle.base_types.specs.Seal.{Blocks}
 use Rattle.layout_geometry.specs.Geometry.{Geometry}
 use Rattle.layout_bytes.specs.declared.node.Node.{Node}
 use Rattle.layout_bytes.specs.declared.node.NodeKind.{NodeKind}
-use Rattle.layout_bytes.specs.declared.node.NodeKind.TheVariants.{Free, Dir, File}
+use Rattle.layout_bytes.specs.declared.node.NodeKind.TheVariants.{Free, Dir, File, Snapshot}
 use Rattle.layout_bytes.specs.declared.slot.Slot.{Slot}
 use Rattle.layout_bytes.specs.Bytes.{when}
 use Rattle.layout_bytes.specs.Node.{kind_fits, node_at, node_bytes, node_fits, run_blocks, runs_fit}
@@ -50,6 +50,7 @@ module _ (g : Geometry) (m : Blocks) (k : ℕ) where
 
   of_node : (node : Node) → used_node g m k ≡ Some node → (links : ℕ) (bytes : List ℕ) (kind : NodeKind) → node.kind ≡ kind → inode_by kind node.links (content m node) ≡ Some (AFile links bytes) → length bytes ≤ 1073741824
   of_node node used links bytes Free is reads = absurd (none-some (AFile links bytes) reads)
+  of_node node used links bytes Snapshot is reads = absurd (none-some (AFile links bytes) reads)
   of_node node used links bytes Dir is reads = absurd (no_file (node.links == 1) (slots_in (length (content m node) / slot_size) (content m node)) links bytes reads)
   of_node node used links bytes File is reads =
       let size = leb-true node.size 1073741824 (and_parts (nat_le node.links 65535) (nat_le node.size 1073741824) (subst (λ (kind : NodeKind). kind_fits node kind ≡ true) is (used_kind_fits g m k node used))).1 in

@@ -3,7 +3,7 @@ use Rattle.std.proofs.Common.{◌≡◌, sym, refl, ◌∙◌, subst, arith, tes
 use Rattle.std.specs.Prelude.{◌-◌}
 use Rattle.std.specs.List.{list_all}
 use Rattle.std.specs.Cmp.{nat_cmp_total, IsTotalOrder}
-use Rattle.std.specs.Cmp.Lexicographic.{lists_total}
+use Rattle.std.specs.Cmp.Lexicographic.{lists_total, slice_cmp}
 use Rattle.std.specs.FinMap.{IsAntisymmetric, get, insert, remove, empty, entries, find, get-insert, get-remove, get-empty, get-from_entries, nat_cmp-IsAntisymmetric, slice_cmp-IsAntisymmetric}
 use Rattle.std.specs.Ordering.{is_eq, eq_by_cmp, nat_cmp}
 use Rattle.std.specs.declared.cmp.Ordering.{Ordering}
@@ -15,15 +15,15 @@ use Rattle.lang_script.specs.Grammar.{fits}
 use Rattle.lang_script.specs.Values.{IsCommand}
 use Rattle.cmd_trace.specs.Contents.{Each}
 use Rattle.lang_tree.specs.declared.command.Cmd.{Cmd}
-use Rattle.lang_tree.specs.declared.command.Cmd.TheVariants.{Mkdir, Create, Write, Fill, Truncate, Link, Unlink, Rmdir, Rename, Osync, Dsync, Dwait}
+use Rattle.lang_tree.specs.declared.command.Cmd.TheVariants.{Mkdir, Create, Write, Fill, Truncate, Link, Unlink, Rmdir, Rename, Snap, Unsnap, Osync, Dsync, Dwait}
 use Rattle.lang_tree.specs.declared.command.Reply.TheVariants.{Ok as Done}
 use Rattle.lang_tree.specs.Conditions.{least_unused, refusal}
 use Rattle.lang_tree.specs.Names.{path_count, renamed}
 use Rattle.lang_tree.specs.Paths.{strip, moved_by, moved_path}
-use Rattle.lang_tree.specs.Step.{Session, start, step, answered, accepted, osync, dwait, write, truncate, rename, written, resized, with_node, added, with_bytes, edited_at, edited, linked_by, linked, removed_by, removed, moved, changed_to}
-use Rattle.lang_tree.specs.Tree.{Tree, Names, Nodes, Thing, Dir, File, path_cmp}
+use Rattle.lang_tree.specs.Step.{Session, kept_of, snapped_by, unsnapped, start, step, answered, accepted, osync, dwait, write, truncate, rename, written, resized, with_node, added, with_bytes, edited_at, edited, linked_by, linked, removed_by, removed, moved, changed_to}
+use Rattle.lang_tree.specs.Tree.{Tree, Names, Nodes, Kept, Thing, Dir, File, alone, kept_tree, path_cmp}
 use Rattle.lang_tree.specs.Walk.{content, is_same_node}
-use Rattle.cmd_replay.specs.Named.{HasLawfulNames, HasBytes}
+use Rattle.cmd_replay.specs.Named.{HasLawfulNames, HasBytes, OfEachSnapshot}
 use Rattle.cmd_replay.proofs.telling.Lines.{ThingBytes}
 use Rattle.cmd_replay.proofs.telling.Maps.{each_of, entry_each}
 use Rattle.cmd_replay.proofs.telling.Texts.{AreBytes}
@@ -147,6 +147,8 @@ record IsKept (P : Tree → Type 0) : Type 0 where
   tied : (t : Tree) (path other : List (List ℕ)) → Lawful other → P t → P (linked t path other)
   gone : (t : Tree) (path : List (List ℕ)) → P t → P (removed t path)
   shifted : (t : Tree) (from to : List (List ℕ)) → Lawful to → P t → P (moved t from to)
+  snapped : (t : Tree) (name : List ℕ) (o : Option ℕ) → is_name name ≡ true → P t → P (snapped_by t name o)
+  unsnapped : (t : Tree) (name : List ℕ) → P t → P (unsnapped t name)
 
 names_kept : IsKept HasLawfulNames
 names_kept = record {
@@ -155,8 +157,14 @@ names_kept = record {
   tied = λ t path other law h. link t other law h (get t.names path);
   gone = λ t path h. out t path h (get t.names path);
   shifted = λ t from to law h. names_moved t.names from to law h;
+  snapped = λ t name o law h. snap t name h o;
+  unsnapped = λ t name h. h;
 }
   where
+    snap : (t : Tree) (name : List ℕ) → HasLawfulNames t → (o : Option ℕ) → HasLawfulNames (snapped_by t name o)
+    snap t name h None = h
+    snap t name h (Some n) = h
+
     make : (t : Tree) (path : List (List ℕ)) (thing : Thing) → Lawful path → HasLawfulNames t → (o : Option ℕ) → HasLawfulNames (with_node t path thing o)
     make t path thing law h None = h
     make t path thing law h (Some n) = names_put t.names path n law h
@@ -180,8 +188,14 @@ bytes_kept = record {
   tied = λ t path other law h. link t other h (get t.names path);
   gone = λ t path h. out t path h (get t.names path);
   shifted = λ t from to law h. h;
+  snapped = λ t name o law h. snap t name h o;
+  unsnapped = λ t name h. h;
 }
   where
+    snap : (t : Tree) (name : List ℕ) → HasBytes t → (o : Option ℕ) → HasBytes (snapped_by t name o)
+    snap t name h None = h
+    snap t name h (Some n) = h
+
     make : (t : Tree) (path : List (List ℕ)) (thing : Thing) → ThingBytes thing → HasBytes t → (o : Option ℕ) → HasBytes (with_node t path thing o)
     make t path thing bytes h None = h
     make t path thing bytes h (Some n) = nodes_put t.nodes n thing bytes h
@@ -206,6 +220,53 @@ bytes_kept = record {
     out : (t : Tree) (path : List (List ℕ)) → HasBytes t → (o : Option ℕ) → HasBytes (removed_by t path o)
     out t path h None = h
     out t path h (Some n) = unused t.nodes n h (path_count (remove t.names path) n == 0)
+
+-- ---- with what snapshots keep
+
+name_total : IsTotalOrder (slice_cmp nat_cmp)
+name_total = lists_total nat_cmp_total
+
+name_same : IsAntisymmetric (slice_cmp nat_cmp)
+name_same = slice_cmp-IsAntisymmetric nat_cmp-IsAntisymmetric
+
+-- what is kept of a tree, with what holds of each snapshot if the tree is so as it is made
+module _ (Q : Tree → Type 0) (R : List ℕ → Tree → Type 0) (q : IsKept Q) (so : (name : List ℕ) (t : Tree) → is_name name ≡ true → Q t → R name (alone t.names t.nodes)) where
+  with_snapshots : IsKept (λ t. Q t × OfEachSnapshot R t)
+  with_snapshots = record {
+    made = λ limit t path thing law bytes h. (q.made limit t path thing law bytes h.0, make t path thing h.1 (least_unused limit t));
+    changed = λ t path change same h. (q.changed t path change same h.0, change_at t change h.1 (get t.names path));
+    tied = λ t path other law h. (q.tied t path other law h.0, link t other h.1 (get t.names path));
+    gone = λ t path h. (q.gone t path h.0, out t path h.1 (get t.names path));
+    shifted = λ t from to law h. (q.shifted t from to law h.0, h.1);
+    snapped = λ t name o law h. (q.snapped t name o law h.0, snap t name law h o);
+    unsnapped = λ t name h. (q.unsnapped t name h.0, unsnap t name h.1);
+  }
+    where
+      make : (t : Tree) (path : List (List ℕ)) (thing : Thing) → OfEachSnapshot R t → (o : Option ℕ) → OfEachSnapshot R (with_node t path thing o)
+      make t path thing h None = h
+      make t path thing h (Some n) = h
+
+      change_at : (t : Tree) (change : List ℕ → List ℕ) → OfEachSnapshot R t → (o : Option ℕ) → OfEachSnapshot R (edited_at t change o)
+      change_at t change h None = h
+      change_at t change h (Some n) = h
+
+      link : (t : Tree) (other : List (List ℕ)) → OfEachSnapshot R t → (o : Option ℕ) → OfEachSnapshot R (linked_by t other o)
+      link t other h None = h
+      link t other h (Some n) = h
+
+      out : (t : Tree) (path : List (List ℕ)) → OfEachSnapshot R t → (o : Option ℕ) → OfEachSnapshot R (removed_by t path o)
+      out t path h None = h
+      out t path h (Some n) = h
+
+      snap : (t : Tree) (name : List ℕ) → is_name name ≡ true → Q t × OfEachSnapshot R t → (o : Option ℕ) → OfEachSnapshot R (snapped_by t name o)
+      snap t name law h None = h.1
+      snap t name law h (Some n) = λ p k e. elim (eq_by_cmp (slice_cmp nat_cmp) p name) as (λ b. eq_by_cmp (slice_cmp nat_cmp) p name ≡ b → cond b (Some (kept_of n t)) (get t.snapshots p) ≡ Some k → R p (kept_tree k)) [
+        | true ↦ λ same is. subst (λ (x : List ℕ). R x (kept_tree k)) (sym (name_same p name (equal_of (slice_cmp nat_cmp p name) same))) (subst (λ (x : Kept). R name (kept_tree x)) (same_Some (kept_of n t) k is) (so name t law h.0))
+        | false ↦ λ same is. h.1 p k is
+      ] refl (sym (get-insert name_total t.snapshots name (kept_of n t) p) ∙ e)
+
+      unsnap : (t : Tree) (name : List ℕ) → OfEachSnapshot R t → OfEachSnapshot R (unsnapped t name)
+      unsnap t name h p k e = elim (eq_by_cmp (slice_cmp nat_cmp) p name) as (λ b. cond b None (get t.snapshots p) ≡ Some k → R p (kept_tree k)) [ true ↦ λ is. cc is | false ↦ λ is. h p k is ] (sym (get-remove name_total t.snapshots name p) ∙ e)
 
 -- ---- commands
 
@@ -256,6 +317,8 @@ module _ (P : Tree → Type 0) (kept : IsKept P) where
   accepted_keeps s (Unlink path) law h = kept.gone s.tree path h
   accepted_keeps s (Rmdir path) law h = kept.gone s.tree path h
   accepted_keeps s (Rename from to) law h = rename_keeps s from to (and_parts (list_all is_name from) (list_all is_name to) law).1 h
+  accepted_keeps s (Snap name) law h = kept.snapped s.tree name (least_unused s.limit s.tree) law h
+  accepted_keeps s (Unsnap name) law h = kept.unsnapped s.tree name h
   accepted_keeps s Osync law h = sync_keeps s s.changed h
   accepted_keeps s Dsync law h = sync_keeps s s.changed h
   accepted_keeps s (Dwait n) law h = wait_keeps s n (nat_le n s.points) h
@@ -270,8 +333,31 @@ step_names = step_keeps HasLawfulNames names_kept
 pub step_bytes : (s : Session) (cmd : Cmd) → IsCommand cmd → HasBytes s.tree → HasBytes (step s cmd).0.tree
 step_bytes = step_keeps HasBytes bytes_kept
 
+-- the same of what snapshots keep
+
+abbrev pub AllNamed : Tree → Type 0
+AllNamed t = HasLawfulNames t × OfEachSnapshot (λ name u. (is_name name ≡ true) × HasLawfulNames u) t
+
+abbrev pub AllBytes : Tree → Type 0
+AllBytes t = HasBytes t × OfEachSnapshot (λ name u. HasBytes u) t
+
+pub step_named : (s : Session) (cmd : Cmd) → IsCommand cmd → AllNamed s.tree → AllNamed (step s cmd).0.tree
+step_named = step_keeps AllNamed (with_snapshots HasLawfulNames (λ name u. (is_name name ≡ true) × HasLawfulNames u) names_kept (λ name t law h. (law, h)))
+
+pub step_all_bytes : (s : Session) (cmd : Cmd) → IsCommand cmd → AllBytes s.tree → AllBytes (step s cmd).0.tree
+step_all_bytes = step_keeps AllBytes (with_snapshots HasBytes (λ name u. HasBytes u) bytes_kept (λ name t law h. h))
+
 pub start_names : (limit : ℕ) → HasLawfulNames (start limit).tree
 start_names limit = names_put empty [] 1 refl (λ p n e. absurd (none-some n (sym (get-empty path_cmp p) ∙ e)))
 
 pub start_bytes : (limit : ℕ) → HasBytes (start limit).tree
 start_bytes limit = nodes_put empty 1 Dir tt (λ n bytes e. absurd (none-some (File bytes) (sym (get-empty nat_cmp n) ∙ e)))
+
+none_first : (R : List ℕ → Tree → Type 0) (limit : ℕ) → OfEachSnapshot R (start limit).tree
+none_first R limit name k e = absurd (none-some k (sym (get-empty (slice_cmp nat_cmp) name) ∙ e))
+
+pub start_named : (limit : ℕ) → AllNamed (start limit).tree
+start_named limit = (start_names limit, none_first (λ name u. (is_name name ≡ true) × HasLawfulNames u) limit)
+
+pub start_all_bytes : (limit : ℕ) → AllBytes (start limit).tree
+start_all_bytes limit = (start_bytes limit, none_first (λ name u. HasBytes u) limit)

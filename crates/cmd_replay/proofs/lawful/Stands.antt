@@ -6,6 +6,7 @@ use Rattle.std.proofs.lemmas.Bool.{and_parts}
 use Rattle.std.proofs.lemmas.Slice.Eq.{bytes_eq-Decides}
 use Rattle.std.proofs.lemmas.Option.{same_Some}
 use Rattle.base_types.specs.Name.{is_name}
+use Rattle.base_types.specs.Runs.{run_places}
 use Rattle.base_types.specs.Seal.{Blocks}
 use Rattle.layout_geometry.specs.Geometry.{Geometry, IsGeometry, geometry_fits}
 use Rattle.layout_journal.specs.declared.header.Header.{Header}
@@ -13,15 +14,16 @@ use Rattle.layout_journal.specs.Layout.{header_of, IsWithinDisk}
 use Rattle.layout_bytes.specs.Bytes.{when, field, has_zeros}
 use Rattle.layout_bytes.specs.Slot.{slot_size, slot_of, slots_in, then_slot, name_in}
 use Rattle.layout_bytes.specs.declared.node.NodeKind.{NodeKind}
-use Rattle.layout_bytes.specs.declared.node.NodeKind.TheVariants.{Free, Dir as DirNode, File as FileOf}
+use Rattle.layout_bytes.specs.declared.node.NodeKind.TheVariants.{Free, Dir as DirNode, File as FileOf, Snapshot}
 use Rattle.layout_bytes.specs.declared.slot.Slot.{Slot}
 use Rattle.crash_stands.specs.Files.{FileNode, Files, files_of}
 use Rattle.crash_stands.specs.Inodes.{Inode, Inodes, ADir, AFile, AreInodesOf, IsInodeOf, inode_by}
+use Rattle.crash_stands.specs.Kept.{kept_files}
 use Rattle.crash_stands.specs.Stands.{IsTreeOf, StandsFor}
 use Rattle.crash_stands.specs.Walks.{entries_of, entry_in, node_in, walk}
 use Rattle.cmd_trace.specs.Contents.{Each}
-use Rattle.lang_tree.specs.Tree.{Tree, IsSound}
-use Rattle.cmd_replay.specs.Named.{HasLawfulNames}
+use Rattle.lang_tree.specs.Tree.{Tree, HasSoundSnapshots, IsSound}
+use Rattle.cmd_replay.specs.Named.{HasLawfulNames, IsListable, OfEachSnapshot}
 
 -- the name of a slot is lawful
 abbrev IsNamed : Slot → Type 0
@@ -61,6 +63,7 @@ under_a_name (s ∷ slots) name n h e = by (bytes_eq s.name name) refl (under_a_
 -- the slots of a directory are named
 dir_is_named : (kind : NodeKind) (links : ℕ) (bytes : List ℕ) (slots : List Slot) → inode_by kind links bytes ≡ Some (ADir slots) → Each IsNamed slots
 dir_is_named Free links bytes slots e = cc e
+dir_is_named Snapshot links bytes slots e = cc e
 dir_is_named FileOf links bytes slots e = cc e
 dir_is_named DirNode links bytes slots e = by (links == 1) (slots_in (length bytes / slot_size) bytes) (slots_are_named (length bytes / slot_size) bytes) e
   where
@@ -91,10 +94,19 @@ module _ (files : Files) (m : Inodes) (read : AreInodesOf files m) where
 tree_is_named : (g : Geometry) (m : Blocks) (t : Tree) → IsTreeOf g m t → HasLawfulNames t
 tree_is_named g m t is p n e = walk_is_named (files_of g m) is.inodes is.read p 1 n (sym (is.map.shows.names p) ∙ e)
 
+kept_is_named : (g : Geometry) (m : Blocks) (t : Tree) → IsTreeOf g m t → OfEachSnapshot (λ name u. (is_name name ≡ true) × HasLawfulNames u) t
+kept_is_named g m t is name k at =
+    let holds = is.keeps name k at in
+    let kept = holds.keeps in
+    (holds.lawful, λ p n e. walk_is_named (kept_files g m (run_places holds.node.runs)) kept.inodes kept.read p 1 n (sym (kept.map.shows.names p) ∙ e))
+
 pub stands_named : ((g : Geometry) → geometry_fits g ≡ true → IsGeometry g) → ((n : ℕ) (b : List ℕ) (h : Header) → header_of n b ≡ Some h → IsWithinDisk n h)
-    → ((g : Geometry) (m : Blocks) (t : Tree) → IsTreeOf g m t → IsSound g.i t)
-    → (n : ℕ) (img : Blocks) (t : Tree) → StandsFor n img t → (i : ℕ) × (i < 2 ^ 64) × IsSound i t × HasLawfulNames t
-stands_named limits headers sound n img t is =
+    → ((g : Geometry) (m : Blocks) (t : Tree) → IsTreeOf g m t → IsSound g.i t) → ((g : Geometry) (m : Blocks) (t : Tree) → IsTreeOf g m t → HasSoundSnapshots g.i t)
+    → (n : ℕ) (img : Blocks) (t : Tree) → StandsFor n img t → (i : ℕ) × (i < 2 ^ 64) × IsListable i t
+stands_named limits headers sound snapshots n img t is =
     let g = is.held.header.geom in
-    let most = (limits g (headers n (img is.held.slot) is.held.header is.held.newest.stands).geom).most_nodes in
-    (g.i, omega (arith, most), sound g is.map t is.tree, tree_is_named g is.map t is.tree)
+    let most = (limits g (headers n (img is.held.slot) is.held.header is.held.newest.stands).geom).most_nodes in (
+      g.i,
+      omega (arith, most),
+      record { sound = sound g is.map t is.tree; names = tree_is_named g is.map t is.tree; snapshots = snapshots g is.map t is.tree; kept = kept_is_named g is.map t is.tree },
+    )

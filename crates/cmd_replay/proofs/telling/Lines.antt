@@ -48,6 +48,15 @@ pub some_line : (p : List (List ℕ)) (n : ℕ) (x : Thing) (r : List ℕ) → l
 some_line p n Dir r e = absurd (cc (sym (pieces p n Dir r) ∙ e))
 some_line p n (File bytes) r e = absurd (cc (sym (pieces p n (File bytes) r) ∙ e))
 
+-- nor does it begin as that of a snapshot
+pub other_start : (p : List (List ℕ)) (n : ℕ) (x : Thing) (r s : List ℕ) → line_of p n (Some x) ++ r ≡ codes "snap " ++ s → ⊥
+other_start p n Dir r s e =
+    let first : 100 ≡ 115 = ap (λ l. get_or l 0 0) (sym (pieces p n Dir r) ∙ e) in
+    absurd (omega (arith, first))
+other_start p n (File bytes) r s e =
+    let first : 102 ≡ 115 = ap (λ l. get_or l 0 0) (sym (pieces p n (File bytes) r) ∙ e) in
+    absurd (omega (arith, first))
+
 -- the bytes of what is a file are bytes
 abbrev pub ThingBytes : Thing → Type 0
 ThingBytes Dir = Unit {0}

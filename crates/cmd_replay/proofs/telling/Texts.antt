@@ -66,11 +66,14 @@ byte_past b h = grind (arith, tests)
 byte_no_slash : (b : ℕ) → is_name_byte b ≡ true → no_slash b ≡ true
 byte_no_slash b h = grind (arith, tests)
 
+pub name_part : (name : List ℕ) → is_name name ≡ true → Part name
+name_part name h = weaker is_name_byte (nat_lt 32) byte_past name (name_bytes name h)
+
 slashed_part : (p : List (List ℕ)) → list_all is_name p ≡ true → Part (slashed p)
 slashed_part [] h = refl
 slashed_part (name ∷ p) h =
     let parts = and_parts (is_name name) (list_all is_name p) h in
-    list_all-append (nat_lt 32) name (slashed p) ∙ and_from (list_all (nat_lt 32) name) (list_all (nat_lt 32) (slashed p)) (weaker is_name_byte (nat_lt 32) byte_past name (name_bytes name parts.0)) (slashed_part p parts.1)
+    list_all-append (nat_lt 32) name (slashed p) ∙ and_from (list_all (nat_lt 32) name) (list_all (nat_lt 32) (slashed p)) (name_part name parts.0) (slashed_part p parts.1)
 
 pub path_part : (p : List (List ℕ)) → list_all is_name p ≡ true → Part (path_text p)
 path_part [] h = refl

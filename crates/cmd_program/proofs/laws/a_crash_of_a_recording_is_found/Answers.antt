@@ -16,6 +16,7 @@ use Rattle.cmd_session.specs.Crashes.{LeavesPoints, StandsForOne}
 use Rattle.cmd_session.specs.Images.{StandsForNone}
 use Rattle.cmd_replay.specs.declared.refusal.ReplayRefusal.{ReplayRefusal}
 use Rattle.cmd_replay.specs.declared.refusal.ReplayRefusal.TheVariants.{Damaged}
+use Rattle.cmd_replay.specs.Named.{AreAlike, kept_trees}
 use Rattle.cmd_replay.specs.Newest.{IsNewest}
 use Rattle.cmd_replay.specs.Points.{points_in, floor_at, top_at}
 use Rattle.cmd_replay.specs.Replays.{Found, Answers, LeavesImage}
@@ -58,12 +59,16 @@ stands c points moment choice honest image left =
 undamaged : (n : ℕ) (img : Blocks) (points : List Point) (low high : ℕ) → ∥ StandsForOne n img points low high ∥₁ → StandsForNone n img → ⊥
 undamaged n img points low high some none = ∥∥₁_elim some (λ x y. absurd x) (λ (s : StandsForOne n img points low high). none s.point.tree s.stands)
 
+-- one tree is like itself
+same_alike : {t u : Tree} → t ≡ u → AreAlike t u
+same_alike same = record { names = ap (λ (x : Tree). x.names) same; nodes = ap (λ (x : Tree). x.nodes) same; snapshots = ap kept_trees same }
+
 -- where it stands for this tree, the newest point with it is there
 pointed : OneTree → (n : ℕ) (img : Blocks) (points : List Point) (low high : ℕ) (tree : Tree) → ∥ StandsForOne n img points low high ∥₁ → StandsFor n img tree
-    → (point : Option ℕ) → IsNewest (λ t. t ≡ tree) points low high point → (p : ℕ) × (point ≡ Some p)
+    → (point : Option ℕ) → IsNewest (λ t. AreAlike t tree) points low high point → (p : ℕ) × (point ≡ Some p)
 pointed one n img points low high tree some its (Some p) newest = (p, refl)
 pointed one n img points low high tree some its None newest = absurd (∥∥₁_elim some (λ x y. absurd x) (λ (s : StandsForOne n img points low high).
-    newest s.number s.from s.upto (record { point = s.point; is = s.is; such = one n img s.point.tree tree s.stands its })))
+    newest s.number s.from s.upto (record { point = s.point; is = s.is; such = same_alike (one n img s.point.tree tree s.stands its) })))
 
 placed : OneTree → (c : Contents) (moment : ℕ) (choice : ChoiceState) → ((image : List (List ℕ)) → LeavesImage c.geometry c.log moment choice image → HasPoint c moment image)
     → (answer : Result Found ReplayRefusal) → Answers c moment choice answer → IsPlaced answer

@@ -1,5 +1,8 @@
-use Rattle.cmd_replay.proofs.telling.Entries.{one_tree}
+use Rattle.cmd_replay.proofs.telling.Entries.{alike, one_listing}
 use Rattle.cmd_replay.proofs.laws.a_listing_says_the_tree.Goals as goal
 
-pub returns : goal.returns
-returns c = one_tree c.without_snapshots_there_are_paths_and_nodes.ensures.listing
+pub returns-clause-alike : goal.returns-clause-alike
+returns-clause-alike c = alike
+
+pub returns-clause-listing : goal.returns-clause-listing
+returns-clause-listing c = one_listing

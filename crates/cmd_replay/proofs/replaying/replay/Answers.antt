@@ -29,11 +29,10 @@ returns c =
         text = listed.2;
         newest = newest trace c.requires
             (record {
-              listings = c.a_listing_says_the_tree.ensures;
-              sound = c.points_of_a_trace_have_lawful_names.ensures.sound trace c.requires;
-              names = c.points_of_a_trace_have_lawful_names.ensures.names trace c.requires;
+              listings = c.a_listing_says_the_tree.ensures.alike;
+              alike = c.a_listing_says_the_tree.ensures.listing;
+              points = c.points_of_a_trace_have_lawful_names.ensures.names trace c.requires;
               bytes = c.points_of_a_trace_have_lawful_names.ensures.bytes trace c.requires;
-              alone = c.points_of_a_trace_have_lawful_names.ensures.alone trace c.requires;
               stands = c.what_stands_has_lawful_names.ensures.names;
             })
             _ _ listed.0 c.as_slice.result.now listed.1.stands (c.as_slice.ensures.value ∙ listed.2) _ _ c.in_ok-point.point found;

@@ -9,5 +9,6 @@ returns c = stands_for_none (record {
   bounds = c.journal_blocks_keep_to_their_bounds.ensures.headers;
   limits = λ g fits. (c.geometries_are_within_limits.ensures g).0 fits;
   blocks = c.broken_blocks_are_not_sound.ensures.tree;
+  snapshot = c.no_tree_stands_where_a_snapshot_is_broken.ensures;
   tree = c.no_tree_stands_where_it_is_broken.ensures;
 })

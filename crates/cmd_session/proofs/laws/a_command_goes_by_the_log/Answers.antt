@@ -11,6 +11,9 @@ returns g c = λ told mount base m first t cmds replies marks cmd reply old new 
       alike = c.images_alike_below_n_hold_the_same.ensures;
       newest = c.an_image_holds_one_map.ensures.newest;
       replies = c.a_reply_tells_the_session.ensures;
+      numbers = c.numbers_of_snapshots_are_in_the_map.ensures.name;
+      changes = c.a_command_changes_where_it_costs.ensures;
+      shared = c.sharing_costs_where_all_costs.ensures;
     })
     (record {
       serves = λ f session. c.a_command_serves_what_is_sure.ensures told old new f cmd reply session x.applies;

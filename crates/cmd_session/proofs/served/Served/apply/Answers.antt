@@ -29,7 +29,7 @@ returns-clause-budget g c = λ told k t mounted begun cmds replies marks served 
     keeps_more g.S.Blocks.tells g.S.Blocks.state told c.nothing_shared_costs_nothing.ensures.commands k t mounted begun cmds replies marks (blocks_in c.self.inside.fs) (blocks_in c.apply-reply.new.self) c.args.cmd.now c.apply-reply.result
     (subst (λ fs. HasServed k t mounted cmds replies marks (g.S.Blocks.state (blocks_in fs))) (sym c.self.view_is) served)
     (subst (λ fs. KeepsBudget k t begun cmds replies (g.S.Blocks.state (blocks_in fs))) (sym c.self.view_is) keeps)
-    c.apply-reply.ensures.applies (c.self.invariant.stands told) c.self.invariant.between.goes_on.may
+    c.apply-reply.ensures.applies (c.self.invariant.stands told) c.self.invariant.ready.between.goes_on.may
 
 pub returns-clause-writes : goal.returns-clause-writes
 returns-clause-writes g c = grind (arith, c.apply-reply.new.self, c.args.cmd.now, c.apply-reply.result, g.S.Blocks.state, c.self.view_is, writes_more, g.S.Blocks.tells, c.self.inside.fs, c.self.invariant.stands, c.apply-reply.ensures.applies)

@@ -1,4 +1,4 @@
-use Rattle.std.proofs.Common.{rules, inl, inr, ⊎_elim, ◌⊎◌, ◌≡◌, ◌≤◌, ◌∙◌, Some, length, slice_get, subst, sym}
+use Rattle.std.proofs.Common.{inl, inr, ⊎_elim, ◌⊎◌, ◌≡◌, ◌≤◌, ◌∙◌, Some, length, slice_get, subst, sym}
 use Rattle.fs_commands.specs.Opened.{blocks_in}
 use Rattle.lang_log.specs.History.{trimmed_to}
 use Rattle.lang_tree.specs.declared.command.Cmd.TheVariants.{Osync}
@@ -25,9 +25,10 @@ invariant_of-self g c = record {
   kept = c.self.invariant.kept;
   mirrors = λ told.
       let l = c.self.inside in
-      let first_is : slice_get l.firsts.items 0 ≡ Some c.index.result.now = search rules in
+      let two : 2 ≤ length l.firsts.items = subst (λ q. 2 ≤ length q) (sym (same_firsts c.self.view_is)) c.requires.two in
+      let first_is : slice_get l.firsts.items 0 ≡ Some c.index.result.now = first_of_all l.firsts.items c.index.result.now two c.index.ensures in
       (went g.S.Blocks.state l.firsts.items l.size l.next (blocks_in l.fs) (blocks_in c.change_log-reply.new.fs) c.change_log-reply.result (c.self.invariant.mirrors told)
-      c.index.result.now c.in_ok-cmd.cmd (subst (λ q. 2 ≤ length q) (sym (same_firsts c.self.view_is)) c.requires.two) first_is c.in_ok-cmd.ensures (c.change_log-reply.ensures.gone told)).same c.in_err-done.ensures.not;
+      c.index.result.now c.in_ok-cmd.cmd two first_is c.in_ok-cmd.ensures (c.change_log-reply.ensures.gone told)).same c.in_err-done.ensures.not;
 }
 
 pub invariant_of-self-2 : goal.invariant_of-self-2
@@ -38,10 +39,11 @@ invariant_of-self-2 g c = record {
   kept = c.self.invariant.kept;
   mirrors = λ told.
       let l = c.self.inside in
-      let first_is : slice_get l.firsts.items 0 ≡ Some c.index.result.now = search rules in
+      let two : 2 ≤ length l.firsts.items = subst (λ q. 2 ≤ length q) (sym (same_firsts c.self.view_is)) c.requires.two in
+      let first_is : slice_get l.firsts.items 0 ≡ Some c.index.result.now = first_of_all l.firsts.items c.index.result.now two c.index.ensures in
       subst (λ q. Mirrors (g.S.Blocks.state (blocks_in c.change_log-reply.new.fs)) q l.size l.next) (sym (c.remove.ensures.items ∙ one_less l.firsts.items))
       ((went g.S.Blocks.state l.firsts.items l.size l.next (blocks_in l.fs) (blocks_in c.change_log-reply.new.fs) c.change_log-reply.result (c.self.invariant.mirrors told)
-      c.index.result.now c.in_ok-cmd.cmd (subst (λ q. 2 ≤ length q) (sym (same_firsts c.self.view_is)) c.requires.two) first_is c.in_ok-cmd.ensures (c.change_log-reply.ensures.gone told)).mirrors c.in_ok-done.ensures.done);
+      c.index.result.now c.in_ok-cmd.cmd two first_is c.in_ok-cmd.ensures (c.change_log-reply.ensures.gone told)).mirrors c.in_ok-done.ensures.done);
 }
 
 pub returns-in_err-cmd-clause-refused : goal.returns-in_err-cmd-clause-refused
@@ -51,18 +53,20 @@ returns-in_err-cmd-clause-refused g c = λ told. on_err c.from_residual.result _
 pub returns-in_err-done-clause-refused : goal.returns-in_err-done-clause-refused
 returns-in_err-done-clause-refused g c = λ told. on_err c.from_residual-in_err-done.result _ (
     let l = c.self.inside in
-    let first_is : slice_get l.firsts.items 0 ≡ Some c.index.result.now = search rules in
+    let two : 2 ≤ length l.firsts.items = subst (λ q. 2 ≤ length q) (sym (same_firsts c.self.view_is)) c.requires.two in
+    let first_is : slice_get l.firsts.items 0 ≡ Some c.index.result.now = first_of_all l.firsts.items c.index.result.now two c.index.ensures in
     subst (λ q. TakesLog as_before (state_in g.S.Blocks.state q) (g.S.Blocks.state (blocks_in c.change_log-reply.new.fs))) c.self.view_is
     ((went g.S.Blocks.state l.firsts.items l.size l.next (blocks_in l.fs) (blocks_in c.change_log-reply.new.fs) c.change_log-reply.result (c.self.invariant.mirrors told)
-    c.index.result.now c.in_ok-cmd.cmd (subst (λ q. 2 ≤ length q) (sym (same_firsts c.self.view_is)) c.requires.two) first_is c.in_ok-cmd.ensures (c.change_log-reply.ensures.gone told)).rests c.in_err-done.ensures.not))
+    c.index.result.now c.in_ok-cmd.cmd two first_is c.in_ok-cmd.ensures (c.change_log-reply.ensures.gone told)).rests c.in_err-done.ensures.not))
 
 pub returns-clause-done : goal.returns-clause-done
 returns-clause-done g c = λ told.
     let l = c.self.inside in
-    let first_is : slice_get l.firsts.items 0 ≡ Some c.index.result.now = search rules in
+    let two : 2 ≤ length l.firsts.items = subst (λ q. 2 ≤ length q) (sym (same_firsts c.self.view_is)) c.requires.two in
+    let first_is : slice_get l.firsts.items 0 ≡ Some c.index.result.now = first_of_all l.firsts.items c.index.result.now two c.index.ensures in
     subst (λ q. TakesLog (trimmed_to (second_of q.firsts)) (state_in g.S.Blocks.state q) (g.S.Blocks.state (blocks_in c.change_log-reply.new.fs))) c.self.view_is
     ((went g.S.Blocks.state l.firsts.items l.size l.next (blocks_in l.fs) (blocks_in c.change_log-reply.new.fs) c.change_log-reply.result (c.self.invariant.mirrors told)
-    c.index.result.now c.in_ok-cmd.cmd (subst (λ q. 2 ≤ length q) (sym (same_firsts c.self.view_is)) c.requires.two) first_is c.in_ok-cmd.ensures (c.change_log-reply.ensures.gone told)).takes c.in_ok-done.ensures.done)
+    c.index.result.now c.in_ok-cmd.cmd two first_is c.in_ok-cmd.ensures (c.change_log-reply.ensures.gone told)).takes c.in_ok-done.ensures.done)
 
 pub returns-in_err-cmd-clause-time : goal.returns-in_err-cmd-clause-time
 returns-in_err-cmd-clause-time g c = λ told. no_time g.S.Blocks.state (c.calls_compose.ensures.rests told) (blocks_in c.args.self.now.fs)
@@ -95,7 +99,7 @@ returns-in_err-done-clause-cause g c =
     (was_so g.S.Blocks.tells g.S.Blocks.state (λ cmd. (cmd ≡ c.in_ok-cmd.cmd) ⊎ (cmd ≡ Osync)) (AsksToRemove open_now) c.change_log-reply.result (blocks_in l.fs) new
     (λ cmd asked. ⊎_elim (λ is. inl (c.index.result.now, first_is, is ∙ c.in_ok-cmd.ensures)) (λ is. inr is) asked) c.change_log-reply.ensures.was)
     (λ told. (went g.S.Blocks.state l.firsts.items l.size l.next (blocks_in l.fs) new c.change_log-reply.result (c.self.invariant.mirrors told)
-    c.index.result.now c.in_ok-cmd.cmd (subst (λ q. 2 ≤ length q) (sym (same_firsts c.self.view_is)) c.requires.two) first_is c.in_ok-cmd.ensures (c.change_log-reply.ensures.gone told)).late c.in_err-done.ensures.not))))
+    c.index.result.now c.in_ok-cmd.cmd two first_is c.in_ok-cmd.ensures (c.change_log-reply.ensures.gone told)).late c.in_err-done.ensures.not))))
 
 pub returns-clause-asked : goal.returns-clause-asked
 returns-clause-asked g c = λ told.
