@@ -5,6 +5,8 @@ An image is a list of blocks, as in plain_disk.py. What is drawn comes from the 
 else. What stands in an image isn't known here: that is for a reader to say.
 """
 
+import struct
+
 import plain_disk
 from plain_disk import BLOCK, COMMIT, DESCRIPTOR, ESCAPED, FRESH, HEADER, MOST_RUNS, NODE, PAYLOAD, SLOT, SPENT, ZEROS, Entry, Header
 
@@ -92,20 +94,47 @@ class Drawn:
 
     def place_all(self):
         """Takes blocks for all nodes, and puts together what they have."""
-        nodes = {}
+        nodes, directories = {}, {}
         for number, slots in self.slots.items():
-            data = b"".join(plain_disk.slot_bytes(child, name) for name, child in slots)
+            data = directories[number] = b"".join(plain_disk.slot_bytes(child, name) for name, child in slots)
             nodes[number] = plain_disk.node_bytes(1, 1, len(data), self.place(data, b"\0"))
         for number, links in self.links.items():
             size = self.sizes[number] if len(self.free) > self.sizes[number] // BLOCK + 4 else 0
             data = (self.random.choice([b"", b"", b"OPT", b"\0PT", COMMIT]) + self.random.randbytes(size))[:size]
             runs = self.place(data, self.random.choice([b"\0", b"\xff"]))
             nodes[number] = plain_disk.node_bytes(2, links, len(data), runs)
+        self.add_snapshots(nodes, directories)
         table = b"".join(nodes.get(number, bytes(NODE)) for number in range(1, self.geometry.nodes + 1))
         used = [*range(self.geometry.data), *(set(range(self.geometry.data, self.geometry.blocks)) - set(self.free))]
         bits = sum(1 << number for number in used).to_bytes(BLOCK * (self.geometry.table - self.geometry.bitmap), "little")
         for first, area in ((self.geometry.bitmap, bits), (self.geometry.table, table)):
             self.blocks.update({first + at // BLOCK: area[at : at + BLOCK] for at in range(0, len(area), BLOCK)})
+
+    def add_snapshots(self, nodes, directories):
+        """Puts snapshots of the nodes so far among these, where directories have these bytes; behind each a file may change."""
+        unused = [number for number in range(2, self.geometry.nodes + 1) if number not in nodes]
+        for number in self.random.sample(unused, min(len(unused), self.random.choice([0, 0, 0, 0, 1, 1, 2, 3]))):
+            name = self.random.choice(ODD_NAMES if self.random.random() < 0.01 else NAMES)
+            rows = [nodes.get(one, bytes(NODE)) for one in range(1, self.geometry.nodes + 1)]
+            table = b"".join(bytes(NODE) if row[0] == 3 else row for row in rows)
+            copies = [data.ljust(-len(data) % BLOCK + len(data), b"\0") for _, data in sorted(directories.items())]
+            data = (bytes([len(name)]) + name).ljust(BLOCK, b"\0") + table + b"".join(copies)
+            if len(self.free) > len(data) // BLOCK + 2:
+                nodes[number] = plain_disk.node_bytes(3, 1, len(data), self.place(data, b"\0"))
+                self.change_file(nodes)
+
+    def change_file(self, nodes):
+        """A file that is cut to nothing, or whose first block is written over. A snapshot keeps what it had."""
+        files = [number for number in self.links if nodes[number][2] and self.random.random() < 0.5]
+        for number in files:
+            _, _, count, links, size = struct.unpack("<BBHIQ", nodes[number][:16])
+            runs = [struct.unpack_from("<II", nodes[number], 32 + 8 * at) for at in range(count)]
+            first, length = runs[0]
+            rest = [*([(first + 1, length - 1)] if length > 1 else []), *runs[1:]]
+            is_cut = self.random.random() < 0.3
+            new = [] if is_cut else [*self.place(self.random.randbytes(BLOCK), b"\0"), *rest]
+            if len(new) <= MOST_RUNS and (len(new) < 2 or sum(new[0]) != new[1][0]):
+                nodes[number] = plain_disk.node_bytes(2, links, 0 if is_cut else size, new)
 
     def place(self, data, filler):
         """Takes blocks for these bytes, and returns their runs."""
@@ -353,7 +382,27 @@ def change_slot(random, image, geometry):
     return put(random, image, block, min(at + random.choice([0, 0, 0, SLOT]), BLOCK - SLOT), new)
 
 
-HOME_CHANGES = [change_bits, change_node, change_slot, change_node, change_slot]
+def change_snapshot(random, image, geometry):
+    """A field of a node that a snapshot keeps, or its name; or a kept node becomes another one."""
+    at = lambda number: (geometry.table + (number - 1) // 4, NODE * ((number - 1) % 4))
+    first = lambda number: int.from_bytes(image[at(number)[0]][at(number)[1] + 32 :][:4], "little")
+    found = [number for number in used_nodes(image, geometry) if image[at(number)[0]][at(number)[1]] == 3]
+    places = [first(number) for number in found if geometry.data <= first(number) < geometry.blocks - geometry.nodes // 4]
+    if not places:
+        return change_node(random, image, geometry)
+    place = random.choice(places)
+    if random.random() < 0.2:
+        name = random.choice([*NAMES, *ODD_NAMES])
+        return put(random, image, place, 0, random.choice([bytes([len(name)]) + name.ljust(59, b"\0"), b"\0", b"\x3c"]))
+    number = random.choice([number for number in used_nodes(image, geometry)])
+    block, base = place + 1 + (number - 1) // 4, NODE * ((number - 1) % 4)
+    if random.random() < 0.8:
+        return change_field(random, image, geometry, block, base, NODE_FIELDS)
+    other, other_base = at(random.choice(used_nodes(image, geometry)))
+    return put(random, image, block, base, random.choice([image[other][other_base : other_base + NODE], bytes(NODE)]))
+
+
+HOME_CHANGES = [change_bits, change_node, change_slot, change_node, change_slot, change_snapshot]
 CHANGES = [change_bytes, change_bytes, change_block, change_header, change_record, change_record, *HOME_CHANGES]
 
 

@@ -371,8 +371,8 @@ def check_bits(geometry, blocks):
 def read_node(geometry, spelled):
     """The node with these bytes; `None` where they are those of no node in use."""
     kind, zero, count, links, size = struct.unpack("<BBHIQ", spelled[:16])
-    is_odd = kind not in (1, 2) or zero or any(spelled[16:32]) or count > MOST_RUNS or any(spelled[32 + 8 * count :])
-    if is_odd or not links or (size % SLOT if kind == 1 else links > 65535 or size > 2**30):
+    is_odd = kind not in (1, 2, 3) or zero or any(spelled[16:32]) or count > MOST_RUNS or any(spelled[32 + 8 * count :])
+    if is_odd or not links or (kind == 1 and size % SLOT) or (kind == 2 and (links > 65535 or size > 2**30)):
         return None
     runs = [struct.unpack("<II", spelled[first : first + 8]) for first in range(32, 32 + 8 * count, 8)]
     within = all(length and geometry.data <= first and first + length <= geometry.blocks for first, length in runs)
@@ -383,54 +383,42 @@ def read_node(geometry, spelled):
     return Node(kind, links, size, runs, [b for first, length in runs for b in range(first, first + length)])
 
 
+def is_name(name):
+    return 1 <= len(name) <= 59 and re.fullmatch(rb"[!-.0-~]+", name) and name not in (b".", b"..")
+
+
 def read_slots(data):
     """The slots with these bytes, as names and numbers of nodes, or `None` where one of them is no slot."""
     slots = []
     for first in range(0, len(data), SLOT):
         child, length = struct.unpack("<IB", data[first : first + 5])
         name, rest = data[first + 5 : first + 5 + length], data[first + 5 + length : first + SLOT]
-        is_name = 1 <= length <= 59 and re.fullmatch(rb"[!-.0-~]+", name) and name not in (b".", b"..")
-        if not is_name or any(rest):
+        if length > 59 or not is_name(name) or any(rest):
             return None
         slots.append((name.decode(), child))
     return slots
 
 
-class Tree:
-    """The tree for which blocks stand: its paths, and the nodes in use. `Damage` tells why they stand for none, first by
-    the rules on blocks, bits and zeros, and where these hold by those on names, slots and links (docs/FSCK.md)."""
+def spelled_nodes(geometry, table):
+    """The nodes in use of a node table, and the numbers whose bytes are neither zeros nor those of a node in use."""
+    spelled = {number: table[NODE * (number - 1) : NODE * number] for number in range(1, geometry.nodes + 1)}
+    used = {number: read_node(geometry, one) for number, one in spelled.items() if any(one)}
+    return {number: node for number, node in used.items() if node}, [number for number in used if used[number] is None]
 
-    def __init__(self, geometry, blocks):
-        self.geometry, self.blocks = geometry, blocks if isinstance(blocks, dict) else dict(enumerate(blocks))
-        check_bits(geometry, blocks)
-        table = b"".join(blocks[number] for number in range(geometry.table, geometry.data))
-        spelled = {number: table[NODE * (number - 1) : NODE * number] for number in range(1, geometry.nodes + 1)}
-        used = {number: read_node(geometry, one) for number, one in spelled.items() if any(one)}
-        self.nodes = {number: node for number, node in used.items() if node}
-        bad = [f"the bytes of node {number} are no node's" for number, node in used.items() if node is None]
-        damaged_by([*bad, *self.broken_places()])
-        directories = [number for number, node in self.nodes.items() if node.kind == 1]
-        self.slots = {number: self.slots_of(number) for number in directories}
+
+class Names:
+    """Directories and files by their numbers, with their bytes: the slots, and the paths to which these lead."""
+
+    def __init__(self, nodes, bytes_of):
+        self.nodes, self.bytes_of = nodes, bytes_of
+        self.slots = {number: self.slots_of(number) for number, node in nodes.items() if node.kind == 1}
         self.paths = self.walk() if self.slots.get(1) is not None else {}
-        damaged_by(self.broken_slots())
 
-    def broken_places(self):
-        """What is broken in blocks, bits and zeros."""
-        owned = set()
-        for number, node in self.nodes.items():
-            for place in node.places:
-                if not self.bit(place):
-                    yield f"node {number} has block {place}, whose bit is clear"
-                if place in owned:
-                    yield f"node {number} has block {place}, which has a place before"
-                owned.add(place)
-            if node.kind == 1 and any(self.whole(node)[node.size :]):
-                yield f"directory {number} has bytes behind its last slot"
-        for number in range(self.geometry.data, self.geometry.blocks):
-            if number not in owned and self.bit(number):
-                yield f"no node has block {number}, whose bit is set"
+    def slots_of(self, number):
+        """The slots of a directory, or `None` where its bytes or its links are wrong."""
+        return read_slots(self.bytes_of(number)) if self.nodes[number].links == 1 else None
 
-    def broken_slots(self):
+    def broken(self):
         """What is broken in names, slots and links."""
         read = {number: slots for number, slots in self.slots.items() if slots is not None}
         named = collections.Counter(child for slots in read.values() for _, child in slots)
@@ -458,21 +446,6 @@ class Tree:
             if number not in reached:
                 yield f"no path leads to node {number}"
 
-    def bit(self, number):
-        return bit(self.blocks, self.geometry, number)
-
-    def whole(self, node):
-        """All bytes of the blocks of a node. A block whose bit is clear is empty."""
-        return b"".join(self.blocks.get(place, ZEROS) for place in node.places)
-
-    def bytes_of(self, number):
-        """All bytes of a node."""
-        return self.whole(self.nodes[number])[: self.nodes[number].size]
-
-    def slots_of(self, number):
-        """The slots of a directory, or `None` where its bytes or its links are wrong."""
-        return read_slots(self.bytes_of(number)) if self.nodes[number].links == 1 else None
-
     def walk(self):
         """The paths of all nodes that are reached from the root, by the first slot of a name. A directory that was met is gone
         into once."""
@@ -488,8 +461,8 @@ class Tree:
                     ahead.append(below)
         return paths
 
-    def listing(self):
-        """The lines of the tree, as `tree` of the program writes them."""
+    def lines(self):
+        """The lines of the paths."""
         lines = []
         for path, number in sorted(self.paths.items(), key=lambda one: [part for part in one[0].split("/") if part]):
             if number in self.slots:
@@ -498,6 +471,133 @@ class Tree:
                 data = self.bytes_of(number)
                 lines.append(f"file {path} {number} {len(data)}{' ' if data else ''}{data.hex()}\n")
         return "".join(lines)
+
+
+class Snapshot:
+    """What a snapshot keeps, by the places of its blocks."""
+
+    def __init__(self, tree, number):
+        self.tree, self.number, self.node = tree, number, tree.nodes[number]
+        table = tree.geometry.data - tree.geometry.table
+        blocks = [tree.blocks.get(place, ZEROS) for place in self.node.places]
+        self.first, self.nodes, self.bad, self.names = blocks[0] if blocks else ZEROS, {}, [], None
+        if len(blocks) > table:
+            self.nodes, self.bad = spelled_nodes(tree.geometry, b"".join(blocks[1 : 1 + table]))
+        self.places, place = {}, 1 + table
+        for one, node in sorted(self.nodes.items()):
+            if node.kind == 1:
+                count = -(-node.size // BLOCK)
+                self.places[one] = self.node.places[place : place + count]
+                place += count
+            elif node.kind == 2:
+                self.places[one] = node.places
+        self.is_whole = self.node.links == 1 and self.node.size == BLOCK * len(blocks) and len(blocks) == place
+        if self.is_whole and all(node.kind != 3 for node in self.nodes.values()):
+            self.names = Names(self.nodes, self.bytes_of)
+
+    @property
+    def name(self):
+        """Its name, or `None` where its first block has none."""
+        length = self.first[0]
+        is_spelled = is_name(self.first[1 : 1 + length]) and not any(self.first[1 + length :])
+        return self.first[1 : 1 + length].decode() if is_spelled else None
+
+    @property
+    def kept(self):
+        """The blocks of the files that it keeps, in order."""
+        return [place for number in sorted(self.nodes) if self.nodes[number].kind == 2 for place in self.places[number]]
+
+    def whole(self, number):
+        return b"".join(self.tree.blocks.get(place, ZEROS) for place in self.places[number])
+
+    def bytes_of(self, number):
+        """All bytes of a node that it keeps."""
+        return self.whole(number)[: self.nodes[number].size]
+
+    def broken(self, before, firm):
+        """What is broken in it, where these snapshots come before it, and directories and snapshots have these blocks."""
+        about = f"snapshot {self.number}"
+        if not self.is_whole:
+            yield f"{about} has other links, bytes or blocks than it should"
+            return
+        if self.name is None:
+            yield f"{about} has no name"
+        for other in before:
+            if other.first == self.first:
+                yield f"{about} has the name of snapshot {other.number}"
+        odd = [*self.bad, *(number for number, node in self.nodes.items() if node.kind == 3)]
+        yield from (f"the bytes of node {number} in {about} are no node's" for number in odd)
+        for number, node in self.nodes.items():
+            if node.kind == 1 and any(self.whole(number)[node.size :]):
+                yield f"directory {number} in {about} has bytes behind its last slot"
+        met = set()
+        for place in self.kept:
+            if not self.tree.bit(place):
+                yield f"{about} keeps block {place}, whose bit is clear"
+            if place in met:
+                yield f"{about} keeps block {place}, which has a place before"
+            if place in firm:
+                yield f"{about} keeps block {place}, which is no file's"
+            met.add(place)
+        if self.names is not None:
+            yield from (f"in {about}: {text}" for text in self.names.broken())
+
+
+class Tree:
+    """The tree for which blocks stand: its paths, the nodes in use, and its snapshots. `Damage` tells why they stand for none,
+    first by the rules on blocks, bits and zeros, then by those on snapshots, and where these hold by those on names, slots and
+    links (docs/FSCK.md)."""
+
+    def __init__(self, geometry, blocks):
+        self.geometry, self.blocks = geometry, blocks if isinstance(blocks, dict) else dict(enumerate(blocks))
+        check_bits(geometry, blocks)
+        self.nodes, bad = spelled_nodes(geometry, b"".join(blocks[number] for number in range(geometry.table, geometry.data)))
+        damaged_by([*(f"the bytes of node {number} are no node's" for number in bad), *self.broken_places()])
+        damaged_by(["node 1 is no directory"] * (1 in self.nodes and self.nodes[1].kind == 3))
+        self.snapshots = [Snapshot(self, number) for number, node in sorted(self.nodes.items()) if node.kind == 3]
+        firm = {place for node in self.nodes.values() if node.kind != 2 for place in node.places}
+        damaged_by(text for at, one in enumerate(self.snapshots) for text in one.broken(self.snapshots[:at], firm))
+        damaged_by(self.lost())
+        self.names = Names({number: node for number, node in self.nodes.items() if node.kind != 3}, self.bytes_of)
+        damaged_by(self.names.broken())
+        self.paths, self.slots = self.names.paths, self.names.slots
+
+    def broken_places(self):
+        """What is broken in blocks, bits and zeros."""
+        owned = set()
+        for number, node in self.nodes.items():
+            for place in node.places:
+                if not self.bit(place):
+                    yield f"node {number} has block {place}, whose bit is clear"
+                if place in owned:
+                    yield f"node {number} has block {place}, which has a place before"
+                owned.add(place)
+            if node.kind == 1 and any(self.whole(node)[node.size :]):
+                yield f"directory {number} has bytes behind its last slot"
+
+    def lost(self):
+        """The blocks that are marked, and that no node has and no snapshot keeps."""
+        owned = {place for node in self.nodes.values() for place in node.places}
+        owned.update(place for one in self.snapshots for place in one.kept)
+        for number in range(self.geometry.data, self.geometry.blocks):
+            if number not in owned and self.bit(number):
+                yield f"no node has block {number}, whose bit is set"
+
+    def bit(self, number):
+        return bit(self.blocks, self.geometry, number)
+
+    def whole(self, node):
+        """All bytes of the blocks of a node. A block whose bit is clear is empty."""
+        return b"".join(self.blocks.get(place, ZEROS) for place in node.places)
+
+    def bytes_of(self, number):
+        """All bytes of a node."""
+        return self.whole(self.nodes[number])[: self.nodes[number].size]
+
+    def listing(self):
+        """The lines of the tree and of its snapshots, as `tree` of the program writes them."""
+        snapshots = sorted(self.snapshots, key=lambda one: one.name)
+        return "".join([self.names.lines(), *(f"snap {one.name}\n{one.names.lines()}" for one in snapshots)])
 
 
 def tree_of(image):

@@ -24,6 +24,7 @@ REFUSALS = {
     15: "Stopped",
     16: "Spent",
     17: "NoMemory",
+    20: "NoSnap",
 }
 ARGUMENTS = {
     "mkdir": ("path",),
@@ -43,7 +44,11 @@ ARGUMENTS = {
     "durable": (),
     "dwait": ("number",),
     "poll": (),
+    "snap": ("name",),
+    "unsnap": ("name",),
+    "snaps": (),
 }
+LOOKS = ("read", "stat", "list")
 NAME = re.compile("[!-.0-~]{1,59}")
 NUMBER = re.compile("0|[1-9][0-9]{0,9}")
 HEX = re.compile("(?:[0-9a-fA-F]{2})+")
@@ -54,10 +59,12 @@ MOST_LINKS = 65_535
 SLOT = 64
 NO_ROOM = re.compile("(?:full|toobig|scattered)(?: [0-9]+)+")
 OUTSIDE = re.compile("refused 1[3-7] [A-Za-z]+")
+# of the snapshots that are drawn there are so many names
+SNAPSHOTS = 4
 KNOWN = re.compile("known ([0-9]+)")
 PROMISE = re.compile("(?:durable|known) ([0-9]+)")
 
-# how often each command is drawn, beside osync and dsync
+# how often each command is drawn, beside osync and dsync; and those of snapshots, where these are drawn
 WEIGHTS = {
     "create": 12,
     "mkdir": 3,
@@ -76,6 +83,7 @@ WEIGHTS = {
     "list": 1,
     "bad": 1,
 }
+SNAPSHOT_WEIGHTS = {"snap": 8, "unsnap": 6, "snaps": 1, "at": 8}
 BAD_LINES = [b"sync", b"create /a/", b" osync", b"read /a 0 01", b"write /a 0 f", b"fill /a 0 1 256", b"dwait", b"dwait 01"]
 
 
@@ -101,14 +109,21 @@ class Refused(Exception):
         self.number = number
 
 
+def name_of(text):
+    """A name, of a file, a directory or a snapshot."""
+    if not NAME.fullmatch(text) or text in (".", ".."):
+        raise Unlawful
+    return text
+
+
 def path_of(text):
     """A path as a tuple of names, from the root down."""
     if text == "/":
         return ()
     first, *names = text.split("/")
-    if first or not names or not all(NAME.fullmatch(name) and name not in (".", "..") for name in names):
+    if first or not names:
         raise Unlawful
-    return tuple(names)
+    return tuple(map(name_of, names))
 
 
 def number_of(text):
@@ -125,7 +140,7 @@ def bytes_of(text):
     return bytes.fromhex(text)
 
 
-READERS = {"path": path_of, "number": number_of, "bytes": bytes_of}
+READERS = {"path": path_of, "number": number_of, "bytes": bytes_of, "name": name_of}
 
 
 def parse(line):
@@ -133,6 +148,8 @@ def parse(line):
     if not line or line.startswith(b"#"):
         return None
     word, *parts = line.decode("latin-1").split(" ")
+    if len(line) <= LONGEST_LINE and word == "at":
+        return at(parts)
     if len(line) > LONGEST_LINE or word not in ARGUMENTS or len(parts) != len(ARGUMENTS[word]):
         return BAD
     try:
@@ -144,29 +161,70 @@ def parse(line):
     return Command(word, arguments)
 
 
+def at(parts):
+    """The command of a line that looks at a snapshot: its name, and a look."""
+    name, *look = parts or [""]
+    if not look or look[0] not in LOOKS:
+        return BAD
+    command = parse(" ".join(look).encode("latin-1"))
+    try:
+        return BAD if command == BAD else Command("at", (name_of(name), command))
+    except Unlawful:
+        return BAD
+
+
 def text_of(path):
     """A path as it is written."""
     return "/" + "/".join(path)
 
 
+class Kept(NamedTuple):
+    """What a snapshot keeps: its number, and the paths and nodes of a tree as it was."""
+
+    number: int
+    names: dict
+    nodes: dict
+
+
 class Tree:
-    """A session: the tree, the greatest number of a node, the last sync point, and the greatest that a dsync or a dwait answered."""
+    """A session: the tree and what its snapshots keep, by their names, the greatest number of a node, the last sync point, and
+    the greatest that a dsync or a dwait answered."""
 
     def __init__(self, limit):
         self.limit = limit
         self.names = {(): 1}
         # a directory is `None`, and a file its bytes
         self.nodes = {1: None}
+        self.snapshots = {}
         self.point, self.durable, self.changed = 0, 0, False
+
+    @classmethod
+    def of(cls, stood):
+        """A session on a tree that a reader of blocks found (`plain_disk.Tree`)."""
+        tree = cls(stood.geometry.nodes)
+        tree.names, tree.nodes = maps_of(stood.names)
+        tree.snapshots = {one.name: Kept(one.number, *maps_of(one.names)) for one in stood.snapshots}
+        return tree
 
     def copy(self):
         """The same tree, as a session on it begins."""
         other = Tree(self.limit)
-        other.names, other.nodes = dict(self.names), dict(self.nodes)
+        other.names, other.nodes, other.snapshots = dict(self.names), dict(self.nodes), dict(self.snapshots)
+        return other
+
+    def kept(self, name):
+        """The tree that a snapshot keeps."""
+        other = Tree(self.limit)
+        _, other.names, other.nodes = self.snapshots[name]
         return other
 
     def listing(self):
-        """The lines of the tree, as `tree` of the program writes them."""
+        """The lines of the tree and of its snapshots, as `tree` of the program writes them."""
+        parts = [f"snap {name}\n{self.kept(name).lines()}" for name in sorted(self.snapshots)]
+        return "".join([self.lines(), *parts])
+
+    def lines(self):
+        """The lines of the tree alone."""
         lines = []
         for path, number in sorted(self.names.items()):
             data = self.nodes[number]
@@ -225,8 +283,9 @@ class Tree:
         return sum(other == number for other in self.names.values())
 
     def unused(self):
-        """The least number that no node has, or `None`."""
-        return next((number for number in range(1, self.limit + 1) if number not in self.nodes), None)
+        """The least number that no node and no snapshot has, or `None`."""
+        used = {*self.nodes, *(kept.number for kept in self.snapshots.values())}
+        return next((number for number in range(1, self.limit + 1) if number not in used), None)
 
     def drop(self, path):
         """Takes a path away, and with its last path the node."""
@@ -354,6 +413,30 @@ class Tree:
     def do_poll(self):
         pass
 
+    def do_snap(self, name):
+        number = self.unused()
+        refuse({2: name in self.snapshots, 9: number is None})
+        self.snapshots[name] = Kept(number, dict(self.names), dict(self.nodes))
+        self.changed = True
+
+    def do_unsnap(self, name):
+        refuse({20: name not in self.snapshots})
+        del self.snapshots[name]
+        self.changed = True
+
+    def do_snaps(self):
+        return " ".join(["names", *sorted(self.snapshots)])
+
+    def do_at(self, name, look):
+        refuse({20: name not in self.snapshots})
+        return self.kept(name).answer(look)
+
+
+def maps_of(names):
+    """The numbers of paths, and the nodes, of directories and files that a reader of blocks found."""
+    paths = {tuple(part for part in path.split("/") if part): number for path, number in names.paths.items()}
+    return paths, {number: None if number in names.slots else names.bytes_of(number) for number in names.nodes}
+
 
 def refuse(conditions):
     """Refuses by the least number whose condition holds, where one does."""
@@ -394,29 +477,48 @@ class Draws:
     """Draws the lines of a script, most of which can be done as the tree is by then.
 
     One of so many lines is a sync, and one of so many syncs is a dsync. A name is one of so many, and what is put into
-    a file at once has so many bytes at most.
+    a file at once has so many bytes at most. Snapshots are drawn where that is asked for.
     """
 
-    def __init__(self, random, syncs, dsyncs, names, longest):
+    def __init__(self, random, syncs, dsyncs, names, longest, with_snapshots=False):
         self.random = random
         self.syncs, self.dsyncs, self.names, self.longest = syncs, dsyncs, names, longest
+        self.weights = WEIGHTS | SNAPSHOT_WEIGHTS if with_snapshots else WEIGHTS
 
     def line(self, tree):
         """The next line, without its line feed."""
         if self.random.random() < 1 / self.syncs:
             return b"dsync" if self.random.random() < 1 / self.dsyncs else b"osync"
         files = [path for path in tree.names if not tree.is_directory(path)]
-        word = self.random.choices(list(WEIGHTS), list(WEIGHTS.values()))[0] if files else "create"
+        word = self.random.choices(list(self.weights), list(self.weights.values()))[0] if files else "create"
         if word == "bad":
             return self.random.choice(BAD_LINES)
         if word == "dwait":
             near = self.random.randrange(-1, 4)
             return b"dwait %d" % max(0, tree.point - near)
+        if word in SNAPSHOT_WEIGHTS:
+            return self.snapshot(tree, word)
+        return self.of(tree, word, files)
+
+    def of(self, tree, word, files):
+        """A line of a command that isn't one on snapshots."""
         if "number" in ARGUMENTS[word]:
             parts = self.piece(tree, word, self.random.choice(files))
         else:
             parts = map(text_of, self.paths(tree, word, files))
         return " ".join([word, *parts]).encode()
+
+    def snapshot(self, tree, word):
+        """A line of a command on snapshots."""
+        names = [f"s{number}" for number in range(SNAPSHOTS)]
+        some = sorted(tree.snapshots) if self.random.random() < 0.9 else names
+        name = self.random.choice(names if word == "snap" or not some else some)
+        if word != "at":
+            return f"{word} {name}".encode() if word != "snaps" else b"snaps"
+        kept = tree.kept(name) if name in tree.snapshots else tree
+        files = [path for path in kept.names if not kept.is_directory(path)]
+        look = self.random.choice(LOOKS if files else ("list",))
+        return f"at {name} ".encode() + self.of(kept, look, files)
 
     def paths(self, tree, word, files):
         """The paths of a command that has nothing else."""
