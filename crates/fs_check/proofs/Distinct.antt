@@ -1,8 +1,7 @@
 -- Names of slots that are kept in a set, one slot more.
-use Rattle.std.proofs.Common.{◌≡◌, ℕ, zero, suc, Bool, true, false, cond, not, List, [], ◌∷◌, ◌++◌, length, take, Some, slice_get, refl, sym, ap, ◌∙◌, arith, ◌⊎◌, inl, inr, length-take, ⊎_elim}
-use Rattle.std.specs.declared.cmp.Ordering.{Ordering}
-use Rattle.std.specs.declared.cmp.Ordering.TheVariants.{Less, Equal, Greater}
+use Rattle.std.proofs.Common.{◌≡◌, ℕ, zero, suc, Bool, true, false, cond, List, [], ◌∷◌, ◌++◌, length, take, Some, slice_get, refl, sym, ap, ◌∙◌, arith, ◌⊎◌, inl, inr, length-take, ⊎_elim}
 use Rattle.std.specs.Ordering.{nat_cmp, is_eq}
+use Rattle.std.specs.Cmp.{Equal-is}
 use Rattle.std.specs.Cmp.Lexicographic.{slice_cmp}
 use Rattle.std.proofs.lemmas.Map.Lookups.{exact_bytes}
 use Rattle.std.proofs.lemmas.Option.{slice_get_within, same_Some}
@@ -81,11 +80,6 @@ repeats slots place s kept at h e =
 
 -- The set with one name more.
 
-pub equal : (o : Ordering) → is_eq o ≡ true → o ≡ Equal
-equal Less e = absurd cc
-equal Equal e = refl
-equal Greater e = absurd cc
-
 pub keeps_on : (b x : Bool) → x ≡ true → cond b true x ≡ true
 keeps_on true x e = refl
 keeps_on false x e = e
@@ -96,13 +90,5 @@ came false x e = inl e
 
 pub came_from : (k q : List ℕ) (x : Bool) → cond (is_eq (slice_cmp nat_cmp k q)) true x ≡ true → (x ≡ true) ⊎ (k ≡ q)
 came_from k q x e = ⊎_elim (λ h. inl h)
-    (λ h. inr (exact_bytes k q (equal (slice_cmp nat_cmp k q) h)))
+    (λ h. inr (exact_bytes k q ((Equal-is (slice_cmp nat_cmp k q)).0 h)))
     (came (is_eq (slice_cmp nat_cmp k q)) x e)
-
-pub not_new : (added has : Bool) → added ≡ not has → added ≡ false → has ≡ true
-not_new added true e h = refl
-not_new added false e h = absurd cc
-
-pub is_new : (added has : Bool) → added ≡ not has → added ≡ true → has ≡ false
-is_new added true e h = absurd cc
-is_new added false e h = refl

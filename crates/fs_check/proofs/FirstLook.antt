@@ -2,7 +2,6 @@
 use Rattle.std.proofs.Common.{◌≡◌, ◌≢◌, ℕ, zero, suc, ◌+◌, ◌/◌, ◌<◌, ◌≤◌, List, [], ◌∷◌, ◌++◌, length, Option, None, Some, option_map, refl, sym, ap, ◌∙◌, arith, subst, ⊎_elim}
 use Rattle.std.proofs.lemmas.Bool.{cases_lt, ne_eqb}
 use Rattle.std.proofs.lemmas.List.{get_or_append_left, get_or_push, get_or_past}
-use Rattle.std.proofs.lemmas.Option.{none-some, same_Some}
 use Rattle.layout_bytes.specs.declared.node.NodeKind.{NodeKind}
 use Rattle.layout_bytes.specs.declared.node.NodeKind.TheVariants as kind
 use Rattle.layout_bytes.specs.Bytes.{when}
@@ -11,6 +10,7 @@ use Rattle.crash_stands.specs.Inodes.{ADir, inode_by, inode_of}
 use Rattle.layout_bytes.specs.Slot.{slots_in}
 use Rattle.fs_files.specs.declared.look.FileFacts.{FileFacts}
 use Rattle.fs_files.specs.Calls.{facts_of}
+use Rattle.fs_snapshots.specs.Nodes.{facts_are}
 use Rattle.fs_check.specs.declared.damage.TreeDamage.{TreeDamage}
 use Rattle.fs_check.specs.declared.looked.Looked.{Looked}
 use Rattle.fs_check.specs.declared.looked.Looked.TheVariants.{Unused}
@@ -56,14 +56,10 @@ wrong_inode : (x : FileNode) → x.kind ≡ kind.Dir → x.links ≢ 1 → inode
 wrong_inode x is link =
     ap (λ k. inode_by k x.links x.bytes) is ∙ ap (λ b. when b (option_map ADir (slots_in (length x.bytes / 64) x.bytes))) (ne_eqb x.links 1 link)
 
-at_facts : (o : Option FileNode) (facts : FileFacts) → Some facts ≡ option_map facts_of o → (x : FileNode) × (o ≡ Some x) × (facts ≡ facts_of x)
-at_facts None facts h = absurd (none-some facts (sym h))
-at_facts (Some x) facts h = (x, refl, same_Some facts (facts_of x) h)
-
 -- a directory with another number of links than one is broken
 pub link_broken : (limit node : ℕ) (files : Files) (found : Option FileFacts) (why : TreeDamage) → found ≡ option_map facts_of (files node) → HasWrongLink node found why → IsBroken limit files why
 link_broken limit node files found why e h =
-    let x = at_facts (files node) h.facts (sym h.there ∙ e) in
+    let x = facts_are (files node) h.facts (sym h.there ∙ e) in
     subst (IsBroken limit files) (sym h.is)
     (record {
       file = x.0;

@@ -10,11 +10,11 @@ use Rattle.crash_stands.specs.Inodes.{Inode, Inodes, AreInodesOf, IsInodeOf, ino
 use Rattle.crash_stands.specs.Maps.{IsMapOf}
 use Rattle.crash_stands.specs.Stands.{IsTreeOf}
 use Rattle.fs_inodes.specs.Rules.{FollowsRules}
+use Rattle.fs_snapshots.specs.Nodes.{same_slots}
 use Rattle.fs_check.specs.declared.damage.TreeDamage.{TreeDamage}
 use Rattle.fs_check.specs.declared.damage.TreeDamage.TheVariants as damage
 use Rattle.fs_check.specs.Damage.{IsBroken, RepeatsName}
 use Rattle.fs_check.specs.Rules.{AreTreeFiles}
-use Rattle.fs_check.proofs.Seeing.{same_slots}
 
 -- a node that reads as none and is no snapshot isn't among inodes that were read
 unread : (o : Option FileNode) (x : FileNode) (i : Option Inode) → o ≡ Some x → x.kind ≢ Snapshot → inode_of x ≡ None → IsInodeOf o i → ⊥

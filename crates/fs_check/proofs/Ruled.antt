@@ -7,6 +7,7 @@ use Rattle.layout_bytes.specs.declared.slot.Slot.{Slot}
 use Rattle.crash_stands.specs.Files.{FileNode, Files}
 use Rattle.crash_stands.specs.Inodes.{Inode, ADir, AFile, AreDistinct, inode_of, inodes_of}
 use Rattle.fs_inodes.specs.Links.{naming_from, slots_naming}
+use Rattle.fs_snapshots.specs.Nodes.{same_slots}
 use Rattle.fs_check.specs.declared.damage.TreeDamage.{TreeDamage}
 use Rattle.fs_check.specs.declared.damage.TreeDamage.TheVariants as damage
 use Rattle.fs_check.specs.declared.looked.Looked.{Looked}
@@ -18,7 +19,7 @@ use Rattle.fs_check.specs.Marks.{has_mark, WasDir, AreReached}
 use Rattle.fs_check.specs.Rules.{AreTreeFiles}
 use Rattle.fs_check.specs.Slots.{capped, WentUpTo}
 use Rattle.fs_check.proofs.Searching.{GoodSlots, good_slots}
-use Rattle.fs_check.proofs.Seeing.{same_slots, seen_none, inode_none, inode_file, was_dir, dir_inside, seen_inside}
+use Rattle.fs_check.proofs.Seeing.{seen_none, inode_none, inode_file, was_dir, dir_inside, seen_inside}
 
 capped_one : (n : ℕ) → capped n ≡ 1 → n ≡ 1
 capped_one n e = omega arith

@@ -7,13 +7,14 @@ use Rattle.layout_bytes.specs.declared.slot.Slot.{Slot}
 use Rattle.crash_stands.specs.Files.{Files}
 use Rattle.crash_stands.specs.Inodes.{Inode, Inodes, ADir, AFile, AreDistinct, inodes_of}
 use Rattle.crash_stands.specs.Walks.{Entries, node_in, entry_in, entries_of, walk, LeadsTo}
+use Rattle.fs_snapshots.specs.Nodes.{same_slots}
 use Rattle.fs_check.specs.declared.looked.Looked.{Looked}
 use Rattle.fs_check.specs.declared.looked.Looked.TheVariants.{Unused, Directory, Links}
 use Rattle.fs_check.specs.Looked.{seen, AreSeen}
 use Rattle.fs_check.specs.Slots.{NameUsed, IsGoodDir}
 use Rattle.fs_check.specs.Marks.{has_mark, Stands, WasDir, Marks, Searches, IsQueue, AreReached, targets}
 use Rattle.fs_check.proofs.Marking.{stands_here, stands_alone, stands_none, stands_left, marked_most}
-use Rattle.fs_check.proofs.Seeing.{same_slots, seen_inside, dir_inside, was_dir}
+use Rattle.fs_check.proofs.Seeing.{seen_inside, dir_inside, was_dir}
 
 -- The beginning.
 

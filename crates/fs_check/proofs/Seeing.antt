@@ -190,6 +190,3 @@ broken_in limit files nodes dir slots (damage.RepeatsName d place) h is b = repe
 broken_in limit files nodes dir slots (damage.NotNamedOnce node) h is b = absurd b
 broken_in limit files nodes dir slots (damage.WrongLinks node) h is b = absurd b
 broken_in limit files nodes dir slots (damage.Unreached node) h is b = absurd b
-
-pub same_slots : (slots others : List Slot) → Some (ADir slots) ≡ Some (ADir others) → slots ≡ others
-same_slots slots others e = cc

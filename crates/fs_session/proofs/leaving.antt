@@ -2,6 +2,7 @@ pub mod Leaving
 pub mod Stays
 pub mod Listed
 pub mod Known
+pub mod Gone
 pub mod Nodes
 pub mod Coming
 pub mod Going

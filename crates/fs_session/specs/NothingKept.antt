@@ -25,10 +25,9 @@ use Rattle.engine_blocks.specs.Running.{has}
 use Rattle.engine_blocks.specs.State.{Bookkeeping, State, reusable_blocks}
 use Rattle.fs_files.specs.Drafts.{DraftState}
 use Rattle.fs_session.specs.Changes.{Uses}
-use Rattle.fs_session.specs.Commands.{GrowsInRuns, figures_on, places_of, renewed_on, shared_on}
+use Rattle.fs_session.specs.Commands.{GrowsInRuns, places_of, renewed_on, shared_on}
 use Rattle.fs_session.specs.Lists.{is_listed, kept_at, shared_in}
 use Rattle.fs_snapshots.specs.Known.{node_blocks}
-use Rattle.fs_session.specs.Memory.{room_of}
 use Rattle.fs_session.specs.Room.{HoldsTree, Room, alone_by, figures_in, is_in_use, left_in, renewed_in, runs_with, shared_by}
 use Rattle.fs_session.specs.Space.{ArePlaced, grown_in, none_renewed, renewed_by, touched_by}
 
@@ -132,14 +131,6 @@ module _ (g : Geometry) (f : Session) (r : Room) (none : f.tree.snapshots ≡ em
   pub alone_placed : (cmd : Cmd) (old new : ℕ → List ℕ) (more : List ℕ) → ArePlaced (renewed_in g f r cmd) old new more → (k : ℕ) → new k ≡ take (length (new k)) (old k ++ more)
   alone_placed cmd old new more placed = behind_placed old new more (subst (λ (renewed : SharedNodes). ArePlaced renewed old new more) (alone_renews cmd) placed)
 
--- So it is over blocks whose session has no snapshot.
-module _ (s : State) (f : Session) (none : f.tree.snapshots ≡ empty) where
-  pub nothing_renewed : (cmd : Cmd) → renewed_on s f cmd ≡ none_renewed
-  nothing_renewed cmd = alone_renews s.books.geom f (room_of s) none cmd
-
-  pub figures_are : CostsAsAlone → (cmd : Cmd) → figures_on s f cmd ≡ figures (bitmap_blocks s.books.geom) f cmd
-  figures_are law cmd = alone_costs s.books.geom f (room_of s) none law cmd
-
 -- Commands that renew no place, whatever is shared.
 
 -- all but those that put bytes into a file
@@ -160,10 +151,6 @@ renews_without_bytes s f cmd is = fun_ext (λ k. fun_ext (λ i. ap (λ b. b && a
 
 -- what a command does that renews no place
 module _ (s : State) (f : Session) (cmd : Cmd) (renews : renewed_on s f cmd ≡ none_renewed) where
-  -- new blocks stand behind a node's own
-  pub runs_unrenewed : (k : ℕ) (more : List ℕ) → stretches (renew (renewed_on s f cmd k) 0 (places_of s k) more) ≡ stretches (places_of s k ++ more)
-  runs_unrenewed k more = ap (λ (renewed : SharedNodes). stretches (renew (renewed k) 0 (places_of s k) more)) renews ∙ ap stretches (behind_all 0 (places_of s k) more)
-
   pub grows_unrenewed : (settled : Bookkeeping) (k need : ℕ) → GrowsInRuns none_shared s settled k need → GrowsInRuns (renewed_on s f cmd k) s settled k need
   grows_unrenewed settled k need grows = subst (λ (renewed : SharedNodes). GrowsInRuns (renewed k) s settled k need) (sym renews) grows
 

@@ -26,6 +26,7 @@ ghost use Rattle.fs_session.specs.Commands.{alone_on, kept_in, least_number, pla
 ghost use Rattle.fs_session.specs.Lists.{kept_after};
 ghost use Rattle.fs_session.specs.Sessions.{IsSession};
 ghost use Rattle.fs_session.specs.Snapshots.{alone_among, kept_files_of, kept_lists, live_files};
+ghost use Rattle.fs_snapshots.specs.Kept.{AreDirsBefore, IsSnapshotAt, KeptState};
 ghost use Rattle.fs_snapshots.specs.Known.{CountsKeepers, KnowsSnapshots};
 
 use crash_snapshots::{a_snapshot_goes, a_snapshot_stands};
@@ -53,7 +54,8 @@ pub fn counts_tell_what_is_shared<S: Blocks>()
     ensures blocks { (s : S) (f : Session) (name : List ℕ) (k : Kept) → IsSession (S.state s) f → get f.tree.snapshots name ≡ Some k
         → length (places_of (S.state s) k.number) ≡ snapshot_blocks f.limit k.names }
     ensures live { (s : S) (f : Session) → IsSession (S.state s) f
-        → snapshot_blocks f.limit f.tree.names ≡ 1 + (table_blocks (S.state s).books.geom + length (all_dirs (used_node (S.state s).books.geom (S.state s).map) 1 f.limit)) }
+        → snapshot_blocks f.limit f.tree.names
+        ≡ 1 + (table_blocks (S.state s).books.geom + length (all_dirs (used_node (S.state s).books.geom (S.state s).map) 1 f.limit)) }
 {
     what_is_known_of_snapshots_is_so();
     a_sound_snapshot_is_whole();
@@ -64,12 +66,14 @@ pub fn counts_tell_what_is_shared<S: Blocks>()
 }
 
 /// A draft of a tree that stands beside just what snapshots keep, and leaves the snapshots as they are, leaves sound
-/// blocks, which stand for the tree of its inodes with the same snapshots; and what is known of them stays so.
+/// blocks, which stand for the tree of its inodes with the same snapshots; and what is known of them stays so, and each
+/// is where it was, with as many blocks of directories before each block of its node table.
 pub fn a_draft_that_leaves_snapshots_makes_its_tree<S: Blocks>(blocks: &S)
     ensures sound { IsTrue S.tells → (d : DraftState) (m : BlockMap) (t : Tree) → IsTreeOf (S.state blocks.now).books.geom (S.state blocks.now).map t
         → IsDraftOf S.tells (S.state blocks.now) d → StaysBeside d (S.state blocks.now) → HasDrafted (S.state blocks.now) d m
         → AreSound (S.state blocks.now).books.geom m }
-    ensures tree { IsTrue S.tells → (d : DraftState) (m : BlockMap) (t u : Tree) (inodes : Inodes) → IsTreeOf (S.state blocks.now).books.geom (S.state blocks.now).map t
+    ensures tree { IsTrue S.tells → (d : DraftState) (m : BlockMap) (t u : Tree) (inodes : Inodes)
+        → IsTreeOf (S.state blocks.now).books.geom (S.state blocks.now).map t
         → IsDraftOf S.tells (S.state blocks.now) d → StaysBeside d (S.state blocks.now) → HasDrafted (S.state blocks.now) d m
         → u.snapshots ≡ t.snapshots → AreInodesOf (files_in (S.state blocks.now) d) inodes → IsMapOf (S.state blocks.now).books.geom.i inodes u
         → IsTreeOf (S.state blocks.now).books.geom m u }
@@ -78,10 +82,17 @@ pub fn a_draft_that_leaves_snapshots_makes_its_tree<S: Blocks>(blocks: &S)
         → IsDraftOf S.tells (S.state blocks.now) d → StaysBeside d (S.state blocks.now) → HasDrafted (S.state blocks.now) d m
         → KnowsSnapshots (S.state blocks.now).books.geom (S.state blocks.now).map counts numbers
         → KnowsSnapshots (S.state blocks.now).books.geom m counts numbers }
+    ensures gone { IsTrue S.tells → (d : DraftState) (m : BlockMap) (t : Tree) (k : ℕ) (v : KeptState)
+        → IsTreeOf (S.state blocks.now).books.geom (S.state blocks.now).map t
+        → IsDraftOf S.tells (S.state blocks.now) d → StaysBeside d (S.state blocks.now) → HasDrafted (S.state blocks.now) d m
+        → IsSnapshotAt (S.state blocks.now).books.geom (S.state blocks.now).map k v.places
+        → AreDirsBefore (S.state blocks.now).books.geom (S.state blocks.now).map v.places v.before
+        → IsSnapshotAt (S.state blocks.now).books.geom m k v.places × AreDirsBefore (S.state blocks.now).books.geom m v.places v.before }
 {
     blocks.geom().lawful();
     a_node_in_use_has_data_blocks();
     a_snapshot_stays_with_its_blocks();
+    a_sound_snapshot_is_whole();
     sound_beside_what_is_kept();
 }
 
@@ -111,7 +122,8 @@ pub(crate) fn a_draft_makes_the_tree_of_its_command<S: Blocks>(blocks: &S)
 pub fn a_node_that_a_draft_leaves_stays<S: Blocks>(blocks: &S)
     ensures same { IsTrue S.tells → (d : DraftState) (m : BlockMap) (k : ℕ) → AreSound (S.state blocks.now).books.geom (S.state blocks.now).map
         → IsDraftOf S.tells (S.state blocks.now) d → HasDrafted (S.state blocks.now) d m
-        → files_in (S.state blocks.now) d k ≡ files_in (S.state blocks.now) nothing_drafted k → places_in (S.state blocks.now) d k ≡ places_of (S.state blocks.now) k
+        → files_in (S.state blocks.now) d k ≡ files_in (S.state blocks.now) nothing_drafted k
+        → places_in (S.state blocks.now) d k ≡ places_of (S.state blocks.now) k
         → used_node (S.state blocks.now).books.geom m k ≡ used_node (S.state blocks.now).books.geom (S.state blocks.now).map k }
     ensures bare { IsTrue S.tells → (d : DraftState) (m : BlockMap) (k : ℕ) → IsDraftOf S.tells (S.state blocks.now) d → HasDrafted (S.state blocks.now) d m
         → 1 ≤ k → k ≤ (S.state blocks.now).books.geom.i → node_at (S.state blocks.now).books.geom m k ≡ None

@@ -20,7 +20,7 @@ use Rattle.fs_files.specs.Given.{node_of_file}
 use Rattle.fs_snapshots.specs.Kept.{AreDirsBefore, IsWholeKept, places_by_node}
 use Rattle.fs_snapshots.specs.Tables.{nodes_in}
 use Rattle.fs_snapshots.proofs.Places.{dirs_there, kept_in}
-use Rattle.fs_snapshots.proofs.Whole.{dir_ends, dir_first, dir_places, file_places, is_kept, kept_has, kept_length, once_pairs, part_all}
+use Rattle.fs_snapshots.proofs.Whole.{dir_ends, dir_first, dir_places, file_places, is_kept, kept_has, kept_length, once_pairs}
 use Rattle.fs_snapshots.proofs.KeptReads.{kept_node, told_places}
 
 -- a node's block of the node table is one of the snapshot's
@@ -106,10 +106,6 @@ dir_told g h m places before ps k slot n count table f limits same from upto cou
     ∙ ap (λ j. take j (drop (dir_first g m places k) places)) count_is
     ∙ sym (dir_places g m places k node own)
     ∙ sym (ap (places_by_node (kept_places g m places k)) used)
-
--- which are blocks of the data
-pub dir_data : (g : Geometry) (places ps : List ℕ) (count first : ℕ) → All (IsData g) places → ps ≡ take count (drop first places) → All (IsData g) ps
-dir_data g places ps count first inside is = subst (All (IsData g)) (sym is) (part_all (IsData g) count first places inside)
 
 -- the bytes that were read are a part of the file's
 pub bytes_told : (g : Geometry) (m w : Blocks) (places : List ℕ) (k offset len : ℕ) (f : OpenFile) (x : FileNode) (got : List ℕ) → w ≡ m → All (IsData g) places → IsWholeKept g m places

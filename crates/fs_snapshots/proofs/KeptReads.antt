@@ -1,11 +1,10 @@
 -- What is read of kept nodes.
-use Rattle.std.proofs.Common.{◌≡◌, ◌≢◌, ℕ, ◌+◌, ◌*◌, ◌%◌, ◌≤◌, true, List, length, take, All, AllPairs, Option, Some, None, option_map, refl, sym, ap, subst, ◌∙◌, arith}
-use Rattle.std.proofs.lemmas.Bool.Decides.{nat_tests}
+use Rattle.std.proofs.Common.{◌≡◌, ◌≢◌, ℕ, ◌+◌, ◌*◌, ◌%◌, ◌≤◌, List, length, take, All, AllPairs, Option, Some, None, option_map, refl, sym, ap, subst, ◌∙◌, arith}
+use Rattle.std.proofs.lemmas.Bool.{eqb-true}
 use Rattle.std.proofs.lemmas.Option.{none-some, same_Some}
 use Rattle.base_types.specs.Seal.{Blocks}
 use Rattle.layout_geometry.specs.Geometry.{Geometry}
 use Rattle.layout_bytes.specs.declared.node.Node.{Node}
-use Rattle.layout_bytes.specs.declared.node.NodeKind.{NodeKind}
 use Rattle.layout_bytes.specs.declared.node.NodeKind.TheVariants.{Dir}
 use Rattle.layout_bytes.specs.Node.{kind_fits}
 use Rattle.engine_blocks.specs.Puts.{IsData}
@@ -24,15 +23,12 @@ kept_node g m places k x at = by (kept_nodes g m places k) at
     by (Some node) e = (node, refl, sym (same_Some (kept_file g m places k node) x e))
 
 -- a directory's bytes are whole slots
-slots : (node : Node) (kind : NodeKind) → kind_fits node kind ≡ true → kind ≡ Dir → node.size % 64 ≡ 0
-slots node kind e h = grind (arith, nat_tests)
-
 pub file_slots : (g : Geometry) (m : Blocks) (places : List ℕ) (k : ℕ) (x : FileNode) → All (IsData g) places → IsWholeKept g m places → kept_files g m places k ≡ Some x → x.kind ≡ Dir → length x.bytes % 64 ≡ 0
 file_slots g m places k x inside w at dir =
     let r = kept_node g m places k x at in
     ap (λ (y : FileNode). length y.bytes % 64) r.2
     ∙ ap (λ n. n % 64) (kept_length g m places k r.0 inside w r.1)
-    ∙ slots r.0 r.0.kind (is_kept g m places k r.0 r.1).fits.kind (ap (λ (y : FileNode). y.kind) (sym r.2) ∙ dir)
+    ∙ eqb-true (r.0.size % 64) 0 (sym (ap (kind_fits r.0) (ap (λ (y : FileNode). y.kind) (sym r.2) ∙ dir)) ∙ (is_kept g m places k r.0 r.1).fits.kind)
 
 -- it has few bytes, since its blocks are different ones of the data
 pub file_few : (g : Geometry) (m : Blocks) (places : List ℕ) (k : ℕ) (x : FileNode) → All (IsData g) places → IsWholeKept g m places

@@ -1,28 +1,20 @@
 -- A snapshot of sound blocks is whole.
-use Rattle.std.proofs.Common.{◌≡◌, ◌⊎◌, inl, inr, ℕ, ◌<◌, ◌≤◌, true, ◌||◌, nat_lt, List, length, get_or, slice_get, All, Some, subst, arith}
+use Rattle.std.proofs.Common.{◌≡◌, ◌⊎◌, inl, inr, ℕ, ◌<◌, ◌≤◌, ◌||◌, nat_lt, List, length, get_or, slice_get, Some, subst, arith}
 use Rattle.std.proofs.lemmas.Bool.{or_right}
-use Rattle.std.proofs.lemmas.Bool.Decides.{nat_tests}
 use Rattle.std.proofs.lemmas.Option.{get_or_from_slice_get, slice_get-get_or, slice_get_within}
 use Rattle.base_types.specs.Runs.{run_places}
 use Rattle.base_types.specs.Seal.{Blocks}
-use Rattle.layout_geometry.specs.Geometry.{Geometry, bitmap_start, data_start}
+use Rattle.layout_geometry.specs.Geometry.{Geometry, data_start}
 use Rattle.layout_bytes.specs.declared.node.Node.{Node}
 use Rattle.layout_bytes.specs.declared.node.NodeKind.TheVariants.{Snapshot}
 use Rattle.layout_bytes.specs.Bitmap.{is_set}
-use Rattle.layout_journal.specs.Run.{is_live}
 use Rattle.engine_blocks.specs.Puts.{IsData}
 use Rattle.crash_stands.specs.Files.{used_node}
 use Rattle.crash_stands.specs.Sharing.{HasKeptBlock, IsKeptBlock}
 use Rattle.crash_stands.specs.Stands.{AreSound, HasBlock}
 use Rattle.fs_snapshots.specs.Kept.{IsWholeKept}
+use Rattle.fs_snapshots.specs.Nodes.{live}
 use Rattle.fs_snapshots.proofs.Whole.{is_kept, node_data, runs_inside}
-
--- what holds of each holds of the one at a place
-of_place : (P : ℕ → Type 0) (ps : List ℕ) (i b : ℕ) → All P ps → slice_get ps i ≡ Some b → P b
-of_place P ps i b all at = subst P (get_or_from_slice_get ps i b 0 at) (all i 0 (slice_get_within ps i b at))
-
-live : (g : Geometry) (m : Blocks) (b : ℕ) → bitmap_start g ≤ b → b < g.n → (nat_lt b (data_start g) || is_set g m b) ≡ true → is_live g m b ≡ true
-live g m b low high one = grind (arith, nat_tests)
 
 -- a data block that a node has, or a snapshot keeps, has 1,024 bytes
 has_bytes : (g : Geometry) (m : Blocks) (b : ℕ) → AreSound g m → IsData g b → ((k : ℕ) × (i : ℕ) × HasBlock g m k i b) ⊎ IsKeptBlock g m b → length (m b) ≡ 1024
@@ -41,4 +33,5 @@ is_whole g m k node sound used kind =
   where
     kept_data : (g : Geometry) (m : Blocks) (ps : List ℕ) (l i b : ℕ) → HasKeptBlock g m ps l i b → IsData g b
     kept_data g m ps l i b has =
-        of_place (IsData g) (run_places has.node.runs) i b (runs_inside g has.node (is_kept g m ps l has.node has.is_node).fits) has.place
+        let inside = runs_inside g has.node (is_kept g m ps l has.node has.is_node).fits in
+        subst (IsData g) (get_or_from_slice_get (run_places has.node.runs) i b 0 has.place) (inside i 0 (slice_get_within (run_places has.node.runs) i b has.place))

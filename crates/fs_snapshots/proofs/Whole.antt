@@ -1,14 +1,14 @@
 -- What a kept node has, where the snapshot is whole.
-use Rattle.std.proofs.Common.{◌≡◌, ◌≢◌, ℕ, ◌+◌, ◌-◌, ◌*◌, ◌/◌, ◌<◌, ◌≤◌, ◌==◌, ◌&&◌, Bool, true, false, min, nat_lt, nat_le, if◌then◌else◌, List, length, take, drop, get_or, All, AllPairs, slice_get, Some, refl, sym, ap, subst, ◌∙◌, arith}
+use Rattle.std.proofs.Common.{◌≡◌, ◌≢◌, ℕ, ◌+◌, ◌-◌, ◌*◌, ◌/◌, ◌<◌, ◌≤◌, ◌==◌, ◌&&◌, Bool, true, false, min, nat_le, if◌then◌else◌, List, length, take, drop, get_or, All, AllPairs, slice_get, Some, refl, sym, ap, subst, ◌∙◌, arith}
 use Rattle.std.proofs.lemmas.List.{length-take, length-drop, get_or-take, get_or-drop, drop-drop}
-use Rattle.std.proofs.lemmas.Bool.{and_parts, eqb-true, leb-true}
+use Rattle.std.proofs.lemmas.Bool.{and_parts, leb-true}
 use Rattle.std.proofs.lemmas.Option.{slice_get-get_or, slice_get_within, get_or_from_slice_get}
 use Rattle.base_types.specs.Seal.{Blocks}
 use Rattle.base_types.specs.Runs.{run_places}
 use Rattle.layout_geometry.specs.Geometry.{Geometry}
 use Rattle.layout_bytes.specs.declared.node.Node.{Node}
 use Rattle.layout_bytes.specs.declared.node.NodeKind.TheVariants.{File}
-use Rattle.layout_bytes.specs.Node.{kind_fits, most_runs, node_at, node_bytes, node_fits, run_blocks, runs_fit}
+use Rattle.layout_bytes.specs.Node.{node_at, node_bytes}
 use Rattle.layout_extent.specs.Renew.{AreOnce}
 use Rattle.engine_blocks.specs.Puts.{IsData}
 use Rattle.crash_stands.specs.Files.{joined, used_node}
@@ -17,22 +17,9 @@ use Rattle.crash_stands.specs.Kept.{kept_file, kept_nodes, kept_places}
 use Rattle.fs_files.specs.Bytes.{blocks_for}
 use Rattle.fs_files.specs.Places.{has_place, joined_length, place_of, places_count, read_fits, runs_data, when_some}
 use Rattle.fs_snapshots.specs.Kept.{IsWholeKept}
+use Rattle.fs_snapshots.specs.Nodes.{Fits, fits_parts, used_fits}
 use Rattle.fs_snapshots.proofs.Counts.{dirs_less, dirs_next}
 use Rattle.fs_snapshots.proofs.UsedKinds.{file_kind, kept_kind}
-
--- where a node in use fits the disk
-pub record Fits (g : Geometry) (node : Node) : Type 0 where
-  pub runs : runs_fit g 0 node.runs ≡ true
-  pub count : run_blocks node.runs ≡ blocks_for node.size
-  pub kind : kind_fits node node.kind ≡ true
-
-fits_parts : (g : Geometry) (node : Node) → node_fits g node ≡ true → Fits g node
-fits_parts g node fits =
-    let links = and_parts (nat_lt 0 node.links) _ fits in
-    let few = and_parts (nat_le (length node.runs) most_runs) _ links.1 in
-    let runs = and_parts (runs_fit g 0 node.runs) _ few.1 in
-    let count = and_parts (run_blocks node.runs == (node.size + 1023) / 1024) (kind_fits node node.kind) runs.1 in
-    record { runs = runs.0; count = eqb-true (run_blocks node.runs) ((node.size + 1023) / 1024) count.0; kind = count.1 }
 
 pub runs_inside : (g : Geometry) (node : Node) → Fits g node → All (IsData g) (run_places node.runs)
 runs_inside g node fits i d low =
@@ -41,9 +28,7 @@ runs_inside g node fits i d low =
 
 -- its blocks are of the data
 pub node_data : (g : Geometry) (m : Blocks) (k : ℕ) (node : Node) → used_node g m k ≡ Some node → All (IsData g) (run_places node.runs)
-node_data g m k node used =
-    let r = when_some (nat_le 1 k && nat_le k g.i) (node_at g m k) node used in
-    runs_inside g node (fits_parts g node (read_fits g (node_bytes g m k) node r.1))
+node_data g m k node used = runs_inside g node (used_fits g m k node used)
 
 -- a kept node is one of the table's numbers, and fits
 pub record IsKept (g : Geometry) (k : ℕ) (node : Node) : Type 0 where

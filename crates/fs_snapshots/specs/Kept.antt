@@ -1,12 +1,15 @@
 -- What a snapshot keeps, as it is read. It is described in README.md.
 use Rattle.std.specs.Prelude.{◌≡◌, ℕ, ◌+◌, ◌*◌, ◌<◌, ◌≤◌, Bool, IsTrue, List, [], length, slice_get, Option, None, Some}
 use Rattle.std.specs.List.{All}
+use Rattle.base_types.specs.Runs.{run_places}
 use Rattle.base_types.specs.Seal.{Blocks}
 use Rattle.layout_geometry.specs.Geometry.{Geometry, nodes_in_block}
 use Rattle.layout_bytes.specs.declared.node.Node.{Node}
+use Rattle.layout_bytes.specs.declared.node.NodeKind.TheVariants.{Snapshot}
 use Rattle.layout_extent.specs.Renew.{AreOnce}
 use Rattle.engine_blocks.specs.Puts.{IsData}
 use Rattle.engine_blocks.specs.State.{State}
+use Rattle.crash_stands.specs.Files.{used_node}
 use Rattle.crash_stands.specs.Places.{dirs_from, table_blocks}
 use Rattle.crash_stands.specs.Kept.{kept_files, kept_nodes, kept_places}
 use Rattle.crash_stands.specs.Sharing.{HasKeptBlock, IsSoundKept}
@@ -31,6 +34,13 @@ pub record IsWholeKept (g : Geometry) (m : Blocks) (places : List ℕ) : Type 0 
   pub once : AreOnce places
   pub own : All (λ b. length (m b) ≡ 1024) places
   pub files : (k i b : ℕ) → HasKeptBlock g m places k i b → length (m b) ≡ 1024
+
+-- Node k is a snapshot, at these places.
+pub record IsSnapshotAt (g : Geometry) (m : Blocks) (k : ℕ) (places : List ℕ) : Type 0 where
+  pub node : Node
+  pub is_node : used_node g m k ≡ Some node
+  pub kind : node.kind ≡ Snapshot
+  pub places_are : run_places node.runs ≡ places
 
 -- the numbers say of the first blocks of the snapshot's node table how many blocks the directories before each have
 abbrev pub AreDirsBefore : Geometry → Blocks → List ℕ → List ℕ → Type 0

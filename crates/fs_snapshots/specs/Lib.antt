@@ -3,3 +3,4 @@ pub mod Tables
 pub mod Refused
 pub mod Known
 pub mod Among
+pub mod Nodes

@@ -19,7 +19,7 @@ use Rattle.fs_check.specs.declared.snapshot_damage.SnapshotDamage.{SnapshotDamag
 use Rattle.fs_check.specs.declared.snapshot_damage.SnapshotDamage.TheVariants as damage
 use Rattle.fs_check.specs.BrokenSnapshots.{IsBroken, IsSnapshot, KeepsAt, places_of}
 use Rattle.fs_check.proofs.Refuted.{Alike, HasRules, OneMap, none_in_tree}
-use Rattle.fs_check.proofs.keeping.Names.{one_name}
+use Rattle.fs_snapshots.specs.Nodes.{one_name}
 use Rattle.fs_check.proofs.sound.Broken.{not_before}
 use Rattle.fs_check.proofs.sound.Nodes.{has_data}
 

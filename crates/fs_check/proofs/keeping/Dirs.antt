@@ -1,6 +1,5 @@
 -- How many blocks directories have that a snapshot keeps, and which of its own are those of one of them.
 use Rattle.std.proofs.Common.{◌≡◌, ℕ, zero, suc, ◌+◌, ◌-◌, ◌/◌, ◌≤◌, Bool, true, if◌then◌else◌, min, List, length, take, drop, Some, sym, ap, subst, ◌∙◌, arith}
-use Rattle.std.specs.List.{All}
 use Rattle.std.proofs.lemmas.List.Elements.{All-drop, All-take}
 use Rattle.std.proofs.lemmas.List.{drop-drop, length-drop, length-take-le}
 use Rattle.base_types.specs.Runs.{run_places}
@@ -12,7 +11,6 @@ use Rattle.lang_tree.specs.Figures.{blocks_for}
 use Rattle.crash_stands.specs.Places.{NodesInUse, dir_blocks, dir_part, dirs_from, is_copied, kept_table, table_blocks}
 use Rattle.crash_stands.specs.Kept.{kept_nodes, kept_places}
 use Rattle.fs_snapshots.specs.Kept.{HasItsParts}
-use Rattle.engine_blocks.specs.Puts.{IsData}
 use Rattle.fs_check.proofs.sound.Nodes.{places_fit, used_is}
 use Rattle.fs_check.proofs.sound.Tails.{AreWhole}
 
@@ -68,10 +66,6 @@ has_dir g m own k dirs count node places used kind parts most before count_is is
       behind = omega (arith, before, with_it, all, parts, most, here, size, count_is);
     }
 
--- a part of a snapshot's blocks are data, and whole ones
-
-pub part_data : (g : Geometry) (own places : List ℕ) (count first : ℕ) → All (IsData g) own → places ≡ take count (drop first own) → All (IsData g) places
-part_data g own places count first all is = subst (All (IsData g)) (sym is) (All-take (IsData g) count (drop first own) (All-drop (IsData g) first own all))
-
+-- a part of a snapshot's blocks are whole ones
 pub part_whole : (m : Blocks) (own places : List ℕ) (count first : ℕ) → AreWhole m own → places ≡ take count (drop first own) → AreWhole m places
 part_whole m own places count first all is = subst (AreWhole m) (sym is) (All-take (λ b. length (m b) ≡ 1024) count (drop first own) (All-drop (λ b. length (m b) ≡ 1024) first own all))

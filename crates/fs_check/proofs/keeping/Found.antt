@@ -3,7 +3,7 @@ use Rattle.std.proofs.Common.{◌≡◌, ◌≢◌, ◌⊎◌, inl, inr, ◌↔�
 use Rattle.std.proofs.lemmas.Bool.{cases_Bool, cases_lt}
 use Rattle.std.proofs.lemmas.Option.{none-some, same_Some}
 use Rattle.std.specs.Ordering.{nat_cmp, eq_by_cmp, is_eq}
-use Rattle.std.specs.Cmp.{nat_cmp_total, tied_itself}
+use Rattle.std.specs.Cmp.{Equal-is, nat_cmp_total, tied_itself}
 use Rattle.std.specs.Cmp.Lexicographic.{slice_cmp, lists_total}
 use Rattle.std.specs.FinMap.{FinMap, nat_cmp-IsAntisymmetric, slice_cmp-IsAntisymmetric, get, insert, get-insert}
 use Rattle.base_types.specs.Seal.{Blocks}
@@ -17,7 +17,6 @@ use Rattle.crash_stands.specs.Stands.{HoldsSnapshot}
 use Rattle.fs_files.specs.Shared.{keepers}
 use Rattle.fs_check.specs.KeptMeeting.{CountsMet}
 use Rattle.fs_check.specs.Snapshots.{AreCheckedBelow, IsGoodSnapshot, KeepsBlock, Numbers, keepers_below}
-use Rattle.fs_check.proofs.Distinct.{equal}
 use Rattle.fs_check.proofs.keeping.Counts.{Each, keeps_as_many, keeps_more}
 
 -- what a map by names has once a name was put in: that under the name, and under another one what it had
@@ -31,7 +30,7 @@ now_at {X} m name v a = by (eq_by_cmp (slice_cmp nat_cmp) a name) refl
     apart e same = true≢false (sym (ap is_eq (tied_itself (lists_total nat_cmp_total) name)) ∙ sym (ap (λ x. eq_by_cmp (slice_cmp nat_cmp) x name) same) ∙ e)
 
     by : (b : Bool) → eq_by_cmp (slice_cmp nat_cmp) a name ≡ b → ((a ≡ name) × (get (insert m name v) a ≡ Some v)) ⊎ ((a ≢ name) × (get (insert m name v) a ≡ get m a))
-    by true e = inl (slice_cmp-IsAntisymmetric nat_cmp-IsAntisymmetric a name (equal _ e), there ∙ ap (λ b. cond b (Some v) (get m a)) e)
+    by true e = inl (slice_cmp-IsAntisymmetric nat_cmp-IsAntisymmetric a name ((Equal-is (slice_cmp nat_cmp a name)).0 e), there ∙ ap (λ b. cond b (Some v) (get m a)) e)
     by false e = inr (apart e, there ∙ ap (λ b. cond b (Some v) (get m a)) e)
 
 -- node k is no snapshot

@@ -1,27 +1,11 @@
--- The block with a snapshot's name: one name alone has it.
-use Rattle.std.proofs.Common.{◌≡◌, ℕ, zero, suc, ◌+◌, ◌-◌, ◌≤◌, ◌&&◌, true, not, nat_lt, nat_le, List, [], ◌∷◌, ◌++◌, length, take, drop, get_or, replicate, refl, sym, ap, ap₂, ◌∙◌, arith, take_all, length-take-le, length-drop, take-append-drop}
-use Rattle.std.specs.List.{list_all}
-use Rattle.std.proofs.lemmas.Bool.{and_parts, leb-true}
+-- The block with a snapshot's name: how long the name is, its bytes, and zeros.
+use Rattle.std.proofs.Common.{◌≡◌, ℕ, zero, suc, ◌+◌, ◌-◌, ◌≤◌, ◌&&◌, true, List, [], ◌∷◌, ◌++◌, length, take, drop, get_or, replicate, refl, sym, ap, ap₂, ◌∙◌, arith, take_all, length-take-le, length-drop, take-append-drop}
 use Rattle.std.proofs.lemmas.List.{length-replicate}
-use Rattle.std.proofs.Math.Seq.{drop-append_seam, take-append_seam}
-use Rattle.base_types.specs.Name.{is_dots, is_name, is_name_byte}
+use Rattle.std.proofs.Math.Seq.{drop-append_seam}
+use Rattle.base_types.specs.Name.{is_name}
 use Rattle.layout_bytes.specs.Bytes.{ZerosAreTold, are_zeros}
 use Rattle.layout_bytes.specs.SnapshotName.{name_block}
-
-behind : (name : List ℕ) → take (length name) (drop 1 (name_block name)) ≡ name
-behind name = take-append_seam name (replicate (1023 - length name) 0)
-
--- names with one block are one name
-pub one_name : (a b : List ℕ) → name_block a ≡ name_block b → a ≡ b
-one_name a b e =
-    let long : length a ≡ length b = ap (λ (xs : List ℕ). get_or xs 0 0) e in
-    sym (behind a) ∙ ap (λ (xs : List ℕ). take (length a) (drop 1 xs)) e ∙ ap (λ n. take n (drop 1 (name_block b))) long ∙ behind b
-
--- a name has 59 bytes at most
-pub short_name : (name : List ℕ) → is_name name ≡ true → length name ≤ 59
-short_name name lawful =
-    let p = and_parts (nat_lt 0 (length name)) (nat_le (length name) 59 && (list_all is_name_byte name && not (is_dots name))) lawful in
-    leb-true (length name) 59 (and_parts (nat_le (length name) 59) (list_all is_name_byte name && not (is_dots name)) p.1).0
+use Rattle.fs_snapshots.specs.Nodes.{behind, short_name}
 
 -- the first byte of the block says how long the name is, and these bytes are the name
 pub name_there : (block name : List ℕ) → block ≡ name_block name → (get_or block 0 0 ≡ length name) × (take (get_or block 0 0) (drop 1 block) ≡ name)

@@ -1,6 +1,6 @@
 -- Where something is broken in blocks they aren't sound.
-use Rattle.std.proofs.Common.{◌≡◌, ◌⊎◌, inl, inr, ℕ, ◌*◌, ◌<◌, ◌≤◌, Bool, true, false, not, ◌&&◌, nat_lt, nat_le, refl, sym, ◌∙◌, arith, ⊎_elim}
-use Rattle.std.proofs.lemmas.Bool.{and_parts, or_cases, false≢true, ltb-true, leb-true}
+use Rattle.std.proofs.Common.{◌≡◌, ◌⊎◌, inl, inr, ℕ, ◌*◌, ◌<◌, ◌≤◌, true, false, not, ◌&&◌, nat_lt, nat_le, ◌∙◌, arith, ⊎_elim}
+use Rattle.std.proofs.lemmas.Bool.{and_parts, both_ways, leb-true, ltb-true, not-true, or_cases}
 use Rattle.base_types.specs.Seal.{Blocks}
 use Rattle.layout_geometry.specs.Geometry.{Geometry, bitmap_blocks, data_start}
 use Rattle.layout_bytes.specs.Bitmap.{bit_in, is_set}
@@ -11,35 +11,28 @@ use Rattle.fs_check.specs.declared.block_damage.BlockDamage.TheVariants.{WrongBi
 use Rattle.fs_check.specs.Broken.{IsBroken, Precedes, bitmap_of}
 use Rattle.fs_check.proofs.sound.Nodes.{has_data}
 
-not_true : (t : Bool) → not t ≡ true → t ≡ false
-not_true true e = absurd (false≢true e)
-not_true false e = refl
-
 -- which bits are bad
 pub bad_cases : (g : Geometry) (m : Blocks) (b : ℕ) → is_bad_bit g m b ≡ true → ((b < data_start g) × (bit_in m b ≡ false)) ⊎ ((g.n ≤ b) × (b < 8192 * bitmap_blocks g) × (bit_in m b ≡ true))
-bad_cases g m b e = ⊎_elim (λ fixed. let p = and_parts (nat_lt b (data_start g)) (not (bit_in m b)) fixed in inl (ltb-true b (data_start g) p.0, not_true (bit_in m b) p.1))
+bad_cases g m b e = ⊎_elim (λ fixed. let p = and_parts (nat_lt b (data_start g)) (not (bit_in m b)) fixed in inl (ltb-true b (data_start g) p.0, not-true (bit_in m b) p.1))
     (λ past. let p = and_parts (nat_le g.n b) (nat_lt b (8192 * bitmap_blocks g) && bit_in m b) past in
     let q = and_parts (nat_lt b (8192 * bitmap_blocks g)) (bit_in m b) p.1 in
     inr (leb-true g.n b p.0, ltb-true b (8192 * bitmap_blocks g) q.0, q.1))
     (or_cases (nat_lt b (data_start g) && not (bit_in m b)) (nat_le g.n b && (nat_lt b (8192 * bitmap_blocks g) && bit_in m b)) e)
-
-both : (t : Bool) → t ≡ true → t ≡ false → ⊥
-both t is isnt = false≢true (sym isnt ∙ is)
 
 pub not_before : (l j k i : ℕ) → (l ≡ k) × (j ≡ i) → Precedes l j k i → ⊥
 not_before l j k i same (inl low) = omega (arith, same.0, low)
 not_before l j k i same (inr low) = omega (arith, same.1, low.1)
 
 pub broken_unsound : (g : Geometry) (m : Blocks) (damage : BlockDamage) → IsBroken g m damage → AreSound g m → ⊥
-broken_unsound g m (WrongBit b) bad sound = ⊎_elim (λ low. both (is_set g m b) (sound.fixed b low.0) low.1)
-    (λ high. both (is_set g m b) high.2 (sound.past b high.0 high.1))
+broken_unsound g m (WrongBit b) bad sound = ⊎_elim (λ low. both_ways (is_set g m b) low.1 (sound.fixed b low.0))
+    (λ high. both_ways (is_set g m b) (sound.past b high.0 high.1) high.2)
     (bad_cases g (bitmap_of g m) b bad)
 broken_unsound g m (BadNode k) bad sound = bad.carries (sound.free k bad.from bad.upto bad.unread)
 broken_unsound g m (Unmarked k b) bad sound =
     let is = has_data g m k bad.place b bad.has in
-    both (is_set g m b) ((sound.marked b is.from is.below).1 (inl (k, bad.place, bad.has))) bad.clear
+    both_ways (is_set g m b) bad.clear ((sound.marked b is.from is.below).1 (inl (k, bad.place, bad.has)))
 broken_unsound g m (Shared k b) bad sound =
     not_before bad.other bad.other_place k bad.place (sound.own bad.other k bad.other_place bad.place b bad.other_has bad.has) bad.before
-broken_unsound g m (Tail k) bad sound = both _ (sound.tail k bad.node bad.is_node bad.is_dir) bad.carries
+broken_unsound g m (Tail k) bad sound = both_ways _ bad.carries (sound.tail k bad.node bad.is_node bad.is_dir)
 broken_unsound g m (Lost b) bad sound =
     ⊎_elim (λ owner. bad.unowned owner.0 owner.1 owner.2) bad.unkept ((sound.marked b bad.from bad.below).0 bad.marked)

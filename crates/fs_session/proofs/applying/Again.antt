@@ -1,6 +1,6 @@
 -- Where no memory is found: what takes none is done, and a sync that is refused so may be given again.
 use Rattle.std.proofs.Common.{◌≡◌, ◌≢◌, ◌⊎◌, inl, inr, ⊎_elim, ℕ, ◌+◌, ◌<◌, ◌==◌, Bool, true, false, List, Result, Ok, Err, refl, sym, ◌∙◌, ap, ap₂, subst, arith, ◌≤◌, nat_le, if◌then◌else◌}
-use Rattle.std.proofs.lemmas.Bool.{false≢true, le-leb}
+use Rattle.std.proofs.lemmas.Bool.{false≢true, le-leb, cond-false, ne_eqb}
 use Rattle.base_types.specs.Counts.{Rose, after_call}
 use Rattle.disk_contract.specs.declared.event.Event.{Event}
 use Rattle.disk_contract.specs.Disk.{PollsThenWrites, writes_in}
@@ -11,7 +11,7 @@ use Rattle.lang_tree.specs.declared.command.Refusal.TheVariants as because
 use Rattle.lang_tree.specs.declared.command.Reply.{Reply}
 use Rattle.lang_tree.specs.declared.command.Reply.TheVariants.{Ok as Done, Refused, Known, DurableAt}
 use Rattle.lang_tree.specs.Points.{is_refusal, is_sync}
-use Rattle.engine_blocks.specs.Calls.{MovesPipeline, if_changed}
+use Rattle.engine_blocks.specs.Calls.{MovesPipeline}
 use Rattle.engine_blocks.specs.Crashes.{HasMapOfPoint}
 use Rattle.engine_blocks.specs.Running.{Running, nothing_running}
 use Rattle.engine_blocks.specs.State.{Bookkeeping, State, Ticking}
@@ -31,9 +31,6 @@ sync_done cmd p = refl
 -- a fault that was counted
 counted : (n mid m : ℕ) → mid ≡ n → m ≡ after_call true mid → Rose n m
 counted n mid m same is = omega (arith, same, is)
-
-changed_to : {T : Type 0} (r : Running) (x y : T) → 0 < r.weight → if_changed r x y ≡ x
-changed_to r x y some = grind (arith, r.weight == 0)
 
 -- Behind a tick from `old` to `mid`.
 module _ (tells : Bool) (old mid new : State) (t : Ticks tells false old mid) where
@@ -64,14 +61,15 @@ module _ (tells : Bool) (old mid new : State) (t : Ticks tells false old mid) wh
   makes_by : (orders : Bool) (cmd : Cmd) (reply : Reply) → old.books.stopped ≡ false → 0 < old.books.running.weight → SyncsSession tells orders cmd (Ok reply) mid new → MakesNextPoint tells cmd reply old new
   makes_by orders cmd reply going some s =
       let weighed : 0 < mid.books.running.weight = subst (λ (r : Running). 0 < r.weight) (sym t.moves.pipeline.running) some in
-      let more : new.books.point ≡ old.books.point + 1 = s.point (λ e. absurd cc) ∙ ap₂ (λ (p n : ℕ). p + n) t.moves.pipeline.point (changed_to mid.books.running 1 0 weighed) in
+      let full : (mid.books.running.weight == 0) ≡ false = ne_eqb mid.books.running.weight 0 (λ e. absurd (omega (arith, weighed, e))) in
+      let more : new.books.point ≡ old.books.point + 1 = s.point (λ e. absurd cc) ∙ ap₂ (λ (p n : ℕ). p + n) t.moves.pipeline.point (cond-false (mid.books.running.weight == 0) 0 1 full) in
       record {
         answer = s.answers ∙ ap (λ (p : ℕ). reply_of_sync cmd p) more;
         session = λ told f h. s.done told f (session_ticks tells false old mid t f going told h);
         point = more;
         map = λ told. s.map told ∙ t.moves.map told;
         tree = λ told. subst (λ (p : ℕ). HasMapOfPoint new p) more (s.made told (omega (arith, more, t.moves.pipeline.point)));
-        running = s.ends ∙ changed_to mid.books.running nothing_running mid.books.running weighed;
+        running = s.ends ∙ cond-false (mid.books.running.weight == 0) mid.books.running nothing_running full;
       }
 
 abbrev is_memory : Refusal → Bool

@@ -18,6 +18,7 @@ use Rattle.fs_session.specs.Commands.{Carries, is_disk_fault}
 use Rattle.fs_session.specs.Points.{TellsPoints}
 use Rattle.fs_session.specs.Sessions.{IsSession}
 use Rattle.fs_session.specs.Syncs.{SyncsSession, WaitsSession}
+use Rattle.fs_session.proofs.rooms.Answered.{bad_or_not}
 
 -- the reason that a reply names
 abbrev reason_of : Reply → Refusal
@@ -71,9 +72,6 @@ record CountsMade (f : Session) (cmd : Cmd) (reply : Reply) (begun : ℕ) (old n
 -- a command that isn't a sync makes none
 none_made : (f : Session) (cmd : Cmd) (reply : Reply) (begun : ℕ) → is_sync cmd ≡ false → made_by f cmd reply begun ≡ []
 none_made f cmd reply begun is = ap (λ c. point_where f begun (c && (f.changed && may_have_written reply))) is
-
-pub is_bad : (cmd : Cmd) → (cmd ≡ Bad) ⊎ (cmd ≢ Bad)
-is_bad cmd = grind (arith, false≢true)
 
 -- the session is one of the blocks after a tick too
 pub session_ticks : (tells failed : Bool) → IsTrue tells → (s t : State) (f : Session) → s.books.stopped ≡ false → Ticks tells failed s t → IsSession s f → IsSession t f
@@ -193,10 +191,6 @@ module _ {S : Type 0} (tells : Bool) (state : S → State) (told : IsTrue tells)
 
   -- What was promised is on the disk.
 
-  abbrev is_dsync : Cmd → Bool
-  is_dsync Dsync = true
-  is_dsync _ = false
-
   dsync_promises : (f : Session) (reply : Reply) (next : Session) (new : State) → Answers is_of_disk f Dsync reply next → IsSession new next → promised_by reply ≤ new.books.floor
   dsync_promises f reply next new h1 h2 = grind arith
 
@@ -238,7 +232,7 @@ module _ {S : Type 0} (tells : Bool) (state : S → State) (told : IsTrue tells)
     promised_of f Bad reply old new a began = omega (arith, unasked f a.next Bad reply a.answers refl)
 
     pub tells_points : (f : Session) (cmd : Cmd) (reply : Reply) (old new : S) → IsSession (state old) f → Applies tells state cmd reply old new → AnswersSession tells state f cmd reply new → TellsPoints f cmd reply begun (state old) (state new)
-    tells_points f cmd reply old new h applies a = ⊎_elim bad other (is_bad cmd)
+    tells_points f cmd reply old new h applies a = ⊎_elim bad other (bad_or_not cmd)
       where
         bad : cmd ≡ Bad → TellsPoints f cmd reply begun (state old) (state new)
         bad is = at_once f cmd reply old new (applies.bad is).1 (ap (λ (ps : List Point). length ps) (none_made f cmd reply begun (ap is_sync is))) (ap promised_by (applies.bad is).0) (λ e. never f Bad (sym (applies.bad is).0 ∙ e)) (λ stopped not. absurd (not is))

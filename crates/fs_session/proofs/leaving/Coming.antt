@@ -1,6 +1,6 @@
 -- A snapshot that comes keeps the blocks of each file, and the others what they kept.
-use Rattle.std.proofs.Common.{◌≡◌, ◌≢◌, ◌⊎◌, inl, inr, ℕ, ◌≤◌, ◌==◌, ◌&&◌, nat_le, Bool, true, false, if◌then◌else◌, cond, List, [], replicate, slice_index, bytes_eq, Option, Some, None, option_map, refl, sym, ap, subst, ◌∙◌}
-use Rattle.std.proofs.lemmas.Bool.{and_parts, cases_Bool, eqb-true, leb-true, true≢false}
+use Rattle.std.proofs.Common.{◌≡◌, ◌≢◌, ◌⊎◌, inl, inr, ℕ, ◌≤◌, ◌==◌, ◌&&◌, Bool, true, false, if◌then◌else◌, cond, List, [], bytes_eq, Option, Some, None, option_map, refl, sym, ap, subst, ◌∙◌}
+use Rattle.std.proofs.lemmas.Bool.{cases_Bool, true≢false}
 use Rattle.std.proofs.lemmas.Option.{none-some}
 use Rattle.std.proofs.lemmas.Slice.Eq.{bytes_eq-Decides}
 use Rattle.std.specs.Ordering.{nat_cmp, eq_by_cmp, is_eq}
@@ -13,9 +13,7 @@ use Rattle.layout_geometry.specs.Geometry.{Geometry, IsGeometry}
 use Rattle.layout_bytes.specs.declared.node.Node.{Node}
 use Rattle.layout_bytes.specs.declared.node.NodeKind.{NodeKind}
 use Rattle.layout_bytes.specs.declared.node.NodeKind.TheVariants.{Free, Dir, File, Snapshot}
-use Rattle.layout_bytes.specs.declared.slot.Slot.{Slot}
-use Rattle.layout_bytes.specs.Bytes.{when}
-use Rattle.layout_bytes.specs.Node.{node_of, node_with, node_at, node_bytes, node_fields, node_fits, spare_zeros, used_kind}
+use Rattle.layout_bytes.specs.Node.{used_kind}
 use Rattle.lang_tree.specs.declared.command.Cmd.TheVariants.{Snap}
 use Rattle.lang_tree.specs.Step.{kept_of}
 use Rattle.lang_tree.specs.Tree.{Tree, Kept, Snapshots}
@@ -26,51 +24,16 @@ use Rattle.crash_stands.specs.Kept.{kept_nodes}
 use Rattle.crash_stands.specs.Places.{kept_table}
 use Rattle.crash_stands.specs.Stands.{IsTreeOf}
 use Rattle.crash_snapshots.specs.Adding.{AddsSnapshot}
-use Rattle.crash_snapshots.specs.Kept.{kept_bytes}
 use Rattle.fs_files.specs.Calls.{places_of, places_or_none}
 use Rattle.fs_snapshots.specs.Known.{blocks_by_kind, blocks_kept, file_blocks}
+use Rattle.fs_snapshots.specs.Nodes.{not_file, read_table}
 use Rattle.fs_session.specs.Lists.{kept_by}
 use Rattle.fs_session.specs.Snapshots.{kept_lists}
-use Rattle.fs_session.proofs.rooms.KeptBlocks.{tie}
 use Rattle.fs_session.proofs.leaving.Listed.{kept_alike, listed_alike, listed_one}
 use Rattle.fs_session.proofs.leaving.Stays.{NamesSnapshots, StayLaws}
 use Rattle.fs_session.proofs.rooms.KeptBlocks.{tie}
 
--- The blocks of a file are read from what a snapshot keeps of its node's bytes.
-
-zeros_no_node : (g : Geometry) → node_of g (replicate 256 0) ≡ None
-unfolding node_of
-zeros_no_node g = refl
-
-snapshot_no_file : (g : Geometry) (b : List ℕ) → slice_index b 0 ≡ 3 → file_blocks (node_of g b) ≡ []
-unfolding node_of
-snapshot_no_file g b is = ap (λ n. file_blocks (node_with g b (used_kind n))) is ∙ by (spare_zeros b) (node_fits g (node_fields Snapshot b))
-  where
-    by : (s t : Bool) → file_blocks (when s (when t (Some (node_fields Snapshot b)))) ≡ []
-    by true true = refl
-    by true false = refl
-    by false t = refl
-
-read_kept : (g : Geometry) (b : List ℕ) (t : Bool) → (slice_index b 0 == 3) ≡ t → file_blocks (node_of g (if t then replicate 256 0 else b)) ≡ file_blocks (node_of g b)
-read_kept g b false is = refl
-read_kept g b true is = ap file_blocks (zeros_no_node g) ∙ sym (snapshot_no_file g b (eqb-true (slice_index b 0) 3 is))
-
-read_table : (g : Geometry) (m n : Blocks) → ((k : ℕ) → 1 ≤ k → k ≤ g.i → node_bytes g n k ≡ kept_bytes (node_bytes g m k)) → (k : ℕ) → file_blocks (used_node g n k) ≡ file_blocks (used_node g m k)
-read_table g m n same k = by (nat_le 1 k && nat_le k g.i) refl
-  where
-    by : (t : Bool) → (nat_le 1 k && nat_le k g.i) ≡ t → file_blocks (when t (node_at g n k)) ≡ file_blocks (when t (node_at g m k))
-    by false is = refl
-    by true is =
-        let number = and_parts (nat_le 1 k) (nat_le k g.i) is in
-        ap (λ (bytes : List ℕ). file_blocks (node_of g bytes)) (same k (leb-true 1 k number.0) (leb-true k g.i number.1))
-        ∙ read_kept g (node_bytes g m k) (slice_index (node_bytes g m k) 0 == 3) refl
-
 -- The tree's files have the blocks of the nodes that are files.
-
-no_dir : (links : ℕ) (bytes : List ℕ) (t : Bool) (o : Option (List Slot)) → when t (option_map ADir o) ≡ Some (AFile links bytes) → ⊥
-no_dir links bytes true (Some slots) e = cc
-no_dir links bytes true None e = cc
-no_dir links bytes false o e = cc
 
 module _ (g : Geometry) (m : Blocks) (t : Tree) (stands : IsTreeOf g m t) (used_kind : (k : ℕ) (node : Node) → used_node g m k ≡ Some node → node.kind ≢ Free) where
   by_kind : (k : ℕ) (node : Node) (kind : NodeKind) (x : Option Inode) → used_node g m k ≡ Some node → node.kind ≡ kind → IsInodeOf (Some (file_of m node)) x
@@ -79,7 +42,7 @@ module _ (g : Geometry) (m : Blocks) (t : Tree) (stands : IsTreeOf g m t) (used_
   by_kind k node Dir None used of reads = let e : Dir ≡ Snapshot = sym of ∙ reads in cc
   by_kind k node Dir (Some (ADir slots)) used of reads = refl
   by_kind k node Dir (Some (AFile links bytes)) used of reads =
-      absurd (no_dir links bytes _ _ (sym (ap (λ (kind : NodeKind). inode_by kind (file_of m node).links (file_of m node).bytes) of) ∙ reads))
+      absurd (not_file _ _ links bytes (sym (ap (λ (kind : NodeKind). inode_by kind (file_of m node).links (file_of m node).bytes) of) ∙ reads))
   by_kind k node File None used of reads = let e : File ≡ Snapshot = sym of ∙ reads in cc
   by_kind k node File (Some (ADir slots)) used of reads =
       let e = sym (ap (λ (kind : NodeKind). inode_by kind (file_of m node).links (file_of m node).bytes) of) ∙ reads in cc

@@ -8,7 +8,7 @@ use Rattle.base_types.specs.Runs.{run_places}
 use Rattle.layout_geometry.specs.Geometry.{IsGeometry}
 use Rattle.layout_bytes.specs.declared.node.Node.{Node}
 use Rattle.layout_bytes.specs.declared.node.NodeKind.{NodeKind}
-use Rattle.layout_bytes.specs.declared.node.NodeKind.TheVariants.{Free, Dir, File, Snapshot}
+use Rattle.layout_bytes.specs.declared.node.NodeKind.TheVariants.{Snapshot}
 use Rattle.layout_bytes.specs.SnapshotName.{name_block}
 use Rattle.lang_tree.specs.Tree.{Tree}
 use Rattle.crash_stands.specs.Files.{FileNode, used_node}
@@ -21,21 +21,16 @@ use Rattle.fs_files.specs.Calls.{places_or_none}
 use Rattle.fs_files.specs.Drafts.{DraftState}
 use Rattle.fs_files.specs.Sound.{IsSoundDraft}
 use Rattle.fs_snapshots.specs.Known.{KnowsSnapshots, blocks_kept, count_keepers, has_name, is_snapshot_node, keeps_block, node_blocks, snapshot_number}
+use Rattle.fs_snapshots.specs.Nodes.{snapshot_kind}
 use Rattle.fs_session.specs.Plans.{HasDrafted, StaysBeside}
 use Rattle.fs_session.proofs.leaving.Leaving.{found, own_same, places_same, same_snapshot, was_there}
 use Rattle.fs_session.proofs.leaving.Listed.{kept_alike}
 use Rattle.fs_session.proofs.leaving.Stays.{StayLaws, first_place}
 
-snapshot_is : (kind : NodeKind) → is_snapshot kind ≡ true → kind ≡ Snapshot
-snapshot_is Free is = absurd (false≢true is)
-snapshot_is Dir is = absurd (false≢true is)
-snapshot_is File is = absurd (false≢true is)
-snapshot_is Snapshot is = refl
-
 -- a node that is a snapshot
 snapshot_node : (o : Option Node) → is_snapshot_node o ≡ true → (node : Node) × (o ≡ Some node) × (node.kind ≡ Snapshot)
 snapshot_node None is = absurd (false≢true is)
-snapshot_node (Some node) is = (node, refl, snapshot_is node.kind is)
+snapshot_node (Some node) is = (node, refl, snapshot_kind node.kind is)
 
 -- none other has the name of one
 no_name : (m : Blocks) (name : List ℕ) (o : Option Node) → is_snapshot_node o ≡ false → has_name m name o ≡ false

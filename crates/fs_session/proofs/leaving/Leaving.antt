@@ -25,9 +25,10 @@ use Rattle.fs_files.specs.Drafts.{DraftState, bytes_or, change_of, drafted, noth
 use Rattle.fs_files.specs.Places.{has_place, joined_length, place_of}
 use Rattle.fs_files.specs.Shared.{is_kept}
 use Rattle.fs_files.specs.Sound.{IsSoundDraft}
+use Rattle.fs_snapshots.specs.Nodes.{used_fits}
 use Rattle.fs_session.specs.Plans.{HasDrafted, StaysBeside}
 use Rattle.fs_session.proofs.standing.Marks.{data_live, place_marked}
-use Rattle.fs_session.proofs.standing.Nodes.{content_length, place_block, place_data, used_fits}
+use Rattle.fs_session.proofs.standing.Nodes.{content_length, place_block, place_data}
 
 -- Blocks with the same bytes, one behind the other, are the same.
 blocks_alike : (m w : Blocks) (ps : List ℕ) → ((b : ℕ) → has ps b ≡ true → length (m b) ≡ 1024) → ((b : ℕ) → has ps b ≡ true → length (w b) ≡ 1024) → joined w ps ≡ joined m ps → (i b : ℕ) → slice_get ps i ≡ Some b → w b ≡ m b

@@ -22,11 +22,12 @@ use Rattle.fs_files.specs.Drafts.{DraftState, drafted, nothing_drafted}
 use Rattle.fs_files.specs.Places.{place_of}
 use Rattle.fs_files.specs.Shared.{is_kept}
 use Rattle.fs_files.specs.Sound.{IsSoundDraft}
+use Rattle.fs_snapshots.specs.Nodes.{used_fits}
 use Rattle.fs_session.specs.Commands.{places_of}
 use Rattle.fs_session.specs.Plans.{HasDrafted}
 use Rattle.fs_session.proofs.rooms.Nodes.{are_tidy}
 use Rattle.fs_session.proofs.standing.Marks.{data_live, place_marked}
-use Rattle.fs_session.proofs.standing.Nodes.{content_length, place_block, place_data, used_fits}
+use Rattle.fs_session.proofs.standing.Nodes.{content_length, place_block, place_data}
 
 -- these blocks are whole
 abbrev AreWhole : Blocks → List ℕ → Type 0

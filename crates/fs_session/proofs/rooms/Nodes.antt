@@ -39,10 +39,11 @@ use Rattle.fs_session.specs.Memory.{room_of}
 use Rattle.fs_session.specs.Room.{HoldsTree, blocks_in_use, is_in_use}
 use Rattle.fs_session.proofs.standing.Lists.{has_place}
 use Rattle.fs_session.proofs.standing.Marks.{HasSlots, HasItsBytes, inode_has, place_marked}
-use Rattle.fs_session.proofs.standing.Nodes.{block_place, first_fits, place_data, places_at, used_fits}
+use Rattle.fs_session.proofs.standing.Nodes.{block_place, first_fits, place_data, places_at}
 use Rattle.fs_session.proofs.rooms.KeptBlocks.{SnapshotLaws, kept_listed, listed_kept}
 use Rattle.fs_session.proofs.rooms.SnapshotBlocks.{HasDirectories, HasWholeFiles, snapshot_has}
 use Rattle.fs_snapshots.specs.Among.{among_nodes, node_among, used_number}
+use Rattle.fs_snapshots.specs.Nodes.{used_fits}
 
 -- The runs of a node.
 

@@ -2,6 +2,7 @@
 use Rattle.std.proofs.Common.{⊎_elim, ◌≡◌, ◌≢◌, ◌⊎◌, inl, inr, ℕ, zero, suc, ◌+◌, ◌<◌, ◌≤◌, ◌==◌, ◌&&◌, ◌||◌, not, Bool, true, false, bytes_eq, cond, List, [], ◌∷◌, length, filter, Option, Some, None, refl, sym, ap, ap₂, ◌∙◌, arith}
 use Rattle.std.specs.List.{list_any, range_with_len}
 use Rattle.std.specs.FinMap.{entries, get, get-entries, keys}
+use Rattle.std.specs.Cmp.{both_ways}
 use Rattle.std.proofs.lemmas.Bool.{and_parts, cases_Bool, eq-eqb, eqb-true, false≢true, true≢false, or_cases, or_left, or_right}
 use Rattle.std.proofs.lemmas.Option.{same_Some}
 use Rattle.std.proofs.lemmas.Slice.Eq.{bytes_eq-Decides}
@@ -28,12 +29,6 @@ use Rattle.fs_session.proofs.standing.Nodes.{place_block}
 use Rattle.fs_session.proofs.rooms.KeptBlocks.{SnapshotLaws, among_keys, has_none, its_blocks, its_keeps, kept_listed, kept_named, listed_kept}
 
 -- Tests and lists.
-
--- two tests are one where each passes with the other
-both_ways : (x y : Bool) → (x ≡ true → y ≡ true) → (y ≡ true → x ≡ true) → x ≡ y
-both_ways true y there back = sym (there refl)
-both_ways false true there back = back refl
-both_ways false false there back = refl
 
 same_kept : (p q : ℕ → Bool) (xs : List ℕ) → ((b : ℕ) → has xs b ≡ true → p b ≡ q b) → filter p xs ≡ filter q xs
 same_kept p q [] same = refl

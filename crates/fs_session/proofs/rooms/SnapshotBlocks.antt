@@ -10,8 +10,6 @@ use Rattle.layout_geometry.specs.Geometry.{Geometry}
 use Rattle.layout_bytes.specs.declared.node.Node.{Node}
 use Rattle.layout_bytes.specs.declared.node.NodeKind.{NodeKind}
 use Rattle.layout_bytes.specs.declared.node.NodeKind.TheVariants.{Free, Dir, File, Snapshot}
-use Rattle.layout_bytes.specs.declared.slot.Slot.{Slot}
-use Rattle.layout_bytes.specs.Bytes.{when}
 use Rattle.layout_bytes.specs.Node.{kind_fits}
 use Rattle.layout_bytes.specs.Slot.{slot_size, slots_in}
 use Rattle.lang_tree.specs.Figures.{all_directory_blocks, blocks_for, snapshot_blocks}
@@ -26,9 +24,9 @@ use Rattle.crash_stands.specs.Stands.{AreSound, IsTreeOf}
 use Rattle.crash_snapshots.specs.Places.{all_dirs, places_of_dir}
 use Rattle.fs_inodes.specs.Figures.{directories_from, dir_blocks as inode_dirs}
 use Rattle.fs_files.specs.Calls.{places_of, places_or_none}
-use Rattle.fs_files.specs.Places.{when_some}
+use Rattle.fs_snapshots.specs.Nodes.{used_fits, not_file}
 use Rattle.fs_session.proofs.standing.Marks.{HasSlots, place_whole}
-use Rattle.fs_session.proofs.standing.Nodes.{content_length, node_count, used_fits}
+use Rattle.fs_session.proofs.standing.Nodes.{content_length, node_count}
 
 -- what the laws say of the blocks of directories, and of the bytes of what a snapshot keeps
 abbrev pub HasDirectories : Type 0
@@ -38,15 +36,6 @@ abbrev pub HasWholeFiles : Type 0
 HasWholeFiles = (g : Geometry) (m : Blocks) (k : ℕ) (node : Node) → AreSound g m → used_node g m k ≡ Some node → node.kind ≡ Snapshot → (l : ℕ) (file : Node)
     → kept_nodes g m (run_places node.runs) l ≡ Some file → length (kept_file g m (run_places node.runs) l file).bytes ≡ file.size
 
--- a directory reads as no file
-no_file : (t : Bool) (o : Option (List Slot)) (links : ℕ) (bytes : List ℕ) → when t (option_map ADir o) ≡ Some (AFile links bytes) → ⊥
-no_file t None links bytes e = none-some (AFile links bytes) (when_some t (option_map ADir None) (AFile links bytes) e).1
-no_file t (Some slots) links bytes e = false≢true (ap is_file (same_Some (ADir slots) (AFile links bytes) (when_some t (option_map ADir (Some slots)) (AFile links bytes) e).1))
-  where
-    is_file : Inode → Bool
-    is_file (ADir s) = false
-    is_file (AFile l b) = true
-
 module _ (slots_law : HasSlots) where
   -- a node has as many blocks of a directory as what it reads as
   by_kind : (kind : NodeKind) (size links : ℕ) (bytes : List ℕ) (x : Inode) → (kind ≡ Dir → size % 64 ≡ 0) → length bytes ≡ size → inode_by kind links bytes ≡ Some x → (if is_copied kind then blocks_for size else 0) ≡ inode_dirs (Some x)
@@ -55,7 +44,7 @@ module _ (slots_law : HasSlots) where
   by_kind Dir size links bytes (ADir slots) whole long e =
       let file : FileNode = record { kind = Dir; links = links; bytes = bytes } in
       ap blocks_for (sym long ∙ slots_law file slots e (ap (λ n. n % 64) long ∙ whole refl))
-  by_kind Dir size links bytes (AFile l b) whole long e = absurd (no_file (links == 1) (slots_in (length bytes / slot_size) bytes) l b e)
+  by_kind Dir size links bytes (AFile l b) whole long e = absurd (not_file (links == 1) (slots_in (length bytes / slot_size) bytes) l b e)
   by_kind File size links bytes (ADir slots) whole long e = absurd (false≢true (ap is_dir (same_Some (AFile links bytes) (ADir slots) e)))
     where
       is_dir : Inode → Bool

@@ -9,7 +9,7 @@ use Rattle.layout_bytes.specs.declared.node.NodeKind.{NodeKind}
 use Rattle.layout_bytes.specs.declared.node.NodeKind.TheVariants.{File}
 use Rattle.layout_bytes.specs.Node.{kind_fits}
 use Rattle.crash_stands.specs.Files.{FileNode, file_of, files_of, used_node}
-use Rattle.fs_session.proofs.standing.Nodes.{Fits, used_fits}
+use Rattle.fs_snapshots.specs.Nodes.{Fits, used_fits}
 
 abbrev HasLinks : NodeKind → ℕ → Type 0
 HasLinks kind links = (1 ≤ links) × (kind ≡ File → links ≤ 65535)

@@ -23,8 +23,9 @@ use Rattle.crash_stands.specs.Stands.{AreSound, HasBlock, HasNoSnapshots}
 use Rattle.fs_inodes.specs.Figures.{inode_blocks, blocks_from}
 use Rattle.fs_files.specs.Calls.{places_or_none}
 use Rattle.fs_snapshots.specs.Among.{kept_is, is_among, used_number}
+use Rattle.fs_snapshots.specs.Nodes.{Fits, used_fits}
 use Rattle.fs_session.proofs.standing.Lists.{place_of, has_place, as_long, distinct_kept, in_turn, turn_of, in_its_turn, distinct_turns}
-use Rattle.fs_session.proofs.standing.Nodes.{Fits, used_fits, node_count, content_length, places_at, block_place, place_block, place_data}
+use Rattle.fs_session.proofs.standing.Nodes.{node_count, content_length, places_at, block_place, place_block, place_data}
 
 -- Which blocks are live: those of the bitmap and the node table, and the data blocks that are marked.
 

@@ -1,49 +1,19 @@
 -- What a node in use has: data blocks, as many as its bytes need.
-use Rattle.std.proofs.Common.{◌≡◌, ℕ, ◌+◌, ◌/◌, ◌<◌, ◌≤◌, ◌==◌, ◌&&◌, nat_lt, nat_le, true, List, length, slice_get, Option, Some, None, refl, sym, ap, ◌∙◌, arith}
+use Rattle.std.proofs.Common.{◌≡◌, ℕ, ◌+◌, ◌/◌, ◌<◌, ◌≤◌, ◌==◌, ◌&&◌, true, List, length, slice_get, Option, Some, None, refl, sym, ap, ◌∙◌, arith}
 use Rattle.std.proofs.lemmas.List.{length-take-le}
-use Rattle.std.proofs.lemmas.Bool.{and_parts, leb-true, ltb-true, eqb-true}
 use Rattle.std.proofs.lemmas.Option.{none-some}
 use Rattle.base_types.specs.Seal.{Blocks}
 use Rattle.base_types.specs.Runs.{run_places}
 use Rattle.layout_geometry.specs.Geometry.{Geometry}
 use Rattle.layout_bytes.specs.declared.node.Node.{Node}
-use Rattle.layout_bytes.specs.Node.{node_at, node_bytes, node_fits, runs_fit, run_blocks, kind_fits}
 use Rattle.engine_blocks.specs.Puts.{IsData}
 use Rattle.engine_blocks.specs.Running.{has}
 use Rattle.crash_stands.specs.Files.{joined, content, used_node}
 use Rattle.crash_stands.specs.Stands.{HasBlock}
 use Rattle.fs_files.specs.Calls.{places_or_none}
-use Rattle.fs_files.specs.Places.{has_place, joined_length, place_of, places_count, read_fits, when_some}
+use Rattle.fs_files.specs.Places.{has_place, joined_length, place_of, places_count}
 pub use Rattle.fs_files.specs.Places.{first_fits, joined_same, runs_data}
-
--- A node that is read fits.
-
--- What it is to fit.
-
-pub record Fits (g : Geometry) (node : Node) : Type 0 where
-  pub links : 0 < node.links
-  pub few : length node.runs ≤ 28
-  pub runs : runs_fit g 0 node.runs ≡ true
-  pub count : run_blocks node.runs ≡ (node.size + 1023) / 1024
-  pub kind : kind_fits node node.kind ≡ true
-
-pub fits_parts : (g : Geometry) (node : Node) → node_fits g node ≡ true → Fits g node
-fits_parts g node fits =
-    let some = and_parts (nat_lt 0 node.links) _ fits in
-    let few = and_parts (nat_le (length node.runs) 28) _ some.1 in
-    let runs = and_parts (runs_fit g 0 node.runs) _ few.1 in
-    let blocks = and_parts (run_blocks node.runs == (node.size + 1023) / 1024) (kind_fits node node.kind) runs.1 in
-    record {
-      links = ltb-true 0 node.links some.0;
-      few = leb-true (length node.runs) 28 few.0;
-      runs = runs.0;
-      count = eqb-true (run_blocks node.runs) ((node.size + 1023) / 1024) blocks.0;
-      kind = blocks.1;
-    }
-
--- a node in use fits
-pub used_fits : (g : Geometry) (m : Blocks) (k : ℕ) (node : Node) → used_node g m k ≡ Some node → Fits g node
-used_fits g m k node e = fits_parts g node (read_fits g (node_bytes g m k) node (when_some (nat_le 1 k && nat_le k g.i) (node_at g m k) node e).1)
+use Rattle.fs_snapshots.specs.Nodes.{Fits, used_fits}
 
 -- Its blocks are data blocks.
 

@@ -19,8 +19,8 @@ use Rattle.fs_files.specs.Places.{has_place, place_of}
 use Rattle.fs_files.specs.Shared.{is_kept}
 use Rattle.fs_files.specs.Sound.{TellsKept}
 use Rattle.fs_snapshots.specs.Known.{node_blocks, CountsKeepers, blocks_by_kind, count_keepers, file_blocks, is_snapshot_node, keeps_block, blocks_kept}
-use Rattle.fs_snapshots.proofs.knowing.Named.{kind_is}
 use Rattle.fs_snapshots.specs.Among.{among_nodes, is_among, kept_is, node_among, used_number}
+use Rattle.fs_snapshots.specs.Nodes.{snapshot_kind}
 
 -- a list that has something isn't empty, and the other way round
 some_has : (xs : List ℕ) → not (length xs == 0) ≡ true → (x : ℕ) × (has xs x ≡ true)
@@ -53,7 +53,7 @@ module _ (g : Geometry) (m : Blocks) where
       let r = node_among (blocks_kept g m k) g.i b there in
       let places : places_of g m k ≡ run_places node.runs = ap places_or_none used in
       let f = kept_file (run_places node.runs) r.0 b (kept_nodes g m (run_places node.runs) r.0) refl (ap (λ (ps : List ℕ). has (file_blocks (kept_nodes g m ps r.0)) b) (sym places) ∙ r.1) in
-      (record { snapshot = k; node = node; is_node = used; kind = kind_is node.kind is; number = r.0; place = f.0; has = f.1 }, refl)
+      (record { snapshot = k; node = node; is_node = used; kind = snapshot_kind node.kind is; number = r.0; place = f.0; has = f.1 }, refl)
 
   one_keeps : (b : ℕ) (one : IsKeptBlock g m b) → keeps_block g m b one.snapshot ≡ true
   one_keeps b one =

@@ -1,6 +1,5 @@
 -- The number of a snapshot, by its name, where blocks stand for a tree: it is the one that the tree has.
-use Rattle.std.proofs.Common.{⊎_elim, ◌≡◌, ◌≢◌, ◌⊎◌, inl, inr, ℕ, zero, suc, ◌+◌, ◌-◌, ◌<◌, ◌≤◌, ◌&&◌, Bool, true, false, cond, find, List, length, take, drop, replicate, get_or, bytes_eq, Option, Some, None, option_map, refl, sym, ap, ap₂, ◌∙◌, arith}
-use Rattle.std.proofs.Math.Seq.{take-append_seam}
+use Rattle.std.proofs.Common.{⊎_elim, ◌≡◌, ◌≢◌, ◌⊎◌, inl, inr, ℕ, zero, suc, ◌+◌, ◌-◌, ◌<◌, ◌≤◌, ◌&&◌, Bool, true, false, cond, find, List, get_or, bytes_eq, Option, Some, None, option_map, refl, sym, ap, ap₂, ◌∙◌, arith}
 use Rattle.std.proofs.lemmas.Bool.{and_parts, cases_Bool, true≢false, false≢true}
 use Rattle.std.proofs.lemmas.Option.{none-some, same_Some}
 use Rattle.std.proofs.lemmas.Slice.Eq.{bytes_eq-Decides}
@@ -10,8 +9,6 @@ use Rattle.base_types.specs.Seal.{Blocks}
 use Rattle.base_types.specs.Runs.{run_places}
 use Rattle.layout_geometry.specs.Geometry.{Geometry}
 use Rattle.layout_bytes.specs.declared.node.Node.{Node}
-use Rattle.layout_bytes.specs.declared.node.NodeKind.{NodeKind}
-use Rattle.layout_bytes.specs.declared.node.NodeKind.TheVariants.{Free, Dir, File, Snapshot}
 use Rattle.layout_bytes.specs.SnapshotName.{name_block}
 use Rattle.lang_tree.specs.Tree.{Tree, Kept}
 use Rattle.crash_stands.specs.Files.{used_node}
@@ -19,6 +16,7 @@ use Rattle.crash_stands.specs.Stands.{IsTreeOf}
 use Rattle.crash_snapshots.specs.Kept.{is_snapshot}
 use Rattle.fs_snapshots.specs.Known.{has_name, snapshot_number}
 use Rattle.fs_snapshots.specs.Among.{used_number}
+use Rattle.fs_snapshots.specs.Nodes.{one_name, snapshot_kind}
 
 -- A test that one number of a range passes alone finds it, and one that none passes finds none.
 
@@ -34,26 +32,13 @@ none_at : (test : ℕ → Bool) (a n : ℕ) → ((l : ℕ) → test l ≡ false)
 none_at test a zero all = refl
 none_at test a (suc n) all = ap (λ b. cond b (Some a) (find test (range_with_len (a + 1) n))) (all a) ∙ none_at test (a + 1) n all
 
--- a block has one name
-pub one_name : (a b : List ℕ) → name_block a ≡ name_block b → a ≡ b
-one_name a b e =
-    let long : length a ≡ length b = ap (λ xs. get_or xs 0 0) e in
-    sym (take-append_seam a (replicate (1023 - length a) 0)) ∙ ap₂ take long (ap (drop 1) e) ∙ take-append_seam b (replicate (1023 - length b) 0)
-
--- a kind that is a snapshot's
-pub kind_is : (kind : NodeKind) → is_snapshot kind ≡ true → kind ≡ Snapshot
-kind_is Free is = absurd (false≢true is)
-kind_is Dir is = absurd (false≢true is)
-kind_is File is = absurd (false≢true is)
-kind_is Snapshot is = refl
-
 module _ (g : Geometry) (m : Blocks) (t : Tree) (stands : IsTreeOf g m t) where
   -- what has the name is the tree's snapshot of this name
   names_one : (name : List ℕ) (k : ℕ) (o : Option Node) → used_node g m k ≡ o → has_name m name o ≡ true → (kept : Kept) × (get t.snapshots name ≡ Some kept) × (kept.number ≡ k)
   names_one name k None used is = absurd (false≢true is)
   names_one name k (Some node) used is =
       let parts = and_parts (is_snapshot node.kind) (bytes_eq (m (get_or (run_places node.runs) 0 0)) (name_block name)) is in
-      let its = stands.each k node used (kind_is node.kind parts.0) in
+      let its = stands.each k node used (snapshot_kind node.kind parts.0) in
       let held = stands.keeps its.0 its.1 its.2 in
       let node_is : held.node ≡ node = same_Some held.node node (sym held.is_node ∙ ap (used_node g m) its.3 ∙ used) in
       let block : m (get_or (run_places node.runs) 0 0) ≡ name_block name = (bytes_eq-Decides (m (get_or (run_places node.runs) 0 0)) (name_block name)).0 parts.1 in

@@ -5,7 +5,8 @@ use Rattle.base_types.specs.Seal.{blocks_of}
 use Rattle.engine_blocks.specs.Puts.{IsData}
 use Rattle.layout_geometry.specs.Geometry.{Geometry}
 use Rattle.crash_stands.specs.Places.{table_blocks}
-use Rattle.fs_check.proofs.keeping.Dirs.{has_dir, part_data, part_whole}
+use Rattle.fs_snapshots.specs.Nodes.{part_data}
+use Rattle.fs_check.proofs.keeping.Dirs.{has_dir, part_whole}
 use Rattle.fs_check.proofs.keeping.Kept.{kept_on, next_dir, next_file, next_free, snapshot_broken, tail_broken}
 use Rattle.fs_check.proofs.sound.Nodes.{places_fit}
 use Rattle.fs_check.proofs.kept_table.check_kept_used.Goals as goal

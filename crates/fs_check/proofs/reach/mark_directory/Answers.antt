@@ -1,9 +1,10 @@
 use Rattle.std.proofs.Common.{sym, ap, ◌∙◌}
 use Rattle.std.proofs.lemmas.Result.{err_from_is_err_and}
+use Rattle.fs_snapshots.specs.Nodes.{same_slots}
 use Rattle.fs_check.specs.Damage.{IsBroken}
 use Rattle.fs_check.proofs.Looking.{none_broken}
 use Rattle.fs_check.specs.Marks.{targets}
-use Rattle.fs_check.proofs.Seeing.{dir_some, dir_none, dir_used, same_slots}
+use Rattle.fs_check.proofs.Seeing.{dir_some, dir_none, dir_used}
 use Rattle.fs_check.proofs.reach.mark_directory.Goals as goal
 
 pub read_slots-requires-clause-used : goal.read_slots-requires-clause-used

@@ -2,7 +2,8 @@ use Rattle.std.proofs.Common.{◌-◌, Some, None, option_map, sym, ap, subst, r
 use Rattle.layout_geometry.specs.Geometry.{IsGeometry}
 use Rattle.fs_files.specs.Given.{node_of_file}
 use Rattle.fs_snapshots.specs.Kept.{KeptState}
-use Rattle.fs_snapshots.proofs.KeptOpens.{dir_data, dir_told, facts_told, file_told, node_read, none_told, table_read}
+use Rattle.fs_snapshots.specs.Nodes.{part_data}
+use Rattle.fs_snapshots.proofs.KeptOpens.{dir_told, facts_told, file_told, node_read, none_told, table_read}
 use Rattle.fs_snapshots.proofs.reading.KeptNodesNodes.open.Goals as goal
 
 pub returns-in_default-clause-facts : goal.returns-in_default-clause-facts
@@ -43,7 +44,7 @@ returns-in-Dir-clause-places g c = λ tells.
 
 pub returns-in-Dir-clause-data : goal.returns-in-Dir-clause-data
 returns-in-Dir-clause-data g c =
-    dir_data (g.S.Blocks.state c.args.blocks.now).books.geom c.args.self.now.places c.directory_places.result _ _ c.requires.may.gone.«data» c.directory_places.ensures
+    part_data (g.S.Blocks.state c.args.blocks.now).books.geom c.args.self.now.places c.directory_places.result _ _ c.requires.may.gone.«data» c.directory_places.ensures
 
 pub returns-in-File-clause-facts : goal.returns-in-File-clause-facts
 returns-in-File-clause-facts g c = λ tells.
