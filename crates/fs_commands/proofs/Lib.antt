@@ -22,4 +22,5 @@ pub mod listed
 pub mod numbered
 pub mod gathered
 pub mod snapped
+pub mod Holding
 pub mod unsnapped

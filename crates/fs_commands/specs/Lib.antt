@@ -1,4 +1,5 @@
 pub mod Known
+pub mod Held
 pub mod Gathering
 pub mod Snapping
 pub mod Looks

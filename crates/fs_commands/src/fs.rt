@@ -17,6 +17,7 @@ ghost use Rattle.fs_commands.specs.Listing.{ended_by_read, ended_by_push, ended_
 ghost use Rattle.fs_session.specs.Sessions.{IsSession, Stands};
 
 use crate::commands::answer;
+use crate::held::HeldNodes;
 use crate::kept_listing::list_all;
 use crate::known::KnownSnapshots;
 use crate::listing::ListRefusal;
@@ -37,6 +38,8 @@ pub struct Fs<S: Blocks> {
     unused: UnusedNodes,
     /// What is known of the snapshots.
     known: KnownSnapshots,
+    /// What the snapshot keeps at which a command looked last.
+    held: Option<HeldNodes>,
 }
 
 impl<S: Blocks> Fs<S> {
@@ -64,6 +67,7 @@ impl<S: Blocks> Fs<S> {
                 blocks,
                 unused: UnusedNodes::new(),
                 known: KnownSnapshots::of(found),
+                held: None,
             }),
             Err(why) => Err((blocks, why)),
         }
@@ -88,6 +92,7 @@ impl<S: Blocks> Fs<S> {
             cmd,
             &mut self.unused,
             &mut self.known,
+            &mut self.held,
         )
     }
 
@@ -137,6 +142,7 @@ impl<S: Blocks> Fs<S> {
             blocks,
             unused: _,
             known: _,
+            held: _,
         } = self;
         blocks
     }

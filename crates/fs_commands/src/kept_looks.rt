@@ -1,5 +1,5 @@
 //! The commands snaps and at: the names of the snapshots, and a look at what one keeps. The looks are those at the tree,
-//! over the snapshot's nodes. Nothing is changed.
+//! over the snapshot's nodes, which `held` keeps in memory. No block is changed.
 
 ghost use Rattle.std.specs.Prelude.{◌≡◌, IsTrue, Some, IfOk, IfErr, IfSome};
 ghost use Rattle.lang_tree.specs.declared.command.Cmd.TheVariants.{At, Snaps};
@@ -11,6 +11,7 @@ ghost use Rattle.fs_files.specs.Calls.{LookRefused};
 ghost use Rattle.fs_files.specs.Content.{fails_reading};
 ghost use Rattle.fs_files.specs.Effects.{LooksOnly};
 ghost use Rattle.crash_stands.specs.Stands.{KeepsTree};
+ghost use Rattle.fs_commands.specs.Held.{Holds};
 ghost use Rattle.fs_commands.specs.Known.{Knows, counts_in};
 ghost use Rattle.fs_commands.specs.Looks.{IsMapOfSession};
 ghost use Rattle.fs_commands.specs.Refusals.{kept_refusal};
@@ -21,6 +22,7 @@ ghost use Rattle.fs_session.specs.Plans.{IsAnswer, Plans};
 ghost use Rattle.fs_session.specs.Sessions.{MayBegin, MayPlan};
 
 use crate::begins::a_draft_may_begin;
+use crate::held::{HeldNodes, hold};
 use crate::known::KnownSnapshots;
 use crate::listing::is_in_table;
 use crate::look::{list_in, read_in, stat_in};
@@ -58,7 +60,8 @@ pub(crate) fn plan_snaps<'a, S: Blocks>(
     }
 }
 
-/// Plans a look at what the snapshot of this name keeps: its reply. Where no snapshot has the name nothing is read.
+/// Plans a look at what the snapshot of this name keeps: its reply. Where no snapshot has the name nothing is read; else
+/// the snapshot's nodes are held then.
 ///
 /// # Errors
 /// A read of the disk failed; or out of memory.
@@ -68,11 +71,14 @@ pub(crate) fn plan_at<'a, S: Blocks>(
     name: &Name,
     look: &Look,
     known: &KnownSnapshots,
+    held: &mut Option<HeldNodes>,
 ) -> Result<Plan<'a>, Refusal>
     requires may { MayPlan S.tells (S.state blocks.old) (counts_in known.now) }
     requires knows { Knows S.tells (S.state blocks.old) known.now }
+    requires holds { Holds S.tells (S.state blocks.old) held.old }
     ensures plans { Plans S.tells (At name.now look.now) result (S.state blocks.old) (S.state blocks.new) }
     ensures answers { IsAnswer result }
+    ensures holds { Holds S.tells (S.state blocks.new) held.new }
 {
     calls_compose::<S>();
     what_is_known_of_snapshots_is_so();
@@ -80,7 +86,7 @@ pub(crate) fn plan_at<'a, S: Blocks>(
     let Some(number) = known.number(name) else {
         return Ok(Plan::Answer(Reply::Refused(Refusal::NoSnap)));
     };
-    match look_at_kept(alloc, blocks, number, look, known.shared()) {
+    match look_at_kept(alloc, blocks, number, look, known.shared(), held) {
         Ok(reply) => Ok(Plan::Answer(reply)),
         Err(why) => Err(refusal_of(why)),
     }
@@ -96,18 +102,22 @@ fn look_at_kept<S: Blocks>(
     number: u32,
     look: &Look,
     shared: &Shared,
+    held: &mut Option<HeldNodes>,
 ) -> Result<Reply, FileRefusal>
     requires begin { MayBegin S.tells (S.state blocks.old) shared.now }
     requires snapshot { IsTrue S.tells → IsSnapshot (S.state blocks.old).books.geom (S.state blocks.old).map number }
+    requires holds { Holds S.tells (S.state blocks.old) held.old }
     ensures answer { IsTrue S.tells → IfOk result (λ reply. (k : Kept) (f : Session)
         → KeepsTree (S.state blocks.old).books.geom (S.state blocks.old).map (places_of (S.state blocks.old) number) k
         → f ≡ session_on (S.state blocks.old).books.geom.i (kept_tree k) → reply ≡ (step f (look_command look.now)).1) }
     ensures refused { IfErr result LookRefused }
     ensures looks { LooksOnly S.tells (fails_reading result) (S.state blocks.old) (S.state blocks.new) }
+    ensures holds { Holds S.tells (S.state blocks.new) held.new }
 {
     kept_nodes_have_the_map_of_their_tree();
-    match kept_nodes(alloc, blocks, number, shared)? {
-        Some(kept) => look_in(&kept, alloc, blocks, look),
+    hold(alloc, blocks, number, shared, held)?;
+    match held {
+        Some(kept) => look_in(&kept.nodes, alloc, blocks, look),
         None => Ok(Reply::Refused(Refusal::NoSnap)),
     }
 }

@@ -12,6 +12,7 @@ mod fills;
 mod found;
 mod fs;
 mod gathering;
+mod held;
 mod kept_listing;
 mod kept_looks;
 mod known;

@@ -1,5 +1,5 @@
 -- What a file that is written or gets another size takes, from how many of its blocks are shared.
-use Rattle.std.proofs.Common.{◌≡◌, ◌≢◌, ℕ, ◌+◌, ◌-◌, ◌<◌, ◌==◌, nat_lt, min, max, Bool, true, false, if◌then◌else◌, sym, subst, ap, ap₂, ◌∙◌, arith}
+use Rattle.std.proofs.Common.{◌≡◌, ◌≢◌, ℕ, ◌+◌, ◌-◌, ◌<◌, ◌==◌, nat_lt, min, Bool, if◌then◌else◌, sym, ap, ap₂, ◌∙◌, arith}
 use Rattle.std.proofs.lemmas.Bool.{cond-false, ne_eqb, lt-ltb, le-ltb}
 use Rattle.lang_tree.specs.Figures.{Figures, nothing, blocks_for, shrinking}
 use Rattle.lang_tree.specs.Sharing.{SharedPlaces, alone_from, cutting, shared_met, truncate_over_figures, write_over_figures, writing_over}

@@ -1,8 +1,7 @@
 -- How many of a file's blocks are shared in a session, from how many of them snapshots keep.
-use Rattle.std.proofs.Common.{◌≡◌, ℕ, ◌-◌, ◌==◌, if◌then◌else◌, List, length, Option, Some, refl, sym, ap, ap₂, ◌∙◌}
+use Rattle.std.proofs.Common.{◌≡◌, ℕ, ◌-◌, ◌==◌, if◌then◌else◌, List, length, Some, sym, ap, ap₂, ◌∙◌}
 use mathlib.Core.Path.{fun_ext}
-use Rattle.lang_tree.specs.Figures.{blocks_for}
-use Rattle.lang_tree.specs.Sharing.{SharedPlaces, alone_from, shared_at, shared_met}
+use Rattle.lang_tree.specs.Sharing.{SharedPlaces, shared_at, shared_met}
 use Rattle.lang_tree.specs.Step.{Session}
 use Rattle.crash_stands.specs.Files.{FileNode}
 use Rattle.crash_stands.specs.Walks.{LeadsTo}

@@ -1,5 +1,5 @@
 -- How many blocks of a node snapshots keep, from a count of some of its places.
-use Rattle.std.proofs.Common.{◌≡◌, ℕ, ◌-◌, ◌/◌, ◌<◌, ◌≤◌, ◌==◌, min, List, [], length, Option, None, Some, option_map, Result, Ok, Err, IfOk, refl, sym, ap, ap₂, ◌∙◌, arith}
+use Rattle.std.proofs.Common.{◌≡◌, ℕ, ◌-◌, ◌/◌, ◌<◌, ◌≤◌, ◌==◌, List, [], length, Option, None, Some, option_map, Result, Ok, Err, IfOk, refl, sym, ap, ap₂, ◌∙◌, arith}
 use Rattle.std.proofs.lemmas.Option.{none-some}
 use Rattle.lang_tree.specs.Figures.{blocks_for}
 use Rattle.lang_tree.specs.Sharing.{SharedPlaces, alone_from, shared_met}
@@ -10,7 +10,6 @@ use Rattle.fs_commands.proofs.counting.Touched.{count, kept_past, met_between}
 use Rattle.layout_bytes.specs.declared.node.Node.{Node}
 use Rattle.crash_stands.specs.Files.{FileNode, file_of, used_node}
 use Rattle.engine_blocks.specs.State.{State}
-use Rattle.fs_files.specs.declared.look.FileFacts.{FileFacts}
 use Rattle.fs_files.specs.Calls.{facts_of, files_in, places_in, places_or_none}
 use Rattle.fs_files.specs.Drafts.{DraftState, drafted, nothing_drafted}
 

@@ -1,5 +1,5 @@
 -- When a draft leaves the snapshots as they are: where just nodes that are none changed.
-use Rattle.std.proofs.Common.{⊎_elim, ◌≡◌, ◌≢◌, ◌↔◌, ℕ, Bool, false, IsTrue, List, Option, None, Some, refl, sym, subst, ap, ap₂, ◌∙◌}
+use Rattle.std.proofs.Common.{⊎_elim, ◌≡◌, ◌≢◌, ◌↔◌, ℕ, Bool, false, IsTrue, List, None, Some, refl, sym, subst, ap, ap₂, ◌∙◌}
 use Rattle.std.proofs.lemmas.Bool.{cases_eq, true≢false}
 use Rattle.std.proofs.lemmas.Option.{none-some, same_Some}
 use Rattle.base_types.specs.Seal.{Blocks}
@@ -9,7 +9,7 @@ use Rattle.lang_tree.specs.declared.command.Cmd.{Cmd}
 use Rattle.lang_tree.specs.declared.command.Cmd.TheVariants.{Snap, Unsnap}
 use Rattle.lang_tree.specs.Step.{Session, changes_snapshots}
 use Rattle.crash_stands.specs.Files.{FileNode, Files}
-use Rattle.engine_blocks.specs.State.{Bookkeeping, State}
+use Rattle.engine_blocks.specs.State.{State}
 use Rattle.fs_files.specs.Calls.{files_in, places_in, places_of as places_by}
 use Rattle.fs_files.specs.Drafts.{DraftState, drafted, nothing_drafted}
 use Rattle.fs_files.specs.Effects.{LooksAndSettles}

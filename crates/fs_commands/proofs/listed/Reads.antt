@@ -13,9 +13,10 @@ use Rattle.fs_files.specs.declared.look.FileFacts.{FileFacts}
 use Rattle.fs_files.specs.Calls.{facts_of, is_dir}
 use Rattle.fs_files.specs.Effects.{LooksOnly}
 use Rattle.fs_files.specs.NodeMaps.{NodeMap}
+use Rattle.fs_snapshots.specs.Nodes.{facts_are, not_file}
 use Rattle.fs_commands.specs.Listing.{IsMapIn}
-use Rattle.fs_commands.proofs.looking.Found.{facts_are, is_used}
-use Rattle.fs_commands.proofs.looking.Facts.{file_told, not_file}
+use Rattle.fs_commands.proofs.looking.Found.{is_used}
+use Rattle.fs_commands.proofs.looking.Facts.{file_told}
 
 -- where blocks were only read, the map is that of the tree still
 pub map_stays : (tells failed : Bool) (s t : State) (v u : NodeMap) → LooksOnly tells failed s t → u ≡ v → (m : Inodes) (tree : Tree) → IsMapIn s v m tree → IsMapIn t u m tree

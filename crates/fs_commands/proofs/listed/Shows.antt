@@ -20,10 +20,10 @@ use Rattle.fs_files.specs.Asks.{MayRead}
 use Rattle.fs_files.specs.Calls.{facts_of, is_dir}
 use Rattle.fs_files.specs.Effects.{LooksOnly}
 use Rattle.fs_files.specs.NodeMaps.{NodeMap}
+use Rattle.fs_snapshots.specs.Nodes.{facts_are}
 use Rattle.fs_dirs.specs.Directories.{IsNumber}
 use Rattle.fs_commands.specs.declared.listing.Walk.{Walk}
 use Rattle.fs_commands.specs.Listing.{MayReadNode, IsMapIn, lines_of, under_names, to_come, AreFrames, IsWalk, HasWritten, Enters}
-use Rattle.fs_commands.proofs.looking.Found.{facts_are}
 use Rattle.fs_commands.proofs.listed.Texts.{IsFirst, IsSecond}
 use Rattle.fs_commands.proofs.listed.Reads.{map_stays, dir_there, bytes_there}
 use Rattle.fs_commands.proofs.listed.Steps.{thing_there, line_front, line_taken, showed_dir, showed_file, may_enter}

@@ -15,13 +15,14 @@ use Rattle.fs_files.specs.declared.look.FileFacts.{FileFacts}
 use Rattle.fs_files.specs.Calls.{facts_of, files_in}
 use Rattle.fs_files.specs.Drafts.{DraftState, begun_beside, nothing_drafted}
 use Rattle.fs_files.specs.Effects.{LooksOnly}
+use Rattle.fs_snapshots.specs.Nodes.{facts_are}
 use Rattle.fs_dirs.specs.declared.lookup.Directory.{Directory}
 use Rattle.fs_dirs.specs.declared.lookup.Found.{Found}
 use Rattle.fs_dirs.specs.Directories.{inodes_in, EndsAtParent, Finds}
 use Rattle.fs_commands.specs.declared.paths.Entry.{Entry}
 use Rattle.fs_commands.specs.declared.paths.Spot.TheVariants.{Inside}
 use Rattle.fs_commands.specs.Looks.{ComesTo, HasEntry}
-use Rattle.fs_commands.proofs.looking.Found.{facts_are, files_stay, is_used}
+use Rattle.fs_commands.proofs.looking.Found.{files_stay, is_used}
 use Rattle.fs_commands.proofs.looking.Spots.{from_end, above}
 use Rattle.fs_commands.proofs.Given.{PlaceLaw}
 

@@ -1,5 +1,5 @@
 -- What inodes say of the node at a path, from what is known of the node.
-use Rattle.std.proofs.Common.{◌≡◌, ℕ, ◌*◌, ◌%◌, Bool, true, false, not, nat_lt, List, [], ◌∷◌, length, Option, None, Some, option_map, option_and_then, ◌==◌, refl, sym, subst, ap, ◌∙◌, arith}
+use Rattle.std.proofs.Common.{◌≡◌, ℕ, ◌*◌, ◌%◌, Bool, true, false, not, nat_lt, List, [], ◌∷◌, length, Option, Some, option_and_then, ◌==◌, refl, sym, subst, ap, ◌∙◌, arith}
 use Rattle.std.proofs.lemmas.Bool.{true≢false, lt-ltb, eqb-true}
 use Rattle.std.proofs.lemmas.Option.{none-some, same_Some}
 use Rattle.layout_bytes.specs.declared.slot.Slot.{Slot}
@@ -11,15 +11,10 @@ use Rattle.crash_stands.specs.Inodes.{Inode, ADir, AFile, inode_by, inode_of, in
 use Rattle.crash_stands.specs.Walks.{LeadsTo}
 use Rattle.fs_inodes.specs.Lookups.{is_dir_inode, is_file_inode, is_list, has_slots, links_in, bytes_of, inode_at}
 use Rattle.fs_files.specs.Calls.{facts_of, is_dir}
+use Rattle.fs_snapshots.specs.Nodes.{not_file}
 use Rattle.fs_commands.specs.Looks.{ShowsFacts}
 
--- what reads as a directory isn't a file
-pub not_file : (b : Bool) (o : Option (List Slot)) (links : ℕ) (bytes : List ℕ) → when b (option_map ADir o) ≡ Some (AFile links bytes) → ⊥
-not_file false o links bytes e = absurd cc
-not_file true None links bytes e = absurd cc
-not_file true (Some slots) links bytes e = absurd cc
-
--- and it has one link
+-- what reads as a directory has one link
 one_link : (links : ℕ) (b : Bool) (o : Option Inode) (slots : List Slot) → (links == 1) ≡ b → when b o ≡ Some (ADir slots) → 1 ≡ links
 one_link links false o slots is e = absurd (none-some (ADir slots) e)
 one_link links true o slots is e = sym (eqb-true links 1 is)

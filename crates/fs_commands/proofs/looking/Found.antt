@@ -1,5 +1,5 @@
 -- What a path leads to, from the number that a walk comes to and what is known of the node. Looks come one behind the other.
-use Rattle.std.proofs.Common.{◌≡◌, ℕ, Bool, false, IsTrue, List, Option, None, Some, Result, Ok, Err, IfOk, option_map, option_and_then, refl, sym, subst, ap, ap₂, ◌∙◌, arith}
+use Rattle.std.proofs.Common.{◌≡◌, ℕ, Bool, false, IsTrue, List, Option, None, Some, Result, Ok, Err, IfOk, option_map, option_and_then, sym, subst, ap, ap₂, ◌∙◌, arith}
 use Rattle.std.proofs.lemmas.Option.{none-some}
 use Rattle.base_types.specs.Seal.{Blocks}
 use Rattle.layout_geometry.specs.Geometry.{Geometry}
@@ -9,7 +9,6 @@ use Rattle.lang_tree.specs.Tree.{Tree}
 use Rattle.crash_stands.specs.Files.{FileNode, Files, files_of}
 use Rattle.crash_stands.specs.Inodes.{Inode, inode_of, inodes_of}
 use Rattle.crash_stands.specs.Maps.{IsMapOf}
-use Rattle.fs_files.specs.declared.look.FileFacts.{FileFacts}
 use Rattle.fs_files.specs.Calls.{facts_of, files_in}
 use Rattle.fs_files.specs.Drafts.{DraftState, begun_beside, nothing_drafted, drafted}
 use Rattle.fs_files.specs.Effects.{LooksAndSettles, LooksOnly}
@@ -37,11 +36,6 @@ settled_files tells read_failed failed s t h told = ap₂ (λ (g : Geometry) (m 
 -- what a draft makes of the nodes in use, it makes of those of other blocks with the same files
 pub uses_of : (nodes : NodeUse) (s t : State) (d : DraftState) → files_in t nothing_drafted ≡ files_in s nothing_drafted → KeepsUsed nodes (files_in s nothing_drafted) (files_in t d) → KeepsUsed nodes (files_of t.books.geom t.map) (files_in t d)
 uses_of nodes s t d same h = subst (λ (files : Files). KeepsUsed nodes files (files_in t d)) (sym same) h
-
--- where something is known of a node, it is in use
-pub facts_are : (o : Option FileNode) (facts : FileFacts) → Some facts ≡ option_map facts_of o → (x : FileNode) × (o ≡ Some x) × (facts ≡ facts_of x)
-facts_are None facts e = absurd (none-some facts (sym e))
-facts_are (Some x) facts e = (x, refl, cc)
 
 -- a node that reads as an inode is in use
 pub is_used : (o : Option FileNode) (x : Inode) → option_and_then inode_of o ≡ Some x → None ≡ option_map facts_of o → ⊥

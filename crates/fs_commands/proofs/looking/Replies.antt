@@ -29,10 +29,11 @@ use Rattle.fs_inodes.specs.Names.{names_of, stat_at, stat_by}
 use Rattle.fs_inodes.specs.Replies.{reply_by, reply_of}
 use Rattle.fs_commands.specs.Looks.{stat_of_kind, IsMapOfSession, LeadsToFound}
 use Rattle.fs_session.specs.Sessions.{IsSession}
-use Rattle.fs_commands.proofs.looking.Facts.{file_told, kind_told, not_file}
+use Rattle.fs_commands.proofs.looking.Facts.{file_told, kind_told}
 use Rattle.fs_commands.proofs.Given.{EndsLaw, MapLaw, ReplyLaw}
 use Rattle.fs_commands.specs.declared.paths.NodeFound.{NodeFound}
 use Rattle.fs_files.specs.declared.look.FileFacts.{FileFacts}
+use Rattle.fs_snapshots.specs.Nodes.{not_file}
 
 -- what is told of a node that reads as an inode is what the inode gives
 pub stat_told : (kind : NodeKind) (links : ℕ) (bytes : List ℕ) (inode : Inode) (n : ℕ) → inode_by kind links bytes ≡ Some inode

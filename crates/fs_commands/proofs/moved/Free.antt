@@ -7,6 +7,7 @@ use Rattle.crash_stands.specs.Inodes.{inodes_of}
 use Rattle.crash_stands.specs.Walks.{node_in}
 use Rattle.fs_inodes.specs.Changes.{slot_of, with_slot, MovesSlot}
 use Rattle.fs_files.specs.Calls.{IsWithPlaces}
+use Rattle.fs_snapshots.specs.Nodes.{same_slots}
 use Rattle.fs_dirs.specs.Changing.{IsWithSlots}
 use Rattle.fs_commands.specs.declared.removing.Named.{Named}
 use Rattle.fs_commands.specs.Moving.{HasNamed, LacksName}
@@ -16,7 +17,7 @@ use Rattle.fs_session.specs.Snapshots.{LeavesSnapshots}
 use Rattle.fs_commands.proofs.keeping.Begun.{slots_leave}
 use Rattle.fs_commands.proofs.keeping.Leaves.{leaves_then}
 use Rattle.fs_commands.proofs.moved.Onto.{place_within}
-use Rattle.fs_commands.proofs.moved.Slots.{within, across, slots_same}
+use Rattle.fs_commands.proofs.moved.Slots.{within, across}
 use Rattle.fs_commands.proofs.removed.Slots.{slots_used}
 
 -- within one directory
@@ -25,7 +26,7 @@ module _ (f0 f1 : Files) (source : Named) (name other : List ℕ) (hs : HasNamed
     (law : (slots : List Slot) (s : Slot) (place : ℕ) → place_of s.name slots ≡ None → place < length slots → without_at place (with_slot slots s) ≡ set slots place s) where
   pub moves_within : MovesSlot (inodes_of f0) (inodes_of f1) source.dir source.dir source.entry.node.number name other
   moves_within =
-      let same = slots_same free.slots hs.slots (sym free.dir_is ∙ hs.dir) in
+      let same = same_slots free.slots hs.slots (sym free.dir_is ∙ hs.dir) in
       within (inodes_of f0) (inodes_of f1) source.dir source.entry.node.number source.entry.place name other hs.slots law hs.dir hs.slot (place_within (inodes_of f0) name source hs)
       (subst (λ (xs : List Slot). place_of other xs ≡ None) same free.none) (subst (λ (xs : List Slot). node_in xs other ≡ None) same free.nothing) one.inodes
 

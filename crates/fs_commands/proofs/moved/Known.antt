@@ -19,6 +19,7 @@ use Rattle.fs_files.specs.declared.look.FileFacts.{FileFacts}
 use Rattle.fs_files.specs.Calls.{files_in, is_dir}
 use Rattle.fs_files.specs.Drafts.{nothing_drafted}
 use Rattle.fs_files.specs.Effects.{LooksOnly}
+use Rattle.fs_snapshots.specs.Nodes.{same_slots}
 use Rattle.fs_commands.specs.declared.paths.Entry.{Entry}
 use Rattle.fs_commands.specs.declared.paths.Spot.{Spot}
 use Rattle.fs_commands.specs.declared.paths.Spot.TheVariants.{Inside}
@@ -30,7 +31,6 @@ use Rattle.fs_commands.specs.Figures.{HasFacts}
 use Rattle.fs_session.specs.Sessions.{inodes}
 use Rattle.fs_commands.proofs.looking.Found.{same_files}
 use Rattle.fs_commands.proofs.removed.Accepted.{bare_facts, file_bare}
-use Rattle.fs_commands.proofs.moved.Slots.{slots_same}
 use Rattle.fs_commands.proofs.removed.Slots.{apart}
 use Rattle.fs_commands.proofs.FirstReason.{no_reason, no_when}
 use Rattle.fs_commands.proofs.Given.{EndsLaw, PlaceLaw}
@@ -170,7 +170,7 @@ known_onto s from to source target other place move k a b there inode shown fits
 
 -- to a free name of the source's directory
 same_count : (files : Files) (dir a b : ℕ) (x y : List ℕ) (e f : Option Entry) → HasEntry files dir a x e → HasEntry files dir b y f → a ≡ b
-same_count files dir a b x y e f g h = g.count ∙ ap length (slots_same g.slots h.slots (sym g.dir ∙ h.dir)) ∙ sym h.count
+same_count files dir a b x y e f g h = g.count ∙ ap length (same_slots g.slots h.slots (sym g.dir ∙ h.dir)) ∙ sym h.count
 
 pub move_within : (files : Files) (from to : List (List ℕ)) (source : Named) (into count : ℕ) (other : List ℕ) → source.dir ≡ into → IsMove files from to source into count None other → IsMove files from to source source.dir source.count None other
 move_within files from to source into count other same move =

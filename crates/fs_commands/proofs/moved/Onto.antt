@@ -9,6 +9,7 @@ use Rattle.crash_stands.specs.Files.{Files}
 use Rattle.crash_stands.specs.Inodes.{Inode, Inodes, ADir, AreInodesOf, inodes_of}
 use Rattle.fs_inodes.specs.Changes.{slot_of, MovesSlot}
 use Rattle.fs_files.specs.Calls.{IsWithPlaces}
+use Rattle.fs_snapshots.specs.Nodes.{same_slots}
 use Rattle.fs_dirs.specs.Changing.{IsWithSlots}
 use Rattle.fs_commands.specs.declared.removing.Named.{Named}
 use Rattle.fs_commands.specs.Looks.{IsNoSnapshot}
@@ -19,7 +20,7 @@ use Rattle.fs_session.specs.Snapshots.{LeavesSnapshots}
 use Rattle.fs_commands.proofs.keeping.Begun.{slots_leave}
 use Rattle.fs_commands.proofs.keeping.Leaves.{leaves_then}
 use Rattle.fs_commands.proofs.looking.InUse.{no_snapshot}
-use Rattle.fs_commands.proofs.moved.Slots.{onto, slots_same}
+use Rattle.fs_commands.proofs.moved.Slots.{onto}
 use Rattle.fs_commands.proofs.removed.Slots.{found_still, lost_inode, lost_others, lost_reads, lost_used, slots_used, uses_then}
 use Rattle.fs_commands.proofs.Given.{SlotsReadLaw}
 
@@ -41,7 +42,7 @@ module _ (f0 f1 : Files) (source target : Named) (name other : List ℕ) (s : Sl
       by (inl e) = record {
         slots = set ht.slots target.entry.place s;
         is = ap (inodes_of f1) e ∙ one.inodes.here;
-        many = length-set ht.slots target.entry.place s ∙ ap length (slots_same ht.slots hs.slots (sym ht.dir ∙ sym (ap (inodes_of f0) e) ∙ hs.dir)) ∙ sym hs.count;
+        many = length-set ht.slots target.entry.place s ∙ ap length (same_slots ht.slots hs.slots (sym ht.dir ∙ sym (ap (inodes_of f0) e) ∙ hs.dir)) ∙ sym hs.count;
       }
       by (inr d) = record { slots = hs.slots; is = one.inodes.others source.dir d ∙ hs.dir; many = sym hs.count }
 

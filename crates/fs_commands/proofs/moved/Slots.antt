@@ -6,10 +6,7 @@ use Rattle.layout_directory.specs.Directory.{place_of, without_at}
 use Rattle.crash_stands.specs.Inodes.{Inodes, ADir}
 use Rattle.crash_stands.specs.Walks.{node_in}
 use Rattle.fs_inodes.specs.Changes.{slot_of, one_link_less, put_at, with_slot, Sets, MovesSlot}
-
--- a directory has one list of slots
-pub slots_same : (a b : List Slot) → Some (ADir a) ≡ Some (ADir b) → a ≡ b
-slots_same a b e = cc
+use Rattle.fs_snapshots.specs.Nodes.{same_slots}
 
 -- a name that has a place is set there, and one that has none comes behind
 pub set_there : (slots : List Slot) (s : Slot) (place : ℕ) → place_of s.name slots ≡ Some place → with_slot slots s ≡ set slots place s
@@ -33,9 +30,9 @@ onto m m1 m2 m3 from into node old place tplace name other slots target after di
   into_dir = tdir;
   differ = λ e. not_node (same_Some old node (sym names ∙ e));
   within = λ same. others from (λ e. not_from (sym e)) ∙ two.here ∙ ap (λ xs. Some (ADir (without_at place xs)))
-      (slots_same after (set target tplace (slot_of node other)) (sym from_after ∙ ap m1 same ∙ one.here) ∙ sym (set_there target (slot_of node other) tplace there));
+      (same_slots after (set target tplace (slot_of node other)) (sym from_after ∙ ap m1 same ∙ one.here) ∙ sym (set_there target (slot_of node other) tplace there));
   across = λ apart. (
-    others from (λ e. not_from (sym e)) ∙ two.here ∙ ap (λ xs. Some (ADir (without_at place xs))) (slots_same after slots (sym from_after ∙ one.others from apart ∙ dir)),
+    others from (λ e. not_from (sym e)) ∙ two.here ∙ ap (λ xs. Some (ADir (without_at place xs))) (same_slots after slots (sym from_after ∙ one.others from apart ∙ dir)),
     others into (λ e. not_into (sym e)) ∙ two.others into (λ e. apart (sym e)) ∙ one.here ∙ ap (λ xs. Some (ADir xs)) (sym (set_there target (slot_of node other) tplace there)),
   );
   left = λ k e. subst (λ n. m3 n ≡ option_and_then one_link_less (m n)) (same_Some old k (sym names ∙ e))

@@ -3,7 +3,7 @@ use Rattle.std.proofs.Common.{◌≡◌, ℕ, Bool, true, false, cond, ◌&&◌,
 use Rattle.std.proofs.lemmas.Bool.{and_parts, cases_Bool, false≢true}
 use Rattle.std.proofs.lemmas.Option.{none-some, same_Some}
 use Rattle.std.specs.List.{AllByRecursion, range_with_len}
-use Rattle.std.specs.Ordering.{eq_by_cmp, is_lt}
+use Rattle.std.specs.Ordering.{is_lt}
 use Rattle.std.specs.declared.cmp.Ordering.{Ordering}
 use Rattle.std.specs.declared.cmp.Ordering.TheVariants.{Less, Equal}
 use Rattle.std.specs.Cmp.{tied_itself}
@@ -14,20 +14,16 @@ use Rattle.base_types.specs.Runs.{run_places}
 use Rattle.base_types.specs.Seal.{Blocks}
 use Rattle.layout_geometry.specs.Geometry.{Geometry}
 use Rattle.layout_bytes.specs.declared.node.Node.{Node}
-use Rattle.layout_bytes.specs.declared.node.NodeKind.{NodeKind}
-use Rattle.layout_bytes.specs.declared.node.NodeKind.TheVariants.{Free, Dir, File, Snapshot}
 use Rattle.layout_bytes.specs.SnapshotName.{name_block}
 use Rattle.crash_stands.specs.Files.{used_node}
 use Rattle.crash_snapshots.specs.Kept.{is_snapshot}
 use Rattle.fs_snapshots.specs.Known.{has_name, snapshot_number}
+use Rattle.fs_snapshots.specs.Nodes.{snapshot_kind}
 use Rattle.fs_commands.specs.Snapping.{IsSnapshot}
-use Rattle.fs_commands.proofs.numbered.Keys.{name_cmp, name_total, name_same, apart, tied}
+use Rattle.fs_commands.proofs.numbered.Keys.{name_cmp, name_total, apart, tied}
 
 no_less : Less ≡ Equal → ⊥
 no_less e = cc
-
-differ : (k q : List ℕ) → name_cmp k q ≡ Less → eq_by_cmp name_cmp q k ≡ false
-differ k q low = apart q k (λ same. no_less (sym low ∙ ap (name_cmp k) same ∙ tied_itself name_total k))
 
 is_less : (o : Ordering) → is_lt o ≡ true → o ≡ Less
 is_less o e = grind (arith, nat_tests)
@@ -45,7 +41,9 @@ module _ {X : Type 0} where
   found_there [] e es rise = ap (λ b. cond b (Some e.1) (find name_cmp e.0 es)) (tied e.0 e.0 refl)
   found_there (f ∷ front) e es rise =
       let parts = and_parts (below_all name_cmp f.0 (front ++ e ∷ es)) (is_sorted name_cmp (front ++ e ∷ es)) rise in
-      ap (λ b. cond b (Some f.1) (find name_cmp e.0 (front ++ e ∷ es))) (differ f.0 e.0 (less_at f.0 front e es parts.0)) ∙ found_there front e es parts.1
+      let low = less_at f.0 front e es parts.0 in
+      let other = apart e.0 f.0 (λ same. no_less (sym low ∙ ap (name_cmp f.0) same ∙ tied_itself name_total f.0)) in
+      ap (λ b. cond b (Some f.1) (find name_cmp e.0 (front ++ e ∷ es))) other ∙ found_there front e es parts.1
 
   each_found : (m : FinMap name_cmp X) (front es : List (List ℕ × X)) → entries m ≡ front ++ es → AllByRecursion (λ e. get m e.0 ≡ Some e.1) es
   each_found m front [] is = tt
@@ -67,16 +65,10 @@ passes test (x ∷ xs) k e = by (cases_Bool (test x)) (passes test xs k)
     by (inl p) later = subst (λ n. test n ≡ true) (same_Some x k (sym (ap (λ b. cond b (Some x) (first test xs)) p) ∙ e)) p
     by (inr f) later = later (sym (ap (λ b. cond b (Some x) (first test xs)) f) ∙ e)
 
-kind_is : (kind : NodeKind) → is_snapshot kind ≡ true → kind ≡ Snapshot
-kind_is Free e = absurd (false≢true e)
-kind_is Dir e = absurd (false≢true e)
-kind_is File e = absurd (false≢true e)
-kind_is Snapshot e = refl
-
 -- so a number that a name has is a snapshot's
 pub named_snapshot : (g : Geometry) (m : Blocks) (name : List ℕ) (n : ℕ) → snapshot_number g m name ≡ Some n → IsSnapshot g m n
 named_snapshot g m name n e = by (used_node g m n) refl (passes (λ k. has_name m name (used_node g m k)) (range_with_len 1 g.i) n e)
   where
     by : (o : Option Node) → used_node g m n ≡ o → has_name m name o ≡ true → IsSnapshot g m n
     by None used is = absurd (false≢true is)
-    by (Some node) used is = (node, used, kind_is node.kind (and_parts (is_snapshot node.kind) (bytes_eq (m (get_or (run_places node.runs) 0 0)) (name_block name)) is).0)
+    by (Some node) used is = (node, used, snapshot_kind node.kind (and_parts (is_snapshot node.kind) (bytes_eq (m (get_or (run_places node.runs) 0 0)) (name_block name)) is).0)

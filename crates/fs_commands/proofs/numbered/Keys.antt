@@ -1,19 +1,19 @@
 -- The numbers of snapshots lie in a search tree over their names, whose entries make a finite map: what is there after an insertion and a removal.
-use Rattle.std.proofs.Common.{◌≡◌, ℕ, Bool, true, false, cond, List, [], ◌∷◌, map, Option, None, Some, sym, refl, ap, ◌∙◌, ◌⊎◌, inl, inr, ⊎_elim, arith}
+use Rattle.std.proofs.Common.{◌≡◌, ℕ, true, false, cond, List, [], ◌∷◌, map, Some, sym, refl, ap, ◌∙◌, ◌⊎◌, inl, inr, ⊎_elim, arith}
 use Rattle.std.proofs.lemmas.Bool.{cases_Bool}
 use Rattle.std.proofs.lemmas.Bool.Decides.{nat_tests}
 use Rattle.std.proofs.lemmas.List.{nil_from_length}
 use Rattle.std.specs.Ordering.{is_eq, eq_by_cmp, match_ordering}
 use Rattle.std.specs.declared.cmp.Ordering.{Ordering}
-use Rattle.std.specs.declared.cmp.Ordering.TheVariants.{Equal, Less}
-use Rattle.std.specs.Cmp.{IsTotalOrder, nat_cmp_total, eq_by_cmp_equiv, tied_itself}
+use Rattle.std.specs.declared.cmp.Ordering.TheVariants.{Less}
+use Rattle.std.specs.Cmp.{IsTotalOrder, nat_cmp_total, eq_by_cmp_equiv, tied_itself, Equal-is}
 use Rattle.std.specs.Cmp.Lexicographic.{lists_total, slice_cmp}
 use Rattle.std.specs.Ordering.{nat_cmp}
 use Rattle.std.specs.List.{AllByRecursion}
 use Rattle.std.specs.List.Sorted.{IsStrictlySortedBy}
-use Rattle.std.specs.Map.{lookup, IsKeyTest, AreApart, KeepsOthers}
+use Rattle.std.specs.Map.{lookup, KeepsOthers}
 use Rattle.std.specs.BTreeMap.{insert_entry}
-use Rattle.std.specs.FinMap.{FinMap, IsAntisymmetric, nat_cmp-IsAntisymmetric, slice_cmp-IsAntisymmetric, get, insert, remove, empty, entries, entries-insert, keys, from_entries, find, put, get-from_entries, get-insert, get-remove, same_map, len-empty, len-entries}
+use Rattle.std.specs.FinMap.{IsAntisymmetric, nat_cmp-IsAntisymmetric, slice_cmp-IsAntisymmetric, get, insert, empty, entries, entries-insert, keys, from_entries, find, put, get-from_entries, get-insert, same_map, len-empty, len-entries}
 use Rattle.std.specs.FinMap.Entries.{find-put, by_order}
 
 abbrev pub name_cmp : List ℕ → List ℕ → Ordering
@@ -25,16 +25,13 @@ name_total = lists_total nat_cmp_total
 pub name_same : IsAntisymmetric name_cmp
 name_same = slice_cmp-IsAntisymmetric nat_cmp-IsAntisymmetric
 
-tie : (r : Ordering) → is_eq r ≡ true → r ≡ Equal
-tie r e = grind (arith, nat_tests)
-
 -- equal names tie
 pub tied : (x y : List ℕ) → x ≡ y → eq_by_cmp name_cmp x y ≡ true
 tied x y e = ap (λ z. eq_by_cmp name_cmp z y) e ∙ ap is_eq (tied_itself name_total y)
 
 -- names are equal, or their test fails
 pub which_key : (x y : List ℕ) → (x ≡ y) ⊎ (eq_by_cmp name_cmp x y ≡ false)
-which_key x y = ⊎_elim (λ e. inl (name_same x y (tie (name_cmp x y) e))) (λ e. inr e) (cases_Bool (eq_by_cmp name_cmp x y))
+which_key x y = ⊎_elim (λ e. inl (name_same x y ((Equal-is (name_cmp x y)).0 e))) (λ e. inr e) (cases_Bool (eq_by_cmp name_cmp x y))
 
 pub apart : (x y : List ℕ) → (x ≡ y → ⊥) → eq_by_cmp name_cmp x y ≡ false
 apart x y off = ⊎_elim (λ e. absurd (off e)) (λ e. e) (which_key x y)
@@ -71,17 +68,11 @@ module _ {X : Type 0} where
   pub put_other : (es us : List (List ℕ × X)) (k : List ℕ) (v : X) → us ≡ insert_entry name_cmp es k v → (q : List ℕ) → (q ≡ k → ⊥) → get (from_entries {R = name_cmp} us) q ≡ get (from_entries {R = name_cmp} es) q
   put_other es us k v is q off = ap (λ m. get m q) (added es us k v is) ∙ get-insert name_total (from_entries es) k v q ∙ ap (λ b. cond b (Some v) (get (from_entries {R = name_cmp} es) q)) (apart q k off)
 
-finds_one : (q : List ℕ) → IsKeyTest (eq_by_cmp name_cmp) (λ k. eq_by_cmp name_cmp q k)
-finds_one q x y is = (eq_by_cmp_equiv name_total).congr q x y is
-
-tests_apart : (p q : List ℕ) → eq_by_cmp name_cmp q p ≡ false → AreApart (λ k. eq_by_cmp name_cmp p k) (λ k. eq_by_cmp name_cmp q k)
-tests_apart p q not k is = ap (eq_by_cmp name_cmp q) (sym (name_same p k (tie _ is))) ∙ not
-
 -- every other name than one that was taken out has what it had
 pub gone_other : {X : Type 0} (p : List ℕ) (es us : List (List ℕ × X)) → KeepsOthers (eq_by_cmp name_cmp) (λ k. eq_by_cmp name_cmp p k) es us → (q : List ℕ) → (q ≡ p → ⊥)
     → get (from_entries {R = name_cmp} us) q ≡ get (from_entries {R = name_cmp} es) q
 unfolding KeepsOthers
-gone_other p es us kept q off = sym (found q us) ∙ kept (λ k. eq_by_cmp name_cmp q k) (finds_one q) (tests_apart p q (apart q p off)) ∙ found q es
+gone_other p es us kept q off = sym (found q us) ∙ kept (λ k. eq_by_cmp name_cmp q k) ((eq_by_cmp_equiv name_total).congr q) (λ k is. ap (eq_by_cmp name_cmp q) (sym (name_same p k ((Equal-is (name_cmp p k)).0 is))) ∙ apart q p off) ∙ found q es
 
 -- The entries of a search tree are those of the finite map, in their order.
 module _ {X : Type 0} where

@@ -1,23 +1,16 @@
 -- Which numbers a list has, and how counts change where those of a list are counted one by one.
-use Rattle.std.proofs.Common.{slice_set, ◌≡◌, ◌≢◌, ℕ, zero, suc, ◌+◌, ◌-◌, ◌<◌, ◌≤◌, ◌==◌, Bool, true, false, ◌||◌, if◌then◌else◌, List, [], ◌∷◌, ◌++◌, length, take, get_or, All, AllPairs, refl, sym, ap, ap₂, subst, ◌∙◌, ◌⊎◌, inl, inr, arith, eq-eqb, true≢false}
+use Rattle.std.proofs.Common.{slice_set, ◌≡◌, ◌≢◌, ℕ, zero, suc, ◌+◌, ◌-◌, ◌<◌, ◌≤◌, ◌==◌, Bool, true, false, ◌||◌, if◌then◌else◌, List, [], ◌∷◌, ◌++◌, length, take, get_or, AllPairs, refl, sym, ap, ap₂, subst, ◌∙◌, ◌⊎◌, inl, inr, arith, eq-eqb, true≢false}
 use Rattle.std.proofs.lemmas.Bool.{cases_Bool, eqb-true, ne_eqb}
-use Rattle.std.proofs.Math.Bool.{or_assoc}
+use Rattle.std.proofs.Math.Bool.{or_assoc, or-false, or-true}
 use Rattle.std.proofs.lemmas.List.{get_or-set_same, get_or-set_other}
-use Rattle.std.proofs.lemmas.Bool.Decides.{nat_tests}
 use Rattle.engine_blocks.specs.Running.{has}
 use Rattle.fs_files.specs.Shared.{keepers, SetsKeepers}
 use Rattle.fs_commands.specs.Known.{CountsIn, CountsOut}
 
-or_true : (a : Bool) → (a || true) ≡ true
-or_true a = grind (arith, nat_tests)
-
-or_none : (a : Bool) → (a || false) ≡ a
-or_none a = grind (arith, nat_tests)
-
 -- one more of a list is taken
 has_next : (xs : List ℕ) (i c : ℕ) → i < length xs → has (take (suc i) xs) c ≡ (has (take i xs) c || (c == get_or xs i 0))
 has_next [] i c low = absurd (omega (arith, low))
-has_next (x ∷ xs) zero c low = or_none (c == x)
+has_next (x ∷ xs) zero c low = or-false (c == x)
 has_next (x ∷ xs) (suc i) c low = ap (λ t. (c == x) || t) (has_next xs i c (omega (arith, low))) ∙ sym (or_assoc (c == x) (has (take i xs) c) (c == get_or xs i 0))
 
 -- where no two are the same, a number isn't among those before it
@@ -38,7 +31,7 @@ module _ (xs : List ℕ) (i : ℕ) (low : i < length xs) (once : AllPairs (λ a 
       ∙ sym (ap (λ t. bit t + 1) (not_before xs i low once))
 
   counted_else : (c : ℕ) → (c == get_or xs i 0) ≡ false → bit (has (take (suc i) xs) c) ≡ bit (has (take i xs) c)
-  counted_else c off = ap bit (has_next xs i c low ∙ ap (λ t. has (take i xs) c || t) off ∙ or_none (has (take i xs) c))
+  counted_else c off = ap bit (has_next xs i c low ∙ ap (λ t. has (take i xs) c || t) off ∙ or-false (has (take i xs) c))
 
   module _ (old mid new : List ℕ) where
     -- it wasn't counted so far
@@ -71,5 +64,5 @@ pub marked_more : (xs : List ℕ) (i : ℕ) (marks : List Bool) (n : ℕ) → i 
 marked_more xs i marks n low fits long h b below = by (cases_Bool (b == get_or xs i 0)) ∙ sym (ap (λ k. has (take k xs) b) {x = i + 1} {y = suc i} (omega arith) ∙ has_next xs i b low)
   where
     by : ((b == get_or xs i 0) ≡ true) ⊎ ((b == get_or xs i 0) ≡ false) → get_or (slice_set marks (get_or xs i 0) true) b false ≡ (has (take i xs) b || (b == get_or xs i 0))
-    by (inl e) = ap (λ k. get_or (slice_set marks (get_or xs i 0) true) k false) (eqb-true b (get_or xs i 0) e) ∙ get_or-set_same marks (get_or xs i 0) true false (omega (arith, fits, long)) ∙ sym (ap (λ t. has (take i xs) b || t) e ∙ or_true (has (take i xs) b))
-    by (inr off) = get_or-set_other marks (get_or xs i 0) b true false (λ e. absurd (true≢false (sym (eq-eqb b (get_or xs i 0) e) ∙ off))) ∙ h b below ∙ sym (ap (λ t. has (take i xs) b || t) off ∙ or_none (has (take i xs) b))
+    by (inl e) = ap (λ k. get_or (slice_set marks (get_or xs i 0) true) k false) (eqb-true b (get_or xs i 0) e) ∙ get_or-set_same marks (get_or xs i 0) true false (omega (arith, fits, long)) ∙ sym (ap (λ t. has (take i xs) b || t) e ∙ or-true (has (take i xs) b))
+    by (inr off) = get_or-set_other marks (get_or xs i 0) b true false (λ e. absurd (true≢false (sym (eq-eqb b (get_or xs i 0) e) ∙ off))) ∙ h b below ∙ sym (ap (λ t. has (take i xs) b || t) off ∙ or-false (has (take i xs) b))

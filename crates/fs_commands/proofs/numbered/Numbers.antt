@@ -1,7 +1,7 @@
 -- The numbers of a tree's snapshots by their names are the entries of its snapshots, in their order.
-use Rattle.std.proofs.Common.{◌≡◌, ℕ, Bool, true, false, cond, ◌&&◌, List, [], ◌∷◌, map, Option, Some, None, option_map, T, refl, sym, ap, ap₂, subst, ◌∙◌}
+use Rattle.std.proofs.Common.{◌≡◌, ℕ, Bool, true, false, cond, ◌&&◌, List, [], ◌∷◌, map, Some, option_map, T, refl, sym, ap, ap₂, subst, ◌∙◌}
 use Rattle.std.specs.Ordering.{eq_by_cmp, is_lt}
-use Rattle.std.specs.FinMap.{get, keys, entries, entries_sorted, entries-from_sorted, from_sorted, get-from_sorted, get-entries, find, is_sorted, same_map}
+use Rattle.std.specs.FinMap.{get, keys, entries, entries_sorted, entries-from_sorted, from_sorted, get-entries, find, is_sorted, same_map}
 use Rattle.std.specs.FinMap.Entries.{below_all}
 use Rattle.lang_tree.specs.Tree.{Kept, Snapshots}
 use Rattle.fs_check.specs.Snapshots.{Numbers}

@@ -25,7 +25,7 @@ use Rattle.fs_commands.specs.Figures.{KeepsResized, LosesBlocks, MeetsKept, kept
 use Rattle.fs_commands.specs.Looks.{ComesTo, LeadsToFile, LeadsToFound}
 use Rattle.fs_commands.specs.Making.{MayAppear}
 use Rattle.fs_session.specs.Commands.{least_number, places_of}
-use Rattle.fs_session.specs.Sessions.{AreUsedBelow, MayBegin, MayPlan, inodes}
+use Rattle.fs_session.specs.Sessions.{AreUsedBelow, MayBegin, MayPlan}
 use Rattle.fs_commands.specs.Writing.{IsFile}
 use Rattle.fs_session.specs.Staying.{sound_stays, stands_still}
 use Rattle.fs_commands.proofs.looking.Found.{same_files}

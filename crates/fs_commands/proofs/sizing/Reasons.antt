@@ -1,5 +1,5 @@
 -- Why a truncate of a file that was found is refused, or isn't; and what becomes of one to the size that the file has.
-use Rattle.std.proofs.Common.{◌≡◌, ℕ, ◌==◌, nat_lt, Bool, false, cond, List, [], ◌∷◌, length, None, Result, sym, ap, ap₂, ◌∙◌, arith}
+use Rattle.std.proofs.Common.{◌≡◌, ℕ, ◌==◌, Bool, false, List, [], ◌∷◌, length, None, Result, sym, ap, ap₂, ◌∙◌}
 use Rattle.std.specs.FinMap.{get}
 use Rattle.layout_geometry.specs.Geometry.{bitmap_blocks}
 use Rattle.engine_blocks.specs.State.{State}

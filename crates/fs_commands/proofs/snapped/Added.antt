@@ -33,16 +33,17 @@ use Rattle.fs_files.specs.Nodes.{node_block}
 use Rattle.layout_extent.specs.Runs.{stretches}
 use Rattle.fs_files.specs.Places.{has_place, place_of}
 use Rattle.fs_files.specs.Sound.{IsDraftOf}
+use Rattle.fs_snapshots.specs.Nodes.{live}
 use Rattle.fs_session.specs.Plans.{HasDrafted}
 use Rattle.fs_commands.specs.Gathering.{live_dirs, snapshot_bytes, snapshot_count}
 use Rattle.fs_commands.specs.Snapping.{DraftsSnapshot, MaySnap}
 use Rattle.fs_commands.specs.declared.snapping.NewSnapshot.{NewSnapshot}
 use Rattle.fs_commands.proofs.looking.Found.{settled_files}
 use Rattle.fs_commands.proofs.naming.Least.{least_unused}
-use Rattle.fs_commands.proofs.snapped.Live.{DataLaw, live}
+use Rattle.fs_commands.proofs.snapped.Live.{DataLaw}
 use Rattle.fs_commands.proofs.snapped.Placed.{Have, as_written, has_alike, have, joined_long, once_of}
 use Rattle.fs_commands.proofs.snapped.Sizes.{CountLaw, below_test, bytes_long, dirs_from_is, snapshot_long, snapshot_whole}
-use Rattle.fs_commands.proofs.unsnapped.Taken.{BareLaw, SameLaw}
+use Rattle.fs_commands.proofs.unsnapped.Taken.{BareLaw, SameLaw, none_there, nothing_in}
 
 -- a snapshot can be made where it has blocks to lie in
 abbrev pub HoldLaw : Type 0
@@ -68,15 +69,6 @@ drafts_now s v n name d geom map h = record {
 node_is : (m : Blocks) (o : Option Node) (x : FileNode) → option_map (file_of m) o ≡ Some x → (node : Node) × (o ≡ Some node) × (file_of m node ≡ x)
 node_is m None x e = absurd (none-some x e)
 node_is m (Some node) x e = (node, refl, same_Some (file_of m node) x e)
-
--- where a function of it is nothing, nothing is there
-pub nothing_in : {A B : Type 0} (f : A → B) (o : Option A) → option_map f o ≡ None → o ≡ None
-nothing_in f None e = refl
-nothing_in f (Some x) e = absurd (none-some (f x) (sym e))
-
-none_there : {A : Type 0} (o : Option A) → (is_some o ≡ true → ⊥) → o ≡ None
-none_there None never = refl
-none_there (Some x) never = absurd (never refl)
 
 whole_size : (size count : ℕ) → min size (1024 * count) ≡ 1024 * count → blocks_for size ≡ count → size ≡ 1024 * count
 whole_size size count fits count_is = omega (arith, fits, count_is)

@@ -5,7 +5,7 @@ use Rattle.std.specs.FinMap.{get}
 use Rattle.base_types.specs.Seal.{Blocks}
 use Rattle.layout_geometry.specs.Geometry.{Geometry}
 use Rattle.lang_tree.specs.Tree.{Kept, Tree}
-use Rattle.crash_stands.specs.Stands.{HoldsSnapshot, IsTreeOf, KeepsTree}
+use Rattle.crash_stands.specs.Stands.{IsTreeOf, KeepsTree}
 use Rattle.fs_files.specs.Calls.{places_of, places_or_none}
 use Rattle.fs_snapshots.specs.Known.{snapshot_number}
 use Rattle.fs_commands.specs.Snapping.{IsSnapshot}

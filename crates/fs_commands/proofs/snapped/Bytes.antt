@@ -1,15 +1,14 @@
 -- The bytes that a snapshot keeps, one piece behind the other.
-use Rattle.std.proofs.Common.{◌≡◌, ℕ, zero, suc, ◌+◌, ◌-◌, ◌*◌, ◌/◌, ◌%◌, ◌<◌, ◌≤◌, Bool, true, false, IsTrue, List, [], ◌∷◌, ◌++◌, length, take, drop, replicate, get_or, All, append_assoc, append-nil, refl, sym, ap, ap₂, subst, ◌∙◌, ◌⊎◌, inl, inr, arith}
+use Rattle.std.proofs.Common.{◌≡◌, ℕ, zero, suc, ◌+◌, ◌-◌, ◌*◌, ◌/◌, ◌%◌, ◌<◌, ◌≤◌, Bool, true, false, IsTrue, List, [], ◌∷◌, ◌++◌, length, take, drop, replicate, get_or, append_assoc, append-nil, refl, sym, ap, ap₂, ◌∙◌, ◌⊎◌, inl, inr, arith}
 use Rattle.std.proofs.lemmas.Bool.{cases_Bool}
 use Rattle.std.specs.List.{flat_map}
 use Rattle.base_types.specs.Seal.{Blocks}
-use Rattle.layout_geometry.specs.Geometry.{Geometry, node_size, nodes_in_block, table_start, data_start}
-use Rattle.layout_bytes.specs.Node.{node_bytes}
+use Rattle.layout_geometry.specs.Geometry.{Geometry, node_size, nodes_in_block, table_start}
 use Rattle.layout_bytes.specs.SnapshotName.{name_block}
 use Rattle.crash_snapshots.specs.Kept.{kept_bytes}
 use Rattle.crash_snapshots.specs.Making.{blocks_at, kept_block, kept_blocks, kept_piece}
 use Rattle.engine_blocks.specs.Crashes.{IsTold}
-use Rattle.engine_blocks.specs.State.{Bookkeeping, State, is_defined}
+use Rattle.engine_blocks.specs.State.{State, is_defined}
 use Rattle.fs_files.specs.Effects.{LooksOnly}
 use Rattle.fs_commands.specs.Gathering.{kept_quarter, kept_table_block}
 

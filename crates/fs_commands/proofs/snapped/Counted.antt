@@ -1,20 +1,20 @@
 -- What is known once a snapshot was made: each block of a file that the tree had then is kept by one more, and the name has its number.
-use Rattle.std.proofs.Common.{◌≡◌, ◌≢◌, ◌↔◌, ◌⊎◌, inl, inr, ℕ, ◌+◌, ◌<◌, ◌≤◌, ◌==◌, ◌&&◌, not, nat_le, Bool, true, false, cond, if◌then◌else◌, List, [], ◌∷◌, length, replicate, get_or, slice_get, slice_index, All, filter, None, Some, option_map, refl, sym, ap, ap₂, ◌∙◌, arith}
-use Rattle.std.proofs.lemmas.Bool.{and_parts, cases_eq, eqb-true, leb-true}
+use Rattle.std.proofs.Common.{◌≡◌, ◌≢◌, ◌↔◌, ◌⊎◌, inl, inr, ℕ, ◌+◌, ◌<◌, ◌≤◌, ◌==◌, ◌&&◌, not, Bool, true, false, cond, if◌then◌else◌, List, [], ◌∷◌, length, get_or, slice_get, All, filter, None, Some, option_map, refl, sym, ap, ap₂, ◌∙◌, arith}
+use Rattle.std.proofs.lemmas.Bool.{cases_eq}
 use Rattle.std.proofs.lemmas.List.FromFn.{length-range_with_len}
 use Rattle.std.proofs.lemmas.Option.{none-some, slice_get-get_or}
 use Rattle.std.specs.FinMap.{get, get-insert, insert}
 use Rattle.std.specs.List.{range_with_len}
+use Rattle.std.specs.Cmp.{both_ways}
+use Rattle.std.proofs.lemmas.List.Elements.{filter_agree}
 use Rattle.base_types.specs.Runs.{run_places}
 use Rattle.base_types.specs.Seal.{Blocks}
-use Rattle.layout_bytes.specs.Bytes.{when}
-use Rattle.layout_bytes.specs.Node.{node_at, node_bytes, node_fields, node_fits, node_of, node_with, spare_zeros, used_kind}
 use Rattle.layout_bytes.specs.declared.node.Node.{Node}
 use Rattle.layout_bytes.specs.declared.node.NodeKind.TheVariants.{Snapshot}
 use Rattle.layout_geometry.specs.Geometry.{Geometry, IsGeometry, data_start}
 use Rattle.lang_tree.specs.Tree.{Kept, Tree}
 use Rattle.crash_snapshots.specs.Adding.{AddsSnapshot}
-use Rattle.crash_snapshots.specs.Kept.{is_snapshot, kept_bytes}
+use Rattle.crash_snapshots.specs.Kept.{is_snapshot}
 use Rattle.crash_stands.specs.Files.{used_node}
 use Rattle.crash_stands.specs.Kept.{kept_nodes}
 use Rattle.crash_stands.specs.Places.{kept_table}
@@ -28,6 +28,7 @@ use Rattle.fs_files.specs.Places.{has_place}
 use Rattle.fs_files.specs.Shared.{keepers}
 use Rattle.fs_snapshots.specs.Among.{used_number}
 use Rattle.fs_snapshots.specs.Known.{CountsKeepers, blocks_kept, count_keepers, file_blocks, is_snapshot_node, keeps_block, node_blocks, snapshot_number}
+use Rattle.fs_snapshots.specs.Nodes.{read_table}
 use Rattle.fs_session.specs.Snapshots.{live_files}
 use Rattle.fs_commands.specs.Known.{CountsIn}
 use Rattle.fs_commands.proofs.gathered.Lists.{blocks_same}
@@ -35,7 +36,7 @@ use Rattle.fs_commands.proofs.numbered.Keys.{apart, name_total, tied}
 use Rattle.fs_commands.proofs.snapped.Answers.{NamedLaw, none_named}
 use Rattle.fs_commands.proofs.unsnapped.Keepers.{bit, but, count_less, none_here, other_counted, other_same}
 use Rattle.fs_commands.proofs.unsnapped.Once.{has_live}
-use Rattle.fs_commands.proofs.unsnapped.Known.{MarkedLaw, StayLaw, bool_same}
+use Rattle.fs_commands.proofs.unsnapped.Known.{MarkedLaw, StayLaw}
 use Rattle.fs_commands.proofs.unsnapped.Taken.{EachLaw, nil_of}
 
 -- the blocks of a node in use are of the data
@@ -47,40 +48,7 @@ abbrev pub StandsLaw : Type 0
 StandsLaw = (g : Geometry) (old new : Blocks) (t : Tree) (n : ℕ) (name places : List ℕ) → IsGeometry g → IsTreeOf g old t → get t.snapshots name ≡ None → AddsSnapshot g old new n name places
     → IsTreeOf g new (record t { snapshots = insert t.snapshots name (record { number = n; names = t.names; nodes = t.nodes }) })
 
--- The blocks of a file are read from what a snapshot keeps of its node's bytes.
-
-zeros_no_node : (g : Geometry) → node_of g (replicate 256 0) ≡ None
-unfolding node_of
-zeros_no_node g = refl
-
-snapshot_no_file : (g : Geometry) (b : List ℕ) → slice_index b 0 ≡ 3 → file_blocks (node_of g b) ≡ []
-unfolding node_of
-snapshot_no_file g b is = ap (λ n. file_blocks (node_with g b (used_kind n))) is ∙ by (spare_zeros b) (node_fits g (node_fields Snapshot b))
-  where
-    by : (s t : Bool) → file_blocks (when s (when t (Some (node_fields Snapshot b)))) ≡ []
-    by true true = refl
-    by true false = refl
-    by false t = refl
-
-read_kept : (g : Geometry) (b : List ℕ) (t : Bool) → (slice_index b 0 == 3) ≡ t → file_blocks (node_of g (if t then replicate 256 0 else b)) ≡ file_blocks (node_of g b)
-read_kept g b false is = refl
-read_kept g b true is = ap file_blocks (zeros_no_node g) ∙ sym (snapshot_no_file g b (eqb-true (slice_index b 0) 3 is))
-
-read_table : (g : Geometry) (m n : Blocks) → ((k : ℕ) → 1 ≤ k → k ≤ g.i → node_bytes g n k ≡ kept_bytes (node_bytes g m k)) → (k : ℕ) → file_blocks (used_node g n k) ≡ file_blocks (used_node g m k)
-read_table g m n same k = by (nat_le 1 k && nat_le k g.i) refl
-  where
-    by : (t : Bool) → (nat_le 1 k && nat_le k g.i) ≡ t → file_blocks (when t (node_at g n k)) ≡ file_blocks (when t (node_at g m k))
-    by false is = refl
-    by true is =
-        let number = and_parts (nat_le 1 k) (nat_le k g.i) is in
-        ap (λ (bytes : List ℕ). file_blocks (node_of g bytes)) (same k (leb-true 1 k number.0) (leb-true k g.i number.1))
-        ∙ read_kept g (node_bytes g m k) (slice_index (node_bytes g m k) 0 == 3) refl
-
 -- Numbers that pass a test.
-
-alike : (p q : ℕ → Bool) (xs : List ℕ) → ((k : ℕ) → p k ≡ q k) → filter p xs ≡ filter q xs
-alike p q [] same = refl
-alike p q (x ∷ xs) same = ap₂ (λ t us. cond t (x ∷ us) us) (same x) (alike p q xs same)
 
 passing_failing : (p : ℕ → Bool) (xs : List ℕ) → length (filter p xs) + length (filter (λ k. not (p k)) xs) ≡ length xs
 passing_failing p [] = refl
@@ -113,7 +81,7 @@ module _ (each : EachLaw) (marked : MarkedLaw) (kept : StayLaw) (g : Geometry) (
 
   -- another node counts as before
   other_counts : (b k : ℕ) → k ≢ n → keeps_block g new b k ≡ keeps_block g old b k
-  other_counts b k other = bool_same (keeps_block g new b k) (keeps_block g old b k) to from
+  other_counts b k other = both_ways (keeps_block g new b k) (keeps_block g old b k) to from
     where
       to : keeps_block g new b k ≡ true → keeps_block g old b k ≡ true
       to e =
@@ -150,7 +118,7 @@ module _ (each : EachLaw) (marked : MarkedLaw) (kept : StayLaw) (g : Geometry) (
   counts_more b =
       let at = used_number g new n adds.node adds.is_node in
       count_less (keeps_block g new b) n 1 g.i at.0 (omega (arith, at.1))
-      ∙ ap₂ (λ us t. length us + bit t) (alike (but (keeps_block g new b) n) (keeps_block g old b) (range_with_len 1 g.i) (without b)) (own_counts b)
+      ∙ ap₂ (λ us t. length us + bit t) (filter_agree (but (keeps_block g new b) n) (keeps_block g old b) (without b) (range_with_len 1 g.i)) (own_counts b)
 
   pub counted_more : (counts more : List ℕ) → CountsKeepers g old counts → CountsIn (live_files g old) counts more → CountsKeepers g new more
   counted_more counts more known more_in = record {
@@ -191,12 +159,6 @@ module _ (g : Geometry) (m : Blocks) where
 
 -- Which node each name has.
 module _ (law : NamedLaw) (becomes : StandsLaw) (g : Geometry) (old new : Blocks) (t : Tree) (n : ℕ) (name places : List ℕ) (fits : IsGeometry g) (stands : IsTreeOf g old t) (none : snapshot_number g old name ≡ None) (adds : AddsSnapshot g old new n name places) where
-  new_kept : Kept
-  new_kept = record { number = n; names = t.names; nodes = t.nodes }
-
-  new_tree : Tree
-  new_tree = record t { snapshots = insert t.snapshots name (record { number = n; names = t.names; nodes = t.nodes }) }
-
   new_stands : IsTreeOf g new (record t { snapshots = insert t.snapshots name (record { number = n; names = t.names; nodes = t.nodes }) })
   new_stands = becomes g old new t n name places fits stands (none_named g old t name stands law none) adds
 

@@ -1,5 +1,5 @@
 -- A snapshot that is read: what holds of its places, and what stays behind reads.
-use Rattle.std.proofs.Common.{◌≡◌, ℕ, ◌+◌, ◌≤◌, Bool, true, false, IsTrue, List, length, All, Option, Some, None, Result, Ok, Err, IfOk, IfSome, refl, sym, ap, subst, ◌∙◌, arith}
+use Rattle.std.proofs.Common.{◌≡◌, ℕ, ◌+◌, ◌≤◌, Bool, false, IsTrue, List, length, All, Option, Some, Err, IfOk, IfSome, refl, sym, ap, subst, ◌∙◌, arith}
 use Rattle.base_types.specs.Runs.{run_places}
 use Rattle.base_types.specs.Seal.{Blocks}
 use Rattle.layout_geometry.specs.Geometry.{Geometry}
@@ -11,14 +11,13 @@ use Rattle.crash_stands.specs.Stands.{AreSound}
 use Rattle.engine_blocks.specs.Puts.{IsData}
 use Rattle.engine_blocks.specs.State.{Bookkeeping, State}
 use Rattle.fs_files.specs.declared.node_blocks.OpenFile.{OpenFile}
-use Rattle.fs_files.specs.declared.refusal.FileRefusal.{FileRefusal}
 use Rattle.fs_files.specs.Calls.{places_in, places_or_none}
 use Rattle.fs_files.specs.Content as file
 use Rattle.fs_files.specs.Drafts.{DraftState, begun_beside}
 use Rattle.fs_files.specs.Effects.{LooksOnly}
 use Rattle.fs_snapshots.specs.declared.refusal.SnapshotRefusal.{SnapshotRefusal}
 use Rattle.fs_snapshots.specs.declared.refusal.SnapshotRefusal.TheVariants.{ReadFault, NoMemory, WrongSize}
-use Rattle.fs_snapshots.specs.Kept.{AreDirsBefore, HasItsParts, IsGoneThrough, IsWholeKept, KeptState, MayReadKept}
+use Rattle.fs_snapshots.specs.Kept.{AreDirsBefore, HasItsParts, IsGoneThrough, IsWholeKept, KeptState}
 use Rattle.fs_snapshots.specs.Refused as snapshot
 use Rattle.fs_files.specs.Shared.{is_kept}
 use Rattle.fs_files.specs.Sound.{TellsKept}

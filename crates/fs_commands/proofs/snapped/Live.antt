@@ -1,36 +1,29 @@
 -- The blocks of files and directories among sound blocks: each is whole, and none is there twice.
-use Rattle.std.proofs.Common.{◌≡◌, ◌≢◌, ◌⊎◌, inl, inr, ℕ, zero, suc, ◌+◌, ◌<◌, ◌≤◌, ◌||◌, nat_lt, Bool, true, false, if◌then◌else◌, List, [], ◌++◌, length, get_or, slice_get, All, AllPairs, Option, Some, None, refl, sym, ap, subst, ◌∙◌, arith}
+use Rattle.std.proofs.Common.{◌≡◌, ◌≢◌, ◌⊎◌, inl, ℕ, ◌+◌, ◌<◌, ◌≤◌, ◌||◌, nat_lt, true, if◌then◌else◌, [], ◌++◌, length, get_or, All, Option, Some, None, refl, sym, ap, ◌∙◌, arith}
 use Rattle.std.proofs.lemmas.Bool.{or_right, false≢true}
-use Rattle.std.proofs.lemmas.Bool.Decides.{nat_tests}
 use Rattle.std.proofs.lemmas.Option.{slice_get-get_or}
 use Rattle.base_types.specs.Runs.{run_places}
 use Rattle.base_types.specs.Seal.{Blocks}
-use Rattle.layout_geometry.specs.Geometry.{Geometry, bitmap_start, data_start}
+use Rattle.layout_geometry.specs.Geometry.{Geometry, data_start}
 use Rattle.layout_bytes.specs.declared.node.Node.{Node}
 use Rattle.layout_bytes.specs.declared.node.NodeKind.{NodeKind}
 use Rattle.layout_bytes.specs.declared.node.NodeKind.TheVariants.{Free, Dir, File, Snapshot}
 use Rattle.layout_bytes.specs.Bitmap.{is_set}
-use Rattle.layout_journal.specs.Run.{is_live}
 use Rattle.crash_stands.specs.Files.{used_node}
 use Rattle.crash_stands.specs.Places.{is_copied}
-use Rattle.crash_stands.specs.Sharing.{IsKeptBlock}
 use Rattle.crash_stands.specs.Stands.{AreSound, HasBlock}
 use Rattle.crash_snapshots.specs.Places.{places_of_dir}
 use Rattle.engine_blocks.specs.Puts.{IsData}
 use Rattle.engine_blocks.specs.Running.{has}
 use Rattle.fs_files.specs.Places.{has_place, place_of}
 use Rattle.fs_snapshots.specs.Among.{node_among}
-use Rattle.fs_snapshots.specs.Known.{blocks_by_kind, file_blocks, node_blocks}
+use Rattle.fs_snapshots.specs.Nodes.{live}
 use Rattle.fs_commands.specs.Gathering.{live_dirs}
 use Rattle.fs_commands.proofs.gathered.Lists.{dirs_are}
 
 -- a node's blocks are of the data
 abbrev pub DataLaw : Type 0
 DataLaw = (g : Geometry) (m : Blocks) (k : ℕ) (node : Node) → used_node g m k ≡ Some node → All (IsData g) (run_places node.runs)
-
--- a block of the bitmap, the node table, or one that is marked, is live
-pub live : (g : Geometry) (m : Blocks) (b : ℕ) → bitmap_start g ≤ b → b < g.n → (nat_lt b (data_start g) || is_set g m b) ≡ true → is_live g m b ≡ true
-live g m b low high one = grind (arith, nat_tests)
 
 module _ (g : Geometry) (m : Blocks) (sound : AreSound g m) where
   -- a data block that a node has is whole

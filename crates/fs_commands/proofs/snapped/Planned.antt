@@ -42,22 +42,13 @@ use Rattle.fs_files.specs.Calls.{GrowthRefused}
 use Rattle.fs_session.specs.Commands.{IsRefusedFor}
 use Rattle.fs_commands.specs.Refusals.{refusal_of}
 use Rattle.fs_commands.proofs.growing.Refused.{growth_refused, refused_alike}
-use Rattle.fs_commands.proofs.snapped.Added.{nothing_in}
 use Rattle.fs_commands.proofs.snapped.Drafting.{used_below}
 use Rattle.fs_session.specs.Space.{HasRoom, none_renewed}
 use Rattle.fs_commands.specs.Gathering.{snapshot_count}
 use Rattle.fs_commands.specs.Snapping.{DraftsSnapshot, figures_to_snap}
 use Rattle.fs_commands.proofs.Placing.{placed_by}
 use Rattle.fs_commands.proofs.naming.Drafting.{DoesRead}
-
--- the least number that no node has, in the session and in its blocks
-abbrev pub LeastLaw : {S : Type 0} → (S → State) → Type 0
-LeastLaw {S} state = (s : S) (f : Session) → IsSession (state s) f → least_unused f.limit f.tree ≡ least_number (state s)
-
--- how many blocks a snapshot of the session's tree has
-abbrev pub LiveLaw : {S : Type 0} → (S → State) → Type 0
-LiveLaw {S} state = (s : S) (f : Session) → IsSession (state s) f
-    → snapshot_blocks f.limit f.tree.names ≡ 1 + (table_blocks (state s).books.geom + length (all_dirs (used_node (state s).books.geom (state s).map) 1 f.limit))
+use Rattle.fs_commands.proofs.unsnapped.Taken.{nothing_in}
 
 -- A snapshot of this name, under this number, is accepted.
 pub record AcceptsSnapshot (s : State) (f : Session) (name : List ℕ) (number : ℕ) : Type 0 where

@@ -1,7 +1,7 @@
 -- How long a snapshot's bytes are: whole blocks, as many as it has.
-use Rattle.std.proofs.Common.{◌≡◌, ◌⊎◌, ℕ, zero, suc, ◌+◌, ◌-◌, ◌*◌, ◌/◌, ◌<◌, ◌≤◌, ◌==◌, ◌&&◌, ◌||◌, nat_lt, nat_le, Bool, true, false, if◌then◌else◌, List, [], ◌∷◌, ◌++◌, length, take, drop, replicate, slice_get, slice_index, All, Option, Some, None, refl, sym, ap, ◌∙◌, arith}
+use Rattle.std.proofs.Common.{◌≡◌, ◌⊎◌, ℕ, zero, suc, ◌+◌, ◌-◌, ◌*◌, ◌/◌, ◌<◌, ◌≤◌, ◌==◌, ◌&&◌, ◌||◌, nat_lt, Bool, true, false, if◌then◌else◌, List, [], ◌∷◌, ◌++◌, length, take, drop, replicate, slice_get, slice_index, All, Option, Some, None, refl, sym, ap, ◌∙◌, arith}
 use Rattle.std.specs.List.{flat_map}
-use Rattle.std.proofs.lemmas.Bool.{and_parts, or_left}
+use Rattle.std.proofs.lemmas.Bool.{or_left}
 use Rattle.std.proofs.lemmas.Option.{none-some, same_Some}
 use Rattle.std.proofs.lemmas.Bool.Decides.{nat_tests}
 use Rattle.std.proofs.lemmas.List.{length-append, length-take, length-drop, length-replicate}
@@ -22,16 +22,10 @@ use Rattle.crash_stands.specs.Stands.{AreSound}
 use Rattle.crash_snapshots.specs.Making.{blocks_at, kept_block, kept_blocks, snapshot_of}
 use Rattle.crash_snapshots.specs.Places.{all_dirs, places_of_dir}
 use Rattle.engine_blocks.specs.Puts.{IsData}
+use Rattle.fs_snapshots.specs.Nodes.{live, short_name}
 use Rattle.fs_commands.specs.Gathering.{kept_quarter, kept_table_block, live_dirs, snapshot_bytes, snapshot_count}
 use Rattle.fs_commands.proofs.snapped.Bytes.{block_is}
-use Rattle.fs_commands.proofs.snapped.Live.{dirs_whole, live}
-
--- a name is short
-pub name_short : (name : List ℕ) → is_name name ≡ true → length name ≤ 59
-name_short name is =
-    let tail = and_parts (nat_lt 0 (length name)) _ is in
-    let few = and_parts (nat_le (length name) 59) _ tail.1 in
-    grind (arith, nat_tests)
+use Rattle.fs_commands.proofs.snapped.Live.{dirs_whole}
 
 name_long : (name : List ℕ) → length name ≤ 59 → length (name_block name) ≡ 1024
 name_long name few = omega (arith, few, length-append name (replicate {A = ℕ} (1023 - length name) 0), length-replicate {A = ℕ} (1023 - length name) 0)
@@ -110,7 +104,7 @@ module _ (g : Geometry) (m : Blocks) (sound : AreSound g m) (limits : IsGeometry
   -- each block of a snapshot is whole
   pub snapshot_whole : (name : List ℕ) → is_name name ≡ true → All (IsData g) (live_dirs g m) → AreWhole (snapshot_of g m (name_block name))
   snapshot_whole name lawful «data» =
-      one_more (name_block name) (kept_blocks g m 0 (table_blocks g) ++ blocks_at m (live_dirs g m)) (name_long name (name_short name lawful))
+      one_more (name_block name) (kept_blocks g m 0 (table_blocks g) ++ blocks_at m (live_dirs g m)) (name_long name (short_name name lawful))
       (both_whole (kept_blocks g m 0 (table_blocks g)) (blocks_at m (live_dirs g m)) (blocks_whole 0 (table_blocks g) (omega arith)) (dirs_are_whole m (live_dirs g m) (dirs_whole g m sound «data»)))
 
   pub bytes_long : (name : List ℕ) → is_name name ≡ true → All (IsData g) (live_dirs g m) → length (snapshot_bytes g m name) ≡ 1024 * snapshot_count g m

@@ -1,6 +1,6 @@
 -- What counts tell without a snapshot that goes: kept are those blocks that another one keeps, and freed those that nothing else has.
 use Rattle.std.proofs.Common.{◌≡◌, ◌≢◌, ◌⊎◌, inl, inr, ℕ, ◌+◌, ◌<◌, ◌≤◌, ◌==◌, ◌||◌, ◌&&◌, not, Bool, true, false, if◌then◌else◌, List, get_or, sym, ap, subst, ◌∙◌, arith}
-use Rattle.std.proofs.lemmas.Bool.{and_parts, and_from, cases_Bool, or_cases, or_left, or_right, true≢false}
+use Rattle.std.proofs.lemmas.Bool.{and_parts, and_from, cases_Bool, or_cases, or_left, or_right, true≢false, not-true, not_from_false}
 use Rattle.std.proofs.lemmas.Bool.Decides.{nat_tests}
 use Rattle.std.proofs.lemmas.List.Kept.{AllPairs-filter}
 use Rattle.std.proofs.lemmas.Option.{slice_get-get_or}
@@ -32,12 +32,6 @@ one_is n e = grind (arith, nat_tests)
 is_one : (n : ℕ) → n ≡ 1 → (n == 1) ≡ true
 is_one n e = grind (arith, nat_tests)
 
-pub off : (t : Bool) → not t ≡ true → t ≡ false
-off t e = grind (arith, nat_tests)
-
-off_not : (t : Bool) → t ≡ false → not t ≡ true
-off_not t e = grind (arith, nat_tests)
-
 bit_on : (t : Bool) → t ≡ true → bit t ≡ 1
 bit_on t e = ap bit e
 
@@ -55,11 +49,11 @@ module _ (counts files kept alone : List ℕ) (is : alone ≡ alone_among counts
   alone_is b h =
       let r = in_filter (λ b. (keepers counts b == 1) && not (has files b)) kept b (ap (λ xs. has xs b) (sym is) ∙ h) in
       let p = and_parts (keepers counts b == 1) (not (has files b)) r.1 in
-      record { one = one_is (keepers counts b) p.0; bare = off (has files b) p.1; mine = r.0 }
+      record { one = one_is (keepers counts b) p.0; bare = not-true (has files b) p.1; mine = r.0 }
 
   pub is_alone : (b : ℕ) → keepers counts b ≡ 1 → has files b ≡ false → has kept b ≡ true → has alone b ≡ true
   is_alone b one bare mine = ap (λ xs. has xs b) is
-      ∙ filter_in (λ b. (keepers counts b == 1) && not (has files b)) kept b mine (and_from (keepers counts b == 1) (not (has files b)) (is_one (keepers counts b) one) (off_not (has files b) bare))
+      ∙ filter_in (λ b. (keepers counts b == 1) && not (has files b)) kept b mine (and_from (keepers counts b == 1) (not (has files b)) (is_one (keepers counts b) one) (not_from_false (has files b) bare))
 
   module _ (rest : List ℕ) (out : CountsOut kept counts rest) where
     -- it has no count without the snapshot that goes

@@ -1,6 +1,6 @@
 -- How many of some numbers pass a test, with and without one of them: how many snapshots keep a block without the one that goes.
 use Rattle.std.proofs.Common.{◌≡◌, ◌≢◌, ◌⊎◌, inl, inr, ℕ, zero, suc, ◌+◌, ◌<◌, ◌≤◌, ◌==◌, ◌&&◌, ◌||◌, not, Bool, true, false, cond, if◌then◌else◌, List, [], ◌∷◌, length, filter, refl, sym, ap, ap₂, ◌∙◌, arith}
-use Rattle.std.proofs.lemmas.Bool.{and_parts, cases_eq, eq-eqb, false≢true, ne_eqb, true≢false}
+use Rattle.std.proofs.lemmas.Bool.{and_parts, cases_eq, eq-eqb, false≢true, ne_eqb, true≢false, and_right}
 use Rattle.std.proofs.lemmas.Bool.Decides.{nat_tests}
 use Rattle.std.specs.List.{range_with_len}
 use Rattle.engine_blocks.specs.Running.{has}
@@ -16,14 +16,11 @@ bit t = if t then 1 else 0
 and_on : (t u : Bool) → u ≡ true → (t && u) ≡ t
 and_on t u e = grind (arith, nat_tests)
 
-and_off : (t u : Bool) → u ≡ false → (t && u) ≡ false
-and_off t u e = grind (arith, nat_tests)
-
 pub other_same : (p : ℕ → Bool) (x k : ℕ) → k ≢ x → but p x k ≡ p k
 other_same p x k other = and_on (p k) (not (k == x)) (ap not (ne_eqb k x other))
 
 pub none_here : (p : ℕ → Bool) (x : ℕ) → but p x x ≡ false
-none_here p x = and_off (p x) (not (x == x)) (ap not (eq-eqb x x refl))
+none_here p x = and_right (p x) (not (x == x)) (ap not (eq-eqb x x refl))
 
 -- past it nothing changes
 past : (p : ℕ → Bool) (x a n : ℕ) → x < a → filter (but p x) (range_with_len a n) ≡ filter p (range_with_len a n)

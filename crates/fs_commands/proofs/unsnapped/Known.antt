@@ -1,9 +1,10 @@
 -- What is known of the snapshots where one goes: one less keeps each block that it kept, and its name is forgotten.
-use Rattle.std.proofs.Common.{◌≡◌, ◌≢◌, ◌↔◌, ◌⊎◌, inl, inr, ℕ, ◌+◌, ◌<◌, ◌≤◌, ◌==◌, ◌&&◌, not, Bool, true, false, if◌then◌else◌, List, [], ◌∷◌, length, get_or, All, Some, refl, sym, ap, subst, ◌∙◌, arith}
+use Rattle.std.proofs.Common.{◌≡◌, ◌≢◌, ◌↔◌, ◌⊎◌, inl, inr, ℕ, ◌+◌, ◌<◌, ◌≤◌, ◌==◌, ◌&&◌, not, true, if◌then◌else◌, List, [], ◌∷◌, length, get_or, All, Some, refl, sym, ap, subst, ◌∙◌, arith}
 use Rattle.std.proofs.lemmas.Bool.{and_parts, true≢false}
 use Rattle.std.proofs.lemmas.List.Elements.{filter_agree}
 use Rattle.std.proofs.lemmas.Option.{none-some, slice_get-get_or}
 use Rattle.std.specs.List.{filter, range_with_len}
+use Rattle.std.specs.Cmp.{both_ways}
 use Rattle.base_types.specs.Runs.{run_places}
 use Rattle.base_types.specs.Seal.{Blocks}
 use Rattle.layout_geometry.specs.Geometry.{Geometry, IsGeometry, data_start}
@@ -27,11 +28,6 @@ use Rattle.fs_commands.proofs.unsnapped.Keepers.{bit, but, count_less, none_here
 use Rattle.fs_commands.proofs.unsnapped.Once.{IsOnce, has_kept, kept_has, kept_once}
 use Rattle.fs_commands.proofs.unsnapped.Taken.{EachLaw, kept_by, nil_of}
 
-pub bool_same : (a b : Bool) → (a ≡ true → b ≡ true) → (b ≡ true → a ≡ true) → a ≡ b
-bool_same true b to from = sym (to refl)
-bool_same false true to from = from refl
-bool_same false false to from = refl
-
 -- A snapshot is counted for just the blocks of its list.
 module _ (g : Geometry) (m : Blocks) (n : ℕ) (node : Node) (used : used_node g m n ≡ Some node) (kind : node.kind ≡ Snapshot) (kept : List ℕ) (are : kept ≡ kept_files_of g m n) (each : EachLaw) where
   listed : (b : ℕ) → has kept b ≡ true → keeps_block g m b n ≡ true
@@ -43,7 +39,7 @@ module _ (g : Geometry) (m : Blocks) (n : ℕ) (node : Node) (used : used_node g
       ap (λ xs. has xs b) are ∙ kept_has g m n one.number one.place b (subst (λ ps. HasKeptBlock g m ps one.number one.place b) (sym is) one.has)
 
   pub same_list : (b : ℕ) → has kept b ≡ keeps_block g m b n
-  same_list b = bool_same (has kept b) (keeps_block g m b n) (listed b) (λ e. counted b ((each g m b n).0 e))
+  same_list b = both_ways (has kept b) (keeps_block g m b n) (listed b) (λ e. counted b ((each g m b n).0 e))
 
   -- so each of them has a count, and none is there twice
   pub list_counted : (counts : List ℕ) → CountsKeepers g m counts → All (λ b. 0 < keepers counts b) kept
@@ -96,7 +92,7 @@ module _ (g : Geometry) (fits : IsGeometry g) (old new : Blocks) (n : ℕ) (take
       }
 
   keeps_same : (b k : ℕ) → keeps_block g new b k ≡ but (keeps_block g old b) n k
-  keeps_same b k = bool_same (keeps_block g new b k) (but (keeps_block g old b) n k) (λ e. to ((each g new b k).0 e)) from
+  keeps_same b k = both_ways (keeps_block g new b k) (but (keeps_block g old b) n k) (λ e. to ((each g new b k).0 e)) from
     where
       to : (one : IsKeptBlock g new b) × (one.snapshot ≡ k) → but (keeps_block g old b) n k ≡ true
       to (one, at) =

@@ -1,6 +1,6 @@
 -- What the draft makes of the blocks in which a snapshot goes: they have less than before by that snapshot.
 use Rattle.std.proofs.Common.{◌≡◌, ◌≢◌, ◌↔◌, ◌⊎◌, inl, inr, ℕ, ◌+◌, ◌*◌, ◌<◌, ◌≤◌, ◌||◌, ◌&&◌, ◌==◌, not, Bool, true, false, IsTrue, if◌then◌else◌, List, [], ◌∷◌, ◌++◌, length, replicate, get_or, slice_get, All, Option, None, Some, is_some, option_map, refl, sym, ap, ap₂, subst, ◌∙◌, arith}
-use Rattle.std.proofs.lemmas.Bool.{and_parts, cases_Bool, cases_eq, cases_order, eqb-true, or_cases, or_left, or_right, true≢false}
+use Rattle.std.proofs.lemmas.Bool.{and_parts, cases_Bool, cases_eq, cases_order, eqb-true, or_cases, or_left, or_right, true≢false, false_from_ne_true, not-true}
 use Rattle.std.proofs.lemmas.Option.{none-some, same_Some, slice_get-get_or, slice_get_within}
 use Rattle.std.specs.List.{filter, range_with_len}
 use Rattle.base_types.specs.Runs.{run_places}
@@ -31,7 +31,7 @@ use Rattle.fs_session.specs.Snapshots.{alone_among, live_files}
 use Rattle.fs_commands.specs.declared.snapping.Gone.{Gone}
 use Rattle.fs_commands.specs.Snapping.{DraftsLoss, MayTake}
 use Rattle.fs_commands.proofs.snapped.Live.{DataLaw}
-use Rattle.fs_commands.proofs.unsnapped.Counts.{IsAlone, alone_bare, alone_is, is_alone, off}
+use Rattle.fs_commands.proofs.unsnapped.Counts.{IsAlone, alone_bare, alone_is, is_alone}
 use Rattle.fs_commands.proofs.unsnapped.Keepers.{bit, but, count_less, counted_other, other_counted}
 use Rattle.fs_commands.proofs.unsnapped.Once.{has_kept, has_live, kept_has, no_file}
 
@@ -54,17 +54,14 @@ all_has P xs b all is =
     let low = slice_get_within xs p.0 b p.1 in
     subst P (same_Some (get_or xs p.0 0) b (sym (slice_get-get_or xs p.0 0 low) ∙ p.1)) (all p.0 0 low)
 
-clear_or : (t : Bool) → (t ≡ true → ⊥) → t ≡ false
-clear_or true never = absurd (never refl)
-clear_or false never = refl
-
-nothing_in : {A B : Type 0} (f : A → B) (o : Option A) → option_map f o ≡ None → o ≡ None
+-- where a function of it is nothing, nothing is there
+pub nothing_in : {A B : Type 0} (f : A → B) (o : Option A) → option_map f o ≡ None → o ≡ None
 nothing_in f None e = refl
 nothing_in f (Some x) e = absurd (none-some (f x) (sym e))
 
-none_there : {A : Type 0} (o : Option A) → is_some o ≡ false → o ≡ None
-none_there None e = refl
-none_there (Some x) e = absurd (true≢false e)
+pub none_there : {A : Type 0} (o : Option A) → (is_some o ≡ true → ⊥) → o ≡ None
+none_there None never = refl
+none_there (Some x) never = absurd (never refl)
 
 pub nil_of : {A : Type 0} (xs : List A) → length xs ≡ 0 → xs ≡ []
 nil_of [] e = refl
@@ -210,7 +207,7 @@ module _ (tells : Bool) (s : State) (name : List ℕ) (gone : Gone) (rest : List
         was = parts.1
 
         free : has d.freed b ≡ false
-        free = off (has d.freed b) parts.0
+        free = not-true (has d.freed b) parts.0
 
         «data» : data_start g ≤ b → (b ≡ g.n) ⊎ ((b < g.n) ⊎ (g.n < b)) → (b < data_start g) ⊎ IsElsewhere g s.map gone.number b
         «data» from (inr (inl below)) = inr (elsewhere b free ((sound.marked b from below).0 was))
@@ -223,7 +220,7 @@ module _ (tells : Bool) (s : State) (name : List ℕ) (gone : Gone) (rest : List
         by (inr (inr past)) rest = «data» (omega (arith, past)) rest
 
     marked_from : (b : ℕ) → b < 8192 * bitmap_blocks g → (is_set g s.map b ≡ true) × ((b < data_start g) ⊎ IsElsewhere g s.map gone.number b) → is_set g m b ≡ true
-    marked_from b low (was, there) = set_is b low ∙ ap₂ (λ t u. not t && u) (clear_or (has d.freed b) (not_freed b there)) was
+    marked_from b low (was, there) = set_is b low ∙ ap₂ (λ t u. not t && u) (false_from_ne_true (has d.freed b) (not_freed b there)) was
 
     stays : (b : ℕ) → data_start g ≤ b → b < g.n → is_set g m b ≡ true → m b ≡ s.map b
     stays b from below set =
@@ -232,7 +229,7 @@ module _ (tells : Bool) (s : State) (name : List ℕ) (gone : Gone) (rest : List
         ∙ ap₂ (λ x y. bytes_or (bytes_or (s.map b) x) y) (ap (λ xs. change_of xs b) (nil_of d.fresh loss.fresh)) unchanged
       where
         free : has d.freed b ≡ false
-        free = off (has d.freed b) (and_parts (not (has d.freed b)) (is_set g s.map b) (sym (set_is b (omega (arith, below))) ∙ set)).0
+        free = not-true (has d.freed b) (and_parts (not (has d.freed b)) (is_set g s.map b) (sym (set_is b (omega (arith, below))) ∙ set)).0
 
         changed_not : is_some (change_of d.changed b) ≡ true → ⊥
         changed_not is =
@@ -244,7 +241,7 @@ module _ (tells : Bool) (s : State) (name : List ℕ) (gone : Gone) (rest : List
             by (inr never) = true≢false (sym never)
 
         unchanged : change_of d.changed b ≡ None
-        unchanged = none_there (change_of d.changed b) (clear_or (is_some (change_of d.changed b)) changed_not)
+        unchanged = none_there (change_of d.changed b) changed_not
 
     -- So the blocks have just that snapshot less.
     pub takes : TakesSnapshot g s.map m gone.number

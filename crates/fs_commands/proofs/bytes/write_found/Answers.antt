@@ -1,18 +1,13 @@
-use Rattle.std.proofs.Common.{inl, ◌+◌, min, subst, ℕ, true, false, List, length, refl, sym, ap, ◌∙◌, arith, IsTrue, Ok, None, ◌≡◌}
-use Rattle.layout_geometry.specs.Geometry.{bitmap_blocks}
+use Rattle.std.proofs.Common.{◌+◌, min, subst, true, false, length, refl, sym, ap, ◌∙◌, ◌≡◌}
 use Rattle.lang_tree.specs.declared.command.Cmd.TheVariants.{Write}
 use Rattle.lang_tree.specs.declared.command.Refusal.TheVariants.{TooLarge}
-use Rattle.lang_tree.specs.Values.{value_of}
-use Rattle.fs_inodes.specs.Lookups.{walk_on}
 use Rattle.fs_commands.proofs.planning.Looking.{no_look, refusal_plan, done_plan, cut_short}
 use Rattle.fs_commands.proofs.planning.Before.{looked_first}
 use Rattle.fs_commands.proofs.planning.Behind.{file_is_still, may_plan_still, meets_still, walks_still}
 use Rattle.fs_commands.proofs.writing.Reasons.{nothing_put, refusal_is}
 use Rattle.fs_commands.proofs.bytes.write_found.Given as given
-use Rattle.fs_session.specs.Sessions.{inodes, IsSession}
-use Rattle.lang_tree.specs.Step.{Session}
+use Rattle.fs_session.specs.Sessions.{inodes}
 use Rattle.lang_tree.specs.Conditions.{refusal}
-use Rattle.fs_session.specs.Commands.{figures_on}
 use Rattle.fs_commands.specs.Figures.{MeetsKept}
 use Rattle.fs_commands.proofs.bytes.write_found.Goals as goal
 

@@ -1,10 +1,9 @@
-use Rattle.std.proofs.Common.{inl, ◌+◌, min, subst, ℕ, true, false, List, length, refl, sym, ap, ◌∙◌, arith, IsTrue, Ok, None, ◌≡◌}
+use Rattle.std.proofs.Common.{inl, ◌+◌, min, subst, ℕ, false, List, length, refl, sym, ap, ◌∙◌, arith, IsTrue, Ok, None, ◌≡◌}
 use Rattle.layout_geometry.specs.Geometry.{bitmap_blocks}
 use Rattle.lang_tree.specs.declared.command.Cmd.TheVariants.{Write}
-use Rattle.lang_tree.specs.declared.command.Refusal.TheVariants.{TooLarge}
 use Rattle.lang_tree.specs.Values.{value_of}
 use Rattle.fs_inodes.specs.Lookups.{walk_on}
-use Rattle.fs_commands.proofs.planning.Looking.{no_look, refusal_plan, done_plan, full_plan}
+use Rattle.fs_commands.proofs.planning.Looking.{full_plan}
 use Rattle.fs_commands.proofs.writing.Reasons.{not_too_large, refusal_is}
 use Rattle.fs_commands.proofs.Weighing.{is_weighed, figures_as}
 use Rattle.fs_commands.proofs.bytes.write_over.Given as given

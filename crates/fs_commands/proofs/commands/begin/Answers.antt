@@ -3,6 +3,7 @@ use Rattle.std.proofs.lemmas.Bool.{false≢true}
 use Rattle.lang_tree.specs.declared.command.Refusal.TheVariants.{DiskFault}
 use Rattle.fs_session.specs.Staying.{between_ticks, stands_ticks}
 use Rattle.fs_commands.specs.Known.{counts_in, number_in}
+use Rattle.fs_commands.proofs.Holding.{holds_same}
 use Rattle.fs_commands.proofs.snapped.Knows.{knows_same}
 use Rattle.fs_commands.proofs.commands.begin.Goals as goal
 
@@ -43,3 +44,11 @@ run-requires-clause-knows g c = λ told.
 pub returns-in-Err-clause-knows : goal.returns-in-Err-clause-knows
 returns-in-Err-clause-knows g c = λ told.
     knows_same (g.S.Blocks.state c.args.blocks.now) (g.S.Blocks.state c.tick.new.self) (counts_in c.args.known.now) (number_in c.args.known.now) c.in-Err.ensures.moves.pipeline.geom (c.in-Err.ensures.moves.map told) (c.requires.knows told)
+
+pub run-requires-clause-holds : goal.run-requires-clause-holds
+run-requires-clause-holds g c =
+    holds_same g.S.Blocks.tells (g.S.Blocks.state c.args.blocks.now) (g.S.Blocks.state c.tick.new.self) c.in-Ok.ensures.moves.pipeline.geom c.in-Ok.ensures.moves.map c.args.held.now c.requires.holds
+
+pub returns-in-Err-clause-holds : goal.returns-in-Err-clause-holds
+returns-in-Err-clause-holds g c =
+    holds_same g.S.Blocks.tells (g.S.Blocks.state c.args.blocks.now) (g.S.Blocks.state c.tick.new.self) c.in-Err.ensures.moves.pipeline.geom c.in-Err.ensures.moves.map c.args.held.now c.requires.holds

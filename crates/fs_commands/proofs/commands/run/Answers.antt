@@ -1,4 +1,5 @@
 use Rattle.fs_commands.specs.Known.{counts_in, number_in}
+use Rattle.fs_commands.proofs.Holding.{holds_same}
 use Rattle.fs_commands.proofs.snapped.Knows.{knows_same}
 use Rattle.fs_commands.proofs.commands.run.Goals as goal
 
@@ -50,3 +51,15 @@ unsnap-requires-clause-may g c =
       stands = c.requires.stands;
       turns = c.requires.may.turns;
     }
+
+pub returns-in-Osync-clause-holds : goal.returns-in-Osync-clause-holds
+returns-in-Osync-clause-holds g c =
+    holds_same g.S.Blocks.tells (g.S.Blocks.state c.args.blocks.now) (g.S.Blocks.state c.osync.new.blocks) c.osync.ensures.syncs.geom c.osync.ensures.syncs.map c.args.held.now c.requires.holds
+
+pub returns-in-Dsync-clause-holds : goal.returns-in-Dsync-clause-holds
+returns-in-Dsync-clause-holds g c =
+    holds_same g.S.Blocks.tells (g.S.Blocks.state c.args.blocks.now) (g.S.Blocks.state c.dsync.new.blocks) c.dsync.ensures.syncs.geom c.dsync.ensures.syncs.map c.args.held.now c.requires.holds
+
+pub returns-in-Dwait-clause-holds : goal.returns-in-Dwait-clause-holds
+returns-in-Dwait-clause-holds g c =
+    holds_same g.S.Blocks.tells (g.S.Blocks.state c.args.blocks.now) (g.S.Blocks.state c.dwait.new.blocks) c.dwait.ensures.waits.runs.pipeline.geom c.dwait.ensures.waits.runs.map c.args.held.now c.requires.holds

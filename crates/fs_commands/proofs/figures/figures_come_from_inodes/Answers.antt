@@ -1,5 +1,4 @@
 use Rattle.std.proofs.Common.{◌∙◌, sym, ap}
-use Rattle.lang_tree.specs.Conditions.{least_unused}
 use Rattle.fs_inodes.specs.Figures.{cost_over_by}
 use Rattle.fs_commands.proofs.figures.figures_come_from_inodes.Goals as goal
 

@@ -1,8 +1,6 @@
-use Rattle.std.proofs.Common.{◌∙◌, ◌+◌, ◌==◌, min, ℕ, length, sym, subst, ap, arith}
-use Rattle.std.proofs.lemmas.Bool.{cond-false, ne_eqb}
+use Rattle.std.proofs.Common.{◌∙◌, ◌+◌, ◌==◌, min, length, ap}
 use Rattle.lang_tree.specs.declared.command.Cmd.TheVariants.{Write, Fill}
-use Rattle.lang_tree.specs.Figures.{nothing}
-use Rattle.lang_tree.specs.Sharing.{shared_at, shared_met, write_over_figures, writing_over}
+use Rattle.lang_tree.specs.Sharing.{shared_at, write_over_figures, writing_over}
 use Rattle.lang_tree.specs.Values.{value_of}
 use Rattle.fs_inodes.specs.Lookups.{bytes_of, inode_at, number_at}
 use Rattle.fs_commands.proofs.counting.Costs.{overwritten_costs}

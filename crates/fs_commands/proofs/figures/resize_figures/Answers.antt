@@ -1,9 +1,9 @@
-use Rattle.std.proofs.Common.{◌≡◌, ◌∙◌, ◌-◌, sym, ap, ap₂, arith, length}
+use Rattle.std.proofs.Common.{◌≡◌, ◌∙◌, ◌-◌, sym, ap, ap₂, arith}
 use Rattle.lang_tree.specs.declared.command.Cmd.TheVariants.{Truncate}
 use Rattle.lang_tree.specs.Figures.{nothing}
 use Rattle.lang_tree.specs.Sharing.{shared_at, shared_met, truncate_over_figures}
 use Rattle.lang_tree.specs.Values.{value_of}
-use Rattle.fs_inodes.specs.Lookups.{bytes_of, inode_at, number_at}
+use Rattle.fs_inodes.specs.Lookups.{number_at}
 use Rattle.fs_commands.proofs.counting.Costs.{grown_costs, cut_costs, same_costs}
 use Rattle.fs_commands.proofs.figures.resize_figures.Goals as goal
 

@@ -1,17 +1,12 @@
-use Rattle.std.proofs.Common.{◌≡◌, ◌+◌, min, subst, inr, true, false, length, replicate, refl, sym, ap, ◌∙◌, arith, IsTrue, Ok, None, ℕ, List}
-use Rattle.layout_geometry.specs.Geometry.{bitmap_blocks}
+use Rattle.std.proofs.Common.{◌≡◌, ◌+◌, min, subst, true, false, refl, ap, ◌∙◌}
 use Rattle.lang_tree.specs.declared.command.Cmd.TheVariants.{Fill}
-use Rattle.lang_tree.specs.declared.command.Refusal.TheVariants.{TooLarge, NoMemory}
-use Rattle.lang_tree.specs.Values.{value_of}
-use Rattle.fs_session.specs.Sessions.{inodes, IsSession}
+use Rattle.lang_tree.specs.declared.command.Refusal.TheVariants.{TooLarge}
+use Rattle.fs_session.specs.Sessions.{inodes}
 use Rattle.fs_commands.proofs.filling.Reasons.{ends_past, nothing_filled}
 use Rattle.fs_commands.proofs.writing.Reasons.{refusal_is}
 use Rattle.fs_commands.proofs.planning.Looking.{no_look, refusal_plan, done_plan, cut_short}
 use Rattle.fs_commands.proofs.fills.fill_found.Given as given
-use Rattle.fs_inodes.specs.Lookups.{walk_on}
-use Rattle.lang_tree.specs.Step.{Session}
 use Rattle.lang_tree.specs.Conditions.{refusal}
-use Rattle.fs_session.specs.Commands.{figures_on}
 use Rattle.fs_commands.specs.Figures.{MeetsKept}
 use Rattle.fs_commands.proofs.planning.Before.{looked_first}
 use Rattle.fs_commands.proofs.planning.Behind.{file_is_still, may_plan_still, meets_still, walks_still}

@@ -1,11 +1,11 @@
-use Rattle.std.proofs.Common.{◌≡◌, ◌+◌, min, subst, inr, true, false, length, replicate, refl, sym, ap, ◌∙◌, arith, IsTrue, Ok, None, ℕ, List}
+use Rattle.std.proofs.Common.{◌≡◌, ◌+◌, min, subst, inr, false, length, replicate, refl, sym, ap, ◌∙◌, arith, IsTrue, Ok, None, ℕ, List}
 use Rattle.layout_geometry.specs.Geometry.{bitmap_blocks}
 use Rattle.lang_tree.specs.declared.command.Cmd.TheVariants.{Fill}
-use Rattle.lang_tree.specs.declared.command.Refusal.TheVariants.{TooLarge, NoMemory}
+use Rattle.lang_tree.specs.declared.command.Refusal.TheVariants.{NoMemory}
 use Rattle.lang_tree.specs.Values.{value_of}
 use Rattle.fs_session.specs.Sessions.{inodes, IsSession}
 use Rattle.fs_commands.proofs.writing.Reasons.{not_too_large, refusal_is}
-use Rattle.fs_commands.proofs.planning.Looking.{no_look, refusal_plan, done_plan, full_plan, room_plan}
+use Rattle.fs_commands.proofs.planning.Looking.{no_look, full_plan, room_plan}
 use Rattle.fs_commands.proofs.Weighing.{is_weighed, figures_as}
 use Rattle.fs_commands.proofs.fills.fill_over.Given as given
 use Rattle.fs_inodes.specs.Lookups.{walk_on}

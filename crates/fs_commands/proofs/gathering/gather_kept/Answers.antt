@@ -1,6 +1,6 @@
-use Rattle.std.proofs.Common.{◌≡◌, ◌+◌, ◌-◌, ◌<◌, ◌≤◌, ◌++◌, All, false, IsTrue, ap, ap₂, subst, sym, ◌∙◌, arith, rules}
+use Rattle.std.proofs.Common.{◌≡◌, ◌+◌, ◌-◌, ◌<◌, ◌≤◌, ◌++◌, All, false, ap, ap₂, subst, sym, ◌∙◌, arith, rules}
 use Rattle.base_types.specs.Seal.{Blocks}
-use Rattle.layout_geometry.specs.Geometry.{Geometry, IsGeometry, bitmap_start, table_start, data_start}
+use Rattle.layout_geometry.specs.Geometry.{Geometry, IsGeometry, table_start, data_start}
 use Rattle.crash_stands.specs.Places.{kept_table, table_blocks}
 use Rattle.crash_snapshots.specs.Places.{places_of_dir}
 use Rattle.engine_blocks.specs.Puts.{IsData}

@@ -1,15 +1,11 @@
-use Rattle.std.proofs.Common.{◌≡◌, ◌++◌, true, false, IsTrue, sym, subst, ap, ◌∙◌, arith, rules, tests}
+use Rattle.std.proofs.Common.{◌≡◌, ◌++◌, false, sym, subst, ◌∙◌, arith, rules, tests}
 use Rattle.std.proofs.lemmas.Bool.{false≢true}
 use Rattle.std.proofs.KnownBytes.{Appends-trans}
-use Rattle.base_types.specs.Counts.{after_call}
 use Rattle.base_io.specs.Prefix.{TakesPrefix}
 use Rattle.lang_tree.specs.Listing.{listing, path_lines}
 use Rattle.lang_tree.specs.Step.{Session}
-use Rattle.engine_blocks.specs.State.{Bookkeeping}
-use Rattle.fs_files.specs.Effects.{LooksOnly}
 use Rattle.fs_files.specs.Places.{looks_more}
-use Rattle.fs_session.specs.Sessions.{IsSession, MayBegin}
-use Rattle.fs_session.specs.Staying.{session_stays}
+use Rattle.fs_session.specs.Sessions.{IsSession}
 use Rattle.fs_snapshots.specs.Known.{KnowsSnapshots}
 use Rattle.fs_commands.specs.Known.{counts_in, number_in}
 use Rattle.fs_commands.specs.Listing.{CountsPushes, ended_by_push, ended_by_read, kept_lines}

@@ -1,16 +1,12 @@
-use Rattle.std.proofs.Common.{◌≡◌, ◌++◌, ℕ, [], false, List, Some, IsTrue, refl, sym, subst, ap, ◌∙◌, arith, rules, tests}
+use Rattle.std.proofs.Common.{◌≡◌, ◌++◌, ℕ, [], false, List, Some, refl, sym, subst, ap, ◌∙◌, arith, rules, tests}
 use Rattle.std.proofs.KnownBytes.{Appends-nil}
-use Rattle.std.specs.FinMap.{entries, get}
+use Rattle.std.specs.FinMap.{entries}
 use Rattle.std.specs.List.{AllByRecursion}
-use Rattle.base_types.specs.Counts.{after_call}
 use Rattle.base_io.specs.Prefix.{TakesPrefix}
 use Rattle.lang_tree.specs.Listing.{snapshot_lines}
 use Rattle.lang_tree.specs.Step.{Session}
-use Rattle.lang_tree.specs.Tree.{Kept}
 use Rattle.crash_stands.specs.Stands.{KeepsTree}
-use Rattle.engine_blocks.specs.State.{Bookkeeping}
 use Rattle.fs_files.specs.Calls.{places_of}
-use Rattle.fs_files.specs.Effects.{LooksOnly}
 use Rattle.fs_files.specs.Places.{looks_more}
 use Rattle.fs_session.specs.Sessions.{IsSession, MayBegin}
 use Rattle.fs_commands.specs.Known.{number_in, numbers_by_name}
@@ -21,7 +17,7 @@ use Rattle.fs_commands.proofs.numbered.Found.{each_there, named_snapshot}
 use Rattle.fs_commands.proofs.numbered.Keys.{in_order}
 use Rattle.fs_commands.proofs.numbered.Numbers.{entries_are}
 use Rattle.fs_commands.proofs.planning.Looking.{no_look}
-use Rattle.fs_commands.proofs.snapped.Answers.{keeps_there, on_err_more}
+use Rattle.fs_commands.proofs.snapped.Answers.{keeps_there}
 use Rattle.fs_commands.proofs.snapped.Kept.{begins_still, still}
 use Rattle.fs_commands.proofs.snapped.Lines.{HasListed, all_listed, next_listed}
 use Rattle.fs_commands.proofs.kept_listing.list_kept.Goals as goal

@@ -1,7 +1,6 @@
-use Rattle.std.proofs.Common.{◌≡◌, ◌++◌, ℕ, codes, false, Some, IfSome, sym, subst, ap, ◌∙◌, rules, tests, arith}
+use Rattle.std.proofs.Common.{◌≡◌, ◌++◌, codes, IfSome, sym, subst, ap, ◌∙◌, rules, arith}
 use Rattle.std.proofs.KnownBytes.{Appends-trans}
 use Rattle.std.proofs.lemmas.Option.{none-some, same_Some}
-use Rattle.std.specs.Io.KnownBytes.{Appends}
 use Rattle.base_types.specs.Counts.{after_call}
 use Rattle.base_io.specs.Prefix.{TakesPrefix}
 use Rattle.lang_tree.specs.Listing.{path_lines, snapshot_lines}
@@ -12,7 +11,7 @@ use Rattle.engine_blocks.specs.State.{Bookkeeping}
 use Rattle.fs_files.specs.Places.{looks_more}
 use Rattle.fs_snapshots.specs.Kept.{KeptState, MayReadKept, kept_map}
 use Rattle.fs_session.specs.Commands.{places_of}
-use Rattle.fs_commands.specs.Listing.{IsMapIn, ended_by_push, ended_by_read}
+use Rattle.fs_commands.specs.Listing.{ended_by_push, ended_by_read}
 use Rattle.fs_commands.proofs.listed.Texts.{on_err, took_nothing}
 use Rattle.fs_commands.proofs.snapped.Answers.{on_ok_more, on_err_more}
 use Rattle.fs_commands.proofs.snapped.Kept.{still}

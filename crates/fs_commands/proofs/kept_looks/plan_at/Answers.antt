@@ -1,4 +1,4 @@
-use Rattle.std.proofs.Common.{◌≡◌, Ok, Err, Some, None, refl, sym, subst, ap, ◌∙◌, rules}
+use Rattle.std.proofs.Common.{◌≡◌, Ok, None, refl, sym, subst, ap, ◌∙◌, rules}
 use Rattle.lang_tree.specs.declared.command.Cmd.TheVariants.{At}
 use Rattle.lang_tree.specs.declared.command.Refusal.TheVariants.{NoSnap}
 use Rattle.lang_tree.specs.Conditions.{at_refusal}

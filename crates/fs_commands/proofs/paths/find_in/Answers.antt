@@ -2,7 +2,8 @@ use Rattle.std.proofs.Common.{false, option_map, rules, sym, ap, ◌∙◌}
 use Rattle.crash_stands.specs.Inodes.{inodes_of}
 use Rattle.fs_files.specs.Calls.{facts_of}
 use Rattle.fs_files.specs.NodeMaps.{NodeMap}
-use Rattle.fs_commands.proofs.looking.Found.{looks_more, facts_are, is_used}
+use Rattle.fs_snapshots.specs.Nodes.{facts_are}
+use Rattle.fs_commands.proofs.looking.Found.{looks_more, is_used}
 use Rattle.fs_commands.proofs.paths.find_in.Goals as goal
 
 pub returns-in-Err-clause-found : goal.returns-in-Err-clause-found

@@ -1,7 +1,6 @@
-use Rattle.std.proofs.Common.{rules, ◌≡◌, ◌≤◌, IsTrue, [], ◌-◌, ℕ, Bool, List, Option, None, length, sym, ap, ◌∙◌, arith, slice_get, subst, option_map}
+use Rattle.std.proofs.Common.{rules, ◌≡◌, ◌≤◌, IsTrue, [], ◌-◌, ℕ, Bool, List, None, length, sym, ap, ◌∙◌, arith, slice_get, option_map}
 use Rattle.std.proofs.lemmas.Bool.Decides.{nat_tests}
 use Rattle.fs_files.specs.declared.node_blocks.OpenFile.{OpenFile}
-use Rattle.fs_files.specs.declared.look.FileFacts.{FileFacts}
 use Rattle.fs_files.specs.Calls.{facts_of, files_in, places_in}
 use Rattle.fs_commands.specs.Figures.{kept_places}
 use Rattle.fs_session.specs.Commands.{places_of}

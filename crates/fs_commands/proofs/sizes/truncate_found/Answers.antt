@@ -1,20 +1,15 @@
-use Rattle.std.proofs.Common.{true, false, length, sym, ap, ◌∙◌, arith, IsTrue, Ok, None, ℕ, List, ◌≡◌}
+use Rattle.std.proofs.Common.{true, false, length, sym, ap, ◌∙◌, arith, ◌≡◌}
 use Rattle.std.proofs.lemmas.Option.{same_Some}
-use Rattle.layout_geometry.specs.Geometry.{bitmap_blocks}
 use Rattle.lang_tree.specs.declared.command.Cmd.TheVariants.{Truncate}
 use Rattle.lang_tree.specs.declared.command.Refusal.TheVariants.{TooLarge}
-use Rattle.lang_tree.specs.Values.{value_of}
 use Rattle.crash_stands.specs.Files.{FileNode}
 use Rattle.fs_files.specs.declared.look.FileFacts.{FileFacts}
 use Rattle.fs_files.specs.Drafts.{begun_beside}
-use Rattle.fs_session.specs.Sessions.{inodes, IsSession}
+use Rattle.fs_session.specs.Sessions.{inodes}
 use Rattle.fs_commands.proofs.planning.Looking.{no_look, refusal_plan, done_plan, cut_short}
 use Rattle.fs_commands.proofs.sizing.Reasons.{refusal_is, nothing_resized}
 use Rattle.fs_commands.proofs.sizes.truncate_found.Given as given
-use Rattle.fs_inodes.specs.Lookups.{walk_on}
-use Rattle.lang_tree.specs.Step.{Session}
 use Rattle.lang_tree.specs.Conditions.{refusal}
-use Rattle.fs_session.specs.Commands.{figures_on}
 use Rattle.fs_commands.proofs.planning.Before.{looked_first}
 use Rattle.fs_commands.proofs.planning.Behind.{file_is_still, may_plan_still, resizes_still, walks_still}
 use Rattle.fs_commands.proofs.sizes.truncate_found.Goals as goal

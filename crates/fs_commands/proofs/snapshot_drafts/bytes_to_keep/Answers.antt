@@ -1,4 +1,4 @@
-use Rattle.std.proofs.Common.{◌≡◌, ◌++◌, false, List, ℕ, [], All, IsTrue, length, sym, subst, ap, ◌∙◌, rules, tests}
+use Rattle.std.proofs.Common.{◌≡◌, ◌++◌, false, [], All, length, sym, subst, ap, ◌∙◌, rules, tests}
 use Rattle.std.specs.List.{flat_map}
 use Rattle.base_types.specs.Seal.{Blocks}
 use Rattle.layout_bytes.specs.SnapshotName.{name_block}

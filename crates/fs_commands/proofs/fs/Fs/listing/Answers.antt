@@ -4,6 +4,8 @@ use Rattle.fs_files.specs.Finish.{MayGoOn}
 use Rattle.fs_session.specs.Staying.{between_stays, stands_still}
 use Rattle.fs_snapshots.specs.Known.{KnowsSnapshots}
 use Rattle.fs_commands.specs.Known.{counts_in, number_in}
+use Rattle.fs_commands.specs.Listing.{ended_by_read}
+use Rattle.fs_commands.proofs.Holding.{holds_looked}
 use Rattle.fs_commands.proofs.fs.Fs.listing.Goals as goal
 
 pub list_all-requires-clause-may_list : goal.list_all-requires-clause-may_list
@@ -27,6 +29,7 @@ returns-clause-stays g c =
         between = between_stays g.S.Blocks.tells s t c.args.self.now.unused (ap (λ (b : Bookkeeping). b.geom) looks.books) looks.map (subst MayGoOn (sym looks.books) ready.between.goes_on) ready.between;
         knows = λ told. subst (λ (b : Bookkeeping). KnowsSnapshots b.geom t.map (counts_in c.args.self.now.known) (number_in c.args.self.now.known)) (sym looks.books)
             (subst (λ m. KnowsSnapshots s.books.geom m (counts_in c.args.self.now.known) (number_in c.args.self.now.known)) (sym (looks.map told)) (ready.knows told));
+        holds = holds_looked g.S.Blocks.tells (ended_by_read c.list_all.result) s t looks c.args.self.now.held ready.holds;
       };
       stands = λ told. stands_still s t (ap (λ (b : Bookkeeping). b.geom) looks.books) (looks.map told);
     }

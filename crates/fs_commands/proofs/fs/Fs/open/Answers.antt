@@ -29,6 +29,7 @@ returns-in-Ok-clause-ready g c =
           let known = still g.S.Blocks.tells s u looks (λ x m. KnowsSnapshots x m c.in-Ok.found.shared (get (numbers_in c.in-Ok.found.numbers.entries))) told
           (subst (λ r. IfOk r (λ (found : Snapshots). KnowsSnapshots s.books.geom s.map found.shared (get (numbers_in found.numbers.entries)))) c.in-Ok.is (c.check.ensures.known told)) in
           record { kept = subst (CountsKeepers u.books.geom u.map) (sym c.of.ensures.counts) known.kept; named = λ name. c.of.ensures.numbers name ∙ known.named name };
+      holds = tt;
     }
 
 pub returns-in-Ok-clause-looks : goal.returns-in-Ok-clause-looks
