@@ -10,6 +10,10 @@ is_name_byte b = nat_le 33 b && (nat_le b 126 && not (b == 47))
 abbrev pub is_dots : List ℕ → Bool
 is_dots name = bytes_eq name (46 ∷ []) || bytes_eq name (46 ∷ 46 ∷ [])
 
--- 1 to 59 bytes, each of which may be in a name, and neither `.` nor `..`
+-- 1 to 255 bytes, each of which may be in a name, and neither `.` nor `..`
 abbrev pub is_name : List ℕ → Bool
-is_name name = nat_lt 0 (length name) && (nat_le (length name) 59 && (list_all is_name_byte name && not (is_dots name)))
+is_name name = nat_lt 0 (length name) && (nat_le (length name) 255 && (list_all is_name_byte name && not (is_dots name)))
+
+-- the name of a snapshot: a name of at most 59 bytes, in each layout
+abbrev pub is_snapshot_name : List ℕ → Bool
+is_snapshot_name name = is_name name && nat_le (length name) 59

@@ -1,8 +1,11 @@
 //! The limits as named constants, in the units that their names say. Their reasons are in
 //! docs/TREE.md, docs/SCRIPT.md and docs/LAYOUT.md.
 
-/// The most bytes of a name.
-pub const LONGEST_NAME: usize = 59;
+/// The most bytes of a name, in any layout.
+pub const LONGEST_NAME: usize = 255;
+
+/// The most bytes of a snapshot's name, in any layout.
+pub const LONGEST_SNAPSHOT_NAME: usize = 59;
 
 /// The most bytes of a file: 1 GiB.
 pub const LARGEST_FILE: u64 = 1_073_741_824;
@@ -43,8 +46,17 @@ pub const MOST_NODES: u32 = 65_536;
 /// The fewest data blocks.
 pub const LEAST_DATA: u32 = 8;
 
-/// The most runs of a node.
-pub const MOST_RUNS: usize = 28;
+/// The most runs of a node, in any layout.
+pub const MOST_RUNS: usize = 60;
+
+/// The most bytes of a node, in any layout.
+pub const LONGEST_NODE: usize = 512;
+
+/// The most bytes of a directory slot, in any layout.
+pub const LONGEST_SLOT: usize = 264;
+
+/// What the size of a directory counts for each slot, in any layout.
+pub const SIZE_OF_SLOT: u64 = 64;
 
 /// The most links of a file.
 pub const MOST_LINKS: u32 = 65_535;

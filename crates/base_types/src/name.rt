@@ -3,14 +3,14 @@
 
 ghost use Rattle.std.specs.Prelude.{◌≡◌, ℕ, ◌≤◌, ◌<◌, true, List, length, IsTrue, IsSome, IfSome, ◌↔◌, ◌==◌, ⊤};
 ghost use Rattle.std.specs.List.{list_all};
-ghost use Rattle.base_types.specs.Name.{is_name, is_name_byte, is_dots};
+ghost use Rattle.base_types.specs.Name.{is_name, is_name_byte, is_dots, is_snapshot_name};
 
-use crate::limits::LONGEST_NAME;
+use crate::limits::{LONGEST_NAME, LONGEST_SNAPSHOT_NAME};
 use arrayvec::ArrayVec;
 use std::alloc::AllocError;
 use std::marker::Model;
 
-/// 1 to 59 bytes of printable ASCII without blank and slash, and neither `.` nor `..`.
+/// 1 to 255 bytes of printable ASCII without blank and slash, and neither `.` nor `..`.
 ///
 /// A name lies in the value itself, so making and copying one takes no memory. Names are ordered by
 /// their bytes.
@@ -52,6 +52,14 @@ impl Name {
         let mut bytes = ArrayVec::new();
         bytes.try_extend_from_slice(self.bytes.as_slice()).unwrap();
         Name { bytes }
+    }
+
+    /// Whether a snapshot may have it.
+    pub fn is_snapshot_name(&self) -> bool
+        ensures { result ≡ is_snapshot_name self.now }
+    {
+        let bytes = self.as_bytes();
+        bytes.len() <= LONGEST_SNAPSHOT_NAME
     }
 
     /// The bytes of the name.

@@ -1,4 +1,4 @@
-//! Lists of block numbers: `Places` one by one, and `RunList` as at most 28 runs of neighbours. Which
+//! Lists of block numbers: `Places` one by one, and `RunList` as at most 60 runs of neighbours. Which
 //! blocks a list may have is described by the crates that keep them.
 
 ghost use Rattle.std.specs.Prelude.{◌≡◌, ◌<◌, ◌≤◌, ◌==◌, ◌++◌, ℕ, [], ◌∷◌, List, length, IfNone, OnOk, OnErr};
@@ -88,7 +88,7 @@ pub struct Run {
     pub count: u32,
 }
 
-/// At most 28 runs, as a node has them, which contracts see as their list. It lies in the value itself,
+/// At most 60 runs, as a node has them, which contracts see as their list. It lies in the value itself,
 /// so it takes no memory.
 #[derive(Debug, PartialEq, Eq, Drop)]
 pub struct RunList {
@@ -103,7 +103,7 @@ impl Model for RunList {
 
     ghost view = { λ r. r.runs.items };
 
-    ghost invariant = { λ r. length r.runs.items ≤ 28 };
+    ghost invariant = { λ r. length r.runs.items ≤ 60 };
 
     ghost inverse = { λ xs. record { runs = record { items = xs } } };
 }
@@ -120,7 +120,7 @@ impl RunList {
 
     /// Adds a run at the end. There must be room for it.
     pub fn push(&mut self, run: Run)
-        requires { length self.old < 28 }
+        requires { length self.old < 60 }
         ensures { self.new ≡ self.old ++ run ∷ [] }
     {
         self.runs.push(run);
@@ -130,7 +130,7 @@ impl RunList {
     pub fn pop(&mut self) -> Option<Run>
         ensures parts { self.old ≡ self.new ++ option_to_list result }
         ensures none { IfNone result (self.old ≡ []) }
-        ensures room { length self.new < 28 }
+        ensures room { length self.new < 60 }
     {
         self.runs.pop()
     }
@@ -152,7 +152,7 @@ impl RunList {
     /// The runs in order.
     pub fn as_slice(&self) -> &[Run]
         ensures value { result.now ≡ self.now }
-        ensures few { length result.now ≤ 28 }
+        ensures few { length result.now ≤ 60 }
     {
         self.runs.as_slice()
     }
