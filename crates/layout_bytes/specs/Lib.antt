@@ -1,5 +1,6 @@
 pub mod Bytes
 pub mod Bitmap
 pub mod Node
+pub mod NodeLaws
 pub mod SnapshotName
 pub mod Slot

@@ -4,17 +4,14 @@ use Rattle.std.specs.List.{All}
 use Rattle.byteorder.specs.Endian.{little_bytes}
 use Rattle.base_types.specs.Seal.{Blocks}
 use Rattle.base_types.specs.declared.places.Run.{Run}
-pub use Rattle.layout_geometry.specs.Geometry.{node_size}
-use Rattle.layout_geometry.specs.Geometry.{Geometry, table_start, data_start, nodes_in_block}
+use Rattle.base_types.specs.declared.layout.Layout.{Layout}
+pub use Rattle.base_types.specs.Layouts.{node_size, most_runs}
+use Rattle.base_types.specs.Layouts.{node_block, node_byte, slots_held, content_size}
+use Rattle.layout_geometry.specs.Geometry.{Geometry, table_start, data_start}
 use Rattle.layout_bytes.specs.declared.node.Node.{Node}
 use Rattle.layout_bytes.specs.declared.node.NodeKind.{NodeKind}
 use Rattle.layout_bytes.specs.declared.node.NodeKind.TheVariants.{Free, Dir, File, Snapshot}
-use Rattle.layout_bytes.specs.Slot.{slot_size}
 use Rattle.layout_bytes.specs.Bytes.{field, has_zeros, when}
-
--- the most runs of a node, in this one place
-abbrev pub most_runs : ℕ
-most_runs = 28
 
 -- The fields.
 
@@ -38,28 +35,47 @@ runs_fit g end [] = true
 runs_fit g end (r ∷ rs) =
     nat_lt 0 r.count && (nat_le (data_start g) r.first && (nat_le (r.first + r.count) g.n && (not (r.first == end) && runs_fit g (r.first + r.count) rs)))
 
--- a directory's bytes are whole slots; a file is bounded in links and bytes
+-- a directory's size is 64 for each slot; a file is bounded in links and bytes
 abbrev pub kind_fits : Node → NodeKind → Bool
 kind_fits node Free = true
-kind_fits node Dir = node.size % slot_size == 0
+kind_fits node Dir = node.size % 64 == 0
 kind_fits node File = nat_le node.links 65535 && nat_le node.size 1073741824
 kind_fits node Snapshot = true
 
--- a node in use: it has a link, and its runs have as many blocks as its bytes need
+-- how many bytes of a node's blocks are its content, by its size: all that it says, and for a directory those up to the end of its last slot
+abbrev pub content_of : Layout → NodeKind → ℕ → ℕ
+content_of l Free size = size
+content_of l Dir size = content_size l size
+content_of l File size = size
+content_of l Snapshot size = size
+
+-- what the size says of a node with so many bytes of content
+abbrev pub size_of : Layout → NodeKind → ℕ → ℕ
+size_of l Free bytes = bytes
+size_of l Dir bytes = 64 * slots_held l bytes
+size_of l File bytes = bytes
+size_of l Snapshot bytes = bytes
+
+-- how many blocks a node of this kind and size has
+abbrev pub content_blocks : Layout → NodeKind → ℕ → ℕ
+content_blocks l kind size = (content_of l kind size + 1023) / 1024
+
+-- a node in use: it has a link, and its runs have as many blocks as its content needs
 abbrev pub node_fits : Geometry → Node → Bool
 node_fits g node =
-    nat_lt 0 node.links && (nat_le (length node.runs) most_runs && (runs_fit g 0 node.runs && ((run_blocks node.runs == (node.size + 1023) / 1024) && kind_fits node node.kind)))
+    nat_lt 0 node.links && (nat_le (length node.runs) (most_runs g.layout) && (runs_fit g 0 node.runs
+    && ((run_blocks node.runs == content_blocks g.layout node.kind node.size) && kind_fits node node.kind)))
 
 -- the bytes of a node that carry nothing are zeros
-abbrev pub spare_zeros : List ℕ → Bool
-spare_zeros b = (slice_index b 1 == 0) && (has_zeros b 16 32 && has_zeros b (32 + 8 * field b 2 2) node_size)
+abbrev pub spare_zeros : Layout → List ℕ → Bool
+spare_zeros l b = (slice_index b 1 == 0) && (has_zeros b 16 32 && has_zeros b (32 + 8 * field b 2 2) (node_size l))
 
 abbrev pub node_fields : NodeKind → List ℕ → Node
 node_fields kind b = record { kind = kind; links = field b 4 4; size = field b 8 8; runs = runs_in (field b 2 2) (drop 32 b) }
 
 abbrev pub node_with : Geometry → List ℕ → Option NodeKind → Option Node
 node_with g b None = None
-node_with g b (Some kind) = when (spare_zeros b) (when (node_fits g (node_fields kind b)) (Some (node_fields kind b)))
+node_with g b (Some kind) = when (spare_zeros g.layout b) (when (node_fits g (node_fields kind b)) (Some (node_fields kind b)))
 
 -- the node in use in these bytes, if they are one's
 unfoldable pub node_of : Geometry → List ℕ → Option Node
@@ -67,7 +83,7 @@ node_of g b = node_with g b (used_kind (slice_index b 0))
 
 -- the bytes of node k among these blocks
 abbrev pub node_bytes : Geometry → Blocks → ℕ → List ℕ
-node_bytes g m k = take node_size (drop (node_size * ((k - 1) % nodes_in_block)) (m (table_start g + (k - 1) / nodes_in_block)))
+node_bytes g m k = take (node_size g.layout) (drop (node_byte g.layout k) (m (table_start g + node_block g.layout k)))
 
 -- node k, where it is in use
 abbrev pub node_at : Geometry → Blocks → ℕ → Option Node
@@ -85,10 +101,10 @@ abbrev pub run_bytes : List Run → List ℕ
 run_bytes [] = []
 run_bytes (r ∷ rs) = little_bytes 4 r.first ++ (little_bytes 4 r.count ++ run_bytes rs)
 
-abbrev pub node_spelling : Node → List ℕ
-node_spelling node =
+abbrev pub node_spelling : Layout → Node → List ℕ
+node_spelling l node =
     kind_byte node.kind ∷ 0 ∷ (little_bytes 2 (length node.runs) ++ (little_bytes 4 node.links ++ (little_bytes 8 node.size
-    ++ (replicate 16 0 ++ (run_bytes node.runs ++ replicate (node_size - 32 - 8 * length node.runs) 0)))))
+    ++ (replicate 16 0 ++ (run_bytes node.runs ++ replicate (node_size l - 32 - 8 * length node.runs) 0)))))
 
 -- a node that isn't in use: it has no links, no bytes and no runs
 abbrev pub free_node : Node
@@ -111,4 +127,4 @@ pub record HasRoom (node : Node) : Type 0 where
 pub record IsNode (g : Geometry) (bytes : List ℕ) (node : Node) : Type 0 where
   pub room : HasRoom node
   pub fits : FitsAs g node node.kind
-  pub spelling : bytes ≡ node_spelling node
+  pub spelling : bytes ≡ node_spelling g.layout node

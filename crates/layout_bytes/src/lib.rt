@@ -13,5 +13,5 @@ mod text;
 pub use fields::{are_zeros, has_zeros, number_2, number_4, number_8};
 pub use laws::fields_tell_their_bytes;
 pub use node::{Node, NodeKind};
-pub use slot::{SLOT_LENGTH, Slot};
+pub use slot::Slot;
 pub use text::{put, put_2, put_4, put_8, put_zeros};

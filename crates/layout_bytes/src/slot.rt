@@ -1,11 +1,8 @@
-//! The value of a directory slot. How it is stored in 64 bytes is the definition `slot_of`.
+//! The value of a directory slot. How it is stored in bytes is the definition `slot_of`.
 
 ghost use Rattle.std.specs.Prelude.{◌≡◌, [], ◌∷◌};
 
 use base_types::Name;
-
-/// The bytes of a slot.
-pub const SLOT_LENGTH: usize = 64;
 
 /// An entry of a directory: a name, and the number of the node that it stands for.
 #[derive(Drop)]

@@ -7,6 +7,11 @@ pub when_parts : {A : Type 0} (t : Bool) (o : Option A) (y : A) → when t o ≡
 when_parts true o y e = (refl, e)
 when_parts false o y e = cc
 
+-- a value under a test that holds
+pub when_is : {A : Type 0} (t : Bool) (o : Option A) → t ≡ true → when t o ≡ o
+when_is true o e = refl
+when_is false o e = cc
+
 -- so many zeros are zeros
 pub zeros_are : (n : ℕ) → are_zeros (replicate n 0) ≡ true
 zeros_are zero = refl

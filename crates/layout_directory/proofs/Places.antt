@@ -3,27 +3,30 @@ use Rattle.std.proofs.Common.{◌+◌, ◌*◌, ◌≡◌, ◌≢◌, ◌<◌, �
 use Rattle.std.proofs.lemmas.Bool.{cond-true, cond-false, lt-ltb, le-ltb, cases_eq, cases_lt, both_ways}
 use Rattle.std.proofs.lemmas.Slice.Eq.{bytes_eq-Decides}
 use Rattle.std.proofs.lemmas.List.{length-take-le, length-drop}
-use Rattle.std.proofs.lemmas.Option.{get_or_from_slice_get}
+use Rattle.std.proofs.lemmas.Option.{get_or_from_slice_get, slice_get-get_or}
 use Rattle.std.proofs.lemmas.List.Sums.{position_or_len_is, fails_before_first, passes_at_first}
 use Rattle.std.specs.List.{All, concat, position_or_len, slice_get}
-use Rattle.layout_bytes.specs.Slot.{slot_of, slots_in}
+use Rattle.base_types.specs.declared.layout.Layout.{Layout}
+use Rattle.base_types.specs.Layouts.{slot_size, slot_place}
+use Rattle.layout_bytes.specs.Slot.{slot_of}
 use Rattle.layout_directory.specs.Slots.{Slot}
-use Rattle.layout_directory.specs.Directory.{entries_in, slot_at, has_name, IsFirstNamed, place_of}
+use Rattle.layout_directory.specs.Directory.{slot_at, has_name, ReadAs, IsFirstNamed, place_of}
 use Rattle.layout_directory.proofs.Written.{AreWhole, joined_length}
-use Rattle.layout_directory.proofs.Entries.{count_read, each_read, name_test, room}
+use Rattle.layout_directory.proofs.Entries.{name_test, place_room}
 
--- the bytes of an entry are 64
-pub slot_length : (blocks : List (List ℕ)) (i : ℕ) → AreWhole blocks → 64 * i + 64 ≤ 1024 * length blocks → length (slot_at i blocks) ≡ 64
-slot_length blocks i whole within =
-    length-take-le 64 (drop (64 * i) (concat blocks)) (omega (arith, length-drop (64 * i) (concat blocks), joined_length blocks whole))
+-- the bytes of an entry are those of a slot
+pub slot_length : (l : Layout) (blocks : List (List ℕ)) (i : ℕ) → AreWhole blocks → slot_place l i + slot_size l ≤ 1024 * length blocks → length (slot_at l i blocks) ≡ slot_size l
+slot_length l blocks i whole within =
+    length-take-le (slot_size l) (drop (slot_place l i) (concat blocks)) (omega (arith, within, length-drop (slot_place l i) (concat blocks), joined_length blocks whole))
 
 -- the bytes of an entry have the name exactly where the entry has it
-pub entry_test : (blocks : List (List ℕ)) (n i : ℕ) (slots : List Slot) (d : Slot) (slot name : List ℕ) → AreWhole blocks → slot ≡ slot_at i blocks → i < n
-    → slots_in n (concat blocks) ≡ Some slots
+pub entry_test : (l : Layout) (blocks : List (List ℕ)) (i : ℕ) (slots : List Slot) (d : Slot) (slot name : List ℕ) → AreWhole blocks → slot ≡ slot_at l i blocks → i < length slots
+    → ReadAs l (concat blocks) slots
     → has_name slot name ≡ bytes_eq (slice_index_or slots i d).name name
-entry_test blocks n i slots d slot name whole is low e =
-    name_test slot name (slice_index_or slots i d) (ap length is ∙ slot_length blocks i whole (room n blocks slots i whole e low))
-    (ap slot_of is ∙ each_read n (concat blocks) slots i d e low)
+entry_test l blocks i slots d slot name whole is low e =
+    let reads = e i (slice_index_or slots i d) (slice_get-get_or slots i d low) in
+    name_test l slot name (slice_index_or slots i d) (ap length is ∙ slot_length l blocks i whole (place_room l blocks i (slice_index_or slots i d) whole reads))
+    (ap (slot_of l) is ∙ reads)
 
 -- the place that a count of entries before the first stands for
 abbrev place_from : List Slot → ℕ → Option ℕ
@@ -43,29 +46,27 @@ place_is_none name slots d before =
     ∙ cond-false _ _ _ (le-ltb (length slots) (length slots) (omega arith)))
 
 -- one more place whose bytes don't have the name
-pub none_yet : (blocks : List (List ℕ)) (name : List ℕ) (i : ℕ) → ((k : ℕ) → k < i → has_name (slot_at k blocks) name ≡ false)
-    → has_name (slot_at i blocks) name ≡ false → (k : ℕ) → k < i + 1 → has_name (slot_at k blocks) name ≡ false
-none_yet blocks name i before here k low = by (cases_eq k i)
+pub none_yet : (l : Layout) (blocks : List (List ℕ)) (name : List ℕ) (i : ℕ) → ((k : ℕ) → k < i → has_name (slot_at l k blocks) name ≡ false)
+    → has_name (slot_at l i blocks) name ≡ false → (k : ℕ) → k < i + 1 → has_name (slot_at l k blocks) name ≡ false
+none_yet l blocks name i before here k low = by (cases_eq k i)
   where
-    by : ((k ≡ i) ⊎ (k ≡ i → ⊥)) → has_name (slot_at k blocks) name ≡ false
-    by (inl same) = ap (λ j. has_name (slot_at j blocks) name) same ∙ here
+    by : ((k ≡ i) ⊎ (k ≡ i → ⊥)) → has_name (slot_at l k blocks) name ≡ false
+    by (inl same) = ap (λ j. has_name (slot_at l j blocks) name) same ∙ here
     by (inr apart) = before k (omega arith)
 
 blank : Slot
 blank = record { node = 0; name = [] }
 
--- where the entries are slots, the first place whose bytes have the name is that of the first entry with it
-pub named_is : (entries : ℕ) (blocks : List (List ℕ)) (name : List ℕ) (p : Option ℕ) (slots : List Slot) → AreWhole blocks → IsFirstNamed entries blocks name p
-    → entries_in entries blocks ≡ Some slots → p ≡ place_of name slots
-named_is entries blocks name None slots whole none e =
+-- where each entry reads as a slot, the first place whose bytes have the name is that of the first entry with it
+pub named_is : (l : Layout) (entries : ℕ) (blocks : List (List ℕ)) (name : List ℕ) (p : Option ℕ) (slots : List Slot) → AreWhole blocks → IsFirstNamed l entries blocks name p
+    → length slots ≡ entries → ReadAs l (concat blocks) slots → p ≡ place_of name slots
+named_is l entries blocks name None slots whole none count e =
     place_is_none name slots blank
-    (λ k low.
-    let within : k < entries = omega (arith, count_read entries (concat blocks) slots e, low) in
-    sym (entry_test blocks entries k slots blank (slot_at k blocks) name whole refl within e) ∙ none k within)
-named_is entries blocks name (Some p) slots whole is e =
-    place_is name slots p blank (omega (arith, count_read entries (concat blocks) slots e, is.0))
-    (λ k low. sym (entry_test blocks entries k slots blank (slot_at k blocks) name whole refl (omega (arith, low, is.0)) e) ∙ is.2 k low)
-    (sym (entry_test blocks entries p slots blank (slot_at p blocks) name whole refl is.0 e) ∙ is.1)
+    (λ k low. sym (entry_test l blocks k slots blank (slot_at l k blocks) name whole refl low e) ∙ none k (omega (arith, count, low)))
+named_is l entries blocks name (Some p) slots whole is count e =
+    place_is name slots p blank (omega (arith, count, is.0))
+    (λ k low. sym (entry_test l blocks k slots blank (slot_at l k blocks) name whole refl (omega (arith, count, low, is.0)) e) ∙ is.2 k low)
+    (sym (entry_test l blocks p slots blank (slot_at l p blocks) name whole refl (omega (arith, count, is.0)) e) ∙ is.1)
 
 -- where there is a place, it is within the entries and counts those before the first with the name
 place_counts : (name : List ℕ) (slots : List Slot) (i : ℕ) → place_of name slots ≡ Some i

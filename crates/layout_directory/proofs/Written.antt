@@ -1,9 +1,11 @@
 -- Bytes written over others, in one block and in blocks that are joined.
-use Rattle.std.proofs.Common.{◌+◌, ◌-◌, ◌*◌, ◌/◌, ◌%◌, ◌≡◌, ◌<◌, ◌≤◌, ℕ, zero, suc, List, [], ◌∷◌, ◌++◌, length, take, drop, slice_index_or, refl, sym, ◌∙◌, ap, arith, ◌⊎◌, inl, inr}
+use Rattle.std.proofs.Common.{◌+◌, ◌-◌, ◌*◌, ◌≡◌, ◌<◌, ◌≤◌, ℕ, zero, suc, List, [], ◌∷◌, ◌++◌, length, take, drop, slice_index_or, refl, sym, ◌∙◌, ap, arith}
 use Rattle.std.proofs.Math.Seq.{drop-append_seam}
-use Rattle.std.proofs.lemmas.List.{length-take-le, length-drop, length-append, drop-drop, take-append-le, drop-append-le, take_at, drop_at, take-take, drop-take}
-use Rattle.std.proofs.lemmas.Bool.{cases_order}
+use Rattle.std.proofs.lemmas.List.{length-take-le, length-drop, length-append, drop-drop, take-append-drop, take-append-le, drop-append-le, take_at, drop_at, take-take, drop-take}
 use Rattle.std.specs.List.{concat}
+use Rattle.base_types.specs.declared.layout.Layout.{Layout}
+use Rattle.base_types.specs.Layouts.{slot_size, slot_block, slot_byte, slot_place}
+use Rattle.base_types.specs.LayoutLaws.{slot_size_is, slot_within, slot_place_is}
 use Rattle.layout_directory.specs.Directory.{slot_at, overwrite}
 
 -- each block has 1,024 bytes
@@ -21,7 +23,7 @@ joined_length (x ∷ xs) whole =
     omega (arith, length-append x (concat xs), whole 0 (omega arith), joined_length xs (whole_rest x xs whole))
 
 -- what lies behind some bytes and more of what follows them
-drop_further : (xs ys : List ℕ) (n m : ℕ) → n ≡ length xs + m → drop n (xs ++ ys) ≡ drop m ys
+pub drop_further : (xs ys : List ℕ) (n m : ℕ) → n ≡ length xs + m → drop n (xs ++ ys) ≡ drop m ys
 drop_further xs ys n m e =
     ap (λ k. drop k (xs ++ ys)) e ∙ sym (drop-drop m (length xs) (xs ++ ys)) ∙ ap (drop m) (drop-append_seam xs ys)
 
@@ -39,52 +41,43 @@ part_of_joined (x ∷ xs) (suc k) from n whole low fits =
     ∙ part_of_joined xs k from n (whole_rest x xs whole) (omega arith) fits
 
 -- the bytes of a slot are those of its place in its block
-pub slot_in_block : (blocks : List (List ℕ)) (place : ℕ) → AreWhole blocks → 64 * place + 64 ≤ 1024 * length blocks
-    → take 64 (drop (64 * (place % 16)) (slice_index_or blocks (place / 16) [])) ≡ slot_at place blocks
-slot_in_block blocks place whole within =
-    sym (part_of_joined blocks (place / 16) (64 * (place % 16)) 64 whole (omega arith) (omega arith))
-    ∙ ap (λ i. take 64 (drop i (concat blocks))) {x = 1024 * (place / 16) + 64 * (place % 16)} {y = 64 * place} (omega arith)
+pub slot_in_block : (l : Layout) (blocks : List (List ℕ)) (place : ℕ) → AreWhole blocks → slot_place l place + slot_size l ≤ 1024 * length blocks
+    → take (slot_size l) (drop (slot_byte l place) (slice_index_or blocks (slot_block l place) [])) ≡ slot_at l place blocks
+slot_in_block l blocks place whole within =
+    sym (part_of_joined blocks (slot_block l place) (slot_byte l place) (slot_size l) whole (omega (arith, within, slot_place_is l place, slot_size_is l)) (slot_within l place))
+    ∙ ap (λ i. take (slot_size l) (drop i (concat blocks))) (sym (slot_place_is l place))
 
--- 64 bytes in a row, by their place
-abbrev pub part : ℕ → List ℕ → List ℕ
-part i bytes = take 64 (drop (64 * i) bytes)
+-- bytes of the first of two lists
+pub front_of : (xs ys : List ℕ) (q m : ℕ) → q + m ≤ length xs → take m (drop q (xs ++ ys)) ≡ take m (drop q xs)
+front_of xs ys q m fits =
+    ap (take m) (drop-append-le q xs ys (omega arith)) ∙ take-append-le m (drop q xs) ys (omega (arith, length-drop q xs))
 
--- bytes and what was behind them, from the place on at which they were written
-pub from_there : (bytes new : List ℕ) (at : ℕ) → 64 * at ≤ length bytes → drop (64 * at) (overwrite (64 * at) new bytes) ≡ new ++ drop (64 * at + length new) bytes
-from_there bytes new at fits = drop_at (take (64 * at) bytes) (new ++ drop (64 * at + length new) bytes) (64 * at) (length-take-le (64 * at) bytes fits)
+-- bytes of a front of a list
+pub front_same : (xs : List ℕ) (n q m : ℕ) → q + m ≤ n → n ≤ length xs → take m (drop q (take n xs)) ≡ take m (drop q xs)
+front_same xs n q m fits long =
+    sym (front_of (take n xs) (drop n xs) q m (omega (arith, fits, length-take-le n xs long)))
+    ∙ ap (λ b. take m (drop q b)) (take-append-drop n xs)
 
--- what was written at a place is there
-pub part_same : (bytes new : List ℕ) (at : ℕ) → length new ≡ 64 → 64 * at + 64 ≤ length bytes → part at (overwrite (64 * at) new bytes) ≡ new
-part_same bytes new at size fits =
-    ap (take 64) (from_there bytes new at (omega arith))
-    ∙ take_at new (drop (64 * at + length new) bytes) 64 size
+-- bytes before those that were written are as they were
+pub before_same : (b new : List ℕ) (at q m : ℕ) → at + length new ≤ length b → q + m ≤ at → take m (drop q (overwrite at new b)) ≡ take m (drop q b)
+before_same b new at q m fits low =
+    let front = length-take-le at b (omega arith) in
+    front_of (take at b) (new ++ drop (at + length new) b) q m (omega (arith, front))
+    ∙ ap (λ n. take m (drop q (take n b))) {x = at} {y = q + (at - q)} (omega arith)
+    ∙ ap (take m) (drop-take q (at - q) b)
+    ∙ take-take m (at - q) (drop q b) (omega arith)
 
--- a place before it is as before
-part_below : (bytes new : List ℕ) (at i : ℕ) → length new ≡ 64 → 64 * at + 64 ≤ length bytes → i < at → part i (overwrite (64 * at) new bytes) ≡ part i bytes
-part_below bytes new at i size fits low =
-    let front = length-take-le (64 * at) bytes (omega arith) in
-    let rest = new ++ drop (64 * at + length new) bytes in
-    ap (take 64) (drop-append-le (64 * i) (take (64 * at) bytes) rest (omega (arith, front)))
-    ∙ take-append-le 64 (drop (64 * i) (take (64 * at) bytes)) rest (omega (arith, length-drop (64 * i) (take (64 * at) bytes), front))
-    ∙ ap (λ n. take 64 (drop (64 * i) (take n bytes))) {x = 64 * at} {y = 64 * i + (64 * at - 64 * i)} (omega arith)
-    ∙ ap (take 64) (drop-take (64 * i) (64 * at - 64 * i) bytes)
-    ∙ take-take 64 (64 * at - 64 * i) (drop (64 * i) bytes) (omega arith)
+-- and so are those behind them
+pub behind_same : (b new : List ℕ) (at q m : ℕ) → at + length new ≤ length b → at + length new ≤ q → take m (drop q (overwrite at new b)) ≡ take m (drop q b)
+behind_same b new at q m fits high =
+    let front = length-take-le at b (omega arith) in
+    let past = drop (at + length new) b in
+    ap (take m) (drop_further (take at b) (new ++ past) q (q - at) (omega (arith, front))
+    ∙ drop_further new past (q - at) (q - at - length new) (omega arith)
+    ∙ drop-drop (q - at - length new) (at + length new) b
+    ∙ ap (λ k. drop k b) {x = at + length new + (q - at - length new)} {y = q} (omega arith))
 
--- the bytes from a later place on are as before
-pub behind_same : (bytes new : List ℕ) (at n : ℕ) → length new ≡ 64 → 64 * at + 64 ≤ length bytes → at < n → drop (64 * n) (overwrite (64 * at) new bytes) ≡ drop (64 * n) bytes
-behind_same bytes new at n size fits low =
-    let front = length-take-le (64 * at) bytes (omega arith) in
-    let past = drop (64 * at + length new) bytes in
-    drop_further (take (64 * at) bytes) (new ++ past) (64 * n) (64 * n - 64 * at) (omega (arith, front))
-    ∙ drop_further new past (64 * n - 64 * at) (64 * n - 64 * at - 64) (omega (arith, size))
-    ∙ drop-drop (64 * n - 64 * at - 64) (64 * at + length new) bytes
-    ∙ ap (λ k. drop k bytes) {x = 64 * at + length new + (64 * n - 64 * at - 64)} {y = 64 * n} (omega (arith, size))
-
--- and every other place is as before
-pub part_other : (bytes new : List ℕ) (at i : ℕ) → length new ≡ 64 → 64 * at + 64 ≤ length bytes → (i ≡ at → ⊥) → part i (overwrite (64 * at) new bytes) ≡ part i bytes
-part_other bytes new at i size fits apart = by (cases_order i at)
-  where
-    by : ((i ≡ at) ⊎ ((i < at) ⊎ (at < i))) → part i (overwrite (64 * at) new bytes) ≡ part i bytes
-    by (inl same) = absurd (apart same)
-    by (inr (inl low)) = part_below bytes new at i size fits low
-    by (inr (inr high)) = ap (take 64) (behind_same bytes new at i size fits high)
+-- what was written is there
+pub written_there : (b new : List ℕ) (at m : ℕ) → at + length new ≤ length b → length new ≡ m → take m (drop at (overwrite at new b)) ≡ new
+written_there b new at m fits size =
+    ap (take m) (drop_at (take at b) (new ++ drop (at + length new) b) at (length-take-le at b (omega arith))) ∙ take_at new (drop (at + length new) b) m size

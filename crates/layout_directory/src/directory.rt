@@ -2,26 +2,29 @@
 //! built in between.
 
 ghost use Rattle.std.specs.Prelude.{◌≡◌, ◌≤◌, ◌+◌, ◌*◌, Some, List, length};
+ghost use Rattle.std.specs.List.{concat};
+ghost use Rattle.base_types.specs.Layouts.{slot_size, slot_place, longest_name, directory_bytes};
 ghost use Rattle.layout_directory.specs.Slots.{Slot as SlotValue};
-ghost use Rattle.layout_directory.specs.Directory.{entries_in, slot_at, has_name, IsFirstNamed, place_of};
+ghost use Rattle.layout_directory.specs.Directory.{entries_in, slot_at, has_name, ReadAs, IsFirstNamed, place_of};
 
+use crate::laws::entries_follow_their_bytes;
 use crate::slot::{NAME_AT, NAME_LENGTH_AT};
-use base_types::{Block, Name};
-use layout_bytes::SLOT_LENGTH;
-
-/// How many slots a block has.
-const SLOTS_IN_BLOCK: u32 = 16;
+use base_types::{
+    Block, Layout, Name, slots_lie_in_their_blocks, the_numbers_of_a_layout_go_together,
+};
 
 /// The place of the first entry with this name, or `None` where no entry has it. The blocks must have
 /// room for so many entries. Each is looked at once, and none behind the one that is found.
-pub fn find(dir: &[Block], entries: u32, name: &Name) -> Option<u32>
-    requires { 64 * entries ≤ 1024 * length dir.now }
-    ensures bytes { IsFirstNamed entries dir.now name.now result }
-    ensures entries { (slots : List SlotValue) → entries_in entries dir.now ≡ Some slots → result ≡ place_of name.now slots }
+pub fn find(dir: &[Block], entries: u32, name: &Name, layout: Layout) -> Option<u32>
+    requires { directory_bytes layout entries ≤ 1024 * length dir.now }
+    ensures bytes { IsFirstNamed layout entries dir.now name.now result }
+    ensures each { (slots : List SlotValue) → length slots ≡ entries → ReadAs layout (concat dir.now) slots → result ≡ place_of name.now slots }
+    ensures entries { (slots : List SlotValue) → entries_in layout entries dir.now ≡ Some slots → result ≡ place_of name.now slots }
 {
+    entries_follow_their_bytes();
     let wanted = name.as_bytes();
     for place in 0..entries {
-        if has_name(slot_at(dir, place), wanted) {
+        if has_name(slot_at(dir, place, layout), wanted, layout) {
             return Some(place);
         }
     }
@@ -29,22 +32,30 @@ pub fn find(dir: &[Block], entries: u32, name: &Name) -> Option<u32>
 }
 
 /// The bytes of the slot at this place.
-fn slot_at(dir: &[Block], place: u32) -> &[u8]
-    requires { 64 * place + 64 ≤ 1024 * length dir.now }
-    ensures { result.now ≡ slot_at place dir.now }
+fn slot_at(dir: &[Block], place: u32, layout: Layout) -> &[u8]
+    requires { slot_place layout place + slot_size layout ≤ 1024 * length dir.now }
+    ensures { result.now ≡ slot_at layout place dir.now }
 {
-    let at = SLOT_LENGTH * (place % SLOTS_IN_BLOCK) as usize;
-    &dir[(place / SLOTS_IN_BLOCK) as usize][at..at + SLOT_LENGTH]
+    the_numbers_of_a_layout_go_together();
+    slots_lie_in_their_blocks();
+    let block = layout.slot_block(place) as usize;
+    let at = layout.slot_byte(place) as usize;
+    let end = at + layout.slot_length();
+    &dir[block][at..end]
 }
 
-/// Whether the name in these bytes of a slot is this one.
-fn has_name(slot: &[u8], name: &[u8]) -> bool
-    requires size { length slot.now ≡ 64 }
-    requires short { length name.now ≤ 59 }
+/// Whether the name in these bytes of a slot is this one. It isn't where it has no room in a slot.
+fn has_name(slot: &[u8], name: &[u8], layout: Layout) -> bool
+    requires { length slot.now ≡ slot_size layout }
     ensures { result ≡ has_name slot.now name.now }
 {
+    the_numbers_of_a_layout_go_together();
     if slot[NAME_LENGTH_AT] as usize != name.len() {
         return false;
     }
-    &slot[NAME_AT..NAME_AT + name.len()] == name
+    let rest = &slot[NAME_AT..];
+    if rest.len() < name.len() {
+        return false;
+    }
+    &rest[..name.len()] == name
 }

@@ -152,7 +152,7 @@ pub none_begins : (n : ℕ) (t : Bool) → t ≡ true → n ≡ n + cond t 0 1
 none_begins n t e = ap (λ m. m) {x = n} {y = n + 0} (omega arith) ∙ sym (ap (λ b. n + cond b 0 1) e)
 
 pub joined_run : (old new : Joining) (x c : ℕ) (xs : List ℕ) → 0 < c → new.runs ≡ old.runs + cond (goes_on old.next x) 0 1 → new.next ≡ Some (x + c)
-    → (new.runs ≤ 28 → new.kept ≡ old.kept ++ blocks_from x c) → IsJoined old xs → IsJoined new (xs ++ blocks_from x c)
+    → (new.runs ≤ 60 → new.kept ≡ old.kept ++ blocks_from x c) → IsJoined old xs → IsJoined new (xs ++ blocks_from x c)
 joined_run old new x c xs some runs next kept is = record {
   runs = runs ∙ ap (λ o. old.runs + cond (goes_on o x) 0 1) is.next ∙ ap (λ n. n + cond (goes_on (next_number xs) x) 0 1) is.runs ∙ sym (stretches_run xs x c some);
   next = next ∙ sym (next_run xs x c some);

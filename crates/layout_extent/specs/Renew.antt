@@ -39,4 +39,4 @@ AreApart xs ys = (b : ℕ) → IsAmong xs b → IsAmong ys b → ⊥
 pub record IsJoined (j : Joining) (xs : List ℕ) : Type 0 where
   pub runs : j.runs ≡ stretches xs
   pub next : j.next ≡ next_number xs
-  pub kept : j.runs ≤ 28 → j.kept ≡ xs
+  pub kept : j.runs ≤ 60 → j.kept ≡ xs

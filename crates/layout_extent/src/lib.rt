@@ -1,4 +1,4 @@
-//! A list of block numbers as at most 28 runs of neighbours, as a node has them: `Runs` adds numbers at
+//! A list of block numbers as at most 60 runs of neighbours, as a node has them: `Runs` adds numbers at
 //! the end, cuts the list, and finds a number by its place. It knows no disk and no node. The runs are
 //! described in docs/LAYOUT.md.
 #![tactic(auto)]

@@ -3,12 +3,13 @@
 
 ghost use Rattle.std.specs.Prelude.{◌≡◌, ◌↔◌, ◌<◌, ◌≤◌, ◌+◌, ◌++◌, ℕ, Bool, true, false, List, length, drop, IsOk, OnOk, OnErr, IfErr};
 ghost use Rattle.std.specs.List.{All};
+ghost use Rattle.base_types.specs.Layouts.{most_runs};
 ghost use Rattle.base_types.specs.Runs.{blocks_from, run_places};
 ghost use Rattle.layout_extent.specs.Renew.{IsJoined, makes_way, renew, renewed};
 ghost use Rattle.layout_extent.specs.Runs.{LieBelow, most_blocks, stretches};
 
 use crate::runs::{MOST_STRETCHES, Runs, Scattered, goes_on};
-use base_types::Run;
+use base_types::{Layout, Run};
 
 /// A set of block numbers, which is asked for one number after the other.
 pub trait BlockSet {
@@ -26,17 +27,18 @@ impl Runs {
     /// numbers.
     ///
     /// # Errors
-    /// The list would have more than 28 stretches of neighbours; it is as it was.
+    /// The list would have more stretches of neighbours than a node of this layout has runs; it is as it was.
     pub fn renew<S: BlockSet>(
         &mut self,
         from: u32,
         past: u32,
         set: &S,
         list: &[u32],
+        layout: Layout,
     ) -> Result<(), Scattered>
         requires ordered { from ≤ past }
         requires below { All (λ number. number < most_blocks) list.now }
-        ensures exact { IsOk result ↔ (stretches (renewed from past (S.has set.now) self.old list.now) ≤ 28) }
+        ensures exact { IsOk result ↔ (stretches (renewed from past (S.has set.now) self.old list.now) ≤ most_runs layout) }
         ensures ok { OnOk result (self.new ≡ renewed from past (S.has set.now) self.old list.now) }
         ensures runs { IfErr result (λ scattered. scattered.runs ≡ stretches (renewed from past (S.has set.now) self.old list.now)) }
         ensures err { OnErr result (self.new ≡ self.old) }
@@ -45,10 +47,11 @@ impl Runs {
         let first = from.min(count);
         let last = past.min(count);
         if first == last {
-            return self.append(list);
+            return self.append(list, layout);
         }
+        let most = layout.most_runs() as u64;
         let joining = self.joined_anew(first, last, set, list);
-        if joining.runs > MOST_STRETCHES {
+        if joining.runs > most {
             return Err(Scattered { runs: joining.runs });
         }
         *self = joining.kept;
@@ -83,7 +86,7 @@ impl Joining {
     /// These numbers.
     fn of(kept: Runs) -> Joining
         ensures holds { IsJoined result kept }
-        ensures few { result.runs ≤ 28 }
+        ensures few { result.runs ≤ 60 }
     {
         let runs = kept.list().len() as u64;
         let next = kept.next();
@@ -123,11 +126,11 @@ impl Joining {
     /// The numbers of these runs come behind, without the first `skipped` ones.
     fn push_behind(&mut self, runs: &[Run], skipped: u32)
         requires below { LieBelow most_blocks runs.now }
-        requires short { length runs.now ≤ 28 }
+        requires short { length runs.now ≤ 60 }
         requires holds { (xs : List ℕ) × IsJoined self.old xs }
         requires few { self.old.runs ≤ 4294967400 }
         ensures holds { (xs : List ℕ) → IsJoined self.old xs → IsJoined self.new (xs ++ drop skipped (run_places runs.now)) }
-        ensures few { self.new.runs ≤ self.old.runs + 28 }
+        ensures few { self.new.runs ≤ self.old.runs + 60 }
     {
         let mut left = skipped;
         for run in runs {
@@ -155,7 +158,7 @@ impl Joining {
         requires within { past ≤ length old.now }
         requires below { All (λ number. number < most_blocks) list.now }
         requires holds { (xs : List ℕ) × IsJoined self.old xs }
-        requires few { self.old.runs ≤ 28 }
+        requires few { self.old.runs ≤ 60 }
         ensures used { result ≤ length list.now }
         ensures holds { (xs : List ℕ) → IsJoined self.old xs → (ys : List ℕ) × IsJoined self.new ys
             × (ys ++ renew (makes_way from past (S.has set.now) old.now) past (drop past old.now) (drop result list.now)

@@ -3,20 +3,21 @@
 
 ghost use Rattle.std.specs.Prelude.{◌≡◌, ◌↔◌, ◌<◌, ◌≤◌, ◌+◌, ◌++◌, [], length, take, slice_get, Some, IfSome, IsOk, OnOk, OnErr, IfErr};
 ghost use Rattle.std.specs.List.{All};
+ghost use Rattle.base_types.specs.Layouts.{most_runs};
 ghost use Rattle.base_types.specs.Runs.{blocks_from, run_places};
 ghost use Rattle.layout_extent.specs.Runs.{AreTidy, LieBelow, most_blocks, runs_of, stretches};
 ghost use Rattle.layout_extent.specs.Next.{next_number, goes_on};
 
 use base_types::limits::MOST_RUNS;
-use base_types::{Run, RunList};
+use base_types::{Layout, Run, RunList};
 use std::error::Error;
 use std::fmt;
 use std::marker::Model;
 
-/// The most stretches that a list may have.
+/// The most stretches that a list may have, in any layout.
 pub(crate) const MOST_STRETCHES: u64 = MOST_RUNS as u64;
 
-/// A list would have more stretches of neighbours than the 28 that there is room for.
+/// A list would have more stretches of neighbours than there is room for.
 #[derive(Clone, Copy, Debug)]
 pub struct Scattered {
     /// How many stretches it would have.
@@ -27,7 +28,7 @@ impl fmt::Display for Scattered {
     fn fmt<W: fmt::Write>(&self, f: &mut fmt::Formatter<W>) -> fmt::Result {
         write!(
             f,
-            "the blocks lie in {} runs, and there is room for 28",
+            "the blocks lie in {} runs, more than there is room for",
             self.runs
         )
     }
@@ -36,7 +37,7 @@ impl fmt::Display for Scattered {
 impl Error for Scattered {}
 
 /// A list of block numbers, each below 1,048,576, which contracts see as that list. It is kept as at
-/// most 28 runs in the value itself, so it takes no memory.
+/// most 60 runs in the value itself, so it takes no memory.
 #[derive(Drop)]
 pub struct Runs {
     list: RunList,
@@ -89,10 +90,10 @@ impl Runs {
         &self.list
     }
 
-    /// How many numbers the list has: at most 28 times 1,048,576.
+    /// How many numbers the list has: at most 60 times 1,048,576.
     pub fn count(&self) -> u32
         ensures value { result ≡ length self.now }
-        ensures most { result ≤ 29360128 }
+        ensures most { result ≤ 62914560 }
     {
         let mut total = 0;
         for run in self.list.as_slice() {
@@ -113,16 +114,17 @@ impl Runs {
     /// Adds numbers at the end, each of which must be below 1,048,576.
     ///
     /// # Errors
-    /// The list would have more than 28 stretches of neighbours; it is as it was.
-    pub fn append(&mut self, list: &[u32]) -> Result<(), Scattered>
+    /// The list would have more stretches of neighbours than a node of this layout has runs; it is as it was.
+    pub fn append(&mut self, list: &[u32], layout: Layout) -> Result<(), Scattered>
         requires { All (λ number. number < most_blocks) list.now }
-        ensures exact { IsOk result ↔ (stretches (self.old ++ list.now) ≤ 28) }
+        ensures exact { IsOk result ↔ (stretches (self.old ++ list.now) ≤ most_runs layout) }
         ensures ok { OnOk result (self.new ≡ self.old ++ list.now) }
         ensures runs { IfErr result (λ scattered. scattered.runs ≡ stretches (self.old ++ list.now)) }
         ensures err { OnErr result (self.new ≡ self.old) }
     {
+        let most = layout.most_runs() as u64;
         let runs = self.joined(list);
-        if runs > MOST_STRETCHES {
+        if runs > most {
             return Err(Scattered { runs });
         }
         for number in list {
@@ -187,7 +189,7 @@ impl Runs {
     pub(crate) fn add(&mut self, run: Run)
         requires some { 0 < run.count }
         requires below { run.first + run.count ≤ most_blocks }
-        requires room { stretches (self.old ++ blocks_from run.first run.count) ≤ 28 }
+        requires room { stretches (self.old ++ blocks_from run.first run.count) ≤ 60 }
         ensures { self.new ≡ self.old ++ blocks_from run.first run.count }
     {
         match self.list.pop() {

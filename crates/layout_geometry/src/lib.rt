@@ -6,5 +6,5 @@
 mod geom;
 mod laws;
 
-pub use geom::{BITS_IN_BLOCK, BadShape, Geom, NODE_LENGTH};
+pub use geom::{BITS_IN_BLOCK, BadShape, Geom};
 pub use laws::{areas_part_the_disk, geometries_are_within_limits};

@@ -8,7 +8,7 @@ use Rattle.layout_bytes.specs.Bytes.{field}
 use Rattle.layout_journal.specs.declared.header.Header.{Header}
 use Rattle.layout_journal.specs.declared.record.Commit.{Commit}
 use Rattle.layout_journal.proofs.Fields.{when_some, when_inner}
-use Rattle.layout_journal.specs.Layout.{has_tag, header_tag, header_fields, header_fits, header_of, IsWithinDisk, commit_tag, commit_fields, commit_fits, commit_of, IsWithinRing, descriptor_count}
+use Rattle.layout_journal.specs.Layout.{has_tag, header_tag, layout_in, header_fields, header_fits, header_of, IsWithinDisk, commit_tag, commit_fields, commit_fits, commit_of, IsWithinRing, descriptor_count}
 
 -- each number of a header that reads was tested
 pub header_bounds : (n : ℕ) (b : List ℕ) (h : Header) → header_of n b ≡ Some h → IsWithinDisk n h
@@ -18,7 +18,7 @@ header_bounds n b h e =
     let fits = when_some (header_fits n b (header_fields b)) _ h inner in
     let same = same_Some _ _ (when_inner (header_fits n b (header_fields b)) _ h inner) in
     let f : Header = header_fields b in
-    let tag = and_parts (has_tag header_tag b) _ fits in
+    let tag = and_parts (has_tag (header_tag (layout_in b)) b) _ fits in
     let epoch = and_parts (nat_lt 0 f.epoch) _ tag.1 in
     let turn = and_parts (nat_lt 0 f.turn) _ epoch.1 in
     let first = and_parts (nat_lt 0 f.start) _ turn.1 in

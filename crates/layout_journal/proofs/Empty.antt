@@ -7,7 +7,7 @@ use Rattle.layout_journal.specs.Layout.{header_of, commit_of}
 use Rattle.layout_journal.specs.Spelling.{IsHeader, fits_in}
 use Rattle.layout_journal.specs.Run.{Newest, Record, IsRun, CanFollow, live_part, HeldIs}
 use Rattle.layout_journal.specs.Formatted.{empty_header, formatted}
-use Rattle.layout_journal.proofs.Tags.{header_tag, commit_tag}
+use Rattle.layout_journal.proofs.Tags.{header_begins, commit_tag}
 use Rattle.layout_journal.proofs.Spelled.{header_reads}
 use Rattle.layout_journal.proofs.Geometries.{sizes, ring_behind_slots}
 
@@ -53,7 +53,7 @@ first_newest : (g : Geometry) → geometry_fits g ≡ true → 0 < g.j → Newes
 first_newest g fits ring = record {
   is_slot = omega arith;
   stands = header_reads (empty_header g 1 1) (empty_is g fits ring);
-  other = λ k is. absurd (letter_o (zeros_no_tag _ (header_tag g.n _ k (sym (ap (header_of g.n) (zeros_stand g 1 (omega arith) (omega arith))) ∙ is))));
+  other = λ k is. absurd (letter_o (zeros_no_tag _ (header_begins g.n _ k (sym (ap (header_of g.n) (zeros_stand g 1 (omega arith) (omega arith))) ∙ is))));
 }
 
 -- no record begins in the ring, which has zeros

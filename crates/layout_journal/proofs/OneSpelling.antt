@@ -15,7 +15,7 @@ use Rattle.layout_journal.specs.declared.record.Descriptor.{Descriptor}
 use Rattle.layout_journal.specs.declared.entry.Entry.{Entry}
 use Rattle.layout_journal.specs.declared.entry.EntryKind.{EntryKind}
 use Rattle.layout_journal.specs.declared.entry.EntryKind.TheVariants.{Payload, Fresh, Escaped}
-use Rattle.layout_journal.specs.Layout.{has_tag, descriptor_count, header_tag, commit_tag, descriptor_tag, header_fields, header_fits, header_of, IsWithinDisk, commit_fields, commit_fits, commit_of, IsWithinRing, kind_of, first_named, entry_fields, entry_with, entry_of, then_entry, entries_in, descriptor_with, descriptor_fits, descriptor_of}
+use Rattle.layout_journal.specs.Layout.{has_tag, descriptor_count, header_tag, layout_in, commit_tag, descriptor_tag, header_fields, header_fits, header_of, IsWithinDisk, commit_fields, commit_fits, commit_of, IsWithinRing, kind_of, first_named, entry_fields, entry_with, entry_of, then_entry, entries_in, descriptor_with, descriptor_fits, descriptor_of}
 use Rattle.layout_journal.specs.Spelling.{closed_number, header_body, header_block, IsHeader, commit_body, commit_block, IsCommit, kind_number, entry_bytes, all_entry_bytes, descriptor_body, descriptor_block, IsEntry, AreEntries, IsDescriptor}
 use Rattle.layout_journal.proofs.Bounds.{header_bounds, commit_bounds}
 use Rattle.layout_journal.proofs.Fields.{when_some, when_inner, AreBytes, bytes_drop, bytes_take}
@@ -70,9 +70,9 @@ module _ (zeros_are : ZerosAreTold) (first_zeros_are : FirstZerosAreTold) (numbe
   closed_again (suc zero) few = refl
   closed_again (suc (suc v)) few = absurd (omega arith)
 
-  header_again : (b : List ℕ) → length b ≡ 1024 → AreBytes b → take 8 b ≡ header_tag → field b 44 4 ≤ 1 → has_zeros b 60 992 ≡ true → Goes b 0 (header_body (header_fields b))
+  header_again : (b : List ℕ) → length b ≡ 1024 → AreBytes b → take 8 b ≡ header_tag (layout_in b) → field b 44 4 ≤ 1 → has_zeros b 60 992 ≡ true → Goes b 0 (header_body (header_fields b))
   header_again b len low tag closed zeros =
-      tag_then header_tag b _ tag
+      tag_then (header_tag (layout_in b)) b _ tag
       (number_then 8 8 _ b _ (omega (arith, len)) low refl
       (number_then 8 16 _ b _ (omega (arith, len)) low refl
       (number_then 8 24 _ b _ (omega (arith, len)) low refl
@@ -89,7 +89,7 @@ module _ (zeros_are : ZerosAreTold) (first_zeros_are : FirstZerosAreTold) (numbe
       let tests = header_tests n b h e in
       let f : Header = header_fields b in
       let bounds : IsWithinDisk n f = subst (IsWithinDisk n) (sym tests.2) (header_bounds n b h e) in
-      let tag = and_parts (has_tag header_tag b) _ tests.1 in
+      let tag = and_parts (has_tag (header_tag (layout_in b)) b) _ tests.1 in
       let epoch = and_parts (nat_lt 0 f.epoch) _ tag.1 in
       let turn = and_parts (nat_lt 0 f.turn) _ epoch.1 in
       let first = and_parts (nat_lt 0 f.start) _ turn.1 in
@@ -111,7 +111,7 @@ module _ (zeros_are : ZerosAreTold) (first_zeros_are : FirstZerosAreTold) (numbe
         geom = bounds.geom;
       } in
       subst (λ (k : Header). IsHeader k × (k.geom.n ≡ n) × (b ≡ header_block k)) tests.2
-      (is, bounds.blocks, whole b (header_body f) (header_length f) (header_again b len low (tag_is header_tag b tag.0) (leb-true _ 1 closed.0) zeros.1) tests.0)
+      (is, bounds.blocks, whole b (header_body f) (header_length f) (header_again b len low (tag_is (header_tag (layout_in b)) b tag.0) (leb-true _ 1 closed.0) zeros.1) tests.0)
 
   -- Commit blocks.
 

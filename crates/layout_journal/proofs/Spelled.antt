@@ -8,6 +8,9 @@ use Rattle.std.proofs.lemmas.Bool.{and_from, le-leb, lt-ltb, eq-eqb}
 use Rattle.byteorder.specs.Endian.{little_number, little_bytes}
 use Rattle.byteorder.specs.Numbers.{little_number-reads_back}
 use Rattle.base_types.specs.Seal.{sha256, is_sealed}
+use Rattle.base_types.specs.declared.layout.Layout.{Layout}
+use Rattle.base_types.specs.Layouts.{layout_number, layout_of}
+use Rattle.base_types.specs.LayoutLaws.{layout_back}
 use Rattle.layout_geometry.specs.Geometry.{Geometry}
 use Rattle.layout_bytes.specs.Bytes.{field, are_zeros, has_zeros}
 use Rattle.layout_journal.proofs.Fields.{when_is, zeros_first}
@@ -17,7 +20,7 @@ use Rattle.layout_journal.specs.declared.record.Descriptor.{Descriptor}
 use Rattle.layout_journal.specs.declared.entry.Entry.{Entry}
 use Rattle.layout_journal.specs.declared.entry.EntryKind.{EntryKind}
 use Rattle.layout_journal.specs.declared.entry.EntryKind.TheVariants.{Payload, Fresh, Escaped}
-use Rattle.layout_journal.specs.Layout.{header_fields, header_fits, header_of, descriptor_count, commit_fields, commit_fits, commit_of, first_named, entry_of, then_entry, entries_in, descriptor_with, descriptor_fits, descriptor_of}
+use Rattle.layout_journal.specs.Layout.{header_tag, layout_in, header_fields, header_fits, header_of, descriptor_count, commit_fields, commit_fits, commit_of, first_named, entry_of, then_entry, entries_in, descriptor_with, descriptor_fits, descriptor_of}
 use Rattle.layout_journal.specs.Spelling.{fits_in, closed_number, header_body, header_block, IsHeader, commit_body, commit_block, kind_number, entry_bytes, all_entry_bytes, descriptor_body, descriptor_block, IsEntry, AreEntries}
 use Rattle.layout_journal.proofs.Geometries.{sizes}
 
@@ -47,22 +50,26 @@ closed_upto true = omega arith
 closed_upto false = omega arith
 
 -- a header of fields that are each another's is that one
-header_from : (h : Header) (epoch turn start sure at n j i : ℕ) (closed : Bool) → epoch ≡ h.epoch → turn ≡ h.turn → start ≡ h.start → sure ≡ h.sure → at ≡ h.at → closed ≡ h.closed
-    → n ≡ h.geom.n → j ≡ h.geom.j → i ≡ h.geom.i → ◌≡◌ {A = Header} (record { epoch = epoch; turn = turn; start = start; sure = sure; at = at; closed = closed; geom = record { n = n; j = j; i = i } }) h
-header_from h epoch turn start sure at n j i closed e t s u a c gn gj gi = rw (e, t, s, u, a, c, gn, gj, gi) refl
+header_from : (h : Header) (epoch turn start sure at n j i : ℕ) (closed : Bool) (layout : Layout) → epoch ≡ h.epoch → turn ≡ h.turn → start ≡ h.start → sure ≡ h.sure → at ≡ h.at → closed ≡ h.closed
+    → n ≡ h.geom.n → j ≡ h.geom.j → i ≡ h.geom.i → layout ≡ h.geom.layout → ◌≡◌ {A = Header} (record { epoch = epoch; turn = turn; start = start; sure = sure; at = at; closed = closed; geom = record { n = n; j = j; i = i; layout = layout } }) h
+header_from h epoch turn start sure at n j i closed layout e t s u a c gn gj gi l = rw (e, t, s, u, a, c, gn, gj, gi, l) refl
+
+-- the layout of a header reads back from its tag
+layout_reads : (h : Header) → layout_in (header_block h) ≡ h.geom.layout
+layout_reads h = ap layout_of {x = 48 + layout_number h.geom.layout - 48} {y = layout_number h.geom.layout} (omega arith) ∙ layout_back h.geom.layout
 
 -- the fields of a written header are its own
 pub fields_read : (h : Header) → IsHeader h → header_fields (header_block h) ≡ h
 fields_read h is =
     let g = sizes h.geom is.geom in
-    header_from h _ _ _ _ _ _ _ _ _ (reads_back 8 h.epoch [] is.epoch) (reads_back 8 h.turn [] is.turn) (reads_back 8 h.start [] is.first) (reads_back 8 h.sure [] is.sure)
+    header_from h _ _ _ _ _ _ _ _ _ _ (reads_back 8 h.epoch [] is.epoch) (reads_back 8 h.turn [] is.turn) (reads_back 8 h.start [] is.first) (reads_back 8 h.sure [] is.sure)
     (reads_back 4 h.at [] (small4 h.at (omega (arith, is.at, g.ring_upto)))) (closed_reads h.closed)
-    (reads_back 4 h.geom.n [] (small4 h.geom.n g.blocks_upto)) (reads_back 4 h.geom.j [] (small4 h.geom.j (omega (arith, g.ring_upto)))) (reads_back 4 h.geom.i [] (small4 h.geom.i (omega (arith, g.nodes_upto))))
+    (reads_back 4 h.geom.n [] (small4 h.geom.n g.blocks_upto)) (reads_back 4 h.geom.j [] (small4 h.geom.j (omega (arith, g.ring_upto)))) (reads_back 4 h.geom.i [] (small4 h.geom.i (omega (arith, g.nodes_upto)))) (layout_reads h)
 
 -- and a written header fits
 header_may : (h : Header) → IsHeader h → header_fits h.geom.n (header_block h) h ≡ true
 header_may h is =
-    and_from _ _ ((bytes_eq-Decides (take 8 (header_block h)) (codes "OPTH0001")).1 refl)
+    and_from _ _ ((bytes_eq-Decides (take 8 (header_block h)) (header_tag h.geom.layout)).1 refl)
     (and_from _ _ (lt-ltb _ _ is.epoch_from) (and_from _ _ (lt-ltb _ _ is.turn_from) (and_from _ _ (lt-ltb _ _ is.start_from) (and_from _ _ (le-leb _ _ is.start_upto)
     (and_from _ _ (lt-ltb _ _ is.at) (and_from _ _ (le-leb _ _ (closed_upto h.closed)) (and_from _ _ is.geom (and_from _ _ (eq-eqb h.geom.n h.geom.n refl) (zeros_first 932 (sha256 (header_body h)))))))))))
 

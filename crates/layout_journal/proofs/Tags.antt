@@ -10,7 +10,7 @@ use Rattle.layout_journal.specs.declared.record.Commit.{Commit}
 use Rattle.layout_journal.specs.declared.record.Descriptor.{Descriptor}
 use Rattle.layout_journal.specs.declared.entry.EntryKind.{EntryKind}
 use Rattle.layout_journal.specs.declared.entry.EntryKind.TheVariants.{Payload, Fresh, Escaped}
-use Rattle.layout_journal.specs.Layout.{has_tag, header_fits, header_fields, header_of, commit_fits, commit_fields, commit_of, descriptor_fits, descriptor_of, is_stored}
+use Rattle.layout_journal.specs.Layout.{header_tag, layout_in, has_tag, header_fits, header_fields, header_of, commit_fits, commit_fields, commit_of, descriptor_fits, descriptor_of, is_stored}
 use Rattle.layout_journal.proofs.Fields.{when_some, when_inner}
 
 -- a block with a tag begins with its bytes
@@ -18,9 +18,9 @@ tag_is : (tag block : List ℕ) → has_tag tag block ≡ true → take 8 block 
 tag_is tag block e = (bytes_eq-Decides (take 8 block) tag).0 e
 
 -- a header begins with its tag
-pub header_tag : (n : ℕ) (b : List ℕ) (h : Header) → header_of n b ≡ Some h → take 8 b ≡ codes "OPTH0001"
+pub header_begins : (n : ℕ) (b : List ℕ) (h : Header) → header_of n b ≡ Some h → take 8 b ≡ header_tag (layout_in b)
 unfolding header_of
-header_tag n b h e = tag_is _ b (and_parts _ _ (when_some (header_fits n b (header_fields b)) _ h (when_inner (is_sealed b) _ h e))).0
+header_begins n b h e = tag_is _ b (and_parts _ _ (when_some (header_fits n b (header_fields b)) _ h (when_inner (is_sealed b) _ h e))).0
 
 -- a commit block begins with its tag
 pub commit_tag : (g : Geometry) (b : List ℕ) (c : Commit) → commit_of g b ≡ Some c → take 8 b ≡ codes "OPTC0001"
@@ -57,7 +57,7 @@ commit_no_descriptor g k b c e = none_of (descriptor_of k b) (λ d f. tags_apart
 
 -- nor a header
 pub commit_no_header : (g : Geometry) (n : ℕ) (b : List ℕ) (c : Commit) → commit_of g b ≡ Some c → header_of n b ≡ None
-commit_no_header g n b c e = none_of (header_of n b) (λ h f. tags_apart b _ _ (header_tag n b h f) (commit_tag g b c e) h_c)
+commit_no_header g n b c e = none_of (header_of n b) (λ h f. tags_apart b _ _ (header_begins n b h f) (commit_tag g b c e) h_c)
 
 -- a descriptor is no commit block
 pub descriptor_no_commit : (g k : Geometry) (b : List ℕ) (d : Descriptor) → descriptor_of g b ≡ Some d → commit_of k b ≡ None
@@ -65,7 +65,7 @@ descriptor_no_commit g k b d e = none_of (commit_of k b) (λ c f. tags_apart b _
 
 -- nor a header
 pub descriptor_no_header : (g : Geometry) (n : ℕ) (b : List ℕ) (d : Descriptor) → descriptor_of g b ≡ Some d → header_of n b ≡ None
-descriptor_no_header g n b d e = none_of (header_of n b) (λ h f. tags_apart b _ _ (header_tag n b h f) (descriptor_tag g b d e) h_d)
+descriptor_no_header g n b d e = none_of (header_of n b) (λ h f. tags_apart b _ _ (header_begins n b h f) (descriptor_tag g b d e) h_d)
 
 -- the first three bytes of a block with a tag are the tag's
 take_three : (b tag : List ℕ) → take 8 b ≡ tag → take 3 b ≡ take 3 tag
@@ -89,7 +89,7 @@ stored_no_tag Fresh b tag s e t = cc
 
 -- so it reads as no header
 pub stored_no_header : (k : EntryKind) (n : ℕ) (b : List ℕ) → is_stored k b ≡ true → header_of n b ≡ None
-stored_no_header k n b s = none_of (header_of n b) (λ h e. stored_no_tag k b _ s (header_tag n b h e) refl)
+stored_no_header k n b s = none_of (header_of n b) (λ h e. stored_no_tag k b _ s (header_begins n b h e) refl)
 
 -- as no commit block
 pub stored_no_commit : (k : EntryKind) (g : Geometry) (b : List ℕ) → is_stored k b ≡ true → commit_of g b ≡ None

@@ -7,7 +7,7 @@ use Rattle.layout_journal.specs.declared.header.Header.{Header}
 use Rattle.layout_journal.specs.declared.record.Commit.{Commit}
 use Rattle.layout_journal.specs.declared.flaw.BadRecord.{BadRecord}
 use Rattle.layout_journal.specs.declared.flaw.BadRecord.TheVariants.{NotSealed, OtherTag, OtherDisk, OutOfRange, NotZero, BadEntry}
-use Rattle.layout_journal.specs.Layout.{header_tag, commit_tag, descriptor_tag, has_tag, header_fields, commit_fields, descriptor_count}
+use Rattle.layout_journal.specs.Layout.{header_tag, commit_tag, descriptor_tag, has_tag, layout_in, header_fields, commit_fields, descriptor_count}
 
 -- the geometry of a header is within its limits, and of a disk of n blocks
 abbrev pub is_of_disk : ℕ → Header → Bool
@@ -21,7 +21,7 @@ header_numbers_fit b h =
 -- the flaw of a block that is no header of a disk of n blocks
 abbrev pub header_flaw : ℕ → List ℕ → BadRecord
 header_flaw n b =
-    if is_sealed b then (if has_tag header_tag b then (if is_of_disk n (header_fields b) then (if header_numbers_fit b (header_fields b) then NotZero else OutOfRange) else OtherDisk) else OtherTag) else NotSealed
+    if is_sealed b then (if has_tag (header_tag (layout_in b)) b then (if is_of_disk n (header_fields b) then (if header_numbers_fit b (header_fields b) then NotZero else OutOfRange) else OtherDisk) else OtherTag) else NotSealed
 
 -- the numbers of a commit block fit one another and the ring
 abbrev pub commit_numbers_fit : Geometry → Commit → Bool

@@ -22,5 +22,5 @@ abbrev pub formatted : Geometry → Blocks
 formatted g b =
     if b == 0 then header_block (empty_header g 1 1)
     else if nat_le (bitmap_start g) b && nat_lt b (table_start g) then first_bits_block (data_start g) (b - bitmap_start g)
-    else if b == table_start g then node_spelling empty_root ++ replicate (1024 - node_size) 0
+    else if b == table_start g then node_spelling g.layout empty_root ++ replicate (1024 - node_size g.layout) 0
     else replicate 1024 0

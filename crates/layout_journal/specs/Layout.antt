@@ -1,6 +1,8 @@
 -- What is in the journal's blocks, read by their fields. It is described in docs/JOURNAL.md.
-use Rattle.std.specs.Prelude.{◌≡◌, ◌<◌, ◌≤◌, ℕ, zero, suc, ◌+◌, ◌*◌, ◌/◌, Bool, true, false, ◌&&◌, not, ◌==◌, nat_lt, nat_le, bytes_eq, if◌then◌else◌, List, [], ◌∷◌, take, drop, Option, Some, None, codes}
+use Rattle.std.specs.Prelude.{◌≡◌, ◌<◌, ◌≤◌, ℕ, zero, suc, ◌+◌, ◌-◌, ◌*◌, ◌/◌, Bool, true, false, ◌&&◌, not, ◌==◌, nat_lt, nat_le, bytes_eq, if◌then◌else◌, List, [], ◌∷◌, ◌++◌, take, drop, slice_index, Option, Some, None, codes}
 use Rattle.base_types.specs.Seal.{is_sealed}
+use Rattle.base_types.specs.declared.layout.Layout.{Layout}
+use Rattle.base_types.specs.Layouts.{layout_number, layout_of}
 use Rattle.layout_geometry.specs.Geometry.{Geometry, geometry_fits, bitmap_start, data_start}
 use Rattle.layout_bytes.specs.Bytes.{field, has_zeros, when}
 use Rattle.layout_journal.specs.declared.header.Header.{Header}
@@ -12,8 +14,9 @@ use Rattle.layout_journal.specs.declared.entry.EntryKind.TheVariants.{Payload, F
 
 -- The tags of headers, commit blocks and descriptors, each in this one place.
 
-abbrev pub header_tag : List ℕ
-header_tag = codes "OPTH0001"
+-- that of a header ends with the digit of its layout
+abbrev pub header_tag : Layout → List ℕ
+header_tag l = codes "OPTH000" ++ (48 + layout_number l) ∷ []
 
 abbrev pub commit_tag : List ℕ
 commit_tag = codes "OPTC0001"
@@ -27,6 +30,10 @@ has_tag tag block = bytes_eq (take 8 block) tag
 
 -- Headers.
 
+-- the layout that the last byte of a header's tag tells
+abbrev pub layout_in : List ℕ → Layout
+layout_in b = layout_of (slice_index b 7 - 48)
+
 abbrev pub header_fields : List ℕ → Header
 header_fields b = record {
   epoch = field b 8 8;
@@ -35,12 +42,12 @@ header_fields b = record {
   sure = field b 32 8;
   at = field b 40 4;
   closed = field b 44 4 == 1;
-  geom = record { n = field b 48 4; j = field b 52 4; i = field b 56 4 };
+  geom = record { n = field b 48 4; j = field b 52 4; i = field b 56 4; layout = layout_in b };
 }
 
 abbrev pub header_fits : ℕ → List ℕ → Header → Bool
 header_fits n b h =
-    has_tag header_tag b && (nat_lt 0 h.epoch && (nat_lt 0 h.turn && (nat_lt 0 h.start && (nat_le h.start (h.sure + 1)
+    has_tag (header_tag h.geom.layout) b && (nat_lt 0 h.epoch && (nat_lt 0 h.turn && (nat_lt 0 h.start && (nat_le h.start (h.sure + 1)
     && (nat_lt h.at h.geom.j && (nat_le (field b 44 4) 1 && (geometry_fits h.geom && ((h.geom.n == n) && has_zeros b 60 992))))))))
 
 -- the header in a block of a disk of n blocks, if it is sealed and fits

@@ -21,7 +21,7 @@ closed_number c = if c then 1 else 0
 -- the bytes of a header before its seal
 abbrev pub header_body : Header → List ℕ
 header_body h =
-    header_tag ++ (little_bytes 8 h.epoch ++ (little_bytes 8 h.turn ++ (little_bytes 8 h.start ++ (little_bytes 8 h.sure ++ (little_bytes 4 h.at
+    header_tag h.geom.layout ++ (little_bytes 8 h.epoch ++ (little_bytes 8 h.turn ++ (little_bytes 8 h.start ++ (little_bytes 8 h.sure ++ (little_bytes 4 h.at
     ++ (little_bytes 4 (closed_number h.closed) ++ (little_bytes 4 h.geom.n ++ (little_bytes 4 h.geom.j ++ (little_bytes 4 h.geom.i ++ replicate 932 0)))))))))
 
 -- the block of a header

@@ -1,16 +1,16 @@
 //! One block of the formatted disk, by the area in which it lies.
 
-ghost use Rattle.std.specs.Prelude.{◌≡◌, ◌<◌, ◌++◌, replicate};
+ghost use Rattle.std.specs.Prelude.{◌≡◌, ◌<◌, ◌-◌, ◌++◌, replicate};
 ghost use Rattle.layout_journal.specs.Formatted.{formatted, empty_header, empty_root};
 ghost use Rattle.layout_journal.specs.Spelling.{header_block};
 ghost use Rattle.layout_bytes.specs.Bitmap.{first_bits, first_bits_block};
-ghost use Rattle.layout_bytes.specs.Node.{node_spelling};
+ghost use Rattle.layout_bytes.specs.Node.{node_size, node_spelling};
 
 use crate::{Header, write_header};
 use base_types::limits::BLOCK_LENGTH;
-use base_types::{Block, RunList};
+use base_types::{Block, Layout, RunList, the_numbers_of_a_layout_go_together};
 use layout_bytes::{Node, NodeKind};
-use layout_geometry::{Geom, NODE_LENGTH};
+use layout_geometry::Geom;
 use layout_node::write_node;
 
 /// How many bits a byte of the bitmap has.
@@ -32,7 +32,7 @@ pub fn formatted_block(geom: &Geom, b: u32) -> Block
         return first_bits_block(geom.data_start(), b - geom.bitmap_start());
     }
     if b == geom.table_start() {
-        return root_block();
+        return root_block(geom.layout());
     }
     [0; BLOCK_LENGTH]
 }
@@ -77,9 +77,10 @@ fn first_bits(first: u32, i: u32) -> u8
 }
 
 /// The block of the node table that has the root directory, and no other node in use.
-fn root_block() -> Block
-    ensures { result ≡ node_spelling empty_root ++ replicate 768 0 }
+fn root_block(layout: Layout) -> Block
+    ensures { result ≡ node_spelling layout empty_root ++ replicate (1024 - node_size layout) 0 }
 {
+    the_numbers_of_a_layout_go_together();
     let root = Node {
         kind: NodeKind::Dir,
         links: 1,
@@ -87,6 +88,6 @@ fn root_block() -> Block
         runs: RunList::new(),
     };
     let mut block = [0; BLOCK_LENGTH];
-    write_node(&root, &mut block[..NODE_LENGTH]);
+    write_node(&root, &mut block[..layout.node_length()], layout);
     block
 }

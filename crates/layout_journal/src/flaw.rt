@@ -5,7 +5,10 @@ ghost use Rattle.std.specs.Prelude.{◌≡◌, ◌≤◌, IsTrue};
 ghost use Rattle.layout_journal.specs.Flaws.{header_numbers_fit, header_flaw, commit_numbers_fit, commit_flaw, is_entry_count, descriptor_flaw};
 
 use crate::entry::ENTRY_LENGTH;
-use crate::read::{BODY, DESCRIPTOR_HEAD, commit_fields, has_tag, header_fields, numbers_fit};
+use crate::read::{
+    BODY, DESCRIPTOR_HEAD, commit_fields, has_tag, header_fields, layout_in, numbers_fit,
+};
+use crate::write::header_tag;
 use crate::{Commit, Header, MOST_ENTRIES};
 use base_types::{Block, is_sealed};
 use layout_bytes::{has_zeros, number_4};
@@ -35,7 +38,7 @@ pub(crate) fn header_flaw(block: &Block, blocks: u32) -> BadRecord
     if !is_sealed(block) {
         return BadRecord::NotSealed;
     }
-    if !has_tag(block, b"OPTH0001".as_slice()) {
+    if !has_tag(block, header_tag(layout_in(block))) {
         return BadRecord::OtherTag;
     }
     let header = match header_fields(block) {

@@ -16,7 +16,7 @@ pub fn the_formatted_disk_is_empty()
     ensures bits { (g : Geometry) (b : ℕ) → geometry_fits g ≡ true → b < 8192 * bitmap_blocks g → is_set g (formatted g) b ≡ nat_lt b (data_start g) }
     ensures zeros { (g : Geometry) (b : ℕ) → geometry_fits g ≡ true → data_start g ≤ b → formatted g b ≡ replicate 1024 0 }
     ensures journal { (g : Geometry) (b : ℕ) → 0 < b → b < bitmap_start g → formatted g b ≡ replicate 1024 0 }
-    ensures root { (g : Geometry) → formatted g (table_start g) ≡ node_spelling empty_root ++ replicate (1024 - node_size) 0 }
+    ensures root { (g : Geometry) → formatted g (table_start g) ≡ node_spelling g.layout empty_root ++ replicate (1024 - node_size g.layout) 0 }
     ensures nodes { (g : Geometry) (b : ℕ) → table_start g < b → formatted g b ≡ replicate 1024 0 }
     ensures whole { (g : Geometry) (b : ℕ) → length (formatted g b) ≡ 1024 }
 {

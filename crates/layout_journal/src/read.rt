@@ -7,13 +7,14 @@ ghost use Rattle.std.specs.Result.{result_ok};
 ghost use Rattle.layout_geometry.specs.Geometry.{geometry_fits};
 ghost use Rattle.layout_bytes.specs.Bytes.{field};
 ghost use Rattle.layout_journal.specs.Flaws.{header_flaw, commit_flaw, descriptor_flaw};
-ghost use Rattle.layout_journal.specs.Layout.{has_tag, header_fields, header_fits, header_of, descriptor_count, commit_fields, commit_fits};
+ghost use Rattle.layout_journal.specs.Layout.{has_tag, layout_in, header_fields, header_fits, header_of, descriptor_count, commit_fields, commit_fits};
 ghost use Rattle.layout_journal.specs.Layout.{commit_of, kind_of, first_named, entry_of, entries_in, descriptor_fits, descriptor_with, descriptor_of};
 
 use crate::entry::ENTRY_LENGTH;
 use crate::flaw::{commit_flaw, descriptor_flaw, header_flaw};
+use crate::write::header_tag;
 use crate::{BadRecord, Commit, Descriptor, Entries, Entry, EntryKind, Header, MOST_ENTRIES};
-use base_types::{Block, is_sealed};
+use base_types::{Block, Layout, is_sealed};
 use layout_bytes::{has_zeros, number_4, number_8};
 use layout_geometry::Geom;
 
@@ -117,16 +118,24 @@ pub(crate) fn has_tag(block: &Block, tag: &[u8]) -> bool
     &block[..8] == tag
 }
 
+/// The layout that the last byte of a header's tag tells.
+pub(crate) fn layout_in(block: &Block) -> Layout
+    ensures { result ≡ layout_in block.now }
+{
+    Layout::of(u32::from(block[7]).saturating_sub(u32::from(b'0')))
+}
+
 /// The fields of a header, or `None` where they hold no geometry.
 pub(crate) fn header_fields(block: &Block) -> Option<Header>
     ensures found { IfSome result (λ header. header ≡ header_fields block.now) }
     ensures missing { result ≡ None → geometry_fits (header_fields block.now).geom ≡ false }
 {
     let bytes = block.as_slice();
-    let geom = Geom::new(
+    let geom = Geom::new_in(
         number_4(bytes, 48),
         number_4(bytes, 52),
         number_4(bytes, 56),
+        layout_in(block),
     )
     .ok()?;
     Some(Header {
@@ -144,7 +153,7 @@ fn header_fits(block: &Block, blocks: u32, header: &Header) -> bool
     ensures { result ≡ header_fits blocks block.now header.now }
 {
     header.geom.lawful();
-    if !has_tag(block, b"OPTH0001".as_slice()) {
+    if !has_tag(block, header_tag(header.geom.layout())) {
         return false;
     }
     if !numbers_fit(header) {

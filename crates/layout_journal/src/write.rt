@@ -3,11 +3,12 @@
 
 ghost use Rattle.std.specs.Prelude.{◌≡◌};
 ghost use Rattle.arrayvec.specs.ArrayVec.{array_vec_len};
+ghost use Rattle.layout_journal.specs.Layout.{header_tag};
 ghost use Rattle.layout_journal.specs.Spelling.{closed_number, header_body, header_block};
 
 use crate::Header;
 use arrayvec::ArrayVec;
-use base_types::Block;
+use base_types::{Block, Layout};
 use layout_bytes::{put, put_4, put_8, put_zeros};
 use sha2::{Digest, Sha256};
 
@@ -33,7 +34,7 @@ fn header_body(header: &Header) -> Text
     ensures size { array_vec_len result ≡ 992 }
 {
     let mut text = ArrayVec::new();
-    put(&mut text, b"OPTH0001".as_slice());
+    put(&mut text, header_tag(header.geom.layout()));
     put_8(&mut text, header.epoch);
     put_8(&mut text, header.turn);
     put_8(&mut text, header.start);
@@ -45,6 +46,16 @@ fn header_body(header: &Header) -> Text
     put_4(&mut text, header.geom.i());
     put_zeros(&mut text, SPARE);
     text
+}
+
+/// The tag of a header of this layout.
+pub(crate) fn header_tag(layout: Layout) -> &'static [u8]
+    ensures { result.now ≡ header_tag layout }
+{
+    match layout {
+        Layout::One => b"OPTH0001".as_slice(),
+        Layout::Two => b"OPTH0002".as_slice(),
+    }
 }
 
 fn closed_number(closed: bool) -> u32

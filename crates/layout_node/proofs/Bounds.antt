@@ -1,13 +1,15 @@
 -- A node that fits a disk within its limits has room in its bytes, and tidy runs.
 use Rattle.std.proofs.Common.{◌≡◌, ℕ, zero, suc, ◌+◌, ◌*◌, ◌/◌, ◌^◌, ◌<◌, ◌≤◌, ◌≢◌, ◌==◌, true, not, nat_lt, nat_le, List, [], ◌∷◌, length, Result, Ok, Err, IfOk, refl, sym, subst, arith, eqb-true}
 use Rattle.std.proofs.lemmas.Bool.{and_parts, leb-true, ltb-true, eqb-false, not-true}
+use Rattle.base_types.specs.LayoutLaws.{few_runs}
 use Rattle.base_types.specs.declared.places.Run.{Run}
 use Rattle.layout_extent.specs.Runs.{AreTidy, LieBelow}
 use Rattle.layout_geometry.specs.Geometry.{Geometry, geometry_fits, data_start}
 use Rattle.layout_bytes.specs.declared.node.Node.{Node}
 use Rattle.layout_bytes.specs.declared.node.NodeKind.{NodeKind}
 use Rattle.layout_bytes.specs.declared.node.NodeKind.TheVariants.{Free, Dir, File, Snapshot}
-use Rattle.layout_bytes.specs.Node.{runs_fit, run_blocks, kind_fits, node_fits, node_spelling, FitsAs, HasRoom, IsNode}
+use Rattle.layout_bytes.specs.Node.{content_blocks, most_runs, runs_fit, run_blocks, kind_fits, node_fits, node_spelling, FitsAs, HasRoom, IsNode}
+use Rattle.layout_bytes.specs.NodeLaws.{size_below}
 use Rattle.layout_node.specs.declared.read.BadNode.{BadNode}
 use Rattle.layout_node.proofs.Spelled.{zeros_free}
 
@@ -36,16 +38,16 @@ most_blocks g fits = leb-true _ _ (and_parts _ _ (and_parts _ _ fits).1).0
 used_room : (g : Geometry) (n : Node) → g.n ≤ 1048576 → node_fits g n ≡ true → n.links < 256 ^ 4 → HasRoom n
 used_room g n most fits links =
     let some = and_parts (nat_lt 0 n.links) _ fits in
-    let few = and_parts (nat_le (length n.runs) 28) _ some.1 in
+    let few = and_parts (nat_le (length n.runs) (most_runs g.layout)) _ some.1 in
     let runs = and_parts (runs_fit g 0 n.runs) _ few.1 in
-    let blocks = and_parts (run_blocks n.runs == (n.size + 1023) / 1024) (kind_fits n n.kind) runs.1 in
+    let blocks = and_parts (run_blocks n.runs == content_blocks g.layout n.kind n.size) (kind_fits n n.kind) runs.1 in
     let low = below g 0 n.runs most runs.0 in
     let bound = blocks_below n.runs low in
-    let count = leb-true (length n.runs) 28 few.0 in
-    let same = eqb-true (run_blocks n.runs) ((n.size + 1023) / 1024) blocks.0 in
+    let count = leb-true (length n.runs) (most_runs g.layout) few.0 in
+    let same = eqb-true (run_blocks n.runs) (content_blocks g.layout n.kind n.size) blocks.0 in
     record {
       links = links;
-      size = omega (arith, bound, count, same);
+      size = omega (arith, bound, count, few_runs g.layout, same, size_below g.layout n.kind n.size);
       runs = λ k d more. (omega (arith, low k d more), omega (arith, low k d more));
     }
 
@@ -56,7 +58,7 @@ room_as g n File most fits links = used_room g n most fits links
 room_as g n Snapshot most fits links = used_room g n most fits links
 
 -- so it is in its spelling
-pub stands : (g : Geometry) (n : Node) → geometry_fits g ≡ true → FitsAs g n n.kind → n.links < 256 ^ 4 → IsNode g (node_spelling n) n
+pub stands : (g : Geometry) (n : Node) → geometry_fits g ≡ true → FitsAs g n n.kind → n.links < 256 ^ 4 → IsNode g (node_spelling g.layout n) n
 stands g n geometry fits links = record { room = room_as g n n.kind (most_blocks g geometry) fits links; fits = fits; spelling = refl }
 
 -- runs that fit a disk are tidy: each has blocks, and none begins right behind the one before
@@ -81,7 +83,7 @@ tidy g end (r ∷ s ∷ rs) fits =
 used_runs : (g : Geometry) (n : Node) → g.n ≤ 1048576 → node_fits g n ≡ true → AreTidy n.runs × LieBelow 1048576 n.runs
 used_runs g n most fits =
     let some = and_parts (nat_lt 0 n.links) _ fits in
-    let few = and_parts (nat_le (length n.runs) 28) _ some.1 in
+    let few = and_parts (nat_le (length n.runs) (most_runs g.layout)) _ some.1 in
     let runs = and_parts (runs_fit g 0 n.runs) _ few.1 in
     (tidy g 0 n.runs runs.0, below g 0 n.runs most runs.0)
 

@@ -5,13 +5,15 @@ use Rattle.std.proofs.lemmas.Bool.{and_parts, leb-true}
 use Rattle.std.proofs.lemmas.Option.{same_Some}
 use Rattle.byteorder.specs.Endian.{little_number, little_bytes}
 use Rattle.byteorder.specs.Numbers.{little_from-lt}
+use Rattle.base_types.specs.declared.layout.Layout.{Layout}
+use Rattle.base_types.specs.LayoutLaws.{node_size_is}
 use Rattle.layout_geometry.specs.Geometry.{Geometry}
 use Rattle.layout_bytes.specs.declared.node.Node.{Node}
 use Rattle.layout_bytes.specs.declared.node.NodeKind.{NodeKind}
 use Rattle.layout_bytes.specs.declared.node.NodeKind.TheVariants.{Free, Dir, File, Snapshot}
 use Rattle.layout_node.specs.declared.read.BadNode.{BadNode}
 use Rattle.layout_bytes.specs.Bytes.{field, are_zeros, has_zeros, ZerosAreTold, FirstZerosAreTold, NumbersAreTold}
-use Rattle.layout_bytes.specs.Node.{used_kind, runs_in, node_fits, spare_zeros, node_fields, node_with, node_of, kind_byte, run_bytes, node_spelling, free_node, FitsAs, HasRoom, IsNode}
+use Rattle.layout_bytes.specs.Node.{used_kind, runs_in, node_fits, spare_zeros, node_fields, node_with, node_of, kind_byte, most_runs, run_bytes, node_size, node_spelling, free_node, FitsAs, HasRoom, IsNode}
 use Rattle.layout_node.proofs.Fields.{when_parts, AreBytes, bytes_drop, so_many_zeros}
 use Rattle.layout_node.proofs.Runs.{runs_again, runs_length, runs_room}
 use Rattle.layout_node.proofs.Spelled.{node_reads, free_zeros, zeros_free}
@@ -42,40 +44,40 @@ module _ (zeros_are : ZerosAreTold) (first_zeros_are : FirstZerosAreTold) (numbe
       zeros_are xs (ap are_zeros (sym all) ∙ e) ∙ ap (λ k. replicate k 0) len
 
   -- the bytes behind the kind and the zero, where what carries nothing is zeros
-  behind_kind : (b : List ℕ) (c : ℕ) → length b ≡ 254 → AreBytes b → c ≡ little_number 2 b → c ≤ 28 → are_zeros (take 16 (drop 14 b)) ≡ true
-      → are_zeros (take (224 - 8 * c) (drop (30 + 8 * c) b)) ≡ true
+  behind_kind : (l : Layout) (b : List ℕ) (c : ℕ) → length b ≡ node_size l - 2 → AreBytes b → c ≡ little_number 2 b → c ≤ most_runs l → are_zeros (take 16 (drop 14 b)) ≡ true
+      → are_zeros (take (node_size l - 32 - 8 * c) (drop (30 + 8 * c) b)) ≡ true
       → b ≡ little_bytes 2 c ++ (little_bytes 4 (little_number 4 (drop 2 b)) ++ (little_bytes 8 (little_number 8 (drop 6 b))
-      ++ (replicate 16 0 ++ (run_bytes (runs_in c (drop 30 b)) ++ replicate (224 - 8 * c) 0))))
-  behind_kind b c len low count few spare spare_end =
+      ++ (replicate 16 0 ++ (run_bytes (runs_in c (drop 30 b)) ++ replicate (node_size l - 32 - 8 * c) 0))))
+  behind_kind l b c len low count few spare spare_end =
       five_parts b (drop 2 b) (drop 6 b) (drop 14 b) (drop 30 b) (little_bytes 2 c) (little_bytes 4 (little_number 4 (drop 2 b))) (little_bytes 8 (little_number 8 (drop 6 b)))
-      (replicate 16 0) (run_bytes (runs_in c (drop 30 b))) (replicate (224 - 8 * c) 0)
-      (numbers_are 2 b (omega (arith, len)) low ∙ ap (λ n. little_bytes 2 n ++ drop 2 b) (sym count))
-      (numbers_are 4 (drop 2 b) (omega (arith, len, length-drop 2 b)) (bytes_drop 2 b low) ∙ ap (λ xs. little_bytes 4 (little_number 4 (drop 2 b)) ++ xs) (drop-drop 4 2 b))
-      (numbers_are 8 (drop 6 b) (omega (arith, len, length-drop 6 b)) (bytes_drop 6 b low) ∙ ap (λ xs. little_bytes 8 (little_number 8 (drop 6 b)) ++ xs) (drop-drop 8 6 b))
-      (first_zeros_are 16 (drop 14 b) (omega (arith, len, length-drop 14 b)) spare ∙ ap (λ xs. replicate 16 0 ++ xs) (drop-drop 16 14 b))
-      (runs_again numbers_are c (drop 30 b) (omega (arith, len, few, length-drop 30 b)) (bytes_drop 30 b low)
-      ∙ ap (λ xs. run_bytes (runs_in c (drop 30 b)) ++ xs) (drop-drop (8 * c) 30 b ∙ zeros_end (224 - 8 * c) (drop (30 + 8 * c) b) (omega (arith, len, few, length-drop (30 + 8 * c) b)) spare_end))
+      (replicate 16 0) (run_bytes (runs_in c (drop 30 b))) (replicate (node_size l - 32 - 8 * c) 0)
+      (numbers_are 2 b (omega (arith, node_size_is l, len)) low ∙ ap (λ n. little_bytes 2 n ++ drop 2 b) (sym count))
+      (numbers_are 4 (drop 2 b) (omega (arith, node_size_is l, len, length-drop 2 b)) (bytes_drop 2 b low) ∙ ap (λ xs. little_bytes 4 (little_number 4 (drop 2 b)) ++ xs) (drop-drop 4 2 b))
+      (numbers_are 8 (drop 6 b) (omega (arith, node_size_is l, len, length-drop 6 b)) (bytes_drop 6 b low) ∙ ap (λ xs. little_bytes 8 (little_number 8 (drop 6 b)) ++ xs) (drop-drop 8 6 b))
+      (first_zeros_are 16 (drop 14 b) (omega (arith, node_size_is l, len, length-drop 14 b)) spare ∙ ap (λ xs. replicate 16 0 ++ xs) (drop-drop 16 14 b))
+      (runs_again numbers_are c (drop 30 b) (omega (arith, node_size_is l, len, few, length-drop 30 b)) (bytes_drop 30 b low)
+      ∙ ap (λ xs. run_bytes (runs_in c (drop 30 b)) ++ xs) (drop-drop (8 * c) 30 b ∙ zeros_end (node_size l - 32 - 8 * c) (drop (30 + 8 * c) b) (omega (arith, node_size_is l, len, few, length-drop (30 + 8 * c) b)) spare_end))
 
   -- all bytes, with the runs' own number
-  spelled : (g : Geometry) (b : List ℕ) (kind : NodeKind) → length b ≡ 256 → AreBytes b → slice_index b 0 ≡ kind_byte kind → spare_zeros b ≡ true
-      → length (runs_in (field b 2 2) (drop 32 b)) ≤ 28 → b ≡ node_spelling (node_fields kind b)
-  spelled g [] kind len low first spare few = absurd (omega arith)
-  spelled g (x ∷ []) kind len low first spare few = absurd (omega arith)
+  spelled : (g : Geometry) (b : List ℕ) (kind : NodeKind) → length b ≡ node_size g.layout → AreBytes b → slice_index b 0 ≡ kind_byte kind → spare_zeros g.layout b ≡ true
+      → length (runs_in (field b 2 2) (drop 32 b)) ≤ most_runs g.layout → b ≡ node_spelling g.layout (node_fields kind b)
+  spelled g [] kind len low first spare few = absurd (omega (arith, len, node_size_is g.layout))
+  spelled g (x ∷ []) kind len low first spare few = absurd (omega (arith, len, node_size_is g.layout))
   spelled g (x ∷ y ∷ b) kind len low first spare few =
       let c = little_number 2 b in
       let own : length (runs_in c (drop 30 b)) ≡ c = runs_length c (drop 30 b) in
-      let second = and_parts (y == 0) (has_zeros (x ∷ y ∷ b) 16 32 && has_zeros (x ∷ y ∷ b) (32 + 8 * c) 256) spare in
-      let zeros = and_parts (has_zeros (x ∷ y ∷ b) 16 32) (has_zeros (x ∷ y ∷ b) (32 + 8 * c) 256) second.1 in
-      let end : are_zeros (take (224 - 8 * c) (drop (30 + 8 * c) b)) ≡ true = shorter c x y b zeros.1 in
+      let second = and_parts (y == 0) (has_zeros (x ∷ y ∷ b) 16 32 && has_zeros (x ∷ y ∷ b) (32 + 8 * c) (node_size g.layout)) spare in
+      let zeros = and_parts (has_zeros (x ∷ y ∷ b) 16 32) (has_zeros (x ∷ y ∷ b) (32 + 8 * c) (node_size g.layout)) second.1 in
+      let end : are_zeros (take (node_size g.layout - 32 - 8 * c) (drop (30 + 8 * c) b)) ≡ true = shorter c x y b zeros.1 in
       ap₂ (λ k z. k ∷ z ∷ b) first (eqb-true y 0 second.0)
       ∙ ap (λ (rest : List ℕ). kind_byte kind ∷ 0 ∷ rest)
-      (behind_kind b c (omega (arith, len)) (λ i. low (suc (suc i))) refl (omega (arith, few, own)) zeros.0 end
-      ∙ ap (λ n. little_bytes 2 n ++ (little_bytes 4 (little_number 4 (drop 2 b)) ++ (little_bytes 8 (little_number 8 (drop 6 b)) ++ (replicate 16 0 ++ (run_bytes (runs_in c (drop 30 b)) ++ replicate (224 - 8 * n) 0))))) (sym own))
+      (behind_kind g.layout b c (omega (arith, len)) (λ i. low (suc (suc i))) refl (omega (arith, few, own)) zeros.0 end
+      ∙ ap (λ n. little_bytes 2 n ++ (little_bytes 4 (little_number 4 (drop 2 b)) ++ (little_bytes 8 (little_number 8 (drop 6 b)) ++ (replicate 16 0 ++ (run_bytes (runs_in c (drop 30 b)) ++ replicate (node_size g.layout - 32 - 8 * n) 0))))) (sym own))
     where
-      shorter : (c x y : ℕ) (b : List ℕ) → has_zeros (x ∷ y ∷ b) (32 + 8 * c) 256 ≡ true → are_zeros (take (224 - 8 * c) (drop (30 + 8 * c) b)) ≡ true
+      shorter : (c x y : ℕ) (b : List ℕ) → has_zeros (x ∷ y ∷ b) (32 + 8 * c) (node_size g.layout) ≡ true → are_zeros (take (node_size g.layout - 32 - 8 * c) (drop (30 + 8 * c) b)) ≡ true
       shorter c x y b e =
-          ap (λ n. are_zeros (take n (drop (30 + 8 * c) b))) {x = 224 - 8 * c} {y = 256 - (32 + 8 * c)} (omega arith)
-          ∙ ap (λ n. are_zeros (take (256 - (32 + 8 * c)) (drop n (x ∷ y ∷ b)))) {x = suc (suc (30 + 8 * c))} {y = 32 + 8 * c} (omega arith)
+          ap (λ n. are_zeros (take n (drop (30 + 8 * c) b))) {x = node_size g.layout - 32 - 8 * c} {y = node_size g.layout - (32 + 8 * c)} (omega arith)
+          ∙ ap (λ n. are_zeros (take (node_size g.layout - (32 + 8 * c)) (drop n (x ∷ y ∷ b)))) {x = suc (suc (30 + 8 * c))} {y = 32 + 8 * c} (omega arith)
           ∙ e
 
   -- the numbers of what is read have room
@@ -112,15 +114,15 @@ module _ (zeros_are : ZerosAreTold) (first_zeros_are : FirstZerosAreTold) (numbe
   fits_as g n File used fits = fits
   fits_as g n Snapshot used fits = fits
 
-  by_kind : (g : Geometry) (b : List ℕ) (n : Node) (kind : Option NodeKind) → length b ≡ 256 → AreBytes b → used_kind (slice_index b 0) ≡ kind → node_with g b kind ≡ Some n
+  by_kind : (g : Geometry) (b : List ℕ) (n : Node) (kind : Option NodeKind) → length b ≡ node_size g.layout → AreBytes b → used_kind (slice_index b 0) ≡ kind → node_with g b kind ≡ Some n
       → IsNode g b n × (n.kind ≡ Free → ⊥)
   by_kind g b n None len low k e = cc
   by_kind g b n (Some kind) len low k e =
-      let read = when_parts (spare_zeros b) _ n e in
+      let read = when_parts (spare_zeros g.layout b) _ n e in
       let used = when_parts (node_fits g (node_fields kind b)) _ n read.1 in
       let same = same_Some _ _ used.1 in
       let told = kind_spelled (slice_index b 0) kind k in
-      let few : length (runs_in (field b 2 2) (drop 32 b)) ≤ 28 = leb-true _ 28 (and_parts _ _ (and_parts _ _ used.0).1).0 in
+      let few : length (runs_in (field b 2 2) (drop 32 b)) ≤ most_runs g.layout = leb-true _ (most_runs g.layout) (and_parts _ _ (and_parts _ _ used.0).1).0 in
       let whole : IsNode g b (node_fields kind b) = record {
         room = fields_room kind b low;
         fits = fits_as g (node_fields kind b) kind told.1 used.0;
@@ -129,18 +131,18 @@ module _ (zeros_are : ZerosAreTold) (first_zeros_are : FirstZerosAreTold) (numbe
       subst (λ (m : Node). IsNode g b m × (m.kind ≡ Free → ⊥)) same (whole, told.1)
 
   -- what reads as a node in use is its spelling
-  pub node_spelled : (g : Geometry) (b : List ℕ) (n : Node) → length b ≡ 256 → AreBytes b → node_of g b ≡ Some n → IsNode g b n × (n.kind ≡ Free → ⊥)
+  pub node_spelled : (g : Geometry) (b : List ℕ) (n : Node) → length b ≡ node_size g.layout → AreBytes b → node_of g b ≡ Some n → IsNode g b n × (n.kind ≡ Free → ⊥)
   unfolding node_of
   node_spelled g b n len low e = by_kind g b n (used_kind (slice_index b 0)) len low refl e
 
   -- whole zeros are the free node
-  pub zeros_read : (g : Geometry) (b : List ℕ) (n : Node) → length b ≡ 256 → are_zeros b ≡ true → n ≡ free_node → IsNode g b n
+  pub zeros_read : (g : Geometry) (b : List ℕ) (n : Node) → length b ≡ node_size g.layout → are_zeros b ≡ true → n ≡ free_node → IsNode g b n
   zeros_read g b n len zeros free =
       subst (λ (m : Node). IsNode g b m) (sym free)
       (subst (λ xs. IsNode g xs free_node) (sym (zeros_are b zeros ∙ ap (λ k. replicate k 0) len)) (zeros_free g))
 
   -- what the two readings find, and that they refuse nothing else
-  pub found : (g : Geometry) (b : List ℕ) (o : Option Node) (r : Result Node BadNode) → r ≡ ok_or o (record {}) → o ≡ node_of g b → length b ≡ 256 → AreBytes b → IfOk r (λ n. IsNode g b n)
+  pub found : (g : Geometry) (b : List ℕ) (o : Option Node) (r : Result Node BadNode) → r ≡ ok_or o (record {}) → o ≡ node_of g b → length b ≡ node_size g.layout → AreBytes b → IfOk r (λ n. IsNode g b n)
   found g b (Some n) (Ok m) told is len low = subst (λ (k : Node). IsNode g b k) (sym (same_ok told)) (node_spelled g b n len low (sym is)).0
   found g b None (Ok m) told is len low = cc
   found g b o (Err e) told is len low = tt
@@ -150,7 +152,7 @@ refused g b o (Ok m) told is other = tt
 refused g b None (Err e) told is other = λ n stands. by n stands n.kind refl
   where
     by : (n : Node) → IsNode g b n → (kind : NodeKind) → n.kind ≡ kind → ⊥
-    by n stands Free k = zeros (ap are_zeros (free_zeros g b n stands k) ∙ so_many_zeros 256)
+    by n stands Free k = zeros (ap are_zeros (free_zeros g b n stands k) ∙ so_many_zeros (node_size g.layout))
       where
         zeros : are_zeros b ≡ true → ⊥
         zeros e = cc

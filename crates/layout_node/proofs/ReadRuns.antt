@@ -7,7 +7,7 @@ use Rattle.base_types.specs.declared.places.Run.{Run}
 use Rattle.layout_geometry.specs.Geometry.{Geometry}
 use Rattle.layout_bytes.specs.declared.node.NodeKind.{NodeKind}
 use Rattle.layout_bytes.specs.Bytes.{field}
-use Rattle.layout_bytes.specs.Node.{used_kind, runs_in, node_fits, spare_zeros, node_fields, node_with, node_of}
+use Rattle.layout_bytes.specs.Node.{used_kind, most_runs, runs_in, node_fits, spare_zeros, node_fields, node_with, node_of}
 use Rattle.layout_node.proofs.Fields.{none_behind}
 use Rattle.layout_node.proofs.Runs.{runs_length}
 
@@ -27,14 +27,14 @@ pub length_one_more : (rs : List Run) (r : Run) → length (rs ++ r ∷ []) ≡ 
 length_one_more rs r = length-append rs (r ∷ [])
 
 -- runs read from as many bytes as there are
-pub runs_within : (c d : ℕ) (b : List ℕ) → length b ≡ 256 → c ≡ d → runs_in c (take (length b - 32) (drop 32 b)) ≡ runs_in d (drop 32 b)
-runs_within c d b len e =
+pub runs_within : (c d : ℕ) (b : List ℕ) → c ≡ d → runs_in c (take (length b - 32) (drop 32 b)) ≡ runs_in d (drop 32 b)
+runs_within c d b e =
     ap (λ xs. runs_in c xs) (take_all (length b - 32) (drop 32 b) (omega (arith, length-drop 32 b))) ∙ ap (λ k. runs_in k (drop 32 b)) e
 
 -- a number of runs that is too great is no node's
-pub too_many : (g : Geometry) (b : List ℕ) (kind : NodeKind) → used_kind (slice_index b 0) ≡ Some kind → 28 < field b 2 2 → node_of g b ≡ None
+pub too_many : (g : Geometry) (b : List ℕ) (kind : NodeKind) → used_kind (slice_index b 0) ≡ Some kind → most_runs g.layout < field b 2 2 → node_of g b ≡ None
 unfolding node_of
 too_many g b kind k many =
-    let unfit : nat_le (length (runs_in (field b 2 2) (drop 32 b))) 28 ≡ false = lt-leb _ _ (omega (arith, many, runs_length (field b 2 2) (drop 32 b))) in
+    let unfit : nat_le (length (runs_in (field b 2 2) (drop 32 b))) (most_runs g.layout) ≡ false = lt-leb _ _ (omega (arith, many, runs_length (field b 2 2) (drop 32 b))) in
     ap (node_with g b) k
-    ∙ none_behind (spare_zeros b) {t = node_fits g (node_fields kind b)} (Some (node_fields kind b)) (and_right (nat_lt 0 (field b 4 4)) _ (and_left _ _ unfit))
+    ∙ none_behind (spare_zeros g.layout b) {t = node_fits g (node_fields kind b)} (Some (node_fields kind b)) (and_right (nat_lt 0 (field b 4 4)) _ (and_left _ _ unfit))

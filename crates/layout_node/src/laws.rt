@@ -9,20 +9,20 @@ ghost use Rattle.layout_bytes.specs.Node.{FitsAs, IsNode, free_node, node_of, no
 
 use layout_bytes::fields_tell_their_bytes;
 
-/// Bytes are the spelling of one node at most, and there are 256 of them.
+/// Bytes are the spelling of one node at most, and there are as many as a node has.
 pub fn a_spelling_has_one_node()
     ensures one { (g : Geometry) (b : List ℕ) (m n : Node) → IsNode g b m → IsNode g b n → m ≡ n }
-    ensures size { (g : Geometry) (b : List ℕ) (n : Node) → IsNode g b n → length b ≡ node_size }
+    ensures size { (g : Geometry) (b : List ℕ) (n : Node) → IsNode g b n → length b ≡ node_size g.layout }
 {}
 
-/// A list of 256 bytes reads as a node in use exactly where it is that node's spelling. It reads as none
+/// A list of as many bytes as a node has reads as a node in use exactly where it is that node's spelling. It reads as none
 /// where it is no node's, or a free one's.
 pub fn nodes_in_use_are_read()
-    ensures read { (g : Geometry) (b : List ℕ) (n : Node) → length b ≡ node_size → ((i : ℕ) → slice_index b i < 256)
+    ensures read { (g : Geometry) (b : List ℕ) (n : Node) → length b ≡ node_size g.layout → ((i : ℕ) → slice_index b i < 256)
         → (node_of g b ≡ Some n) ↔ (IsNode g b n × (n.kind ≡ Free → ⊥)) }
-    ensures none { (g : Geometry) (b : List ℕ) → length b ≡ node_size → ((i : ℕ) → slice_index b i < 256)
+    ensures none { (g : Geometry) (b : List ℕ) → length b ≡ node_size g.layout → ((i : ℕ) → slice_index b i < 256)
         → ((n : Node) → IsNode g b n → ⊥) → node_of g b ≡ None }
-    ensures free { (g : Geometry) (b : List ℕ) (n : Node) → length b ≡ node_size → ((i : ℕ) → slice_index b i < 256)
+    ensures free { (g : Geometry) (b : List ℕ) (n : Node) → length b ≡ node_size g.layout → ((i : ℕ) → slice_index b i < 256)
         → IsNode g b n → n.kind ≡ Free → node_of g b ≡ None }
 {
     fields_tell_their_bytes();
@@ -30,12 +30,12 @@ pub fn nodes_in_use_are_read()
 
 /// The spelling of a free node is zeros, and zeros are that of the free node.
 pub fn a_free_node_is_zeros()
-    ensures zeros { (g : Geometry) (b : List ℕ) (n : Node) → IsNode g b n → n.kind ≡ Free → b ≡ replicate node_size 0 }
-    ensures free { (g : Geometry) → IsNode g (replicate node_size 0) free_node }
+    ensures zeros { (g : Geometry) (b : List ℕ) (n : Node) → IsNode g b n → n.kind ≡ Free → b ≡ replicate (node_size g.layout) 0 }
+    ensures free { (g : Geometry) → IsNode g (replicate (node_size g.layout) 0) free_node }
 {}
 
 /// A node that fits a disk is in its spelling. Its links must have room in four bytes, since a
 /// directory's have no other limit.
 pub fn a_node_that_fits_has_a_spelling()
-    ensures { (g : Geometry) (n : Node) → geometry_fits g ≡ true → FitsAs g n n.kind → n.links < 256 ^ 4 → IsNode g (node_spelling n) n }
+    ensures { (g : Geometry) (n : Node) → geometry_fits g ≡ true → FitsAs g n n.kind → n.links < 256 ^ 4 → IsNode g (node_spelling g.layout n) n }
 {}

@@ -1,4 +1,4 @@
-//! The codec of a node of the node table: 256 bytes are read as a node, and a node is written in its
+//! The codec of a node of the node table: the bytes of a node are read as one, and a node is written in its
 //! bytes. Which nodes and blocks fit together, as in a whole tree, is said in `crash_stands`. The layout is known
 //! in docs/LAYOUT.md.
 #![tactic(auto)]

@@ -1,7 +1,8 @@
-//! Reading a node: 256 bytes are refused unless they are the one spelling of a node that fits a disk of
-//! this geometry. Whether blocks belong to one node alone is described by the check of a whole tree.
+//! Reading a node: bytes are refused unless they are the one spelling of a node that fits a disk of this
+//! geometry. Whether blocks belong to one node alone is described by the check of a whole tree.
 
 ghost use Rattle.std.specs.Prelude.{◌≡◌, ◌≤◌, ◌+◌, ◌*◌, ◌&&◌, ◌==◌, not, nat_lt, nat_le, length, IfOk, OnErr};
+ghost use Rattle.base_types.specs.Layouts.{most_runs, node_size};
 ghost use Rattle.layout_extent.specs.Runs.{AreTidy, LieBelow, most_blocks};
 ghost use Rattle.layout_geometry.specs.Geometry.{data_start};
 ghost use Rattle.layout_bytes.specs.Bytes.{field};
@@ -9,13 +10,12 @@ ghost use Rattle.layout_bytes.specs.declared.node.Node.{Node};
 ghost use Rattle.layout_bytes.specs.Node.{IsNode, free_node, used_kind, node_of, node_fields, node_fits, runs_in, runs_fit, run_blocks, kind_fits, spare_zeros};
 
 use crate::sizes::{RUN_LENGTH, RUNS_AT, SPARE_AT};
-use base_types::limits::{BLOCK_LENGTH, LARGEST_FILE, MOST_LINKS, MOST_RUNS};
-use base_types::{Run, RunList};
+use base_types::limits::{LARGEST_FILE, MOST_LINKS, SIZE_OF_SLOT};
+use base_types::{Layout, Run, RunList, the_numbers_of_a_layout_go_together};
 use layout_bytes::{
-    Node, NodeKind, SLOT_LENGTH, are_zeros, fields_tell_their_bytes, has_zeros, number_2, number_4,
-    number_8,
+    Node, NodeKind, are_zeros, fields_tell_their_bytes, has_zeros, number_2, number_4, number_8,
 };
-use layout_geometry::{Geom, NODE_LENGTH};
+use layout_geometry::Geom;
 use std::error::Error;
 use std::fmt;
 
@@ -31,11 +31,11 @@ impl fmt::Display for BadNode {
 
 impl Error for BadNode {}
 
-/// The node that is in these 256 bytes, on a disk of this geometry. A free node is in zeros. This
-/// takes no memory.
+/// The node that is in these bytes, on a disk of this geometry. A free node is in zeros. This takes no
+/// memory.
 ///
 /// # Errors
-/// The bytes are the spelling of no node: there are not 256, a number is out of its limits, the runs don't
+/// The bytes are the spelling of no node: there are not as many as a node has, a number is out of its limits, the runs don't
 /// fit the size or the disk, or a byte that carries nothing isn't zero.
 pub fn read_node(bytes: &[u8], geom: &Geom) -> Result<Node, BadNode>
     ensures found { IfOk result (λ node. IsNode geom.now bytes.now node) }
@@ -47,7 +47,9 @@ pub fn read_node(bytes: &[u8], geom: &Geom) -> Result<Node, BadNode>
 {
     geom.lawful();
     fields_tell_their_bytes();
-    if bytes.len() != NODE_LENGTH {
+    let layout = geom.layout();
+    let length = layout.node_length();
+    if bytes.len() != length {
         return Err(BadNode);
     }
     if are_zeros(bytes) {
@@ -71,18 +73,20 @@ fn free_node() -> Node
 /// The node in use in these bytes, if they are one's.
 #[tactic(auto, using(crate::proofs::ReadRuns::too_many), unfolding(layout_bytes::specs::Node::node_of))]
 fn used_node(bytes: &[u8], geom: &Geom) -> Option<Node>
-    requires { length bytes.now ≡ 256 }
+    requires { length bytes.now ≡ node_size geom.now.layout }
     ensures { result ≡ node_of geom.now bytes.now }
 {
+    the_numbers_of_a_layout_go_together();
+    let layout = geom.layout();
     let kind = used_kind(bytes[0])?;
     let count = usize::from(number_2(bytes, 2));
-    if count > MOST_RUNS {
+    if count > layout.most_runs() {
         return None;
     }
-    if !has_spare_zeros(bytes, count) {
+    if !has_spare_zeros(bytes, count, layout) {
         return None;
     }
-    let node = node_fields(kind, count, bytes);
+    let node = node_fields(kind, count, bytes, layout);
     if !node_fits(&node, geom) {
         return None;
     }
@@ -101,28 +105,30 @@ fn used_kind(number: u8) -> Option<NodeKind>
 }
 
 /// Whether the bytes that carry nothing are zeros, where there are `count` runs.
-fn has_spare_zeros(bytes: &[u8], count: usize) -> bool
-    requires size { length bytes.now ≡ 256 }
-    requires few { count ≤ 28 }
+fn has_spare_zeros(bytes: &[u8], count: usize, layout: Layout) -> bool
+    requires size { length bytes.now ≡ node_size layout }
+    requires few { count ≤ most_runs layout }
     requires count { count ≡ field bytes.now 2 2 }
-    ensures { result ≡ spare_zeros bytes.now }
+    ensures { result ≡ spare_zeros layout bytes.now }
 {
+    the_numbers_of_a_layout_go_together();
     if bytes[1] != 0 {
         return false;
     }
     if !has_zeros(bytes, SPARE_AT, RUNS_AT) {
         return false;
     }
-    has_zeros(bytes, RUNS_AT + RUN_LENGTH * count, NODE_LENGTH)
+    has_zeros(bytes, RUNS_AT + RUN_LENGTH * count, layout.node_length())
 }
 
 /// The fields of a node with `count` runs.
-fn node_fields(kind: NodeKind, count: usize, bytes: &[u8]) -> Node
-    requires size { length bytes.now ≡ 256 }
-    requires few { count ≤ 28 }
+fn node_fields(kind: NodeKind, count: usize, bytes: &[u8], layout: Layout) -> Node
+    requires size { length bytes.now ≡ node_size layout }
+    requires few { count ≤ most_runs layout }
     requires count { count ≡ field bytes.now 2 2 }
     ensures { result ≡ node_fields kind bytes.now }
 {
+    the_numbers_of_a_layout_go_together();
     Node {
         kind,
         links: number_4(bytes, 4),
@@ -133,7 +139,7 @@ fn node_fields(kind: NodeKind, count: usize, bytes: &[u8]) -> Node
 
 /// The first `count` runs in these bytes.
 fn runs_in(count: usize, bytes: &[u8]) -> RunList
-    requires few { count ≤ 28 }
+    requires few { count ≤ 60 }
     requires within { 8 * count ≤ length bytes.now }
     ensures { result ≡ runs_in count bytes.now }
 {
@@ -152,14 +158,18 @@ fn runs_in(count: usize, bytes: &[u8]) -> RunList
 fn node_fits(node: &Node, geom: &Geom) -> bool
     ensures { result ≡ node_fits geom.now node.now }
 {
+    let layout = geom.layout();
     let runs = node.runs.as_slice();
     if node.links == 0 {
+        return false;
+    }
+    if runs.len() > layout.most_runs() {
         return false;
     }
     if !runs_fit(runs, geom) {
         return false;
     }
-    if run_blocks(runs) != node.size.div_ceil(BLOCK_LENGTH as u64) {
+    if run_blocks(runs) != node.kind.blocks(node.size, layout) {
         return false;
     }
     kind_fits(node)
@@ -170,7 +180,7 @@ fn kind_fits(node: &Node) -> bool
 {
     match node.kind {
         NodeKind::Free => true,
-        NodeKind::Dir => node.size % SLOT_LENGTH as u64 == 0,
+        NodeKind::Dir => node.size % SIZE_OF_SLOT == 0,
         NodeKind::File => node.links <= MOST_LINKS && node.size <= LARGEST_FILE,
         NodeKind::Snapshot => true,
     }
@@ -216,7 +226,7 @@ fn run_end(run: &Run) -> u64
 
 /// How many blocks the runs have.
 fn run_blocks(runs: &[Run]) -> u64
-    requires { length runs.now ≤ 28 }
+    requires { length runs.now ≤ 60 }
     ensures { result ≡ run_blocks runs.now }
 {
     let mut blocks = 0;

@@ -1,4 +1,4 @@
-//! The places and sizes of a node's parts, in bytes. Its own size is `layout_geometry::NODE_LENGTH`, and the
+//! The places and sizes of a node's parts, in bytes. Its own size is `Layout::node_length`, and the
 //! limits of its numbers are those of `base_types::limits`.
 
 /// Where the bytes begin that carry nothing, behind a node's size.

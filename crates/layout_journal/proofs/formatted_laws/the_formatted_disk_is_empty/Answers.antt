@@ -1,4 +1,5 @@
 use Rattle.std.proofs.Common.{refl, arith}
+use Rattle.base_types.specs.LayoutLaws.{node_in_table}
 use Rattle.layout_journal.proofs.Formatted.{bit_is_first, zeros_before, root_there, zeros_behind, block_is_whole}
 use Rattle.layout_journal.proofs.formatted_laws.the_formatted_disk_is_empty.Goals as goal
 
@@ -6,7 +7,9 @@ pub returns-clause-bits : goal.returns-clause-bits
 returns-clause-bits c = λ g b fits within. bit_is_first g b ((c.geometries_are_within_limits.ensures g).0 fits) within
 
 pub returns-clause-zeros : goal.returns-clause-zeros
-returns-clause-zeros c = λ g b fits from. zeros_behind g b (omega (arith, from, ((c.geometries_are_within_limits.ensures g).0 fits).least_nodes))
+returns-clause-zeros c = λ g b fits from.
+    let is = (c.geometries_are_within_limits.ensures g).0 fits in
+    zeros_behind g b (omega (arith, from, node_in_table g.layout g.i 1 is.whole_blocks (omega arith) (omega (arith, is.least_nodes))))
 
 pub returns-clause-journal : goal.returns-clause-journal
 returns-clause-journal c = λ g b low high. zeros_before g b (omega (arith, low)) high

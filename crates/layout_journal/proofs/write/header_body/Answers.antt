@@ -1,6 +1,7 @@
 -- The pieces stand one behind the other.
-use Rattle.std.proofs.Common.{◌≡◌, ◌∙◌, ◌++◌, codes, replicate, ap, rules}
+use Rattle.std.proofs.Common.{◌≡◌, ◌∙◌, ◌++◌, replicate, ap, rules}
 use Rattle.byteorder.specs.Endian.{little_bytes}
+use Rattle.layout_journal.specs.Layout.{header_tag}
 use Rattle.layout_journal.specs.Spelling.{closed_number}
 use Rattle.layout_journal.proofs.Fields.{behind}
 use Rattle.layout_journal.proofs.write.header_body.Goals as goal
@@ -8,7 +9,7 @@ use Rattle.layout_journal.proofs.write.header_body.Goals as goal
 pub returns-clause-body : goal.returns-clause-body
 returns-clause-body c =
     let h = c.args.header.now in
-    let tag : c.put.new.text.items ≡ codes "OPTH0001" = search rules in
+    let tag : c.put.new.text.items ≡ header_tag h.geom.layout = search rules in
     let closed : c.put_4-2.new.text.items ≡ c.put_4.new.text.items ++ little_bytes 4 (closed_number h.closed) = search rules in
     let n : c.put_4-3.new.text.items ≡ c.put_4-2.new.text.items ++ little_bytes 4 h.geom.n = search rules in
     let j : c.put_4-4.new.text.items ≡ c.put_4-3.new.text.items ++ little_bytes 4 h.geom.j = search rules in

@@ -6,4 +6,4 @@ pub returns-clause-one : goal.returns-clause-one
 returns-clause-one c = one_node
 
 pub returns-clause-size : goal.returns-clause-size
-returns-clause-size c = λ g b n is. ap length is.spelling ∙ spelling_length n (has_few_runs g b n is)
+returns-clause-size c = λ g b n is. ap length is.spelling ∙ spelling_length g.layout n (has_few_runs g b n is)

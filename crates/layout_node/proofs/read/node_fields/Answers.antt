@@ -7,4 +7,4 @@ use Rattle.layout_node.proofs.read.node_fields.Goals as goal
 pub returns : goal.returns
 returns c =
     node_from (node_fields c.args.kind c.args.bytes.now) _ _ _ _ refl c.number_4.ensures c.number_8.ensures
-    (c.runs_in.ensures ∙ runs_within c.args.count _ c.args.bytes.now c.requires.size c.requires.count)
+    (c.runs_in.ensures ∙ runs_within c.args.count _ c.args.bytes.now c.requires.count)

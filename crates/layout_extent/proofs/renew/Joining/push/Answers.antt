@@ -48,7 +48,7 @@ returns-clause-holds c xs is =
       | then-self-le-MOST_STRETCHES w ↦ ap (λ (j : Joining). j.runs) w.self-is
       | else-self-le-MOST_STRETCHES w ↦ ap (λ (j : Joining). j.runs) w.self-is
     ] in
-    let more : c.if-self-le-MOST_STRETCHES.self.runs ≤ 28 → c.if-self-le-MOST_STRETCHES.self.kept ≡ old.kept ++ blocks_from x n =
+    let more : c.if-self-le-MOST_STRETCHES.self.runs ≤ 60 → c.if-self-le-MOST_STRETCHES.self.kept ≡ old.kept ++ blocks_from x n =
     elim c.if-self-le-MOST_STRETCHES.branch [
       | then-self-le-MOST_STRETCHES w ↦ (λ few. ap (λ (j : Joining). j.kept) w.self-is ∙ w.add.ensures ∙ ap (λ ys. ys ++ blocks_from x n) kept)
       | else-self-le-MOST_STRETCHES w ↦ (λ few. absurd (omega (arith, few, same, w.if-self-le-MOST_STRETCHES.false)))
