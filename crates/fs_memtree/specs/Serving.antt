@@ -1,6 +1,7 @@
 -- What a command makes of all that is kept, and what it is answered. That this is what the command means is proved, not defined here.
 use Rattle.std.specs.Prelude.{◌≡◌, ℕ, ◌==◌, max, nat_le, Bool, true, false, if◌then◌else◌, List, [], length, replicate, Option, None, Some}
 use Rattle.std.specs.FinMap.{get, insert, remove, empty}
+use Rattle.base_types.specs.declared.layout.Layout.{Layout}
 use Rattle.base_types.specs.Counts.{next_count}
 use Rattle.lang_tree.specs.declared.command.Cmd.{Cmd}
 use Rattle.lang_tree.specs.declared.command.Cmd.TheVariants.{Mkdir, Create, Write, Fill, Truncate, Link, Unlink, Rmdir, Rename, Snap, Unsnap, At, Osync, Dsync, Durable, Dwait}
@@ -9,7 +10,7 @@ use Rattle.lang_tree.specs.declared.command.Reply.{Reply}
 use Rattle.lang_tree.specs.declared.command.Reply.TheVariants.{Ok as Done, Synced, DurableAt, Known, Refused}
 use Rattle.lang_tree.specs.declared.command.Refusal.{Refusal}
 use Rattle.lang_tree.specs.declared.command.Refusal.TheVariants.{NoPoint, NoSnap}
-use Rattle.lang_tree.specs.Tree.{Tree, HasSoundSnapshots}
+use Rattle.lang_tree.specs.Tree.{Tree, Bounds, HasSoundSnapshots}
 use Rattle.lang_tree.specs.Step.{Session, written, resized}
 use Rattle.crash_stands.specs.Inodes.{Inodes}
 use Rattle.crash_stands.specs.Maps.{IsMapOf}
@@ -26,16 +27,20 @@ use Rattle.fs_memtree.specs.Changes.{made, edited, linked, removed, moved}
 abbrev pub root_node : KeptNodes
 root_node = insert empty 1 (KeptDir empty)
 
-abbrev pub first_state : ℕ → State
-first_state limit = record { nodes = root_node; kept = empty; limit = limit; points = 0; changed = false; durable = 0 }
+abbrev pub first_state : ℕ → Layout → State
+first_state limit layout = record { nodes = root_node; kept = empty; limit = limit; layout = layout; points = 0; changed = false; durable = 0 }
 
 -- the tree that is kept: that of the nodes, with the snapshots
 abbrev pub whole_tree : State → Tree
 whole_tree s = record (tree_of s.nodes) { snapshots = snapshots_of s.kept }
 
+-- the bounds of the tree that is kept
+abbrev pub bounds_in : State → Bounds
+bounds_in s = record { nodes = s.limit; layout = s.layout }
+
 -- the session that is kept
 abbrev pub session_of : State → Session
-session_of s = record { tree = whole_tree s; limit = s.limit; points = s.points; changed = s.changed; durable = s.durable }
+session_of s = record { tree = whole_tree s; limit = bounds_in s; points = s.points; changed = s.changed; durable = s.durable }
 
 -- The nodes are those of a tree, in which no file has more than 2^30 bytes, and so are those of each snapshot those of the tree that it keeps.
 pub record IsKept (s : State) : Type 0 where
@@ -127,4 +132,4 @@ served_by s None done = done
 -- a command: a look at a snapshot is answered from its nodes, and every other one from those of the tree
 abbrev pub served : State → Cmd → State × Reply
 served s (At name l) = (s, looked_at (get s.kept name) l)
-served s cmd = served_by s (reason (least s) (snapshots_of s.kept) (map_of s.nodes) cmd) (accepted s cmd)
+served s cmd = served_by s (reason s.layout (least s) (snapshots_of s.kept) (map_of s.nodes) cmd) (accepted s cmd)

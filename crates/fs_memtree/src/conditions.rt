@@ -14,18 +14,20 @@ ghost use Rattle.fs_memtree.specs.Kept.{map_of};
 
 use crate::nodes::Nodes;
 use crate::walks::End;
+use base_types::Layout;
 use base_types::limits::{LARGEST_FILE, MOST_LINKS};
 use lang_tree::{Path, Refusal};
 
 impl Nodes {
-    /// A new node: the path isn't there, and a number is unused, of which this is the least. Where it is to be, and its
-    /// number.
+    /// A new node: the path isn't there, a number is unused, of which this is the least, and the layout takes the name.
+    /// Where it is to be, and its number.
     pub(crate) fn to_make<'a>(
         &self,
         least: Option<u32>,
         path: &'a Path,
+        layout: Layout,
     ) -> Result<(End<'a>, u32), Refusal>
-        ensures reason { result_err result ≡ make_reason least (map_of self.now) path.now }
+        ensures reason { result_err result ≡ make_reason layout least (map_of self.now) path.now }
         ensures found { IfOk result (λ found. IsEnd (map_of self.now) path.now found.0 × (found.0.number ≡ None) × (least ≡ Some found.1)) }
         ensures under { IfOk result (λ found. IsUnder (map_of self.now) found.0) }
     {
@@ -33,10 +35,13 @@ impl Nodes {
         if end.number.is_some() {
             return Err(Refusal::Exists);
         }
-        match least {
-            None => Err(Refusal::NoNode),
-            Some(number) => Ok((end, number)),
+        let Some(number) = least else {
+            return Err(Refusal::NoNode);
+        };
+        if path.is_too_long(layout) {
+            return Err(Refusal::NameTooLong);
         }
+        Ok((end, number))
     }
 
     /// So many bytes from `offset` on come into a file. Its number.
@@ -82,13 +87,15 @@ impl Nodes {
         Ok(number)
     }
 
-    /// Another path of a file, which has so many paths at most. The file's number, and where the path ends.
+    /// Another path of a file, which has so many paths at most; the layout takes its name. The file's number, and where
+    /// the path ends.
     pub(crate) fn to_link<'a>(
         &self,
         path: &Path,
         other: &'a Path,
+        layout: Layout,
     ) -> Result<(u32, End<'a>), Refusal>
-        ensures reason { result_err result ≡ link_reason (map_of self.now) path.now other.now }
+        ensures reason { result_err result ≡ link_reason layout (map_of self.now) path.now other.now }
         ensures found { IfOk result (λ found. (number_at (map_of self.now) path.now ≡ Some found.0) × IsEnd (map_of self.now) other.now found.1) }
     {
         let number = self.walk(path.names())?;
@@ -101,6 +108,9 @@ impl Nodes {
         }
         if self.links(number) >= u64::from(MOST_LINKS) {
             return Err(Refusal::TooManyLinks);
+        }
+        if other.is_too_long(layout) {
+            return Err(Refusal::NameTooLong);
         }
         Ok((number, end))
     }
@@ -135,21 +145,26 @@ impl Nodes {
         Ok(end)
     }
 
-    /// A move; where both paths lead to one node, the walks alone can refuse it. Where both paths end.
+    /// A move; where both paths lead to one node, the walks and too long a name alone can refuse it. Where both paths
+    /// end.
     pub(crate) fn to_rename<'a>(
         &self,
         from: &'a Path,
         to: &'a Path,
+        layout: Layout,
     ) -> Result<(End<'a>, End<'a>), Refusal>
-        ensures reason { result_err result ≡ rename_reason (map_of self.now) from.now to.now }
+        ensures reason { result_err result ≡ rename_reason layout (map_of self.now) from.now to.now }
         ensures found { IfOk result (λ found. IsEnd (map_of self.now) from.now found.0 × IsEnd (map_of self.now) to.now found.1) }
     {
         let (first, number) = self.reach(from.names())?;
         let second = self.look(to.names())?;
-        match self.move_refusal(from, to, number, second.number) {
-            Some(why) => Err(why),
-            None => Ok((first, second)),
+        if let Some(why) = self.move_refusal(from, to, number, second.number) {
+            return Err(why);
         }
+        if to.is_too_long(layout) {
+            return Err(Refusal::NameTooLong);
+        }
+        Ok((first, second))
     }
 
     /// Why the node at the first path can't come to the second one; nothing is done where they are one node.

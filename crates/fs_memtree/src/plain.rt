@@ -12,7 +12,7 @@ ghost use Rattle.lang_tree.specs.Listing.{listing};
 use crate::laws::the_maps_are_lawful;
 use crate::state::State;
 use base_io::{Sink, SinkFault};
-use base_types::NoMemory;
+use base_types::{Layout, NoMemory};
 use lang_tree::{Cmd, Refusal, Reply};
 use std::alloc::Global;
 use std::marker::Model;
@@ -39,27 +39,27 @@ impl Model for PlainTree {
 }
 
 impl PlainTree {
-    /// The tree of the root alone, with at most so many nodes.
+    /// The tree of the root alone, with at most so many nodes, and names as this layout takes them.
     ///
     /// # Errors
     /// Out of memory.
-    pub fn new(alloc: Global, nodes: u32) -> Result<PlainTree, NoMemory>
+    pub fn new(alloc: Global, nodes: u32, layout: Layout) -> Result<PlainTree, NoMemory>
         requires { 1 ≤ nodes }
-        ensures start { IfOk result (λ tree. tree ≡ start nodes) }
-        ensures sound { IfOk result (λ tree. IsSound tree.limit tree.tree) }
-        ensures snapshots { IfOk result (λ tree. HasSoundSnapshots tree.limit tree.tree) }
+        ensures start { IfOk result (λ tree. tree ≡ start (record { nodes = nodes; layout = layout })) }
+        ensures sound { IfOk result (λ tree. IsSound tree.limit.nodes tree.tree) }
+        ensures snapshots { IfOk result (λ tree. HasSoundSnapshots tree.limit.nodes tree.tree) }
         ensures small { IfOk result (λ tree. HasSmallFiles tree.tree.nodes) }
     {
         the_maps_are_lawful();
-        let state = State::new(alloc, nodes)?;
+        let state = State::new(alloc, nodes, layout)?;
         Ok(PlainTree { state })
     }
 
     /// Answers the command; where no memory is found it refuses it and stays as it was.
     pub fn apply(&mut self, alloc: Global, cmd: &Cmd) -> Reply
         ensures answer { Answers is_of_memory self.old cmd.now result self.new }
-        ensures sound { IsSound self.new.limit self.new.tree }
-        ensures snapshots { HasSoundSnapshots self.new.limit self.new.tree }
+        ensures sound { IsSound self.new.limit.nodes self.new.tree }
+        ensures snapshots { HasSoundSnapshots self.new.limit.nodes self.new.tree }
         ensures small { HasSmallFiles self.new.tree.nodes }
     {
         the_maps_are_lawful();
@@ -83,7 +83,7 @@ impl PlainTree {
         self.state.write_listing(out)
     }
 
-    /// A copy of this tree, with the same limit and the same sync points, and changed since where this
+    /// A copy of this tree, with the same bounds and the same sync points, and changed since where this
     /// one is. What one of them does later doesn't touch the other.
     ///
     /// # Errors
@@ -97,7 +97,7 @@ impl PlainTree {
 
     /// Whether both trees are equal: the same paths lead to the same numbers, these are the same
     /// directories and files with the same bytes, and the snapshots have the same names and numbers and keep equal
-    /// trees. Limits and sync points don't count. This takes no memory.
+    /// trees. Bounds and sync points don't count. This takes no memory.
     pub fn equal(&self, other: &PlainTree) -> bool
         ensures { IsTrue result ↔ (self.now.tree ≡ other.now.tree) }
     {

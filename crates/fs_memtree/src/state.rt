@@ -20,29 +20,30 @@ use crate::node::{Growth, Node};
 use crate::nodes::Nodes;
 use crate::snapshots::{Snapshot, Snapshots};
 use crate::walks::End;
-use base_types::{Name, NoMemory};
+use base_types::{Layout, Name, NoMemory};
 use lang_tree::{Cmd, Look, NameList, Path, Refusal, Reply};
 use std::alloc::Global;
 
-/// The nodes of a tree with what its snapshots keep, the greatest number that they may have, and the session's sync
-/// points.
+/// The nodes of a tree with what its snapshots keep, the greatest number that they may have, the layout that says
+/// which names are too long, and the session's sync points.
 #[derive(Drop)]
 pub(crate) struct State {
     pub(crate) nodes: Nodes,
     pub(crate) kept: Snapshots,
     pub(crate) limit: u32,
+    pub(crate) layout: Layout,
     pub(crate) points: u64,
     pub(crate) changed: bool,
     pub(crate) durable: u64,
 }
 
 impl State {
-    /// The root alone, with at most so many nodes.
+    /// The root alone, with at most so many nodes, and names as this layout takes them.
     ///
     /// # Errors
     /// Out of memory.
-    pub(crate) fn new(alloc: Global, nodes: u32) -> Result<State, NoMemory>
-        ensures { IfOk result (λ state. state ≡ first_state nodes) }
+    pub(crate) fn new(alloc: Global, nodes: u32, layout: Layout) -> Result<State, NoMemory>
+        ensures { IfOk result (λ state. state ≡ first_state nodes layout) }
     {
         let limit = nodes;
         let nodes = Nodes::new(alloc)?;
@@ -50,6 +51,7 @@ impl State {
             nodes,
             kept: Snapshots::new(alloc),
             limit,
+            layout,
             points: 0,
             changed: false,
             durable: 0,
@@ -69,6 +71,7 @@ impl State {
             nodes,
             kept,
             limit: self.limit,
+            layout: self.layout,
             points: self.points,
             changed: self.changed,
             durable: self.durable,
@@ -188,11 +191,11 @@ impl State {
 
     /// Mkdir and create: a new node at the path.
     fn make(&mut self, path: &Path, node: Node) -> Result<Reply, NoMemory>
-        ensures ok { IfOk result (λ reply. served_by self.old (make_reason (least self.old) (map_of self.old.nodes) path.now)
+        ensures ok { IfOk result (λ reply. served_by self.old (make_reason self.old.layout (least self.old) (map_of self.old.nodes) path.now)
             (changed_to self.old (made (least self.old) self.old.nodes path.now (kept node))) ≡ (self.new, reply)) }
         ensures err { OnErr result (self.new ≡ self.old) }
     {
-        let (end, number) = match self.nodes.to_make(self.least(), path) {
+        let (end, number) = match self.nodes.to_make(self.least(), path, self.layout) {
             Err(why) => return Ok(Reply::Refused(why)),
             Ok(found) => found,
         };
@@ -258,7 +261,7 @@ impl State {
         ensures ok { IfOk result (λ reply. served self.old (Link path.now other.now) ≡ (self.new, reply)) }
         ensures err { OnErr result (self.new ≡ self.old) }
     {
-        let (number, end) = match self.nodes.to_link(path, other) {
+        let (number, end) = match self.nodes.to_link(path, other, self.layout) {
             Err(why) => return Ok(Reply::Refused(why)),
             Ok(found) => found,
         };
@@ -304,7 +307,7 @@ impl State {
         ensures ok { IfOk result (λ reply. served self.old (Rename from.now to.now) ≡ (self.new, reply)) }
         ensures err { OnErr result (self.new ≡ self.old) }
     {
-        let (first, second) = match self.nodes.to_rename(from, to) {
+        let (first, second) = match self.nodes.to_rename(from, to, self.layout) {
             Err(why) => return Ok(Reply::Refused(why)),
             Ok(found) => found,
         };

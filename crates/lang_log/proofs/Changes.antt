@@ -86,7 +86,7 @@ append_step before s bytes old new reply fits asked = record {
 
     accepts : refusal old.limit old.tree (Write path size (spelling bytes)) ≡ None
     accepts =
-        write_free old.limit old.tree asked.sound (segment_name s.first) s.node (spellings s.appends) l.at l.file size (length (spelling bytes)) fits
+        write_free old.limit.nodes old.tree asked.sound (segment_name s.first) s.node (spellings s.appends) l.at l.file size (length (spelling bytes)) fits
 
     tree_is : edited old.tree path (written size (spelling bytes)) ≡ after old.tree before s bytes asked.had
     tree_is =

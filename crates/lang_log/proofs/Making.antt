@@ -13,7 +13,7 @@ use Rattle.lang_log.specs.Commands.{IsAsked, LacksNode, Leaves}
 use Rattle.lang_log.specs.Names.{log_path, path_in_log, segment_path, segment_name}
 use Rattle.lang_log.specs.Segments.{Segment, HasSegments, LiesIn, OneIsNamed, new_segment}
 use Rattle.lang_log.proofs.Maps.{name_here, name_look, node_here, node_other}
-use Rattle.lang_log.proofs.Walks.{none_some, parent_free, log_free, make_is, unused_is_free}
+use Rattle.lang_log.proofs.Walks.{none_some, parent_free, log_free, log_short, segment_short, make_is, unused_is_free}
 use Rattle.lang_log.proofs.Rows.{with_new, still_named, new_named, new_apart}
 
 pub longer : {A : Type 0} (a b c : A) (xs : List A) → a ∷ [] ≡ b ∷ c ∷ xs → ⊥
@@ -32,13 +32,13 @@ record IsMade (path : List (List ℕ)) (thing : Thing) (old new : Session) (repl
 
 -- what comes of a path that isn't there and may be made
 made_step : (path : List (List ℕ)) (thing : Thing) (cmd : Cmd) (old new : Session) (reply : Reply)
-    → refusal old.limit old.tree cmd ≡ when (is_none (least_unused old.limit old.tree)) NoNode
-    → answered old cmd None ≡ changed_to old (added old.limit old.tree path thing) → step old cmd ≡ (new, reply)
+    → refusal old.limit old.tree cmd ≡ when (is_none (least_unused old.limit.nodes old.tree)) NoNode
+    → answered old cmd None ≡ changed_to old (added old.limit.nodes old.tree path thing) → step old cmd ≡ (new, reply)
     → LacksNode old new reply ⊎ IsMade path thing old new reply
-made_step path thing cmd old new reply refused done e = by (least_unused old.limit old.tree) refl (sym e ∙ ap (answered old cmd) refused)
+made_step path thing cmd old new reply refused done e = by (least_unused old.limit.nodes old.tree) refl (sym e ∙ ap (answered old cmd) refused)
   where
-    by : (o : Option ℕ) → least_unused old.limit old.tree ≡ o
-        → (new, reply) ≡ answered old cmd (when (is_none (least_unused old.limit old.tree)) NoNode)
+    by : (o : Option ℕ) → least_unused old.limit.nodes old.tree ≡ o
+        → (new, reply) ≡ answered old cmd (when (is_none (least_unused old.limit.nodes old.tree)) NoNode)
         → LacksNode old new reply ⊎ IsMade path thing old new reply
     by None is e =
         let so = e ∙ ap (λ o. answered old cmd (when (is_none o) NoNode)) is in
@@ -47,7 +47,7 @@ made_step path thing cmd old new reply refused done e = by (least_unused old.lim
         let so = e ∙ ap (λ o. answered old cmd (when (is_none o) NoNode)) is ∙ done ∙ ap (λ o. changed_to old (with_node old.tree path thing o)) is in
         inr (record {
           node = n;
-          free = unused_is_free old.limit old.tree n is;
+          free = unused_is_free old.limit.nodes old.tree n is;
           done = ap (λ x. x.1) so;
           changed = ap (λ x. x.0.changed) so;
           tree = sym (ap (λ x. x.0.tree) so);
@@ -109,8 +109,8 @@ pub create_step : (segments : List Segment) (first directory : ℕ) (old new : S
     → LacksNode old new reply ⊎ ((node : ℕ) × Leaves (segments ++ new_segment first node ∷ []) new reply)
 create_step segments first k old new reply there none asked =
     by (made_step (segment_path first) (File []) (Create (segment_path first)) old new reply
-    (make_is old.limit old.tree (segment_path first)
-    (parent_free old.limit old.tree asked.sound (segment_name first) k there (asked.had.directory k there)) absent) refl asked.answered)
+    (make_is old.limit old.tree (segment_path first) (segment_short old.limit.layout first)
+    (parent_free old.limit.nodes old.tree asked.sound (segment_name first) k there (asked.had.directory k there)) absent) refl asked.answered)
   where
     absent : get old.tree.names (segment_path first) ≡ None
     absent = no_segment old.tree segments (segment_name first) asked.had none
@@ -161,7 +161,7 @@ made_empty limit t n sound none = record {
 pub mkdir_step : (old new : Session) (reply : Reply) → get old.tree.names log_path ≡ None → IsAsked [] old (Mkdir log_path) new reply
     → LacksNode old new reply ⊎ Leaves [] new reply
 mkdir_step old new reply none asked =
-    by (made_step log_path Dir (Mkdir log_path) old new reply (make_is old.limit old.tree log_path (log_free old.limit old.tree asked.sound) none)
+    by (made_step log_path Dir (Mkdir log_path) old new reply (make_is old.limit old.tree log_path (log_short old.limit.layout) (log_free old.limit.nodes old.tree asked.sound) none)
     refl asked.answered)
   where
     by : LacksNode old new reply ⊎ IsMade log_path Dir old new reply → LacksNode old new reply ⊎ Leaves [] new reply
@@ -170,7 +170,7 @@ mkdir_step old new reply none asked =
         inr (record {
           done = made.done;
           changed = made.changed;
-          has = subst (λ t. HasSegments t []) made.tree (made_empty old.limit old.tree made.node asked.sound none);
+          has = subst (λ t. HasSegments t []) made.tree (made_empty old.limit.nodes old.tree made.node asked.sound none);
         })
 
 pub directory_there : (limit : ℕ) (t : Tree) (s : Segment) → IsSound limit t → LiesIn t s → (n : ℕ) × (get t.names log_path ≡ Some n)

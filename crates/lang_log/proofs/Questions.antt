@@ -44,43 +44,43 @@ enter_none b found on p q = ap (λ b. enter b found on) p ∙ ap (λ f. enter tr
 walk_to_log : (limit : ℕ) (t : Tree) (n : ℕ) → IsSound limit t → get t.names log_path ≡ Some n → walk_refusal t log_path ≡ None
 walk_to_log limit t n sound at = ap refusal_in (enter_on _ _ _ n (ap is_dir sound.root_dir) at)
 
-pub log_none : (old new : Session) (reply : Reply) → IsSound old.limit old.tree → get old.tree.names log_path ≡ None
+pub log_none : (old new : Session) (reply : Reply) → IsSound old.limit.nodes old.tree → get old.tree.names log_path ≡ None
     → step old (Stat log_path) ≡ (new, reply) → (reply ≡ Refused NotFound) × (new ≡ old)
 log_none old new reply sound none e =
     refused (Stat log_path) NotFound old new reply (ap refusal_in (enter_none _ _ _ (ap is_dir sound.root_dir) none)) e
 
-pub log_stat : (n : ℕ) (thing : Thing) (old new : Session) (reply : Reply) → IsSound old.limit old.tree → get old.tree.names log_path ≡ Some n
+pub log_stat : (n : ℕ) (thing : Thing) (old new : Session) (reply : Reply) → IsSound old.limit.nodes old.tree → get old.tree.names log_path ≡ Some n
     → get old.tree.nodes n ≡ Some thing → step old (Stat log_path) ≡ (new, reply)
     → (reply ≡ stat_of old.tree log_path n (Some thing)) × (new ≡ old)
 log_stat n thing old new reply sound at is e =
-    told (Stat log_path) (stat_of old.tree log_path n (Some thing)) old new reply (walk_to_log old.limit old.tree n sound at)
+    told (Stat log_path) (stat_of old.tree log_path n (Some thing)) old new reply (walk_to_log old.limit.nodes old.tree n sound at)
     (ap (λ reply. (old, reply)) (stat_is old.tree log_path n thing at is)) e
 
-pub log_list : (n : ℕ) (old new : Session) (reply : Reply) → IsSound old.limit old.tree → get old.tree.names log_path ≡ Some n
+pub log_list : (n : ℕ) (old new : Session) (reply : Reply) → IsSound old.limit.nodes old.tree → get old.tree.names log_path ≡ Some n
     → get old.tree.nodes n ≡ Some Dir → step old (ListNames log_path) ≡ (new, reply)
     → (reply ≡ NamesReply (names_in old.tree.names log_path)) × (new ≡ old)
 log_list n old new reply sound at is e =
     told (ListNames log_path) (NamesReply (names_in old.tree.names log_path)) old new reply
-    (one_none _ _ NotDir (walk_to_log old.limit old.tree n sound at) (ap is_file (thing_is old.tree log_path n Dir at is))) refl e
+    (one_none _ _ NotDir (walk_to_log old.limit.nodes old.tree n sound at) (ap is_file (thing_is old.tree log_path n Dir at is))) refl e
 
 -- What is in it.
 
-pub name_stat : (name : List ℕ) (n : ℕ) (thing : Thing) (old new : Session) (reply : Reply) → IsSound old.limit old.tree
+pub name_stat : (name : List ℕ) (n : ℕ) (thing : Thing) (old new : Session) (reply : Reply) → IsSound old.limit.nodes old.tree
     → get old.tree.names (path_in_log name) ≡ Some n → get old.tree.nodes n ≡ Some thing → step old (Stat (path_in_log name)) ≡ (new, reply)
     → (reply ≡ stat_of old.tree (path_in_log name) n (Some thing)) × (new ≡ old)
 name_stat name n thing old new reply sound at is e =
     told (Stat (path_in_log name)) (stat_of old.tree (path_in_log name) n (Some thing)) old new reply
-    (walk_free old.limit old.tree sound name n at) (ap (λ reply. (old, reply)) (stat_is old.tree (path_in_log name) n thing at is)) e
+    (walk_free old.limit.nodes old.tree sound name n at) (ap (λ reply. (old, reply)) (stat_is old.tree (path_in_log name) n thing at is)) e
 
-pub name_read : (name : List ℕ) (n : ℕ) (bytes : List ℕ) (offset count : ℕ) (old new : Session) (reply : Reply) → IsSound old.limit old.tree
+pub name_read : (name : List ℕ) (n : ℕ) (bytes : List ℕ) (offset count : ℕ) (old new : Session) (reply : Reply) → IsSound old.limit.nodes old.tree
     → get old.tree.names (path_in_log name) ≡ Some n → get old.tree.nodes n ≡ Some (File bytes)
     → step old (Read (path_in_log name) offset count) ≡ (new, reply) → (reply ≡ Bytes (take count (drop offset bytes))) × (new ≡ old)
 name_read name n bytes offset count old new reply sound at file e =
     told (Read (path_in_log name) offset count) (Bytes (take count (drop offset bytes))) old new reply
-    (file_free old.limit old.tree sound name n bytes at file)
+    (file_free old.limit.nodes old.tree sound name n bytes at file)
     (ap (λ x. (old, Bytes (take count (drop offset (bytes_in x))))) (thing_is old.tree (path_in_log name) n (File bytes) at file)) e
 
-pub read_step : (s : Segment) (offset count : ℕ) (old new : Session) (reply : Reply) → IsSound old.limit old.tree → LiesIn old.tree s
+pub read_step : (s : Segment) (offset count : ℕ) (old new : Session) (reply : Reply) → IsSound old.limit.nodes old.tree → LiesIn old.tree s
     → step old (Read (segment_path s.first) offset count) ≡ (new, reply)
     → (reply ≡ Bytes (take count (drop offset (spellings s.appends)))) × (new ≡ old)
 read_step s offset count old new reply sound lies e =

@@ -73,5 +73,5 @@ unlink_step s rest old new reply asked = record {
     so : (new, reply) ≡ changed_to old (after old.tree s rest asked.had)
     so = sym asked.answered
         ∙ ap (answered old (Unlink (segment_path s.first)))
-        (file_free old.limit old.tree asked.sound (segment_name s.first) s.node (spellings s.appends) lies.at lies.file)
+        (file_free old.limit.nodes old.tree asked.sound (segment_name s.first) s.node (spellings s.appends) lies.at lies.file)
         ∙ ap (λ o. changed_to old (removed_by old.tree (segment_path s.first) o)) lies.at

@@ -9,7 +9,7 @@ use Rattle.std.specs.FinMap.{get, insert, empty, entries, put, get-insert, get-e
 use Rattle.byteorder.specs.Endian.{little_number}
 use Rattle.lang_tree.specs.declared.command.Cmd.TheVariants.{Create, Link, Mkdir, Read, Write}
 use Rattle.lang_tree.specs.declared.command.Reply.TheVariants.{Ok as Done, Bytes}
-use Rattle.lang_tree.specs.Tree.{Names, Nodes, Kept, Thing, Dir, File, alone, path_cmp}
+use Rattle.lang_tree.specs.Tree.{Names, Nodes, Kept, Thing, Dir, File, alone, path_cmp, in_layout_one}
 use Rattle.lang_tree.specs.Conditions.{least_unused}
 use Rattle.lang_tree.specs.Step.{Session, start, step}
 use Rattle.lang_tree.specs.Run.{Run}
@@ -46,7 +46,7 @@ none_kept : entries (empty {X = Kept} {R = slice_cmp nat_cmp}) ≡ []
 none_kept = nil_from_length (entries (empty {X = Kept} {R = slice_cmp nat_cmp})) (sym (len-entries (empty {X = Kept} {R = slice_cmp nat_cmp})) ∙ len-empty (slice_cmp nat_cmp) Kept)
 
 abbrev changed_to_tree : Names → Nodes → Session
-changed_to_tree names nodes = record { tree = alone names nodes; limit = 16; points = 0; changed = true; durable = 0 }
+changed_to_tree names nodes = record { tree = alone names nodes; limit = in_layout_one 16; points = 0; changed = true; durable = 0 }
 
 -- The names and nodes of the runs, as they come.
 
@@ -80,7 +80,7 @@ begun = changed_to_tree with_first first_node
 abbrev wrote : List ℕ → Session
 wrote bytes = changed_to_tree with_first (has_bytes bytes)
 
-makes_log : step (start 16) (Mkdir log_path) ≡ (made, Done)
+makes_log : step (start (in_layout_one 16)) (Mkdir log_path) ≡ (made, Done)
 unfolding least_unused
 makes_log = simp (name_at, node_at, no_name, no_node, none_kept)
 
@@ -146,7 +146,7 @@ has_first = record {
 }
 
 pub two_make_a_log : (end : Session)
-    × Run (λ why. false) (start 16)
+    × Run (λ why. false) (start (in_layout_one 16))
     (Mkdir log_path ∷ Create (segment_path 0) ∷ Write (segment_path 0) 0 (spelling (codes "hi")) ∷ Write (segment_path 0) 6 (spelling (codes "j"))
     ∷ Read (segment_path 0) 0 20 ∷ [])
     (Done ∷ Done ∷ Done ∷ Done ∷ Bytes both ∷ []) end
@@ -166,11 +166,11 @@ two_make_a_log = (
 abbrev file_end : Session
 file_end = changed_to_tree (insert root log_path 2) (insert root_node 2 (File []))
 
-makes_file : step (start 16) (Create log_path) ≡ (file_end, Done)
+makes_file : step (start (in_layout_one 16)) (Create log_path) ≡ (file_end, Done)
 unfolding least_unused
 makes_file = simp (name_at, node_at, no_name, no_node, none_kept)
 
-pub a_file : (end : Session) × Run (λ why. false) (start 16) (Create log_path ∷ []) (Done ∷ []) end × HasNoLog end.tree
+pub a_file : (end : Session) × Run (λ why. false) (start (in_layout_one 16)) (Create log_path ∷ []) (Done ∷ []) end × HasNoLog end.tree
 a_file = (file_end, (file_end, inl makes_file, refl), file_there file_end.tree 2 [] (simp name_at) (simp node_at))
 
 abbrev dir_end : Session
@@ -180,7 +180,7 @@ makes_dir : step made (Mkdir (segment_path 0)) ≡ (dir_end, Done)
 unfolding least_unused
 makes_dir = simp (name_at, node_at, no_name, no_node, none_kept)
 
-pub a_directory : (end : Session) × Run (λ why. false) (start 16) (Mkdir log_path ∷ Mkdir (segment_path 0) ∷ []) (Done ∷ Done ∷ []) end × HasNoLog end.tree
+pub a_directory : (end : Session) × Run (λ why. false) (start (in_layout_one 16)) (Mkdir log_path ∷ Mkdir (segment_path 0) ∷ []) (Done ∷ Done ∷ []) end × HasNoLog end.tree
 a_directory =
     (dir_end, (made, inl makes_log, (dir_end, inl makes_dir, refl)), directory_in_it dir_end.tree (segment_name 0) 3 (simp name_at) (simp node_at))
 
@@ -200,7 +200,7 @@ names_differ : segment_name 0 ≢ segment_name 1
 names_differ e = let same = same_number 0 1 (omega arith) (omega arith) e in omega (arith, same)
 
 pub two_of_one_node : (end : Session)
-    × Run (λ why. false) (start 16)
+    × Run (λ why. false) (start (in_layout_one 16))
     (Mkdir log_path ∷ Create (segment_path 0) ∷ Write (segment_path 0) 0 empty_append ∷ Link (segment_path 0) (segment_path 1) ∷ [])
     (Done ∷ Done ∷ Done ∷ Done ∷ []) end
     × HasNoLog end.tree
@@ -223,7 +223,7 @@ not_whole (x ∷ xs) short e =
     omega (arith, size, ap length e, length-append x (spellings xs))
 
 pub a_torn_append : (end : Session)
-    × Run (λ why. false) (start 16) (Mkdir log_path ∷ Create (segment_path 0) ∷ Write (segment_path 0) 0 torn ∷ []) (Done ∷ Done ∷ Done ∷ []) end
+    × Run (λ why. false) (start (in_layout_one 16)) (Mkdir log_path ∷ Create (segment_path 0) ∷ Write (segment_path 0) 0 torn ∷ []) (Done ∷ Done ∷ Done ∷ []) end
     × HasNoLog end.tree
 a_torn_append = (
   wrote torn,
@@ -245,7 +245,7 @@ none_between : (between : ℕ) → 0 < between → between < 2 → get gap_end.t
 none_between between above below = ap (λ n. get gap_end.tree.names (segment_path n)) {y = 1} (omega (arith, above, below)) ∙ simp (name_at, no_name)
 
 pub a_gap : (end : Session)
-    × Run (λ why. false) (start 16) (Mkdir log_path ∷ Create (segment_path 0) ∷ Write (segment_path 0) 0 empty_append ∷ Create (segment_path 2) ∷ [])
+    × Run (λ why. false) (start (in_layout_one 16)) (Mkdir log_path ∷ Create (segment_path 0) ∷ Write (segment_path 0) 0 empty_append ∷ Create (segment_path 2) ∷ [])
     (Done ∷ Done ∷ Done ∷ Done ∷ []) end
     × HasNoLog end.tree
 a_gap = (
@@ -265,7 +265,7 @@ makes_short : step made (Create short_name) ≡ (short_end, Done)
 unfolding least_unused
 makes_short = simp (name_at, node_at, no_name, no_node, none_kept)
 
-pub a_short_name : (end : Session) × Run (λ why. false) (start 16) (Mkdir log_path ∷ Create short_name ∷ []) (Done ∷ Done ∷ []) end × HasNoLog end.tree
+pub a_short_name : (end : Session) × Run (λ why. false) (start (in_layout_one 16)) (Mkdir log_path ∷ Create short_name ∷ []) (Done ∷ Done ∷ []) end × HasNoLog end.tree
 a_short_name = (
   short_end,
   (made, inl makes_log, (short_end, inl makes_short, refl)),
@@ -292,7 +292,7 @@ abbrev last : Segment
 last = record { first = 4294967295; node = 3; appends = [] ∷ [] }
 
 pub past_numbers : (end : Session)
-    × Run (λ why. false) (start 16) (Mkdir log_path ∷ Create last_path ∷ Write last_path 0 empty_append ∷ []) (Done ∷ Done ∷ Done ∷ []) end
+    × Run (λ why. false) (start (in_layout_one 16)) (Mkdir log_path ∷ Create last_path ∷ Write last_path 0 empty_append ∷ []) (Done ∷ Done ∷ Done ∷ []) end
     × HasNoLog end.tree
 past_numbers = (
   last_end,

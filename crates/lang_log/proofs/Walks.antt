@@ -1,14 +1,18 @@
 -- What a sound tree with segments finds at their paths, and that no command on a segment is refused for it.
-use Rattle.std.proofs.Common.{◌≡◌, ℕ, ◌+◌, ◌≤◌, Bool, true, false, not, ◌&&◌, List, [], ◌∷◌, Option, Some, None, option_and_then, Result, Ok, refl, sym, ap, ◌∙◌, arith, nat_lt, is_some, is_none, if◌then◌else◌, find}
+use Rattle.std.proofs.Common.{◌≡◌, ℕ, ◌+◌, ◌≤◌, Bool, true, false, not, ◌&&◌, List, [], ◌∷◌, Option, Some, None, option_and_then, Result, Ok, refl, sym, ap, ◌∙◌, arith, le-ltb, nat_lt, is_some, is_none, if◌then◌else◌, find}
 use Rattle.std.proofs.lemmas.Option.{same_Some}
 use Rattle.std.specs.FinMap.{get}
 use Rattle.std.specs.List.{range_with_len}
+use Rattle.base_types.specs.declared.layout.Layout.{Layout}
+use Rattle.base_types.specs.Layouts.{longest_name}
+use Rattle.base_types.specs.LayoutLaws.{taken_name}
 use Rattle.lang_tree.specs.declared.command.Refusal.{Refusal}
-use Rattle.lang_tree.specs.declared.command.Refusal.TheVariants.{Exists, NotDir, IsDir, TooLarge, NoNode}
-use Rattle.lang_tree.specs.Tree.{Tree, Thing, Dir, File, IsSound}
+use Rattle.lang_tree.specs.declared.command.Refusal.TheVariants.{Exists, NotDir, IsDir, TooLarge, NoNode, NameTooLong}
+use Rattle.lang_tree.specs.Tree.{Tree, Bounds, Thing, Dir, File, IsSound}
 use Rattle.lang_tree.specs.Walk.{walk, enter, is_dir, is_there, thing_at, walk_refusal, refusal_in, no_directory, parent_refusal}
 use Rattle.lang_tree.specs.Conditions.{when, first_reason, is_too_large, write_refusal, file_refusal, make_refusal, least_unused, is_snapshot}
-use Rattle.lang_log.specs.Names.{log_path, path_in_log}
+use Rattle.lang_tree.specs.Paths.{is_too_long}
+use Rattle.lang_log.specs.Names.{log_path, path_in_log, segment_path}
 
 pub none_some : {A : Type 0} {o : Option A} (x : A) → o ≡ None → o ≡ Some x → ⊥
 none_some x none some = cc
@@ -66,18 +70,28 @@ parent_free limit t s name k at dir = no_directory_is t (walk t log_path) k (ent
 pub log_free : (limit : ℕ) (t : Tree) (s : IsSound limit t) → parent_refusal t log_path ≡ None
 log_free limit t s = no_directory_is t (walk t []) 1 refl s.root_dir
 
+-- each layout takes the names of a log
+pub log_short : (l : Layout) → is_too_long l log_path ≡ false
+log_short l = le-ltb (longest_name l) 3 (omega (arith, taken_name l))
+
+pub segment_short : (l : Layout) (first : ℕ) → is_too_long l (segment_path first) ≡ false
+segment_short l first = le-ltb (longest_name l) 10 (omega (arith, taken_name l))
+
 absent : (o : Option ℕ) → o ≡ None → is_some o ≡ false
 absent o e = ap is_some e
 
 -- A path that isn't there may be made where its parent allows it, unless no number is unused.
-pub make_is : (limit : ℕ) (t : Tree) (path : List (List ℕ)) → parent_refusal t path ≡ None → get t.names path ≡ None
-    → make_refusal limit t path ≡ when (is_none (least_unused limit t)) NoNode
-make_is limit t path free none =
-    ap (λ a. first_reason (a ∷ when (is_there t path) Exists ∷ when (is_none (least_unused limit t)) NoNode ∷ [])) free
-    ∙ ap (λ b. first_reason (None ∷ when b Exists ∷ when (is_none (least_unused limit t)) NoNode ∷ [])) (absent (get t.names path) none)
-    ∙ only (is_none (least_unused limit t))
+pub make_is : (limit : Bounds) (t : Tree) (path : List (List ℕ)) → is_too_long limit.layout path ≡ false → parent_refusal t path ≡ None → get t.names path ≡ None
+    → make_refusal limit t path ≡ when (is_none (least_unused limit.nodes t)) NoNode
+make_is limit t path short free none =
+    let full = is_none (least_unused limit.nodes t) in
+    let long = is_too_long limit.layout path in
+    ap (λ a. first_reason (a ∷ when (is_there t path) Exists ∷ when full NoNode ∷ when long NameTooLong ∷ [])) free
+    ∙ ap (λ b. first_reason (None ∷ when b Exists ∷ when full NoNode ∷ when long NameTooLong ∷ [])) (absent (get t.names path) none)
+    ∙ ap (λ b. first_reason (None ∷ when false Exists ∷ when full NoNode ∷ when b NameTooLong ∷ [])) short
+    ∙ only full
   where
-    only : (b : Bool) → first_reason (None ∷ when false Exists ∷ when b NoNode ∷ []) ≡ when b NoNode
+    only : (b : Bool) → first_reason (None ∷ when false Exists ∷ when b NoNode ∷ when false NameTooLong ∷ []) ≡ when b NoNode
     only true = refl
     only false = refl
 

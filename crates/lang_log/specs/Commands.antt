@@ -10,7 +10,7 @@ use Rattle.lang_log.specs.Segments.{Segment, HasSegments}
 
 -- A command was answered so by a sound tree that had these segments.
 pub record IsAsked (segments : List Segment) (old : Session) (cmd : Cmd) (new : Session) (reply : Reply) : Type 0 where
-  pub sound : IsSound old.limit old.tree
+  pub sound : IsSound old.limit.nodes old.tree
   pub had : HasSegments old.tree segments
   pub answered : step old cmd ≡ (new, reply)
 

@@ -4,6 +4,7 @@ ghost use Rattle.std.specs.Prelude.{◌≡◌, ◌∷◌, [], false, codes, repl
 ghost use Rattle.lang_tree.specs.declared.command.Cmd.TheVariants.{Create, Link, Mkdir, Read, Write};
 ghost use Rattle.lang_tree.specs.declared.command.Reply.TheVariants.{Ok as Done, Bytes};
 ghost use Rattle.lang_tree.specs.Run.{Run};
+ghost use Rattle.lang_tree.specs.Tree.{in_layout_one};
 ghost use Rattle.lang_tree.specs.Step.{Session, start};
 ghost use Rattle.lang_log.specs.Log.{HasNoLog, IsLogOf};
 ghost use Rattle.lang_log.specs.Names.{digits, log_path, path_in_log, segment_name, segment_path};
@@ -19,7 +20,7 @@ pub fn two_appends_are_spelled_so()
 /// read gives their bytes. The tree has the log of these two then.
 pub fn two_appends_make_a_log()
     ensures { (end : Session)
-        × Run (λ why. false) (start 16)
+        × Run (λ why. false) (start (in_layout_one 16))
         (Mkdir log_path ∷ Create (segment_path 0) ∷ Write (segment_path 0) 0 (spelling (codes "hi")) ∷ Write (segment_path 0) 6 (spelling (codes "j"))
         ∷ Read (segment_path 0) 0 20 ∷ [])
         (Done ∷ Done ∷ Done ∷ Done ∷ Bytes (2 ∷ 0 ∷ 0 ∷ 0 ∷ 104 ∷ 105 ∷ 1 ∷ 0 ∷ 0 ∷ 0 ∷ 106 ∷ []) ∷ []) end
@@ -31,27 +32,27 @@ pub fn two_appends_make_a_log()
 /// two bytes lacks the second one; after a segment of one append, the segment with number 2 follows; an append has the
 /// number 2^32 - 1.
 pub fn spoiled_trees_have_no_log()
-    ensures file { (end : Session) × Run (λ why. false) (start 16) (Create log_path ∷ []) (Done ∷ []) end × HasNoLog end.tree }
-    ensures directory { (end : Session) × Run (λ why. false) (start 16) (Mkdir log_path ∷ Mkdir (segment_path 0) ∷ []) (Done ∷ Done ∷ []) end
+    ensures file { (end : Session) × Run (λ why. false) (start (in_layout_one 16)) (Create log_path ∷ []) (Done ∷ []) end × HasNoLog end.tree }
+    ensures directory { (end : Session) × Run (λ why. false) (start (in_layout_one 16)) (Mkdir log_path ∷ Mkdir (segment_path 0) ∷ []) (Done ∷ Done ∷ []) end
         × HasNoLog end.tree }
-    ensures name { (end : Session) × Run (λ why. false) (start 16) (Mkdir log_path ∷ Create (path_in_log (digits 9 0)) ∷ []) (Done ∷ Done ∷ []) end
+    ensures name { (end : Session) × Run (λ why. false) (start (in_layout_one 16)) (Mkdir log_path ∷ Create (path_in_log (digits 9 0)) ∷ []) (Done ∷ Done ∷ []) end
         × HasNoLog end.tree }
     ensures shared { (end : Session)
-        × Run (λ why. false) (start 16)
+        × Run (λ why. false) (start (in_layout_one 16))
         (Mkdir log_path ∷ Create (segment_path 0) ∷ Write (segment_path 0) 0 (0 ∷ 0 ∷ 0 ∷ 0 ∷ []) ∷ Link (segment_path 0) (segment_path 1) ∷ [])
         (Done ∷ Done ∷ Done ∷ Done ∷ []) end
         × HasNoLog end.tree }
     ensures torn { (end : Session)
-        × Run (λ why. false) (start 16) (Mkdir log_path ∷ Create (segment_path 0) ∷ Write (segment_path 0) 0 (2 ∷ 0 ∷ 0 ∷ 0 ∷ 104 ∷ []) ∷ [])
+        × Run (λ why. false) (start (in_layout_one 16)) (Mkdir log_path ∷ Create (segment_path 0) ∷ Write (segment_path 0) 0 (2 ∷ 0 ∷ 0 ∷ 0 ∷ 104 ∷ []) ∷ [])
         (Done ∷ Done ∷ Done ∷ []) end
         × HasNoLog end.tree }
     ensures gap { (end : Session)
-        × Run (λ why. false) (start 16)
+        × Run (λ why. false) (start (in_layout_one 16))
         (Mkdir log_path ∷ Create (segment_path 0) ∷ Write (segment_path 0) 0 (0 ∷ 0 ∷ 0 ∷ 0 ∷ []) ∷ Create (segment_path 2) ∷ [])
         (Done ∷ Done ∷ Done ∷ Done ∷ []) end
         × HasNoLog end.tree }
     ensures end { (end : Session)
-        × Run (λ why. false) (start 16)
+        × Run (λ why. false) (start (in_layout_one 16))
         (Mkdir log_path ∷ Create (segment_path 4294967295) ∷ Write (segment_path 4294967295) 0 (0 ∷ 0 ∷ 0 ∷ 0 ∷ []) ∷ [])
         (Done ∷ Done ∷ Done ∷ []) end
         × HasNoLog end.tree }

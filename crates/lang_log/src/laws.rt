@@ -49,7 +49,7 @@ pub fn the_first_segment_goes()
 
 /// A read of a segment's file gives its appends as they are spelled, from the offset on, and changes nothing.
 pub fn a_segment_is_read()
-    ensures { (s : Segment) (offset count : ℕ) (old new : Session) (reply : Reply) → IsSound old.limit old.tree → LiesIn old.tree s
+    ensures { (s : Segment) (offset count : ℕ) (old new : Session) (reply : Reply) → IsSound old.limit.nodes old.tree → LiesIn old.tree s
         → step old (Read (segment_path s.first) offset count) ≡ (new, reply)
         → (reply ≡ Bytes (take count (drop offset (spellings s.appends)))) × (new ≡ old) }
 {}

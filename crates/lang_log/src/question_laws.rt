@@ -17,12 +17,12 @@ ghost use Rattle.lang_log.specs.Segments.{AreApart, HasSegments, IsOneOf, LiesIn
 /// Nothing is told to be at `/log` where nothing is; and else a stat tells what is there, and a list which names a
 /// directory there holds. Nothing changes.
 pub fn the_directory_of_a_log_is_told()
-    ensures none { (old new : Session) (reply : Reply) → IsSound old.limit old.tree → get old.tree.names log_path ≡ None
+    ensures none { (old new : Session) (reply : Reply) → IsSound old.limit.nodes old.tree → get old.tree.names log_path ≡ None
         → step old (Stat log_path) ≡ (new, reply) → (reply ≡ Refused NotFound) × (new ≡ old) }
-    ensures stat { (n : ℕ) (thing : Thing) (old new : Session) (reply : Reply) → IsSound old.limit old.tree → get old.tree.names log_path ≡ Some n
+    ensures stat { (n : ℕ) (thing : Thing) (old new : Session) (reply : Reply) → IsSound old.limit.nodes old.tree → get old.tree.names log_path ≡ Some n
         → get old.tree.nodes n ≡ Some thing → step old (Stat log_path) ≡ (new, reply)
         → (reply ≡ stat_of old.tree log_path n (Some thing)) × (new ≡ old) }
-    ensures list { (n : ℕ) (old new : Session) (reply : Reply) → IsSound old.limit old.tree → get old.tree.names log_path ≡ Some n
+    ensures list { (n : ℕ) (old new : Session) (reply : Reply) → IsSound old.limit.nodes old.tree → get old.tree.names log_path ≡ Some n
         → get old.tree.nodes n ≡ Some Dir → step old (ListNames log_path) ≡ (new, reply)
         → (reply ≡ NamesReply (names_in old.tree.names log_path)) × (new ≡ old) }
 {}
@@ -52,10 +52,10 @@ pub fn names_in_a_log_rise()
 /// A stat tells what is under a name in the directory of a log, and a read gives the bytes of a file there. Nothing
 /// changes.
 pub fn what_is_in_a_log_is_told()
-    ensures stat { (name : List ℕ) (n : ℕ) (thing : Thing) (old new : Session) (reply : Reply) → IsSound old.limit old.tree
+    ensures stat { (name : List ℕ) (n : ℕ) (thing : Thing) (old new : Session) (reply : Reply) → IsSound old.limit.nodes old.tree
         → get old.tree.names (path_in_log name) ≡ Some n → get old.tree.nodes n ≡ Some thing → step old (Stat (path_in_log name)) ≡ (new, reply)
         → (reply ≡ stat_of old.tree (path_in_log name) n (Some thing)) × (new ≡ old) }
-    ensures read { (name : List ℕ) (n : ℕ) (bytes : List ℕ) (offset count : ℕ) (old new : Session) (reply : Reply) → IsSound old.limit old.tree
+    ensures read { (name : List ℕ) (n : ℕ) (bytes : List ℕ) (offset count : ℕ) (old new : Session) (reply : Reply) → IsSound old.limit.nodes old.tree
         → get old.tree.names (path_in_log name) ≡ Some n → get old.tree.nodes n ≡ Some (File bytes)
         → step old (Read (path_in_log name) offset count) ≡ (new, reply) → (reply ≡ Bytes (take count (drop offset bytes))) × (new ≡ old) }
 {}

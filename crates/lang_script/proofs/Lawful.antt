@@ -7,7 +7,7 @@ use Rattle.std.specs.List.{list_all, slice_split}
 use Rattle.std.specs.Str.Parse.{digits_value}
 use Rattle.hex.specs.Hex.{decode_of, decode_pairs, digit_or_error, hex_digit_value, ◌>>=◌}
 use Rattle.hex.specs.declared.error.FromHexError.{FromHexError}
-use Rattle.base_types.specs.Name.{is_name}
+use Rattle.base_types.specs.Name.{is_name, is_snapshot_name}
 use Rattle.lang_tree.specs.declared.command.Cmd.{Cmd}
 use Rattle.lang_tree.specs.declared.command.Cmd.TheVariants.{Mkdir, Create, Write, Fill, Read, Truncate, Link, Unlink, Rmdir, Rename, Stat, List as ListNames, Snap, Unsnap, Snaps, At, Osync, Dsync, Durable, Dwait, Poll, Bad}
 use Rattle.lang_tree.specs.declared.command.Look.{Look}
@@ -48,12 +48,12 @@ root_or false path h = h
 path_lawful : (part : List ℕ) → IfSome (path_of part) lawful_path
 path_lawful part = root_or (bytes_eq part (codes "/")) (names_of (slice_split (λ b. b == 47) part)) (names_lawful (slice_split (λ b. b == 47) part))
 
-kept_name : (test : Bool) (name : List ℕ) → is_name name ≡ test → IfSome (if test then Some name else None) (λ name. is_name name ≡ true)
+kept_name : (test : Bool) (name : List ℕ) → is_snapshot_name name ≡ test → IfSome (if test then Some name else None) (λ name. is_snapshot_name name ≡ true)
 kept_name true name h = h
 kept_name false name h = tt
 
-name_lawful : (part : List ℕ) → IfSome (name_of part) (λ name. is_name name ≡ true)
-name_lawful part = kept_name (is_name part) part refl
+name_lawful : (part : List ℕ) → IfSome (name_of part) (λ name. is_snapshot_name name ≡ true)
+name_lawful part = kept_name (is_snapshot_name part) part refl
 
 -- ---- numbers
 
@@ -143,11 +143,11 @@ dwait_lawful : (point : Option ℕ) → IfSome point small → Lawful (dwait_of 
 dwait_lawful None h = inl refl
 dwait_lawful (Some point) h = inr h
 
-snap_lawful : (name : Option (List ℕ)) → IfSome name (λ name. is_name name ≡ true) → Lawful (snap_of name)
+snap_lawful : (name : Option (List ℕ)) → IfSome name (λ name. is_snapshot_name name ≡ true) → Lawful (snap_of name)
 snap_lawful None h = inl refl
 snap_lawful (Some name) h = inr h
 
-unsnap_lawful : (name : Option (List ℕ)) → IfSome name (λ name. is_name name ≡ true) → Lawful (unsnap_of name)
+unsnap_lawful : (name : Option (List ℕ)) → IfSome name (λ name. is_snapshot_name name ≡ true) → Lawful (unsnap_of name)
 unsnap_lawful None h = inl refl
 unsnap_lawful (Some name) h = inr h
 
@@ -220,7 +220,7 @@ lawful_look (ListNames path) (inl bad) = absurd cc
 lawful_look (ListNames path) (inr h) = h
 lawful_look cmd h = tt
 
-at_lawful : (name : Option (List ℕ)) (l : Option Look) → IfSome name (λ name. is_name name ≡ true) → IfSome l (λ l. is_lawful_look l ≡ true) → Lawful (at_of name l)
+at_lawful : (name : Option (List ℕ)) (l : Option Look) → IfSome name (λ name. is_snapshot_name name ≡ true) → IfSome l (λ l. is_lawful_look l ≡ true) → Lawful (at_of name l)
 at_lawful None l h k = inl refl
 at_lawful (Some name) None h k = inl refl
 at_lawful (Some name) (Some l) h k = inr (rw h k)

@@ -10,7 +10,7 @@ use Rattle.std.specs.List.{list_all}
 use Rattle.std.specs.Str.Parse.{digits_value}
 use Rattle.std.proofs.lemmas.List.Sums.{AllPass-from_list_all}
 use Rattle.hex.specs.Hex.{encode_lower, encode_with, lower_digits}
-use Rattle.base_types.specs.Name.{is_name, is_name_byte}
+use Rattle.base_types.specs.Name.{is_name, is_name_byte, is_snapshot_name}
 use Rattle.lang_tree.specs.declared.command.Cmd.{Cmd}
 use Rattle.lang_tree.specs.declared.command.Cmd.TheVariants.{Mkdir, Create, Write, Fill, Read, Truncate, Link, Unlink, Rmdir, Rename, Stat, List as ListNames, Snap, Unsnap, Snaps, At, Osync, Dsync, Durable, Dwait, Poll, Bad}
 use Rattle.lang_tree.specs.declared.command.Look.{Look}
@@ -20,10 +20,10 @@ use Rattle.lang_tree.specs.declared.command.Kind.TheVariants.{Dir, File}
 use Rattle.lang_tree.specs.declared.command.Reply.{Reply}
 use Rattle.lang_tree.specs.declared.command.Reply.TheVariants.{Ok as Done, Bytes, Stat as StatReply, Names, Synced, DurableAt, Known, Bad as NotUnderstood, Refused}
 use Rattle.lang_tree.specs.declared.command.Refusal.{Refusal}
-use Rattle.lang_tree.specs.declared.command.Refusal.TheVariants.{NotFound, Exists, NotDir, IsDir, NotEmpty, BelowItself, TooLarge, TooManyLinks, NoNode, Full, TooBig, Scattered, ReadFault, DiskFault, Stopped, Spent, NoMemory, NoPoint, NoSnap}
+use Rattle.lang_tree.specs.declared.command.Refusal.TheVariants.{NotFound, Exists, NotDir, IsDir, NotEmpty, BelowItself, TooLarge, TooManyLinks, NoNode, Full, TooBig, Scattered, ReadFault, DiskFault, Stopped, Spent, NoMemory, NameTooLong, NoPoint, NoSnap}
 use Rattle.lang_tree.specs.Refusals.{refusal_number, refusal_name}
 use Rattle.lang_tree.specs.Listing.{slashed, path_text, digits_behind_blank}
-use Rattle.lang_script.specs.Shared.{name_bytes, own, weaker}
+use Rattle.lang_script.specs.Shared.{name_bytes, own, weaker, snapshot_name}
 use Rattle.lang_script.specs.Text.{command_text, look_text, text_of_reply, kind_text, names_behind_blanks, refusal_text}
 use Rattle.lang_script.specs.Grammar.{command_of, bytes_of, is_lawful_look}
 use Rattle.lang_script.specs.Values.{IsCommand, IsReply, HasFigures, has_no_feed}
@@ -200,6 +200,7 @@ refusal_joined DiskFault = reason_text DiskFault
 refusal_joined Stopped = reason_text Stopped
 refusal_joined Spent = reason_text Spent
 refusal_joined NoMemory = reason_text NoMemory
+refusal_joined NameTooLong = reason_text NameTooLong
 refusal_joined NoSnap = reason_text NoSnap
 
 bytes_joined : (bytes : List ℕ) → codes "hex" ++ digits_behind_blank bytes ≡ joined (codes "hex" ∷ bytes_parts bytes)
@@ -241,6 +242,7 @@ refusal_are_parts DiskFault h = reason_parts (codes "refused") DiskFault refl re
 refusal_are_parts Stopped h = reason_parts (codes "refused") Stopped refl refl (omega arith)
 refusal_are_parts Spent h = reason_parts (codes "refused") Spent refl refl (omega arith)
 refusal_are_parts NoMemory h = reason_parts (codes "refused") NoMemory refl refl (omega arith)
+refusal_are_parts NameTooLong h = reason_parts (codes "refused") NameTooLong refl refl (omega arith)
 refusal_are_parts NoSnap h = reason_parts (codes "refused") NoSnap refl refl (omega arith)
 
 kind_part : (kind : Kind) → Part (kind_text kind)
@@ -283,7 +285,7 @@ reason_in n =
     if n == 1 then NotFound else if n == 2 then Exists else if n == 3 then NotDir else if n == 4 then IsDir
     else if n == 5 then NotEmpty else if n == 6 then BelowItself else if n == 7 then TooLarge else if n == 8 then TooManyLinks
     else if n == 9 then NoNode else if n == 13 then ReadFault else if n == 14 then DiskFault else if n == 15 then Stopped
-    else if n == 16 then Spent else if n == 17 then NoMemory else NoSnap
+    else if n == 16 then Spent else if n == 17 then NoMemory else if n == 18 then NameTooLong else NoSnap
 
 abbrev reply_with : List ℕ → List (List ℕ) → Reply
 reply_with word parts =
@@ -339,6 +341,7 @@ refusal_back DiskFault h = reason_back DiskFault (omega arith) refl
 refusal_back Stopped h = reason_back Stopped (omega arith) refl
 refusal_back Spent h = reason_back Spent (omega arith) refl
 refusal_back NoMemory h = reason_back NoMemory (omega arith) refl
+refusal_back NameTooLong h = reason_back NameTooLong (omega arith) refl
 refusal_back NoSnap h = reason_back NoSnap (omega arith) refl
 
 reply_back : (reply : Reply) → IsReply reply → reply_in (reply_parts reply) ≡ reply
@@ -387,6 +390,7 @@ first_part (Refused why) = first_of why
     first_of Stopped = (codes "refused", _, refl)
     first_of Spent = (codes "refused", _, refl)
     first_of NoMemory = (codes "refused", _, refl)
+    first_of NameTooLong = (codes "refused", _, refl)
     first_of NoSnap = (codes "refused", _, refl)
 
 pub one_reply : (reply other : Reply) → IsReply reply → IsReply other → text_of_reply reply ≡ text_of_reply other → reply ≡ other
@@ -504,12 +508,12 @@ command_no_feed (Rename path second) h =
     behind_blank (codes "rename " ++ path_text path) (path_text second) (behind_word (codes "rename ") path refl parts.0) (path_no_feed second parts.1)
 command_no_feed (Stat path) h = look_no_feed (look.Stat path) h
 command_no_feed (ListNames path) h = look_no_feed (look.List path) h
-command_no_feed (Snap name) h = beside (codes "snap ") name refl (name_no_feed name h)
-command_no_feed (Unsnap name) h = beside (codes "unsnap ") name refl (name_no_feed name h)
+command_no_feed (Snap name) h = beside (codes "snap ") name refl (name_no_feed name (snapshot_name name h))
+command_no_feed (Unsnap name) h = beside (codes "unsnap ") name refl (name_no_feed name (snapshot_name name h))
 command_no_feed Snaps h = refl
 command_no_feed (At name l) h =
-    let parts = and_parts (is_name name) (is_lawful_look l) h in
-    behind_blank (codes "at " ++ name) (look_text l) (beside (codes "at ") name refl (name_no_feed name parts.0)) (look_no_feed l parts.1)
+    let parts = and_parts (is_snapshot_name name) (is_lawful_look l) h in
+    behind_blank (codes "at " ++ name) (look_text l) (beside (codes "at ") name refl (name_no_feed name (snapshot_name name parts.0))) (look_no_feed l parts.1)
 command_no_feed Osync h = refl
 command_no_feed Dsync h = refl
 command_no_feed Durable h = refl

@@ -13,14 +13,14 @@ use Rattle.std.specs.Char.{is_ascii_digit}
 use Rattle.std.specs.List.{list_all, slice_split, All}
 use Rattle.hex.specs.Hex.{encode_lower, encode_with, lower_digits}
 use Rattle.hex.proofs.HexLemmas.{decode_of-encode_lower}
-use Rattle.base_types.specs.Name.{is_name, is_name_byte}
+use Rattle.base_types.specs.Name.{is_name, is_name_byte, is_snapshot_name}
 use Rattle.lang_tree.specs.declared.command.Cmd.{Cmd}
 use Rattle.lang_tree.specs.declared.command.Cmd.TheVariants.{Mkdir, Create, Write, Fill, Read, Truncate, Link, Unlink, Rmdir, Rename, Stat, List as ListNames, Snap, Unsnap, Snaps, At, Osync, Dsync, Durable, Dwait, Poll, Bad}
 use Rattle.lang_tree.specs.declared.command.Look.{Look}
 use Rattle.lang_tree.specs.declared.command.Look.TheVariants as look
 use Rattle.lang_tree.specs.Listing.{slashed, path_text}
 use Rattle.lang_tree.specs.Step.{look_command}
-use Rattle.lang_script.specs.Shared.{name_bytes, own, weaker}
+use Rattle.lang_script.specs.Shared.{name_bytes, own, weaker, snapshot_name}
 use Rattle.lang_script.specs.Text.{command_text, look_text}
 use Rattle.lang_script.specs.Grammar.{command_of, command_of_parts, command_on_tree, path_of, name_of, small_number_of, bytes_of, some_bytes, path_command, paths_command, truncate_of, dwait_of, snap_of, unsnap_of, write_of, read_of, fill_of, look_of, at_of, is_lawful_look, fits, is_in_grammar}
 
@@ -185,14 +185,14 @@ dwait_reads point small =
 name_lacks : (name : List ℕ) → is_name name ≡ true → list_all (other 32) name ≡ true
 name_lacks name h = weaker is_name_byte (other 32) no_blank name (name_bytes name h)
 
-name_of-name : (name : List ℕ) → is_name name ≡ true → name_of name ≡ Some name
+name_of-name : (name : List ℕ) → is_snapshot_name name ≡ true → name_of name ≡ Some name
 name_of-name name h = rw h refl
 
-snap_reads : (name : List ℕ) → is_name name ≡ true → command_of (command_text (Snap name)) ≡ Snap name
-snap_reads name h = ap command_of_parts (split_two (codes "snap") name refl (name_lacks name h)) ∙ ap snap_of (name_of-name name h)
+snap_reads : (name : List ℕ) → is_snapshot_name name ≡ true → command_of (command_text (Snap name)) ≡ Snap name
+snap_reads name h = ap command_of_parts (split_two (codes "snap") name refl (name_lacks name (snapshot_name name h))) ∙ ap snap_of (name_of-name name h)
 
-unsnap_reads : (name : List ℕ) → is_name name ≡ true → command_of (command_text (Unsnap name)) ≡ Unsnap name
-unsnap_reads name h = ap command_of_parts (split_two (codes "unsnap") name refl (name_lacks name h)) ∙ ap unsnap_of (name_of-name name h)
+unsnap_reads : (name : List ℕ) → is_snapshot_name name ≡ true → command_of (command_text (Unsnap name)) ≡ Unsnap name
+unsnap_reads name h = ap command_of_parts (split_two (codes "unsnap") name refl (name_lacks name (snapshot_name name h))) ∙ ap unsnap_of (name_of-name name h)
 
 truncate_reads : (path : List (List ℕ)) (size : ℕ) → list_all is_name path ≡ true → size < 4294967296
     → command_of (command_text (Truncate path size)) ≡ Truncate path size
@@ -269,10 +269,10 @@ on_tree_look (word ∷ name ∷ parts) l h = by (bytes_eq word (codes "at")) (na
     by true called seen cmd e = absurd (none-some l (sym (at_is_no_look called seen) ∙ ap look_of e ∙ look_back l))
     by false called seen cmd e = ap look_of e ∙ look_back l
 
-at_reads : (name : List ℕ) (l : Look) → is_name name ≡ true → is_lawful_look l ≡ true → command_of (command_text (At name l)) ≡ At name l
+at_reads : (name : List ℕ) (l : Look) → is_snapshot_name name ≡ true → is_lawful_look l ≡ true → command_of (command_text (At name l)) ≡ At name l
 at_reads name l h k =
     ap command_of (regroup_two (codes "at ") name (look_text l))
-    ∙ ap (λ rest. command_of_parts (codes "at" ∷ rest)) (split_at 32 name (look_text l) (name_lacks name h))
+    ∙ ap (λ rest. command_of_parts (codes "at" ∷ rest)) (split_at 32 name (look_text l) (name_lacks name (snapshot_name name h)))
     ∙ ap (λ n. at_of n (look_of (command_on_tree (slice_split (λ b. b == 32) (look_text l))))) (name_of-name name h)
     ∙ ap (λ x. at_of (Some name) x) (on_tree_look (slice_split (λ b. b == 32) (look_text l)) l (look_reads l k))
 
@@ -313,7 +313,7 @@ round_trip (Snap name) h = snap_reads name h
 round_trip (Unsnap name) h = unsnap_reads name h
 round_trip Snaps h = refl
 round_trip (At name l) h =
-    let parts = and_parts (is_name name) (is_lawful_look l) h in
+    let parts = and_parts (is_snapshot_name name) (is_lawful_look l) h in
     at_reads name l parts.0 parts.1
 round_trip Osync h = refl
 round_trip Dsync h = refl

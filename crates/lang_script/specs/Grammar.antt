@@ -6,7 +6,7 @@ use Rattle.std.specs.Char.{is_ascii_digit}
 use Rattle.std.specs.Str.Parse.{digits_value}
 use Rattle.hex.specs.Hex.{decode_of}
 use Rattle.hex.specs.declared.error.FromHexError.{FromHexError}
-use Rattle.base_types.specs.Name.{is_name}
+use Rattle.base_types.specs.Name.{is_name, is_snapshot_name}
 use Rattle.lang_tree.specs.declared.command.Cmd.{Cmd}
 use Rattle.lang_tree.specs.declared.command.Cmd.TheVariants.{Mkdir, Create, Write, Fill, Read, Truncate, Link, Unlink, Rmdir, Rename, Stat, List as ListNames, Snap, Unsnap, Snaps, At, Osync, Dsync, Durable, Dwait, Poll, Bad}
 use Rattle.lang_tree.specs.declared.command.Look.{Look}
@@ -31,9 +31,9 @@ small_number_of part =
     if list_all is_ascii_digit part && (fits (digits_value 10 part) && bytes_eq (decimal (digits_value 10 part)) part)
     then Some (digits_value 10 part) else None
 
--- the name that is written so
+-- the name of a snapshot that is written so
 abbrev pub name_of : List ℕ → Option (List ℕ)
-name_of part = if is_name part then Some part else None
+name_of part = if is_snapshot_name part then Some part else None
 
 -- the bytes, where they could be read and there are some
 abbrev pub some_bytes : Result (List ℕ) FromHexError → Option (List ℕ)
@@ -170,9 +170,9 @@ has_lawful_arguments (Rmdir path) = list_all is_name path
 has_lawful_arguments (Rename path other) = list_all is_name path && list_all is_name other
 has_lawful_arguments (Stat path) = is_lawful_look (look.Stat path)
 has_lawful_arguments (ListNames path) = is_lawful_look (look.List path)
-has_lawful_arguments (Snap name) = is_name name
-has_lawful_arguments (Unsnap name) = is_name name
-has_lawful_arguments (At name l) = is_name name && is_lawful_look l
+has_lawful_arguments (Snap name) = is_snapshot_name name
+has_lawful_arguments (Unsnap name) = is_snapshot_name name
+has_lawful_arguments (At name l) = is_snapshot_name name && is_lawful_look l
 has_lawful_arguments (Dwait point) = fits point
 has_lawful_arguments _ = true
 

@@ -1,10 +1,10 @@
-//! From the arguments of a line to what they say: paths, numbers and bytes. Each helper answers what the
+//! From the arguments of a line to what they say: paths, names of snapshots, numbers and bytes. Each helper answers what the
 //! definition of its name answers, or out of memory. Which command they belong to is not said here.
 
 ghost use Rattle.std.specs.Prelude.{◌≡◌, IfOk, ◌==◌, map, if◌then◌else◌, Some, None};
 ghost use Rattle.std.specs.List.{slice_split, list_all};
 ghost use Rattle.base_types.specs.Name.{is_name};
-ghost use Rattle.lang_script.specs.Grammar.{path_of, names_of, small_number_of, bytes_of};
+ghost use Rattle.lang_script.specs.Grammar.{path_of, names_of, name_of, small_number_of, bytes_of};
 
 use crate::decimal::has_digits_alone;
 use base_types::{Bytes, Name, NoMemory};
@@ -67,6 +67,21 @@ fn path_of_names(alloc: Global, parts: &[&[u8]]) -> Result<Option<Path>, NoMemor
         names.push(name)?;
     }
     Ok(Some(Path::from_names(names)))
+}
+
+/// The name of a snapshot that is written so.
+pub fn snapshot_name(part: &[u8]) -> Option<Name>
+    ensures { result ≡ name_of part.now }
+{
+    match Name::new(part) {
+        Some(name) => {
+            if name.is_snapshot_name() {
+                return Some(name);
+            }
+            None
+        }
+        None => None,
+    }
 }
 
 /// The number that is written so.

@@ -8,9 +8,9 @@ ghost use Rattle.lang_script.specs.Grammar.{command_of, command_of_parts, comman
 ghost use Rattle.lang_script.specs.Grammar.{truncate_of, dwait_of, snap_of, unsnap_of, write_of, read_of, fill_of, at_of, look_of};
 ghost use Rattle.lang_script.specs.Grammar.{path_of, name_of, small_number_of, bytes_of};
 
-use crate::arguments::{bytes, number, parts, path};
+use crate::arguments::{bytes, number, parts, path, snapshot_name};
+use base_types::NoMemory;
 use base_types::limits::LONGEST_READ;
-use base_types::{Name, NoMemory};
 use lang_tree::{Cmd, Look, Path};
 use std::alloc::Global;
 
@@ -48,7 +48,7 @@ fn cmd_of_parts(alloc: Global, parts: &[&[u8]]) -> Result<Cmd, NoMemory>
 fn look_at(alloc: Global, name: &[u8], parts: &[&[u8]]) -> Result<Cmd, NoMemory>
     ensures { IfOk result (λ cmd. cmd ≡ at_of (name_of name.now) (look_of (command_on_tree (map (λ part. part.now) parts.now)))) }
 {
-    let Some(name) = Name::new(name) else {
+    let Some(name) = snapshot_name(name) else {
         return Ok(Cmd::Bad);
     };
     let cmd = cmd_on_tree(alloc, parts)?;
@@ -165,7 +165,7 @@ fn dwait(point: &[u8]) -> Cmd
 fn snap(name: &[u8]) -> Cmd
     ensures { result ≡ snap_of (name_of name.now) }
 {
-    match Name::new(name) {
+    match snapshot_name(name) {
         Some(name) => Cmd::Snap(name),
         None => Cmd::Bad,
     }
@@ -174,7 +174,7 @@ fn snap(name: &[u8]) -> Cmd
 fn unsnap(name: &[u8]) -> Cmd
     ensures { result ≡ unsnap_of (name_of name.now) }
 {
-    match Name::new(name) {
+    match snapshot_name(name) {
         Some(name) => Cmd::Unsnap(name),
         None => Cmd::Bad,
     }

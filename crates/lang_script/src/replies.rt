@@ -173,6 +173,7 @@ fn push_refusal(text: &mut Vec<u8>, why: Refusal) -> Result<(), NoMemory>
         | Refusal::Stopped
         | Refusal::Spent
         | Refusal::NoMemory
+        | Refusal::NameTooLong
         | Refusal::NoSnap => push_reason(text, why)?,
     }
     Ok(())

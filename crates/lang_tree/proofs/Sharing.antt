@@ -7,7 +7,8 @@ use Rattle.std.proofs.lemmas.List.FromFn.{length-range_with_len}
 use Rattle.lang_tree.specs.declared.command.Cmd.{Cmd}
 use Rattle.lang_tree.specs.declared.command.Cmd.TheVariants as cmds
 use Rattle.lang_tree.specs.declared.command.Refusal.{Refusal}
-use Rattle.lang_tree.specs.Tree.{Tree}
+use Rattle.base_types.specs.declared.layout.Layout.{Layout}
+use Rattle.lang_tree.specs.Tree.{Tree, Bounds}
 use Rattle.lang_tree.specs.Figures.{Figures, blocks_for, touches, blocks_met, kept_blocks, nothing, moving, growth, release, siblings, are_in_one, writing, shrinking, removing, figures_by, accepted_figures, move_figures, write_figures, truncate_figures, blocks_gone}
 use Rattle.lang_tree.specs.Walk.{content, links, is_there, is_same_node}
 use Rattle.lang_tree.specs.Sharing.{BlocksAlone, SharedNodes, none_shared, none_alone, is_renewed, shared_met, alone_from, writing_over, cutting, shared_at, alone_gone, write_over_figures, truncate_over_figures, move_over_figures, accepted_over, figures_over_by}
@@ -71,15 +72,15 @@ truncate_as_before : (bitmap old new : ℕ) → truncate_over_figures bitmap non
 truncate_as_before bitmap old new =
     ap₂ (λ f g. if nat_lt old new then f else if nat_lt new old then g else nothing) (writes_as_before bitmap old old new) (cuts_as_before bitmap old new)
 
-move_as_before : (bitmap : ℕ) (t : Tree) (from to : List (List ℕ)) → move_over_figures bitmap none_at_all t from to ≡ move_figures bitmap t from to
-move_as_before bitmap t from to =
-    ap (λ n. if is_there t to then moving bitmap 0 (release (siblings t.names from) + n)
+move_as_before : (bitmap : ℕ) (l : Layout) (t : Tree) (from to : List (List ℕ)) → move_over_figures bitmap none_at_all l t from to ≡ move_figures bitmap l t from to
+move_as_before bitmap l t from to =
+    ap (λ n. if is_there t to then moving bitmap 0 (release l (siblings t.names from) + n)
     else if are_in_one from to then moving bitmap 0 0
-    else moving bitmap (growth (siblings t.names to)) (release (siblings t.names from))) (gone_as_before t to)
+    else moving bitmap (growth l (siblings t.names to)) (release l (siblings t.names from))) (gone_as_before t to)
 
-accepted_as_before : (bitmap limit : ℕ) (t : Tree) (cmd : Cmd) → accepted_over bitmap none_at_all none_alone limit t cmd ≡ accepted_figures bitmap limit t cmd
-accepted_as_before bitmap limit t (cmds.Unlink path) = ap (λ n. removing bitmap (release (siblings t.names path) + n)) (gone_as_before t path)
-accepted_as_before bitmap limit t (cmds.Rename from to) = ap (λ f. if is_same_node t from to then nothing else f) (move_as_before bitmap t from to)
+accepted_as_before : (bitmap : ℕ) (limit : Bounds) (t : Tree) (cmd : Cmd) → accepted_over bitmap none_at_all none_alone limit t cmd ≡ accepted_figures bitmap limit t cmd
+accepted_as_before bitmap limit t (cmds.Unlink path) = ap (λ n. removing bitmap (release limit.layout (siblings t.names path) + n)) (gone_as_before t path)
+accepted_as_before bitmap limit t (cmds.Rename from to) = ap (λ f. if is_same_node t from to then nothing else f) (move_as_before bitmap limit.layout t from to)
 accepted_as_before bitmap limit t (cmds.Write path offset bytes) =
     ap (λ shared. write_over_figures bitmap shared (length (content t path)) offset (length bytes)) (at_none (get t.names path)) ∙ write_as_before bitmap (length (content t path)) offset (length bytes)
 accepted_as_before bitmap limit t (cmds.Fill path offset count byte) =
@@ -90,7 +91,7 @@ accepted_as_before bitmap limit t (cmds.Unsnap name) =
     ap (shrinking bitmap) {x = kept_blocks limit (get t.snapshots name) + 0} {y = kept_blocks limit (get t.snapshots name)} (omega arith)
 accepted_as_before bitmap limit t cmd = refl
 
-pub figures_as_before : (bitmap limit : ℕ) (t : Tree) (cmd : Cmd) (why : Option Refusal)
+pub figures_as_before : (bitmap : ℕ) (limit : Bounds) (t : Tree) (cmd : Cmd) (why : Option Refusal)
     → figures_over_by bitmap none_at_all none_alone limit t cmd why ≡ figures_by bitmap limit t cmd why
 figures_as_before bitmap limit t cmd (Some why) = refl
 figures_as_before bitmap limit t cmd None = accepted_as_before bitmap limit t cmd
@@ -122,18 +123,18 @@ truncate_alike bitmap shared old new =
     alike_if (nat_lt old new) (writing_over bitmap shared old old new) (writing bitmap old old new) _ _ (writes_alike bitmap shared old old new)
     (alike_if (nat_lt new old) (cutting bitmap shared (blocks_for old) (blocks_for new)) (shrinking bitmap (blocks_for old - blocks_for new)) nothing nothing (cuts_alike bitmap shared (blocks_for old) (blocks_for new) (blocks_for old - blocks_for new)) refl)
 
-moves_alike : (bitmap : ℕ) (shared : SharedNodes) (t : Tree) (from to : List (List ℕ)) → CostAlike (move_over_figures bitmap shared t from to) (move_figures bitmap t from to)
-moves_alike bitmap shared t from to =
-    let gone = release (siblings t.names from) in
+moves_alike : (bitmap : ℕ) (shared : SharedNodes) (l : Layout) (t : Tree) (from to : List (List ℕ)) → CostAlike (move_over_figures bitmap shared l t from to) (move_figures bitmap l t from to)
+moves_alike bitmap shared l t from to =
+    let gone = release l (siblings t.names from) in
     alike_if (is_there t to) (moving bitmap 0 (gone + alone_gone shared t to)) (moving bitmap 0 (gone + blocks_gone t to)) _ _
     (both_cost (moving bitmap 0 (gone + alone_gone shared t to)) (moving bitmap 0 (gone + blocks_gone t to)) (omega arith) (omega arith)) refl
 
-accepted_alike : (bitmap : ℕ) (shared : SharedNodes) (alone : BlocksAlone) (limit : ℕ) (t : Tree) (cmd : Cmd) → CostAlike (accepted_over bitmap shared alone limit t cmd) (accepted_figures bitmap limit t cmd)
+accepted_alike : (bitmap : ℕ) (shared : SharedNodes) (alone : BlocksAlone) (limit : Bounds) (t : Tree) (cmd : Cmd) → CostAlike (accepted_over bitmap shared alone limit t cmd) (accepted_figures bitmap limit t cmd)
 accepted_alike bitmap shared alone limit t (cmds.Unlink path) =
-    let gone = release (siblings t.names path) in
+    let gone = release limit.layout (siblings t.names path) in
     both_cost (removing bitmap (gone + alone_gone shared t path)) (removing bitmap (gone + blocks_gone t path)) (omega arith) (omega arith)
 accepted_alike bitmap shared alone limit t (cmds.Rename from to) =
-    alike_if (is_same_node t from to) nothing nothing (move_over_figures bitmap shared t from to) (move_figures bitmap t from to) refl (moves_alike bitmap shared t from to)
+    alike_if (is_same_node t from to) nothing nothing (move_over_figures bitmap shared limit.layout t from to) (move_figures bitmap limit.layout t from to) refl (moves_alike bitmap shared limit.layout t from to)
 accepted_alike bitmap shared alone limit t (cmds.Write path offset bytes) = write_alike bitmap (shared_at shared (get t.names path)) (length (content t path)) offset (length bytes)
 accepted_alike bitmap shared alone limit t (cmds.Fill path offset count byte) = write_alike bitmap (shared_at shared (get t.names path)) (length (content t path)) offset count
 accepted_alike bitmap shared alone limit t (cmds.Truncate path size) = truncate_alike bitmap (shared_at shared (get t.names path)) (length (content t path)) size
@@ -141,7 +142,7 @@ accepted_alike bitmap shared alone limit t (cmds.Unsnap name) =
     both_cost (shrinking bitmap (kept_blocks limit (get t.snapshots name) + alone name)) (shrinking bitmap (kept_blocks limit (get t.snapshots name))) (omega arith) (omega arith)
 accepted_alike bitmap shared alone limit t cmd = refl
 
-pub costs_alike : (bitmap : ℕ) (shared : SharedNodes) (alone : BlocksAlone) (limit : ℕ) (t : Tree) (cmd : Cmd) (why : Option Refusal)
+pub costs_alike : (bitmap : ℕ) (shared : SharedNodes) (alone : BlocksAlone) (limit : Bounds) (t : Tree) (cmd : Cmd) (why : Option Refusal)
     → nat_lt 0 (figures_over_by bitmap shared alone limit t cmd why).cost ≡ nat_lt 0 (figures_by bitmap limit t cmd why).cost
 costs_alike bitmap shared alone limit t cmd (Some why) = refl
 costs_alike bitmap shared alone limit t cmd None = accepted_alike bitmap shared alone limit t cmd

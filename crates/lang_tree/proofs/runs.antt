@@ -5,3 +5,4 @@ pub mod Examples
 pub mod Faults
 pub mod PointExample
 pub mod Promises
+pub mod LongNames

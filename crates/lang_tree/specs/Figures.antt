@@ -2,10 +2,12 @@
 use Rattle.std.specs.Prelude.{ℕ, ◌+◌, ◌-◌, ◌*◌, ◌/◌, ◌==◌, min, max, Bool, ◌&&◌, if◌then◌else◌, List, [], ◌∷◌, length, nat_lt, is_some, Option, None, Some}
 use Rattle.std.specs.List.{filter, range_with_len}
 use Rattle.std.specs.FinMap.{get, entries}
+use Rattle.base_types.specs.declared.layout.Layout.{Layout}
+use Rattle.base_types.specs.Layouts.{table_blocks, directory_blocks}
 use Rattle.lang_tree.specs.declared.command.Cmd.{Cmd}
 use Rattle.lang_tree.specs.declared.command.Cmd.TheVariants.{Mkdir, Create, Write, Fill, Truncate, Link, Unlink, Rmdir, Rename, Snap, Unsnap}
 use Rattle.lang_tree.specs.declared.command.Refusal.{Refusal}
-use Rattle.lang_tree.specs.Tree.{Tree, Names, Kept, Thing, Dir, File}
+use Rattle.lang_tree.specs.Tree.{Tree, Bounds, Names, Kept, Thing, Dir, File}
 use Rattle.lang_tree.specs.Paths.{parent, name_in}
 use Rattle.lang_tree.specs.Names.{names_in}
 use Rattle.lang_tree.specs.Walk.{content, links, is_there, is_same_node}
@@ -22,10 +24,6 @@ pub record Figures : Type 0 where
 abbrev pub blocks_for : ℕ → ℕ
 blocks_for size = (size + 1023) / 1024
 
--- blocks of a directory that holds so many names, each in 64 bytes
-abbrev pub directory_blocks : ℕ → ℕ
-directory_blocks count = blocks_for (64 * count)
-
 -- Blocks of the whole tree.
 
 abbrev pub content_blocks : Thing → ℕ
@@ -36,32 +34,32 @@ abbrev pub file_blocks : List (ℕ × Thing) → ℕ
 file_blocks [] = 0
 file_blocks (e ∷ es) = content_blocks e.1 + file_blocks es
 
-abbrev pub all_directory_blocks : Names → List (List (List ℕ) × ℕ) → ℕ
-all_directory_blocks names [] = 0
-all_directory_blocks names (e ∷ es) = directory_blocks (length (names_in names e.0)) + all_directory_blocks names es
+abbrev pub all_directory_blocks : Layout → Names → List (List (List ℕ) × ℕ) → ℕ
+all_directory_blocks l names [] = 0
+all_directory_blocks l names (e ∷ es) = directory_blocks l (length (names_in names e.0)) + all_directory_blocks l names es
 
 -- the blocks of each file, and of what each path holds: a file's path holds nothing, and a directory has one path
-abbrev pub blocks : Tree → ℕ
-blocks t = file_blocks (entries t.nodes) + all_directory_blocks t.names (entries t.names)
+abbrev pub blocks : Layout → Tree → ℕ
+blocks l t = file_blocks (entries t.nodes) + all_directory_blocks l t.names (entries t.names)
 
--- blocks of a snapshot of these paths, where there are so many numbers of nodes: one for its name, one for each four nodes, and those of all directories
-abbrev pub snapshot_blocks : ℕ → Names → ℕ
-snapshot_blocks limit names = 1 + (limit / 4 + all_directory_blocks names (entries names))
+-- blocks of a snapshot of these paths: one for its name, those of a table of all nodes that there may be, and those of all directories
+abbrev pub snapshot_blocks : Bounds → Names → ℕ
+snapshot_blocks limit names = 1 + (table_blocks limit.layout limit.nodes + all_directory_blocks limit.layout names (entries names))
 
 -- blocks of a snapshot, where there is one
-abbrev pub kept_blocks : ℕ → Option Kept → ℕ
+abbrev pub kept_blocks : Bounds → Option Kept → ℕ
 kept_blocks limit None = 0
 kept_blocks limit (Some k) = snapshot_blocks limit k.names
 
 -- Directories.
 
 -- by how many blocks a directory of so many names grows with one more
-abbrev pub growth : ℕ → ℕ
-growth count = directory_blocks (count + 1) - directory_blocks count
+abbrev pub growth : Layout → ℕ → ℕ
+growth l count = directory_blocks l (count + 1) - directory_blocks l count
 
 -- how many blocks a directory of so many names frees with one less
-abbrev pub release : ℕ → ℕ
-release count = directory_blocks count - directory_blocks (count - 1)
+abbrev pub release : Layout → ℕ → ℕ
+release l count = directory_blocks l count - directory_blocks l (count - 1)
 
 -- how many names the directory above the path holds
 abbrev pub siblings : Names → List (List ℕ) → ℕ
@@ -124,19 +122,19 @@ truncate_figures bitmap old new =
     else nothing
 
 -- a move onto what is there takes a name out; within one directory a name changes; else one goes here and one comes there
-abbrev pub move_figures : ℕ → Tree → List (List ℕ) → List (List ℕ) → Figures
-move_figures bitmap t from to =
-    if is_there t to then moving bitmap 0 (release (siblings t.names from) + blocks_gone t to)
+abbrev pub move_figures : ℕ → Layout → Tree → List (List ℕ) → List (List ℕ) → Figures
+move_figures bitmap l t from to =
+    if is_there t to then moving bitmap 0 (release l (siblings t.names from) + blocks_gone t to)
     else if are_in_one from to then moving bitmap 0 0
-    else moving bitmap (growth (siblings t.names to)) (release (siblings t.names from))
+    else moving bitmap (growth l (siblings t.names to)) (release l (siblings t.names from))
 
-abbrev pub accepted_figures : ℕ → ℕ → Tree → Cmd → Figures
-accepted_figures bitmap limit t (Mkdir path) = adding (growth (siblings t.names path))
-accepted_figures bitmap limit t (Create path) = adding (growth (siblings t.names path))
-accepted_figures bitmap limit t (Link path other) = adding (growth (siblings t.names other))
-accepted_figures bitmap limit t (Unlink path) = removing bitmap (release (siblings t.names path) + blocks_gone t path)
-accepted_figures bitmap limit t (Rmdir path) = removing bitmap (release (siblings t.names path))
-accepted_figures bitmap limit t (Rename from to) = if is_same_node t from to then nothing else move_figures bitmap t from to
+abbrev pub accepted_figures : ℕ → Bounds → Tree → Cmd → Figures
+accepted_figures bitmap limit t (Mkdir path) = adding (growth limit.layout (siblings t.names path))
+accepted_figures bitmap limit t (Create path) = adding (growth limit.layout (siblings t.names path))
+accepted_figures bitmap limit t (Link path other) = adding (growth limit.layout (siblings t.names other))
+accepted_figures bitmap limit t (Unlink path) = removing bitmap (release limit.layout (siblings t.names path) + blocks_gone t path)
+accepted_figures bitmap limit t (Rmdir path) = removing bitmap (release limit.layout (siblings t.names path))
+accepted_figures bitmap limit t (Rename from to) = if is_same_node t from to then nothing else move_figures bitmap limit.layout t from to
 accepted_figures bitmap limit t (Write path offset bytes) = write_figures bitmap (length (content t path)) offset (length bytes)
 accepted_figures bitmap limit t (Fill path offset count byte) = write_figures bitmap (length (content t path)) offset count
 accepted_figures bitmap limit t (Truncate path size) = truncate_figures bitmap (length (content t path)) size
@@ -144,7 +142,7 @@ accepted_figures bitmap limit t (Snap name) = snapping bitmap (snapshot_blocks l
 accepted_figures bitmap limit t (Unsnap name) = shrinking bitmap (kept_blocks limit (get t.snapshots name))
 accepted_figures bitmap limit t _ = nothing
 
-abbrev pub figures_by : ℕ → ℕ → Tree → Cmd → Option Refusal → Figures
+abbrev pub figures_by : ℕ → Bounds → Tree → Cmd → Option Refusal → Figures
 figures_by bitmap limit t cmd (Some why) = nothing
 figures_by bitmap limit t cmd None = accepted_figures bitmap limit t cmd
 

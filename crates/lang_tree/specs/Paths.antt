@@ -1,5 +1,7 @@
--- Paths as lists of names: which lie below which, and where a path comes to lie when what it leads through moves. They are described in docs/TREE.md.
-use Rattle.std.specs.Prelude.{ℕ, ◌-◌, Bool, true, false, if◌then◌else◌, List, [], ◌∷◌, ◌++◌, length, take, bytes_eq, is_some, Option, None, Some}
+-- Paths as lists of names: which lie below which, which names are too long, and where a path comes to lie when what it leads through moves. They are described in docs/TREE.md.
+use Rattle.std.specs.Prelude.{ℕ, ◌-◌, Bool, true, false, if◌then◌else◌, List, [], ◌∷◌, ◌++◌, length, nat_lt, take, slice_get, bytes_eq, is_some, Option, None, Some}
+use Rattle.base_types.specs.declared.layout.Layout.{Layout}
+use Rattle.base_types.specs.Layouts.{longest_name}
 
 -- what is left of a path behind another one with which it begins
 abbrev pub strip : List (List ℕ) → List (List ℕ) → Option (List (List ℕ))
@@ -30,6 +32,19 @@ name_in up path = lone_name (strip up path)
 -- all names of a path but the last
 abbrev pub parent : List (List ℕ) → List (List ℕ)
 parent path = take (length path - 1) path
+
+-- the last name of a path. The root has none
+abbrev pub last_name : List (List ℕ) → Option (List ℕ)
+last_name path = slice_get path (length path - 1)
+
+-- whether a name has more bytes than one in a directory of the layout may have
+abbrev pub is_long : Layout → Option (List ℕ) → Bool
+is_long l None = false
+is_long l (Some name) = nat_lt (longest_name l) (length name)
+
+-- whether the last name of a path is too long for the layout
+abbrev pub is_too_long : Layout → List (List ℕ) → Bool
+is_too_long l path = is_long l (last_name path)
 
 abbrev pub moved_by : List (List ℕ) → List (List ℕ) → Option (List (List ℕ)) → List (List ℕ)
 moved_by to path None = path

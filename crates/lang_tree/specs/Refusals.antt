@@ -1,7 +1,7 @@
 -- How the reasons of refusals are written: each has a number, a name, and a text for people. They are described in docs/TREE.md.
 use Rattle.std.specs.Prelude.{ℕ, List, ◌++◌, codes, decimal}
 use Rattle.lang_tree.specs.declared.command.Refusal.{Refusal}
-use Rattle.lang_tree.specs.declared.command.Refusal.TheVariants.{NotFound, Exists, NotDir, IsDir, NotEmpty, BelowItself, TooLarge, TooManyLinks, NoNode, Full, TooBig, Scattered, ReadFault, DiskFault, Stopped, Spent, NoMemory, NoPoint, NoSnap}
+use Rattle.lang_tree.specs.declared.command.Refusal.TheVariants.{NotFound, Exists, NotDir, IsDir, NotEmpty, BelowItself, TooLarge, TooManyLinks, NoNode, Full, TooBig, Scattered, ReadFault, DiskFault, Stopped, Spent, NoMemory, NameTooLong, NoPoint, NoSnap}
 
 -- the number by which the trace names the reason
 abbrev pub refusal_number : Refusal → ℕ
@@ -22,6 +22,7 @@ refusal_number DiskFault = 14
 refusal_number Stopped = 15
 refusal_number Spent = 16
 refusal_number NoMemory = 17
+refusal_number NameTooLong = 18
 refusal_number (NoPoint last) = 19
 refusal_number NoSnap = 20
 
@@ -44,6 +45,7 @@ refusal_name DiskFault = codes "DiskFault"
 refusal_name Stopped = codes "Stopped"
 refusal_name Spent = codes "Spent"
 refusal_name NoMemory = codes "NoMemory"
+refusal_name NameTooLong = codes "NameTooLong"
 refusal_name (NoPoint last) = codes "NoPoint"
 refusal_name NoSnap = codes "NoSnap"
 
@@ -68,5 +70,6 @@ refusal_text DiskFault = codes "the disk failed, and the session ends"
 refusal_text Stopped = codes "the session has ended by a fault of the disk"
 refusal_text Spent = codes "the numbers of the journal are used up"
 refusal_text NoMemory = codes "out of memory"
+refusal_text NameTooLong = codes "the name is too long for the layout of the disk"
 refusal_text (NoPoint last) = codes "there is no such sync point, and the last one is " ++ decimal last
 refusal_text NoSnap = codes "there is no snapshot of this name"

@@ -2,10 +2,11 @@
 use Rattle.std.specs.Prelude.{ℕ, ◌+◌, ◌-◌, ◌*◌, ◌==◌, min, max, Bool, false, ◌&&◌, not, if◌then◌else◌, List, length, nat_lt, Option, None, Some}
 use Rattle.std.specs.List.{filter, range_with_len}
 use Rattle.std.specs.FinMap.{get}
+use Rattle.base_types.specs.declared.layout.Layout.{Layout}
 use Rattle.lang_tree.specs.declared.command.Cmd.{Cmd}
 use Rattle.lang_tree.specs.declared.command.Cmd.TheVariants.{Write, Fill, Truncate, Unlink, Rename, Unsnap}
 use Rattle.lang_tree.specs.declared.command.Refusal.{Refusal}
-use Rattle.lang_tree.specs.Tree.{Tree}
+use Rattle.lang_tree.specs.Tree.{Tree, Bounds}
 use Rattle.lang_tree.specs.Figures.{Figures, blocks_for, kept_blocks, touches, blocks_met, nothing, removing, moving, shrinking, growth, release, siblings, are_in_one, accepted_figures}
 use Rattle.lang_tree.specs.Walk.{content, links, is_there, is_same_node}
 use Rattle.lang_tree.specs.Conditions.{refusal}
@@ -80,16 +81,16 @@ truncate_over_figures bitmap shared old new =
     else nothing
 
 -- a move as without snapshots, but for what goes with the path that it takes the place of
-abbrev pub move_over_figures : ℕ → SharedNodes → Tree → List (List ℕ) → List (List ℕ) → Figures
-move_over_figures bitmap shared t from to =
-    if is_there t to then moving bitmap 0 (release (siblings t.names from) + alone_gone shared t to)
+abbrev pub move_over_figures : ℕ → SharedNodes → Layout → Tree → List (List ℕ) → List (List ℕ) → Figures
+move_over_figures bitmap shared l t from to =
+    if is_there t to then moving bitmap 0 (release l (siblings t.names from) + alone_gone shared t to)
     else if are_in_one from to then moving bitmap 0 0
-    else moving bitmap (growth (siblings t.names to)) (release (siblings t.names from))
+    else moving bitmap (growth l (siblings t.names to)) (release l (siblings t.names from))
 
 -- of an accepted command: those that write, cut or drop a file's blocks look at what is shared, a snapshot that goes frees what it has alone, and all others have their figures without sharing
-abbrev pub accepted_over : ℕ → SharedNodes → BlocksAlone → ℕ → Tree → Cmd → Figures
-accepted_over bitmap shared alone limit t (Unlink path) = removing bitmap (release (siblings t.names path) + alone_gone shared t path)
-accepted_over bitmap shared alone limit t (Rename from to) = if is_same_node t from to then nothing else move_over_figures bitmap shared t from to
+abbrev pub accepted_over : ℕ → SharedNodes → BlocksAlone → Bounds → Tree → Cmd → Figures
+accepted_over bitmap shared alone limit t (Unlink path) = removing bitmap (release limit.layout (siblings t.names path) + alone_gone shared t path)
+accepted_over bitmap shared alone limit t (Rename from to) = if is_same_node t from to then nothing else move_over_figures bitmap shared limit.layout t from to
 accepted_over bitmap shared alone limit t (Write path offset bytes) =
     write_over_figures bitmap (shared_at shared (get t.names path)) (length (content t path)) offset (length bytes)
 accepted_over bitmap shared alone limit t (Fill path offset count byte) =
@@ -98,7 +99,7 @@ accepted_over bitmap shared alone limit t (Truncate path size) = truncate_over_f
 accepted_over bitmap shared alone limit t (Unsnap name) = unsnapping bitmap (kept_blocks limit (get t.snapshots name)) (alone name)
 accepted_over bitmap shared alone limit t cmd = accepted_figures bitmap limit t cmd
 
-abbrev pub figures_over_by : ℕ → SharedNodes → BlocksAlone → ℕ → Tree → Cmd → Option Refusal → Figures
+abbrev pub figures_over_by : ℕ → SharedNodes → BlocksAlone → Bounds → Tree → Cmd → Option Refusal → Figures
 figures_over_by bitmap shared alone limit t cmd (Some why) = nothing
 figures_over_by bitmap shared alone limit t cmd None = accepted_over bitmap shared alone limit t cmd
 

@@ -10,15 +10,15 @@ use Rattle.lang_tree.specs.declared.command.Reply.{Reply}
 use Rattle.lang_tree.specs.declared.command.Reply.TheVariants.{Ok as Done, Bytes, Stat as StatReply, Names as NamesReply, Synced, DurableAt, Known, Bad as NotUnderstood, Refused}
 use Rattle.lang_tree.specs.declared.command.Refusal.{Refusal}
 use Rattle.lang_tree.specs.declared.command.Refusal.TheVariants.{NotFound, NoPoint, NoSnap}
-use Rattle.lang_tree.specs.Tree.{Tree, Names, Nodes, Kept, Thing, Dir, File, alone, kept_tree}
+use Rattle.lang_tree.specs.Tree.{Tree, Bounds, Names, Nodes, Kept, Thing, Dir, File, alone, kept_tree}
 use Rattle.lang_tree.specs.Names.{path_count, names_in, renamed}
 use Rattle.lang_tree.specs.Walk.{content, is_same_node}
 use Rattle.lang_tree.specs.Conditions.{least_unused, refusal}
 
--- a tree with the greatest node number that it may use, the number of its last sync point, whether a command changed it since, and the greatest point that a dsync or a dwait answered
+-- a tree with what bounds it, the number of its last sync point, whether a command changed it since, and the greatest point that a dsync or a dwait answered
 pub record Session : Type 0 where
   pub tree : Tree
-  pub limit : ℕ
+  pub limit : Bounds
   pub points : ℕ
   pub changed : Bool
   pub durable : ℕ
@@ -174,8 +174,8 @@ dwait s n true = (record s { durable = max s.durable n }, DurableAt n)
 dwait s n false = (s, Refused (NoPoint s.points))
 
 abbrev pub accepted : Session → Cmd → Session × Reply
-accepted s (Mkdir path) = changed_to s (added s.limit s.tree path Dir)
-accepted s (Create path) = changed_to s (added s.limit s.tree path (File []))
+accepted s (Mkdir path) = changed_to s (added s.limit.nodes s.tree path Dir)
+accepted s (Create path) = changed_to s (added s.limit.nodes s.tree path (File []))
 accepted s (Write path offset bytes) = write s path offset bytes
 accepted s (Fill path offset count byte) = write s path offset (replicate count byte)
 accepted s (Read path offset count) = (s, Bytes (take count (drop offset (content s.tree path))))
@@ -186,7 +186,7 @@ accepted s (Rmdir path) = changed_to s (removed s.tree path)
 accepted s (Rename from to) = rename s from to
 accepted s (Stat path) = (s, stat s.tree path)
 accepted s (ListNames path) = (s, NamesReply (names_in s.tree.names path))
-accepted s (Snap name) = changed_to s (snapped s.limit s.tree name)
+accepted s (Snap name) = changed_to s (snapped s.limit.nodes s.tree name)
 accepted s (Unsnap name) = changed_to s (unsnapped s.tree name)
 accepted s Snaps = (s, NamesReply (keys s.tree.snapshots))
 accepted s (At name l) = (s, seen_in (get s.tree.snapshots name) l)
@@ -206,9 +206,9 @@ abbrev pub step : Session → Cmd → Session × Reply
 step s cmd = answered s cmd (refusal s.limit s.tree cmd)
 
 -- a session that begins with this tree: point 0, which is on the disk, and nothing was done since
-abbrev pub session_on : ℕ → Tree → Session
+abbrev pub session_on : Bounds → Tree → Session
 session_on limit t = record { tree = t; limit = limit; points = 0; changed = false; durable = 0 }
 
 -- the session that begins with the root alone
-abbrev pub start : ℕ → Session
+abbrev pub start : Bounds → Session
 start limit = session_on limit (alone (insert empty [] 1) (insert empty 1 Dir))

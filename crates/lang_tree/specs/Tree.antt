@@ -4,6 +4,8 @@ use Rattle.std.specs.declared.cmp.Ordering.{Ordering}
 use Rattle.std.specs.Ordering.{nat_cmp}
 use Rattle.std.specs.Cmp.Lexicographic.{slice_cmp}
 use Rattle.std.specs.FinMap.{FinMap, get, empty}
+use Rattle.base_types.specs.declared.layout.Layout.{Layout}
+use Rattle.base_types.specs.declared.layout.Layout.TheVariants.{One}
 
 -- paths in order: names are compared by their bytes, and a path is before the longer ones that begin with it
 abbrev pub path_cmp : List (List ℕ) → List (List ℕ) → Ordering
@@ -36,6 +38,15 @@ pub record Tree : Type 0 where
   pub names : Names
   pub nodes : Nodes
   pub snapshots : Snapshots
+
+-- what bounds a tree: the greatest number that it may use, and the layout of its disk, which says how long names may be and how many blocks all takes
+pub record Bounds : Type 0 where
+  pub nodes : ℕ
+  pub layout : Layout
+
+-- so many numbers on a disk of layout 1
+abbrev pub in_layout_one : ℕ → Bounds
+in_layout_one nodes = record { nodes = nodes; layout = One }
 
 -- a tree without snapshots
 abbrev pub alone : Names → Nodes → Tree

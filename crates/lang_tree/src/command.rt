@@ -112,7 +112,7 @@ pub struct Stat {
 }
 
 /// Why a command was refused. Each has a number, by which the trace names it. The tree alone refuses with 1 to
-/// 9, 17, 19 and 20; the others come from a file system over a disk.
+/// 9 and 17 to 20; the others come from a file system over a disk.
 #[derive(Clone, Copy, Debug)]
 pub enum Refusal {
     /// 1: a name on the way isn't there.
@@ -149,6 +149,8 @@ pub enum Refusal {
     Spent,
     /// 17: no memory was found.
     NoMemory,
+    /// 18: the last name of a path that would be new has more bytes than the layout of the disk takes.
+    NameTooLong,
     /// 19: there is no such sync point.
     NoPoint { last: u64 },
     /// 20: there is no snapshot of this name.
@@ -178,6 +180,7 @@ impl Refusal {
             Refusal::Stopped => 15,
             Refusal::Spent => 16,
             Refusal::NoMemory => 17,
+            Refusal::NameTooLong => 18,
             Refusal::NoPoint { .. } => 19,
             Refusal::NoSnap => 20,
         }
@@ -205,6 +208,7 @@ impl Refusal {
             Refusal::Stopped => "Stopped",
             Refusal::Spent => "Spent",
             Refusal::NoMemory => "NoMemory",
+            Refusal::NameTooLong => "NameTooLong",
             Refusal::NoPoint { .. } => "NoPoint",
             Refusal::NoSnap => "NoSnap",
         }
@@ -249,6 +253,7 @@ impl fmt::Display for Refusal {
             Refusal::Stopped => write!(f, "the session has ended by a fault of the disk"),
             Refusal::Spent => write!(f, "the numbers of the journal are used up"),
             Refusal::NoMemory => write!(f, "out of memory"),
+            Refusal::NameTooLong => { write!(f, "the name is too long for the layout of the disk") }
             Refusal::NoPoint { last } => {
                 write!(f, "there is no such sync point, and the last one is {last}")
             }

@@ -1,21 +1,24 @@
 //! Laws of the definitions: what commands leave of a tree, where they change it and what that costs, what a
 //! reply says of the session after it, and short runs worked out. They run nothing.
 
-ghost use Rattle.std.specs.Prelude.{◌≡◌, ◌≢◌, ◌≤◌, ◌||◌, ◌+◌, ◌++◌, ◌⊎◌, ℕ, Bool, true, false, nat_lt, List, [], ◌∷◌, length, map, slice_get, codes};
+ghost use Rattle.std.specs.Prelude.{◌≡◌, ◌≢◌, ◌≤◌, ◌||◌, ◌+◌, ◌++◌, ◌⊎◌, ℕ, Bool, true, false, nat_lt, List, [], ◌∷◌, length, map, replicate, slice_get, codes};
 ghost use Rattle.std.specs.Prelude.{None, Some};
-ghost use Rattle.std.specs.List.{range_with_len};
+ghost use Rattle.std.specs.List.{All, range_with_len};
 ghost use Rattle.std.specs.FinMap.{get, insert, empty};
+ghost use Rattle.base_types.specs.declared.layout.Layout.{Layout as LayoutValue};
+ghost use Rattle.base_types.specs.declared.layout.Layout.TheVariants.{One, Two};
+ghost use Rattle.base_types.specs.Layouts.{longest_name};
 ghost use Rattle.lang_tree.specs.declared.command.Cmd.{Cmd};
 ghost use Rattle.lang_tree.specs.declared.command.Cmd.TheVariants.{Mkdir, Create, Write, Link, Rmdir, Rename, Osync, Dsync, Durable, Dwait, Bad};
 ghost use Rattle.lang_tree.specs.declared.command.Reply.{Reply};
 ghost use Rattle.lang_tree.specs.declared.command.Reply.TheVariants.{Ok as Done, Synced, DurableAt, Known, Refused};
 ghost use Rattle.lang_tree.specs.declared.command.Refusal.{Refusal};
-ghost use Rattle.lang_tree.specs.declared.command.Refusal.TheVariants.{NotFound, NotDir, NotEmpty, DiskFault, Stopped, NoMemory, NoPoint};
-ghost use Rattle.lang_tree.specs.Tree.{Tree, Dir, File, alone, IsSound, HasSmallFiles};
-ghost use Rattle.lang_tree.specs.Paths.{is_within};
+ghost use Rattle.lang_tree.specs.declared.command.Refusal.TheVariants.{NotFound, NotDir, NotEmpty, DiskFault, Stopped, NoMemory, NameTooLong, NoPoint};
+ghost use Rattle.lang_tree.specs.Tree.{Tree, Bounds, Dir, File, alone, in_layout_one, IsSound, HasSmallFiles};
+ghost use Rattle.lang_tree.specs.Paths.{is_within, is_too_long};
 ghost use Rattle.lang_tree.specs.Names.{path_count};
 ghost use Rattle.lang_tree.specs.Walk.{is_same_node};
-ghost use Rattle.lang_tree.specs.Conditions.{refusal};
+ghost use Rattle.lang_tree.specs.Conditions.{refusal, brings_long_name};
 ghost use Rattle.lang_tree.specs.Step.{Session, step, start, session_on, changes_snapshots};
 ghost use Rattle.lang_tree.specs.Run.{Answers, Run, StopsAfterFault, is_of_memory, is_of_disk};
 ghost use Rattle.lang_tree.specs.Points.{CountsPoints, after_reply, is_sync, asks_for_durability, promised_by, points_after, top, floor};
@@ -25,14 +28,27 @@ ghost use Rattle.lang_tree.specs.Figures.{blocks, growth, release, figures, writ
 /// each node has a path, a directory has one alone, and no number is above the limit, which stays as it
 /// was.
 pub fn commands_keep_a_tree_sound()
-    ensures start { (limit : ℕ) → 1 ≤ limit → IsSound limit (start limit).tree }
-    ensures step { (s : Session) (cmd : Cmd) → IsSound s.limit s.tree → IsSound s.limit (step s cmd).0.tree }
+    ensures start { (limit : Bounds) → 1 ≤ limit.nodes → IsSound limit.nodes (start limit).tree }
+    ensures step { (s : Session) (cmd : Cmd) → IsSound s.limit.nodes s.tree → IsSound s.limit.nodes (step s cmd).0.tree }
     ensures limit { (s : Session) (cmd : Cmd) → (step s cmd).0.limit ≡ s.limit }
+{}
+
+/// A name is too long where a mkdir, a create, the second path of a link or that of a rename ends with one
+/// of more bytes than the layout takes: 59 in layout 1, and in layout 2 never. Such a command is refused,
+/// for another reason or for this one; no other command is refused for it; and where both layouts take the
+/// name, or neither does, they refuse alike.
+pub fn layouts_differ_in_long_names_alone()
+    ensures last { (l : LayoutValue) (up : List (List ℕ)) (name : List ℕ) → is_too_long l (up ++ name ∷ []) ≡ nat_lt (longest_name l) (length name) }
+    ensures never { (path : List (List ℕ)) → All (λ name. length name ≤ 255) path → is_too_long Two path ≡ false }
+    ensures refused { (limit : Bounds) (t : Tree) (cmd : Cmd) → brings_long_name limit.layout cmd ≡ true → refusal limit t cmd ≢ None }
+    ensures alone { (limit : Bounds) (t : Tree) (cmd : Cmd) → refusal limit t cmd ≡ Some NameTooLong → brings_long_name limit.layout cmd ≡ true }
+    ensures alike { (nodes : ℕ) (l m : LayoutValue) (t : Tree) (cmd : Cmd) → brings_long_name l cmd ≡ brings_long_name m cmd
+        → refusal (record { nodes = nodes; layout = l }) t cmd ≡ refusal (record { nodes = nodes; layout = m }) t cmd }
 {}
 
 /// The root alone has no file of more than 2^30 bytes, and no command makes one.
 pub fn files_stay_small()
-    ensures start { (limit : ℕ) → HasSmallFiles (start limit).tree.nodes }
+    ensures start { (limit : Bounds) → HasSmallFiles (start limit).tree.nodes }
     ensures step { (s : Session) (cmd : Cmd) → HasSmallFiles s.tree.nodes → HasSmallFiles (step s cmd).0.tree.nodes }
 {}
 
@@ -41,11 +57,11 @@ pub fn files_stay_small()
 /// second one, nothing is left at or below the first one, and every other path leads where it led.
 pub fn a_move_takes_all_below()
     ensures same { (s : Session) (from to : List (List ℕ)) → is_same_node s.tree from to ≡ true → (step s (Rename from to)).0 ≡ s }
-    ensures second { (s : Session) (from to rest : List (List ℕ)) → IsSound s.limit s.tree → refusal s.limit s.tree (Rename from to) ≡ None
+    ensures second { (s : Session) (from to rest : List (List ℕ)) → IsSound s.limit.nodes s.tree → refusal s.limit s.tree (Rename from to) ≡ None
         → is_same_node s.tree from to ≡ false → get (step s (Rename from to)).0.tree.names (to ++ rest) ≡ get s.tree.names (from ++ rest) }
-    ensures first { (s : Session) (from to rest : List (List ℕ)) → IsSound s.limit s.tree → refusal s.limit s.tree (Rename from to) ≡ None
+    ensures first { (s : Session) (from to rest : List (List ℕ)) → IsSound s.limit.nodes s.tree → refusal s.limit s.tree (Rename from to) ≡ None
         → is_same_node s.tree from to ≡ false → get (step s (Rename from to)).0.tree.names (from ++ rest) ≡ None }
-    ensures others { (s : Session) (from to path : List (List ℕ)) → IsSound s.limit s.tree → refusal s.limit s.tree (Rename from to) ≡ None
+    ensures others { (s : Session) (from to path : List (List ℕ)) → IsSound s.limit.nodes s.tree → refusal s.limit s.tree (Rename from to) ≡ None
         → is_same_node s.tree from to ≡ false → is_within from path ≡ false → is_within to path ≡ false
         → get (step s (Rename from to)).0.tree.names path ≡ get s.tree.names path }
 {}
@@ -62,47 +78,53 @@ pub fn a_command_changes_where_it_costs()
 /// changes nothing and has no figures.
 #[tactic(auto, using(crate::proofs::blocks::BlockLaws::figures_tell))]
 pub fn the_figures_are_the_blocks()
-    ensures { (bitmap : ℕ) (s : Session) (cmd : Cmd) → changes_snapshots cmd ≡ false → IsSound s.limit s.tree
-        → blocks (step s cmd).0.tree + (figures bitmap s cmd).freed ≡ blocks s.tree + (figures bitmap s cmd).need }
+    ensures { (bitmap : ℕ) (s : Session) (cmd : Cmd) → changes_snapshots cmd ≡ false → IsSound s.limit.nodes s.tree
+        → blocks s.limit.layout (step s cmd).0.tree + (figures bitmap s cmd).freed ≡ blocks s.limit.layout s.tree + (figures bitmap s cmd).need }
 {}
 
 /// Runs in an empty tree of at most 16 numbers. `/a` and `/b` lead to one file, and a move between them
 /// leaves both. Where several conditions hold, the walks come first and then the least number: the root,
 /// which holds `/a`, isn't empty; it can't come onto a file; a file is no directory to walk through; and
 /// what isn't there gets no other path, though that one is there already. A directory moves with its file.
-/// A file moves onto another one, whose number serves again.
+/// A file moves onto another one, whose number serves again. A name of 60 bytes is too long in layout 1, and
+/// layout 2 takes it.
 pub fn short_runs_are_answered_so()
     ensures one_node { (end : Session)
-        × Run (λ why. false) (start 16) (Create (codes "a" ∷ []) ∷ Link (codes "a" ∷ []) (codes "b" ∷ []) ∷ Rename (codes "a" ∷ [])
+        × Run (λ why. false) (start (in_layout_one 16)) (Create (codes "a" ∷ []) ∷ Link (codes "a" ∷ []) (codes "b" ∷ []) ∷ Rename (codes "a" ∷ [])
         (codes "b" ∷ []) ∷ []) (Done ∷ Done ∷ Done ∷ []) end
         × (get end.tree.names (codes "a" ∷ []) ≡ Some 2) × (get end.tree.names (codes "b" ∷ []) ≡ Some 2) × (path_count end.tree.names 2 ≡ 2) }
     ensures reasons { (end : Session)
-        × Run (λ why. false) (start 16)
+        × Run (λ why. false) (start (in_layout_one 16))
         (Create (codes "a" ∷ []) ∷ Rmdir [] ∷ Rename [] (codes "a" ∷ []) ∷ Write (codes "a" ∷ codes "b" ∷ []) 0 (120 ∷ []) ∷ Link (codes "b" ∷ [])
         (codes "a" ∷ []) ∷ [])
         (Done ∷ Refused NotEmpty ∷ Refused NotDir ∷ Refused NotDir ∷ Refused NotFound ∷ []) end }
     ensures directory { (end : Session)
-        × Run (λ why. false) (start 16) (Mkdir (codes "a" ∷ []) ∷ Create (codes "a" ∷ codes "c" ∷ []) ∷ Rename (codes "a" ∷ []) (codes "b" ∷ []) ∷ [])
+        × Run (λ why. false) (start (in_layout_one 16)) (Mkdir (codes "a" ∷ []) ∷ Create (codes "a" ∷ codes "c" ∷ []) ∷ Rename (codes "a" ∷ []) (codes "b" ∷ []) ∷ [])
         (Done ∷ Done ∷ Done ∷ []) end
         × (get end.tree.names (codes "b" ∷ []) ≡ Some 2) × (get end.tree.names (codes "b" ∷ codes "c" ∷ []) ≡ Some 3)
         × (get end.tree.names (codes "a" ∷ []) ≡ None) × (get end.tree.names (codes "a" ∷ codes "c" ∷ []) ≡ None) }
     ensures onto { (end : Session)
-        × Run (λ why. false) (start 16) (Create (codes "a" ∷ []) ∷ Create (codes "b" ∷ []) ∷ Rename (codes "a" ∷ []) (codes "b" ∷ []) ∷ Mkdir
+        × Run (λ why. false) (start (in_layout_one 16)) (Create (codes "a" ∷ []) ∷ Create (codes "b" ∷ []) ∷ Rename (codes "a" ∷ []) (codes "b" ∷ []) ∷ Mkdir
         (codes "c" ∷ []) ∷ [])
         (Done ∷ Done ∷ Done ∷ Done ∷ []) end
         × (get end.tree.names (codes "a" ∷ []) ≡ None) × (get end.tree.names (codes "b" ∷ []) ≡ Some 2) × (get end.tree.names (codes "c" ∷ []) ≡ Some 3) }
+    ensures long { Run (λ why. false) (start (in_layout_one 16)) (Create (replicate 60 97 ∷ []) ∷ []) (Refused NameTooLong ∷ []) (start (in_layout_one 16)) }
+    ensures taken { (end : Session)
+        × Run (λ why. false) (start (record { nodes = 16; layout = Two })) (Create (replicate 60 97 ∷ []) ∷ []) (Done ∷ []) end
+        × (get end.tree.names (replicate 60 97 ∷ []) ≡ Some 2) }
 {}
 
 /// A tree whose root holds one file of 1,025 bytes has three blocks. With one bitmap block: the first name
 /// of a directory needs a block and costs 4 payloads, the 17th name needs one too, and the 17th is the one
-/// whose going frees it; the first two bytes of a file cost 2 payloads and a fresh block; 14 blocks written
+/// whose going frees it (in layout 2 it is the fourth); the first two bytes of a file cost 2 payloads and a fresh block; 14 blocks written
 /// over cost 15 payloads; and a file that is cut from 3 blocks to one frees two of them at 2 payloads. A
 /// payload counts 25.
 pub fn small_changes_cost_so()
     ensures blocks { (bytes : List ℕ) → length bytes ≡ 1025
-        → blocks (alone (insert (insert empty [] 1) (codes "a" ∷ []) 2) (insert (insert empty 1 Dir) 2 (File bytes))) ≡ 3 }
-    ensures first_name { figures 1 (start 16) (Create (codes "a" ∷ [])) ≡ record { need = 1; cost = 100; freed = 0 } }
-    ensures names { (growth 15 ≡ 0) × (growth 16 ≡ 1) × (release 17 ≡ 1) × (release 16 ≡ 0) }
+        → blocks One (alone (insert (insert empty [] 1) (codes "a" ∷ []) 2) (insert (insert empty 1 Dir) 2 (File bytes))) ≡ 3 }
+    ensures first_name { figures 1 (start (in_layout_one 16)) (Create (codes "a" ∷ [])) ≡ record { need = 1; cost = 100; freed = 0 } }
+    ensures names { (growth One 15 ≡ 0) × (growth One 16 ≡ 1) × (release One 17 ≡ 1) × (release One 16 ≡ 0) }
+    ensures names_of_two { (growth Two 2 ≡ 0) × (growth Two 3 ≡ 1) × (release Two 4 ≡ 1) × (release Two 3 ≡ 0) }
     ensures first_bytes { write_figures 1 0 0 2 ≡ record { need = 1; cost = 51; freed = 0 } }
     ensures overwrite { write_figures 1 14336 0 14336 ≡ record { need = 0; cost = 375; freed = 0 } }
     ensures cut { truncate_figures 1 2049 1024 ≡ record { need = 0; cost = 50; freed = 2 } }
@@ -116,7 +138,7 @@ pub fn a_reply_tells_the_session()
 {}
 
 /// A tree in memory answers as `step` says, or refuses as it is out of memory. So it refuses by its own
-/// reasons, 1 to 9, 19 and 20, or by that one. What it answers, a file system over a disk may answer too, and so with
+/// reasons, 1 to 9 and 18 to 20, or by that one. What it answers, a file system over a disk may answer too, and so with
 /// whole runs.
 #[tactic(auto, using(crate::proofs::runs::Outside::run_more))]
 pub fn a_tree_in_memory_refuses_for_no_disk()
@@ -147,7 +169,7 @@ pub fn no_other_command_is_promised_a_point()
 /// The greatest point that a dsync or a dwait answered is one that was made: at the beginning, and after each command.
 #[tactic(auto, using(crate::proofs::runs::Promises::step_counts))]
 pub fn no_dsync_answers_a_point_to_come()
-    ensures start { (limit : ℕ) (t : Tree) → CountsPoints (session_on limit t) }
+    ensures start { (limit : Bounds) (t : Tree) → CountsPoints (session_on limit t) }
     ensures step { (s : Session) (cmd : Cmd) → CountsPoints s → CountsPoints (step s cmd).0 }
 {}
 
@@ -165,22 +187,22 @@ pub fn bounds_never_fall()
 /// memory, the second one makes the point, which began at 3. Where a disk fault refuses the first one, it
 /// makes the point all the same, and the second one, which the end of the session refuses, makes none.
 pub fn two_syncs_make_one_point()
-    ensures first { (t : Tree) (limit points : ℕ)
+    ensures first { (t : Tree) (limit : Bounds) (points : ℕ)
         → points_after (record { tree = t; limit = limit; points = points; changed = true; durable = 0 }) 2 (Osync ∷ Osync ∷ [])
         (Synced 1 ∷ Synced 1 ∷ []) (5 ∷ 9 ∷ [])
         ≡ record { tree = t; begun = 2 } ∷ [] }
-    ensures second { (t : Tree) (limit points : ℕ)
+    ensures second { (t : Tree) (limit : Bounds) (points : ℕ)
         → points_after (record { tree = t; limit = limit; points = points; changed = true; durable = 0 }) 2 (Osync ∷ Osync ∷ [])
         (Refused NoMemory ∷ Synced 1 ∷ []) (3 ∷ 9 ∷ [])
         ≡ record { tree = t; begun = 3 } ∷ [] }
-    ensures fault { (t : Tree) (limit points : ℕ)
+    ensures fault { (t : Tree) (limit : Bounds) (points : ℕ)
         → points_after (record { tree = t; limit = limit; points = points; changed = true; durable = 0 }) 2 (Osync ∷ Osync ∷ [])
         (Refused DiskFault ∷ Refused Stopped ∷ []) (4 ∷ 4 ∷ [])
         ≡ record { tree = t; begun = 2 } ∷ [] }
-    ensures before { (t : Tree) (limit points : ℕ)
+    ensures before { (t : Tree) (limit : Bounds) (points : ℕ)
         → top 1 (record { tree = t; limit = limit; points = points; changed = true; durable = 0 }) 2 (Osync ∷ Osync ∷ []) (Synced 1 ∷ Synced 1 ∷ [])
         (5 ∷ 9 ∷ []) ≡ 0 }
-    ensures since { (t : Tree) (limit points : ℕ)
+    ensures since { (t : Tree) (limit : Bounds) (points : ℕ)
         → top 2 (record { tree = t; limit = limit; points = points; changed = true; durable = 0 }) 2 (Osync ∷ Osync ∷ []) (Synced 1 ∷ Synced 1 ∷ [])
         (5 ∷ 9 ∷ []) ≡ 1 }
 {}
@@ -190,7 +212,7 @@ pub fn two_syncs_make_one_point()
 /// are the top and the floor. The reply to `durable` raises the floor, too.
 #[tactic(auto, using(crate::proofs::runs::PointExample::tops))]
 pub fn a_dsync_raises_the_floor()
-    ensures top { map (λ k. top k (start 16) 2
+    ensures top { map (λ k. top k (start (in_layout_one 16)) 2
         (Create (codes "a" ∷ []) ∷ Osync ∷ Write (codes "a" ∷ []) 0 (104 ∷ 105 ∷ []) ∷ Osync ∷ Dsync ∷ [])
         (Done ∷ Synced 1 ∷ Done ∷ Synced 2 ∷ DurableAt 2 ∷ []) (2 ∷ 5 ∷ 6 ∷ 9 ∷ 13 ∷ [])) (range_with_len 0 14)
         ≡ 0 ∷ 0 ∷ 1 ∷ 1 ∷ 1 ∷ 1 ∷ 2 ∷ 2 ∷ 2 ∷ 2 ∷ 2 ∷ 2 ∷ 2 ∷ 2 ∷ [] }
@@ -203,7 +225,7 @@ pub fn a_dsync_raises_the_floor()
 /// answers to 1, one for point 2 to 2, and another one for point 1 lowers nothing. Point 3 isn't there. Nor does the
 /// floor fall where an older point is answered later.
 pub fn a_wait_raises_what_is_durable()
-    ensures answers { (t : Tree) (limit : ℕ) (changed : Bool)
+    ensures answers { (t : Tree) (limit : Bounds) (changed : Bool)
         → Run (λ why. false) (record { tree = t; limit = limit; points = 2; changed = changed; durable = 0 })
         (Dwait 1 ∷ Durable ∷ Dwait 2 ∷ Dwait 1 ∷ Durable ∷ Dwait 3 ∷ [])
         (DurableAt 1 ∷ Known 1 ∷ DurableAt 2 ∷ DurableAt 1 ∷ Known 2 ∷ Refused (NoPoint 2) ∷ [])

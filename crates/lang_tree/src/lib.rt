@@ -21,9 +21,9 @@ pub use laws::{
     a_command_changes_where_it_costs, a_dsync_raises_the_floor, a_fault_ends_the_session,
     a_move_takes_all_below, a_reply_tells_the_session, a_tree_in_memory_refuses_for_no_disk,
     a_wait_raises_what_is_durable, bounds_never_fall, commands_keep_a_tree_sound, files_stay_small,
-    no_dsync_answers_a_point_to_come, no_other_command_is_promised_a_point,
-    short_runs_are_answered_so, small_changes_cost_so, the_figures_are_the_blocks,
-    two_syncs_make_one_point,
+    layouts_differ_in_long_names_alone, no_dsync_answers_a_point_to_come,
+    no_other_command_is_promised_a_point, short_runs_are_answered_so, small_changes_cost_so,
+    the_figures_are_the_blocks, two_syncs_make_one_point,
 };
 pub use name_list::{NameList, copy_names};
 pub use path::Path;

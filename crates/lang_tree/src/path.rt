@@ -2,10 +2,10 @@
 //! How a path is written is described in the crate of the script.
 
 ghost use Rattle.std.specs.Prelude.{◌≡◌, ℕ, List, [], IfOk};
-ghost use Rattle.lang_tree.specs.Paths.{is_below};
+ghost use Rattle.lang_tree.specs.Paths.{is_below, is_too_long};
 
 use crate::copy_names;
-use base_types::{Name, NoMemory};
+use base_types::{Layout, Name, NoMemory};
 use std::alloc::Global;
 use std::marker::Model;
 
@@ -71,5 +71,15 @@ impl Path {
             return false;
         }
         self.names.starts_with(top.names())
+    }
+
+    /// Whether the last name has more bytes than one in a directory of the layout may have.
+    pub fn is_too_long(&self, layout: Layout) -> bool
+        ensures { result ≡ is_too_long layout self.now }
+    {
+        match self.names().last() {
+            None => false,
+            Some(name) => name.as_bytes().len() > layout.longest_name(),
+        }
     }
 }

@@ -4,6 +4,7 @@
 
 ghost use Rattle.std.specs.Prelude.{◌≡◌, ◌≢◌, ◌≤◌, ◌+◌, ◌==◌, ◌++◌, ℕ, if◌then◌else◌, true, false, List, [], ◌∷◌, None, Some};
 ghost use Rattle.std.specs.FinMap.{get, insert, remove};
+ghost use Rattle.base_types.specs.declared.layout.Layout.{Layout};
 ghost use Rattle.lang_tree.specs.Tree.{Tree, Names, Thing, Dir, File, IsSound};
 ghost use Rattle.lang_tree.specs.Paths.{parent, is_within};
 ghost use Rattle.lang_tree.specs.Names.{path_count, holds_names, renamed};
@@ -51,8 +52,8 @@ pub fn what_goes_holds_nothing()
         → (holds_names t.names path ≡ false) × (path ≢ []) }
     ensures removed { (limit : ℕ) (t : Tree) (path : List (List ℕ)) → IsSound limit t → rmdir_refusal t path ≡ None
         → (holds_names t.names path ≡ false) × (path ≢ []) }
-    ensures there { (limit : ℕ) (t : Tree) (from to : List (List ℕ)) → IsSound limit t → rename_refusal t from to ≡ None → (n : ℕ)
+    ensures there { (limit : ℕ) (l : Layout) (t : Tree) (from to : List (List ℕ)) → IsSound limit t → rename_refusal l t from to ≡ None → (n : ℕ)
         × (get t.names from ≡ Some n) }
-    ensures moved { (limit : ℕ) (t : Tree) (from to : List (List ℕ)) → IsSound limit t → rename_refusal t from to ≡ None → is_same_node t from to ≡ false
+    ensures moved { (limit : ℕ) (l : Layout) (t : Tree) (from to : List (List ℕ)) → IsSound limit t → rename_refusal l t from to ≡ None → is_same_node t from to ≡ false
         → (is_within from to ≡ false) × (holds_names t.names to ≡ false) × (to ≢ []) }
 {}

@@ -3,13 +3,11 @@
 ghost use Rattle.std.specs.Prelude.{◌≡◌, ◌≤◌, ◌-◌, ◌/◌, ℕ, min};
 ghost use Rattle.lang_tree.specs.Figures as spec;
 
+use base_types::Layout;
 use base_types::limits::BLOCK_LENGTH;
 
 /// Bytes of a block.
 const BLOCK: u32 = BLOCK_LENGTH as u32;
-
-/// Names that one block of a directory holds.
-const NAMES_IN_BLOCK: u64 = 16;
 
 /// The blocks of so many bytes.
 pub fn blocks_for(size: u32) -> u32
@@ -30,19 +28,19 @@ pub(crate) fn blocks_met(size: u32, lo: u32, hi: u32) -> u32
 }
 
 /// By how many blocks a directory of so many names grows with one more: by one, where its blocks are full.
-pub fn growth(held: u64) -> u32
-    ensures value { result ≡ spec.growth held }
+pub fn growth(held: u64, layout: Layout) -> u32
+    ensures value { result ≡ spec.growth layout held }
     ensures bound { result ≤ 1 }
 {
-    u32::from(held % NAMES_IN_BLOCK == 0)
+    u32::from(held % u64::from(layout.slots_in_block()) == 0)
 }
 
 /// How many blocks a directory of so many names frees with one less: one, where its last block holds one.
-pub fn release(held: u64) -> u32
-    ensures value { result ≡ spec.release held }
+pub fn release(held: u64, layout: Layout) -> u32
+    ensures value { result ≡ spec.release layout held }
     ensures bound { result ≤ 1 }
 {
-    u32::from(held % NAMES_IN_BLOCK == 1)
+    u32::from(held % u64::from(layout.slots_in_block()) == 1)
 }
 
 /// The blocks of a file that bytes touch are those that begin before the end of the bytes, without those that

@@ -9,7 +9,7 @@ ghost use Rattle.lang_tree.specs.declared.command.Cmd.TheVariants.{Snap, Unsnap,
 ghost use Rattle.lang_tree.specs.declared.command.Look.{Look};
 ghost use Rattle.lang_tree.specs.declared.command.Refusal.{Refusal};
 ghost use Rattle.lang_tree.specs.declared.command.Reply.{Reply};
-ghost use Rattle.lang_tree.specs.Tree.{Tree, Snapshots, Kept, kept_tree, IsSound, HasSoundSnapshots};
+ghost use Rattle.lang_tree.specs.Tree.{Tree, Bounds, Snapshots, Kept, kept_tree, IsSound, HasSoundSnapshots};
 ghost use Rattle.lang_tree.specs.Conditions.{refusal, is_snapshot, least_unused};
 ghost use Rattle.lang_tree.specs.Step.{Session, step, start, session_on, changes_snapshots, kept_of, look_command};
 ghost use Rattle.lang_tree.specs.Run.{Run};
@@ -18,9 +18,9 @@ ghost use Rattle.lang_tree.specs.Listing.{path_lines, listing};
 /// The empty root has no snapshot, only a snap or an unsnap changes what there is, and sound snapshots of a
 /// sound tree are sound after every command.
 pub fn commands_keep_snapshots()
-    ensures start { (limit : ℕ) → (start limit).tree.snapshots ≡ empty }
+    ensures start { (limit : Bounds) → (start limit).tree.snapshots ≡ empty }
     ensures same { (s : Session) (cmd : Cmd) → changes_snapshots cmd ≡ false → (step s cmd).0.tree.snapshots ≡ s.tree.snapshots }
-    ensures sound { (s : Session) (cmd : Cmd) → IsSound s.limit s.tree → HasSoundSnapshots s.limit s.tree → HasSoundSnapshots s.limit (step s cmd).0.tree }
+    ensures sound { (s : Session) (cmd : Cmd) → IsSound s.limit.nodes s.tree → HasSoundSnapshots s.limit.nodes s.tree → HasSoundSnapshots s.limit.nodes (step s cmd).0.tree }
 {}
 
 /// An accepted snap keeps the tree as it is, under the least unused number, and what it keeps stays so until an
@@ -28,7 +28,7 @@ pub fn commands_keep_snapshots()
 /// and so as the tree of the moment of its snap answers it, whichever other commands came since.
 pub fn a_snapshot_keeps_its_tree()
     ensures made { (s : Session) (name : List ℕ) → refusal s.limit s.tree (Snap name) ≡ None
-        → (n : ℕ) × (least_unused s.limit s.tree ≡ Some n) × (get (step s (Snap name)).0.tree.snapshots name ≡ Some (kept_of n s.tree)) }
+        → (n : ℕ) × (least_unused s.limit.nodes s.tree ≡ Some n) × (get (step s (Snap name)).0.tree.snapshots name ≡ Some (kept_of n s.tree)) }
     ensures kept { (s : Session) (cmd : Cmd) (name : List ℕ) (k : Kept) → get s.tree.snapshots name ≡ Some k → cmd ≢ Unsnap name
         → get (step s cmd).0.tree.snapshots name ≡ Some k }
     ensures gone { (s : Session) (name : List ℕ) → refusal s.limit s.tree (Unsnap name) ≡ None → get (step s (Unsnap name)).0.tree.snapshots name ≡ None }

@@ -3,13 +3,14 @@ use Rattle.std.proofs.Common.{◌≡◌, ℕ, zero, suc, ◌≤◌, List, [], �
 use Rattle.std.specs.Ordering.{nat_cmp}
 use Rattle.std.specs.Cmp.{nat_cmp_total}
 use Rattle.std.specs.FinMap.{nat_cmp-IsAntisymmetric, get, empty, get-empty, same_map}
+use Rattle.base_types.specs.declared.layout.Layout.{Layout}
 use Rattle.base_types.specs.declared.memory.NoMemory.{NoMemory}
 use Rattle.lang_tree.specs.declared.command.Cmd.{Cmd}
 use Rattle.lang_tree.specs.declared.command.Reply.{Reply}
 use Rattle.lang_tree.specs.declared.command.Reply.TheVariants.{Refused}
 use Rattle.lang_tree.specs.declared.command.Refusal.TheVariants.{NoMemory as OutOfMemory}
 use Rattle.lang_tree.specs.Run.{Answers, is_of_memory}
-use Rattle.lang_tree.specs.Tree.{Tree, Thing, Dir, File, alone, kept_tree, HasSoundSnapshots}
+use Rattle.lang_tree.specs.Tree.{Tree, Bounds, Thing, Dir, File, alone, kept_tree, HasSoundSnapshots}
 use Rattle.lang_tree.specs.Tree.{Kept as KeptTree}
 use Rattle.lang_tree.specs.Step.{Session, start, step}
 use Rattle.crash_stands.specs.Inodes.{ADir, thing_of, root_alone}
@@ -41,29 +42,32 @@ none_shown : snapshots_of empty ≡ empty
 none_shown = same_map name_total name_same _ _ (λ q. under_shown empty q ∙ ap (option_map kept_by) (get-empty name_cmp q) ∙ sym (get-empty name_cmp q))
 
 -- the root alone
-module _ (laws : MapLaws) (limit : ℕ) (low : 1 ≤ limit) where
-  root_map : IsMapOf limit (map_of root_node) (start limit).tree
-  root_map = laws.alike limit root_alone (map_of root_node) (start limit).tree root_there (laws.root limit low)
+module _ (laws : MapLaws) (limit : ℕ) (layout : Layout) (low : 1 ≤ limit) where
+  abbrev bounds : Bounds
+  bounds = record { nodes = limit; layout = layout }
 
-  first_kept : IsKept (first_state limit)
+  root_map : IsMapOf limit (map_of root_node) (start bounds).tree
+  root_map = laws.alike limit root_alone (map_of root_node) (start bounds).tree root_there (laws.root bounds low)
+
+  first_kept : IsKept (first_state limit layout)
   first_kept = record {
-    map = own_tree limit root_node (start limit).tree root_map;
-    small = small_map limit (map_of root_node) (start limit).tree root_map (laws.small_start limit);
+    map = own_tree limit root_node (start bounds).tree root_map;
+    small = small_map limit (map_of root_node) (start bounds).tree root_map (laws.small_start bounds);
     snapshots = λ name x at. absurd (none-some x (sym (get-empty name_cmp name) ∙ at));
   }
 
-  pub first_sound : IsSoundState (first_state limit)
-  first_sound = record { kept = first_kept; snapshots = laws.none_sound limit (whole_tree (first_state limit)) none_shown }
+  pub first_sound : IsSoundState (first_state limit layout)
+  first_sound = record { kept = first_kept; snapshots = laws.none_sound limit (whole_tree (first_state limit layout)) none_shown }
 
-  pub first_session : session_of (first_state limit) ≡ start limit
-  first_session = ap₂ (λ (t : Tree) k. record { tree = record t { snapshots = k }; limit = limit; points = 0; changed = false; durable = 0 }) (the_tree limit root_node (start limit).tree root_map) none_shown
+  pub first_session : session_of (first_state limit layout) ≡ start bounds
+  first_session = ap₂ (λ (t : Tree) k. record { tree = record t { snapshots = k }; limit = bounds; points = 0; changed = false; durable = 0 }) (the_tree limit root_node (start bounds).tree root_map) none_shown
 
 -- the snapshots after a command
 sound_after : (laws : MapLaws) (old new : State) (cmd : Cmd) (reply : Reply) → IsSoundState old → step (session_of old) cmd ≡ (session_of new, reply) → HasSoundSnapshots new.limit (whole_tree new)
 sound_after laws old new cmd reply is steps =
     let s = session_of old in
     let sound = laws.sound old.limit (map_of old.nodes) (whole_tree old) (aside old.limit (map_of old.nodes) (tree_of old.nodes) (snapshots_of old.kept) is.kept.map) in
-    let limit : old.limit ≡ new.limit = sym (laws.same_limit s cmd) ∙ ap (λ (r : Session × Reply). r.0.limit) steps in
+    let limit : old.limit ≡ new.limit = ap (λ (b : Bounds). b.nodes) (sym (laws.same_limit s cmd) ∙ ap (λ (r : Session × Reply). r.0.limit) steps) in
     subst (λ l. HasSoundSnapshots l (whole_tree new)) limit
     (subst (HasSoundSnapshots old.limit) (ap (λ (r : Session × Reply). r.0.tree) steps) (laws.sound_snapshots s cmd sound is.snapshots))
 

@@ -58,12 +58,12 @@ moved_by nodes a b o p from to n old t a_is b_is o_is p_is that = grind (arith, 
 moved_nowhere : (nodes : KeptNodes) (a b : Option (ℕ × List ℕ)) (n w : ℕ) → (n == w) ≡ true → moved_at nodes a b (Some n) (Some w) ≡ (nodes, false)
 moved_nowhere nodes a b n w e = grind (arith, nat_tests)
 
-module _ (laws : MapLaws) (s : Session) (nodes : KeptNodes) (is : IsMapOf s.limit (map_of nodes) s.tree) where
+module _ (laws : MapLaws) (s : Session) (nodes : KeptNodes) (is : IsMapOf s.limit.nodes (map_of nodes) s.tree) where
   abbrev m : Inodes
   m = map_of nodes
 
   -- no refusal, no reason
-  reason_none : (cmd : Cmd) → refusal s.limit s.tree cmd ≡ None → reason (least_unused s.limit s.tree) s.tree.snapshots m cmd ≡ None
+  reason_none : (cmd : Cmd) → refusal s.limit s.tree cmd ≡ None → reason s.limit.layout (least_unused s.limit.nodes s.tree) s.tree.snapshots m cmd ≡ None
   reason_none cmd e = sym (laws.refuses s.limit m s.tree cmd is) ∙ e
 
   dir_apart : (n d : ℕ) (names : DirNames) → m n ≡ None → get nodes d ≡ Some (KeptDir names) → n ≢ d
@@ -97,7 +97,7 @@ module _ (laws : MapLaws) (s : Session) (nodes : KeptNodes) (is : IsMapOf s.limi
 
   -- A new node, under the least unused number.
   abbrev least : Option ℕ
-  least = least_unused s.limit s.tree
+  least = least_unused s.limit.nodes s.tree
 
   not_there : (o : Option Inode) → option_map thing_of o ≡ None → o ≡ None
   not_there None e = refl
@@ -107,7 +107,7 @@ module _ (laws : MapLaws) (s : Session) (nodes : KeptNodes) (is : IsMapOf s.limi
       no_thing e = cc
 
   no_inode : (n : ℕ) → least ≡ Some n → m n ≡ None
-  no_inode n e = not_there (m n) (sym (is.shows.nodes n) ∙ unused_there s.limit s.tree n e)
+  no_inode n e = not_there (m n) (sym (is.shows.nodes n) ∙ unused_there s.limit.nodes s.tree n e)
 
   record Made (up : List (List ℕ)) (name : List ℕ) (x : Kept) : Type 0 where
     d : ℕ
@@ -116,7 +116,7 @@ module _ (laws : MapLaws) (s : Session) (nodes : KeptNodes) (is : IsMapOf s.limi
     free : least ≡ Some n
     adds : AddsName m (map_of (made least nodes (up ++ name ∷ []) x)) d n name (inode_of x)
 
-  makes : (up : List (List ℕ)) (name : List ℕ) (x : Kept) → make_reason least m (up ++ name ∷ []) ≡ None → Made up name x
+  makes : (up : List (List ℕ)) (name : List ℕ) (x : Kept) → make_reason s.limit.layout least m (up ++ name ∷ []) ≡ None → Made up name x
   makes up name x none =
       let path = up ++ name ∷ [] in
       let one = no_reason (parent_reason m path) _ none in
@@ -139,15 +139,15 @@ module _ (laws : MapLaws) (s : Session) (nodes : KeptNodes) (is : IsMapOf s.limi
   there_already : Some Exists ≡ None → ⊥
   there_already e = cc
 
-  pub mkdir_mapped : (path : List (List ℕ)) → refusal s.limit s.tree (Mkdir path) ≡ None → IsMapOf s.limit (map_of (made least nodes path (KeptDir empty))) (step s (Mkdir path)).0.tree
-  mkdir_mapped = by_parts (λ path. refusal s.limit s.tree (Mkdir path) ≡ None → IsMapOf s.limit (map_of (made least nodes path (KeptDir empty))) (step s (Mkdir path)).0.tree)
+  pub mkdir_mapped : (path : List (List ℕ)) → refusal s.limit s.tree (Mkdir path) ≡ None → IsMapOf s.limit.nodes (map_of (made least nodes path (KeptDir empty))) (step s (Mkdir path)).0.tree
+  mkdir_mapped = by_parts (λ path. refusal s.limit s.tree (Mkdir path) ≡ None → IsMapOf s.limit.nodes (map_of (made least nodes path (KeptDir empty))) (step s (Mkdir path)).0.tree)
       (λ accepts. absurd (there_already (reason_none (Mkdir []) accepts)))
       (λ up name accepts.
       let c = makes up name (KeptDir empty) (reason_none (Mkdir (up ++ name ∷ [])) accepts) in
       laws.mkdir s m _ up name c.d c.n is accepts c.leads c.free (subst (λ x. AddsName m (map_of (made least nodes (up ++ name ∷ []) (KeptDir empty))) c.d c.n name x) no_slots c.adds))
 
-  pub create_mapped : (path : List (List ℕ)) → refusal s.limit s.tree (Create path) ≡ None → IsMapOf s.limit (map_of (made least nodes path (KeptFile 1 []))) (step s (Create path)).0.tree
-  create_mapped = by_parts (λ path. refusal s.limit s.tree (Create path) ≡ None → IsMapOf s.limit (map_of (made least nodes path (KeptFile 1 []))) (step s (Create path)).0.tree)
+  pub create_mapped : (path : List (List ℕ)) → refusal s.limit s.tree (Create path) ≡ None → IsMapOf s.limit.nodes (map_of (made least nodes path (KeptFile 1 []))) (step s (Create path)).0.tree
+  create_mapped = by_parts (λ path. refusal s.limit s.tree (Create path) ≡ None → IsMapOf s.limit.nodes (map_of (made least nodes path (KeptFile 1 []))) (step s (Create path)).0.tree)
       (λ accepts. absurd (there_already (reason_none (Create []) accepts)))
       (λ up name accepts.
       let c = makes up name (KeptFile 1 []) (reason_none (Create (up ++ name ∷ [])) accepts) in
@@ -157,39 +157,39 @@ module _ (laws : MapLaws) (s : Session) (nodes : KeptNodes) (is : IsMapOf s.limi
   file_met : (path : List (List ℕ)) (rest : List (Option Refusal)) → first_reason (walk_reason m path ∷ when (is_dir_inode (inode_at m path)) IsDir ∷ rest) ≡ None → FileAt m path
   file_met path rest none =
       let one = no_reason (walk_reason m path) (when (is_dir_inode (inode_at m path)) IsDir ∷ rest) none in
-      file_there m s.limit s.tree path is one.0 (not_so (is_dir_inode (inode_at m path)) IsDir (no_reason (when (is_dir_inode (inode_at m path)) IsDir) rest one.1).0)
+      file_there m s.limit.nodes s.tree path is one.0 (not_so (is_dir_inode (inode_at m path)) IsDir (no_reason (when (is_dir_inode (inode_at m path)) IsDir) rest one.1).0)
 
   sets_bytes : (path : List (List ℕ)) (n links : ℕ) (bytes : List ℕ) (change : List ℕ → List ℕ) → LeadsTo m path n → m n ≡ Some (AFile links bytes)
       → Sets m (map_of (edited nodes path (with_bytes change))) n (Some (AFile links (change bytes)))
   sets_bytes path n links bytes change leads file = grind (arith, nat_tests, mapped, changed_here, kept_file, changed_other)
 
   pub write_mapped : (path : List (List ℕ)) (offset : ℕ) (bytes : List ℕ) → 0 < length bytes → refusal s.limit s.tree (Write path offset bytes) ≡ None
-      → IsMapOf s.limit (map_of (edited nodes path (with_bytes (written offset bytes)))) (step s (Write path offset bytes)).0.tree
+      → IsMapOf s.limit.nodes (map_of (edited nodes path (with_bytes (written offset bytes)))) (step s (Write path offset bytes)).0.tree
   write_mapped path offset bytes some accepts =
       let f = file_met path _ (reason_none (Write path offset bytes) accepts) in
       laws.write s m _ path offset bytes f.node f.links f.bytes is accepts some f.leads f.is (sets_bytes path f.node f.links f.bytes (written offset bytes) f.leads f.is)
 
   pub fill_mapped : (path : List (List ℕ)) (offset count byte : ℕ) → 0 < count → refusal s.limit s.tree (Fill path offset count byte) ≡ None
-      → IsMapOf s.limit (map_of (edited nodes path (with_bytes (written offset (replicate count byte))))) (step s (Fill path offset count byte)).0.tree
+      → IsMapOf s.limit.nodes (map_of (edited nodes path (with_bytes (written offset (replicate count byte))))) (step s (Fill path offset count byte)).0.tree
   fill_mapped path offset count byte some accepts =
       let f = file_met path _ (reason_none (Fill path offset count byte) accepts) in
       laws.fill s m _ path offset count byte f.node f.links f.bytes is accepts some f.leads f.is (sets_bytes path f.node f.links f.bytes (written offset (replicate count byte)) f.leads f.is)
 
   pub truncate_mapped : (path : List (List ℕ)) (size : ℕ) → size ≢ length (bytes_of (inode_at m path)) → refusal s.limit s.tree (Truncate path size) ≡ None
-      → IsMapOf s.limit (map_of (edited nodes path (with_bytes (resized size)))) (step s (Truncate path size)).0.tree
+      → IsMapOf s.limit.nodes (map_of (edited nodes path (with_bytes (resized size)))) (step s (Truncate path size)).0.tree
   truncate_mapped path size other accepts =
       let f = file_met path _ (reason_none (Truncate path size) accepts) in
       let bytes : bytes_of (inode_at m path) ≡ f.bytes = ap bytes_of (ap (option_and_then m) f.leads ∙ f.is) in
       laws.truncate s m _ path size f.node f.links f.bytes is accepts (λ e. other (e ∙ ap length (sym bytes))) f.leads f.is (sets_bytes path f.node f.links f.bytes (resized size) f.leads f.is)
 
   -- Another path.
-  pub link_mapped : (path other : List (List ℕ)) → refusal s.limit s.tree (Link path other) ≡ None → IsMapOf s.limit (map_of (linked nodes path other)) (step s (Link path other)).0.tree
-  link_mapped path = by_parts (λ other. refusal s.limit s.tree (Link path other) ≡ None → IsMapOf s.limit (map_of (linked nodes path other)) (step s (Link path other)).0.tree) no_root last
+  pub link_mapped : (path other : List (List ℕ)) → refusal s.limit s.tree (Link path other) ≡ None → IsMapOf s.limit.nodes (map_of (linked nodes path other)) (step s (Link path other)).0.tree
+  link_mapped path = by_parts (λ other. refusal s.limit s.tree (Link path other) ≡ None → IsMapOf s.limit.nodes (map_of (linked nodes path other)) (step s (Link path other)).0.tree) no_root last
     where
-      no_root : refusal s.limit s.tree (Link path []) ≡ None → IsMapOf s.limit (map_of (linked nodes path [])) (step s (Link path [])).0.tree
+      no_root : refusal s.limit s.tree (Link path []) ≡ None → IsMapOf s.limit.nodes (map_of (linked nodes path [])) (step s (Link path [])).0.tree
       no_root accepts = absurd (there_already (no_reason (walk_reason m path) _ (reason_none (Link path []) accepts)).1)
 
-      last : (up : List (List ℕ)) (name : List ℕ) → refusal s.limit s.tree (Link path (up ++ name ∷ [])) ≡ None → IsMapOf s.limit (map_of (linked nodes path (up ++ name ∷ []))) (step s (Link path (up ++ name ∷ []))).0.tree
+      last : (up : List (List ℕ)) (name : List ℕ) → refusal s.limit s.tree (Link path (up ++ name ∷ [])) ≡ None → IsMapOf s.limit.nodes (map_of (linked nodes path (up ++ name ∷ []))) (step s (Link path (up ++ name ∷ []))).0.tree
       last up name accepts =
           let other = up ++ name ∷ [] in
           let one = no_reason (walk_reason m path) _ (reason_none (Link path other) accepts) in
@@ -197,7 +197,7 @@ module _ (laws : MapLaws) (s : Session) (nodes : KeptNodes) (is : IsMapOf s.limi
           let three = no_reason (when (is_some (number_at m other)) Exists) _ two.1 in
           let four = no_reason (when (is_dir_inode (inode_at m path)) IsDir) _ three.1 in
           let five = no_reason (when (nat_le 65535 (links_in (inode_at m path))) TooManyLinks) _ four.1 in
-          let f = file_there m s.limit s.tree path is one.0 (not_so (is_dir_inode (inode_at m path)) IsDir four.0) in
+          let f = file_there m s.limit.nodes s.tree path is one.0 (not_so (is_dir_inode (inode_at m path)) IsDir four.0) in
           let p = parent_there m up name two.0 in
           let k = kept_dir nodes p.dir p.slots p.is in
           let few : nat_le 65535 f.links ≡ false = ap (nat_le 65535) (sym (ap links_in (ap (option_and_then m) f.leads ∙ f.is))) ∙ not_so (nat_le 65535 (links_in (inode_at m path))) TooManyLinks five.0 in
@@ -218,18 +218,18 @@ module _ (laws : MapLaws) (s : Session) (nodes : KeptNodes) (is : IsMapOf s.limi
       subst (λ new. TakesName m (map_of new) u.d n name) (sym (ap₂ (removed_at nodes) (spot_there up name u.d u.leads) leads))
       (takes_path nodes u.d n u.names name u.dir (child_apart up name n u.d u.names u.leads u.dir leads) u.entry)
 
-  pub unlink_mapped : (path : List (List ℕ)) → refusal s.limit s.tree (Unlink path) ≡ None → IsMapOf s.limit (map_of (removed nodes path)) (step s (Unlink path)).0.tree
-  unlink_mapped = by_parts (λ path. refusal s.limit s.tree (Unlink path) ≡ None → IsMapOf s.limit (map_of (removed nodes path)) (step s (Unlink path)).0.tree)
-      (λ accepts. absurd ((laws.unlinked s.limit s.tree [] (laws.sound s.limit m s.tree is) accepts).1 refl))
+  pub unlink_mapped : (path : List (List ℕ)) → refusal s.limit s.tree (Unlink path) ≡ None → IsMapOf s.limit.nodes (map_of (removed nodes path)) (step s (Unlink path)).0.tree
+  unlink_mapped = by_parts (λ path. refusal s.limit s.tree (Unlink path) ≡ None → IsMapOf s.limit.nodes (map_of (removed nodes path)) (step s (Unlink path)).0.tree)
+      (λ accepts. absurd ((laws.unlinked s.limit.nodes s.tree [] (laws.sound s.limit.nodes m s.tree is) accepts).1 refl))
       (λ up name accepts.
       let path = up ++ name ∷ [] in
       let n = walked m path (no_reason (walk_reason m path) (when (is_dir_inode (inode_at m path)) IsDir ∷ []) (reason_none (Unlink path) accepts)).0 in
       let u = under_there up name n.0 n.1 in
       laws.unlink s m _ up name u.d n.0 is accepts u.leads (takes up name n.0 n.1 u))
 
-  pub rmdir_mapped : (path : List (List ℕ)) → refusal s.limit s.tree (Rmdir path) ≡ None → IsMapOf s.limit (map_of (removed nodes path)) (step s (Rmdir path)).0.tree
-  rmdir_mapped = by_parts (λ path. refusal s.limit s.tree (Rmdir path) ≡ None → IsMapOf s.limit (map_of (removed nodes path)) (step s (Rmdir path)).0.tree)
-      (λ accepts. absurd ((laws.removed s.limit s.tree [] (laws.sound s.limit m s.tree is) accepts).1 refl))
+  pub rmdir_mapped : (path : List (List ℕ)) → refusal s.limit s.tree (Rmdir path) ≡ None → IsMapOf s.limit.nodes (map_of (removed nodes path)) (step s (Rmdir path)).0.tree
+  rmdir_mapped = by_parts (λ path. refusal s.limit s.tree (Rmdir path) ≡ None → IsMapOf s.limit.nodes (map_of (removed nodes path)) (step s (Rmdir path)).0.tree)
+      (λ accepts. absurd ((laws.removed s.limit.nodes s.tree [] (laws.sound s.limit.nodes m s.tree is) accepts).1 refl))
       (λ up name accepts.
       let path = up ++ name ∷ [] in
       let n = walked m path (no_reason (walk_reason m path) _ (reason_none (Rmdir path) accepts)).0 in
@@ -245,7 +245,7 @@ module _ (laws : MapLaws) (s : Session) (nodes : KeptNodes) (is : IsMapOf s.limi
 
   abbrev Moves : List (List ℕ) → List (List ℕ) → Type 0
   Moves from to = refusal s.limit s.tree (Rename from to) ≡ None → is_same_node s.tree from to ≡ false
-      → IsMapOf s.limit (map_of (moved nodes from to).0) (step s (Rename from to)).0.tree × ((moved nodes from to).1 ≡ true)
+      → IsMapOf s.limit.nodes (map_of (moved nodes from to).0) (step s (Rename from to)).0.tree × ((moved nodes from to).1 ≡ true)
 
   moves_between : (up to : List (List ℕ)) (name other : List ℕ) → Moves (up ++ name ∷ []) (to ++ other ∷ [])
   moves_between up to name other accepts differ =
@@ -260,7 +260,7 @@ module _ (laws : MapLaws) (s : Session) (nodes : KeptNodes) (is : IsMapOf s.limi
       let k = kept_dir nodes p.dir p.slots p.is in
       let at_into : number_at m into ≡ get k.0 other = number_last m to other ∙ ap (option_and_then (λ j. entry_in (m j) other)) p.leads ∙ ap (λ o. entry_in (option_map inode_of o) other) k.1 ∙ under_name k.0 other in
       let not_same : get k.0 other ≢ Some n.0 = λ e. true≢false (sym (numbers_same from into ∙ ap₂ are_same n.1 (at_into ∙ e) ∙ eq-eqb n.0 n.0 refl) ∙ differ) in
-      let law = laws.moved s.limit s.tree from into (laws.sound s.limit m s.tree is) accepts differ in
+      let law = laws.moved s.limit.nodes s.limit.layout s.tree from into (laws.sound s.limit.nodes m s.tree is) accepts differ in
       let apart : (old : ℕ) → get k.0 other ≡ Some old → (old ≢ u.d) × (old ≢ p.dir) = λ old at. (
         λ e. true≢false (sym (laws.held s.tree.names into [] name n.0 (is.shows.names (into ++ name ∷ []) ∙ ap (λ q. number_at m (q ++ name ∷ [])) (is.shows.only u.d (slots_for u.names) up (mapped nodes u.d (KeptDir u.names) u.dir) u.leads into (at_into ∙ at ∙ ap Some e)) ∙ n.1)) ∙ law.1),
         λ e. child_apart to other old p.dir k.0 p.leads k.1 (at_into ∙ at) e,
@@ -275,7 +275,7 @@ module _ (laws : MapLaws) (s : Session) (nodes : KeptNodes) (is : IsMapOf s.limi
 
   pub rename_mapped : (from to : List (List ℕ)) → Moves from to
   rename_mapped = by_parts (λ from. (to : List (List ℕ)) → Moves from to)
-      (λ to accepts differ. absurd (true≢false (laws.moved s.limit s.tree [] to (laws.sound s.limit m s.tree is) accepts differ).0))
+      (λ to accepts differ. absurd (true≢false (laws.moved s.limit.nodes s.limit.layout s.tree [] to (laws.sound s.limit.nodes m s.tree is) accepts differ).0))
       (λ up name. by_parts (Moves (up ++ name ∷ []))
-      (λ accepts differ. absurd ((laws.moved s.limit s.tree (up ++ name ∷ []) [] (laws.sound s.limit m s.tree is) accepts differ).2 refl))
+      (λ accepts differ. absurd ((laws.moved s.limit.nodes s.limit.layout s.tree (up ++ name ∷ []) [] (laws.sound s.limit.nodes m s.tree is) accepts differ).2 refl))
       (λ to other. moves_between up to name other))

@@ -58,14 +58,14 @@ module _ (laws : MapLaws) (old : State) (kept : IsKept old) where
   s = session_of old
 
   -- the nodes are those of the tree with its snapshots, too
-  whole : IsMapOf s.limit (map_of old.nodes) s.tree
-  whole = aside s.limit (map_of old.nodes) (tree_of old.nodes) (snapshots_of old.kept) kept.map
+  whole : IsMapOf s.limit.nodes (map_of old.nodes) s.tree
+  whole = aside s.limit.nodes (map_of old.nodes) (tree_of old.nodes) (snapshots_of old.kept) kept.map
 
-  least_is : least_unused s.limit s.tree ≡ least old
-  least_is = least_shown s.limit old.nodes old.kept s.tree whole refl
+  least_is : least_unused s.limit.nodes s.tree ≡ least old
+  least_is = least_shown s.limit.nodes old.nodes old.kept s.tree whole refl
 
-  reason_is : (cmd : Cmd) → refusal s.limit s.tree cmd ≡ reason (least old) (snapshots_of old.kept) (map_of old.nodes) cmd
-  reason_is cmd = laws.refuses s.limit (map_of old.nodes) s.tree cmd whole ∙ ap (λ l. reason l (snapshots_of old.kept) (map_of old.nodes) cmd) least_is
+  reason_is : (cmd : Cmd) → refusal s.limit s.tree cmd ≡ reason old.layout (least old) (snapshots_of old.kept) (map_of old.nodes) cmd
+  reason_is cmd = laws.refuses s.limit (map_of old.nodes) s.tree cmd whole ∙ ap (λ l. reason old.layout l (snapshots_of old.kept) (map_of old.nodes) cmd) least_is
 
   abbrev Serves : Cmd → State × Reply → Type 0
   Serves cmd r = (step (session_of old) cmd ≡ (session_of r.0, r.1)) × IsKept r.0
@@ -74,17 +74,17 @@ module _ (laws : MapLaws) (old : State) (kept : IsKept old) where
   small = small_tree old.limit (map_of old.nodes) s.tree whole kept.small
 
   -- a command that changes the nodes
-  changed : (cmd : Cmd) (nodes : KeptNodes) (t : Tree) → changes_snapshots cmd ≡ false → step s cmd ≡ tree.changed_to s t → IsMapOf s.limit (map_of nodes) (step s cmd).0.tree → Serves cmd (changed_to old nodes)
+  changed : (cmd : Cmd) (nodes : KeptNodes) (t : Tree) → changes_snapshots cmd ≡ false → step s cmd ≡ tree.changed_to s t → IsMapOf s.limit.nodes (map_of nodes) (step s cmd).0.tree → Serves cmd (changed_to old nodes)
   changed cmd nodes t live steps is =
       let t_is : (step s cmd).0.tree ≡ t = ap (λ r. r.0.tree) steps in
-      let is_t : IsMapOf s.limit (map_of nodes) t = subst (IsMapOf s.limit (map_of nodes)) t_is is in
+      let is_t : IsMapOf s.limit.nodes (map_of nodes) t = subst (IsMapOf s.limit.nodes (map_of nodes)) t_is is in
       let same : t.snapshots ≡ snapshots_of old.kept = ap (λ u. u.snapshots) (sym t_is) ∙ laws.same_snapshots s cmd live in
       let tree_is : beside (tree_of nodes) (snapshots_of old.kept) ≡ t =
-      ap (λ u. beside u (snapshots_of old.kept)) (the_tree s.limit nodes t is_t) ∙ ap (beside t) (sym same) in (
+      ap (λ u. beside u (snapshots_of old.kept)) (the_tree s.limit.nodes nodes t is_t) ∙ ap (beside t) (sym same) in (
         steps ∙ ap (λ u. tree.changed_to s u) (sym tree_is),
         record {
-          map = own_tree s.limit nodes t is_t;
-          small = small_map s.limit (map_of nodes) (step s cmd).0.tree is (laws.small_step s cmd small);
+          map = own_tree s.limit.nodes nodes t is_t;
+          small = small_map s.limit.nodes (map_of nodes) (step s cmd).0.tree is (laws.small_step s cmd small);
           snapshots = kept.snapshots;
         },
       )
@@ -103,7 +103,7 @@ module _ (laws : MapLaws) (old : State) (kept : IsKept old) where
 
   -- bytes that come, or none
   writes : (cmd : Cmd) (path : List (List ℕ)) (offset : ℕ) (bytes : List ℕ) → changes_snapshots cmd ≡ false → step s cmd ≡ tree.write s path offset bytes
-      → (0 < length bytes → IsMapOf s.limit (map_of (edited old.nodes path (with_bytes (written offset bytes)))) (step s cmd).0.tree)
+      → (0 < length bytes → IsMapOf s.limit.nodes (map_of (edited old.nodes path (with_bytes (written offset bytes)))) (step s cmd).0.tree)
       → Serves cmd (if length bytes == 0 then (old, Done) else changed_to old (edited old.nodes path (with_bytes (written offset bytes))))
   writes cmd path offset bytes live steps maps = by (length bytes == 0) refl
     where
@@ -120,7 +120,7 @@ module _ (laws : MapLaws) (old : State) (kept : IsKept old) where
 
       steps : (b : Bool) → (size == length (bytes_of (inode_at (map_of old.nodes) path))) ≡ b → step s (Truncate path size) ≡ (if b then (s, Done) else tree.changed_to s (tree.edited s.tree path (resized size)))
       steps b e = ap (answered s (Truncate path size)) accepts
-          ∙ ap (λ b. if b then (s, Done) else tree.changed_to s (tree.edited s.tree path (resized size))) (ap (λ bytes. size == length bytes) (laws.bytes s.limit (map_of old.nodes) s.tree path whole) ∙ e)
+          ∙ ap (λ b. if b then (s, Done) else tree.changed_to s (tree.edited s.tree path (resized size))) (ap (λ bytes. size == length bytes) (laws.bytes s.limit.nodes (map_of old.nodes) s.tree path whole) ∙ e)
 
       by : (b : Bool) → (size == length (bytes_of (inode_at (map_of old.nodes) path))) ≡ b
           → Serves (Truncate path size) (if b then (old, Done) else changed_to old (edited old.nodes path (with_bytes (resized size))))
@@ -163,10 +163,10 @@ module _ (laws : MapLaws) (old : State) (kept : IsKept old) where
       x : Snapshot
       x = record { number = n; nodes = old.nodes }
 
-      by : (q : List ℕ) (y : Snapshot) → get (insert old.kept name x) q ≡ Some y → (q ≡ name) ⊎ (eq_by_cmp name_cmp q name ≡ false) → IsMapOf s.limit (map_of y.nodes) (tree_of y.nodes)
+      by : (q : List ℕ) (y : Snapshot) → get (insert old.kept name x) q ≡ Some y → (q ≡ name) ⊎ (eq_by_cmp name_cmp q name ≡ false) → IsMapOf s.limit.nodes (map_of y.nodes) (tree_of y.nodes)
       by q y at (inl e) =
           let same : x ≡ y = same_Some x y (sym (put_here name_total name_same old.kept name x q e) ∙ at) in
-          subst (λ (y : Snapshot). IsMapOf s.limit (map_of y.nodes) (tree_of y.nodes)) same kept.map
+          subst (λ (y : Snapshot). IsMapOf s.limit.nodes (map_of y.nodes) (tree_of y.nodes)) same kept.map
       by q y at (inr e) = kept.snapshots q y (sym (get-insert name_total old.kept name x q ∙ ap (λ b. cond b (Some x) (get old.kept q)) e) ∙ at)
 
   -- one less
@@ -176,7 +176,7 @@ module _ (laws : MapLaws) (old : State) (kept : IsKept old) where
     record { map = kept.map; small = kept.small; snapshots = λ q y at. by q y (which_key name_total name_same q name) (sym (get-remove name_total old.kept name q) ∙ at) },
   )
     where
-      by : (q : List ℕ) (y : Snapshot) → (q ≡ name) ⊎ (eq_by_cmp name_cmp q name ≡ false) → cond (eq_by_cmp name_cmp q name) None (get old.kept q) ≡ Some y → IsMapOf s.limit (map_of y.nodes) (tree_of y.nodes)
+      by : (q : List ℕ) (y : Snapshot) → (q ≡ name) ⊎ (eq_by_cmp name_cmp q name ≡ false) → cond (eq_by_cmp name_cmp q name) None (get old.kept q) ≡ Some y → IsMapOf s.limit.nodes (map_of y.nodes) (tree_of y.nodes)
       by q y (inl e) at = absurd (none-some y (sym (ap (λ b. cond b None (get old.kept q)) (tied name_total name_same q name e)) ∙ at))
       by q y (inr e) at = kept.snapshots q y (sym (ap (λ b. cond b None (get old.kept q)) e) ∙ at)
 
@@ -195,14 +195,14 @@ module _ (laws : MapLaws) (old : State) (kept : IsKept old) where
       by : (o : Option Snapshot) → get s.tree.snapshots name ≡ option_map kept_by o → get old.kept name ≡ o → answered s (At name l) (at_refusal (option_map kept_by o) l) ≡ (s, looked_at o l)
       by None at there = refl
       by (Some x) at there =
-          let law = laws.looks s.limit (map_of x.nodes) (kept_tree (kept_by x)) l (aside s.limit (map_of x.nodes) (tree_of x.nodes) empty (kept.snapshots name x there)) in
+          let law = laws.looks s.limit.nodes (map_of x.nodes) (kept_tree (kept_by x)) l (aside s.limit.nodes (map_of x.nodes) (tree_of x.nodes) empty (kept.snapshots name x there)) in
           ap (answered s (At name l)) law.0 ∙ last x at law.1 (look_reason (map_of x.nodes) l)
 
   pub serves_accepted : (cmd : Cmd) → refusal s.limit s.tree cmd ≡ None → Serves cmd (accepted old cmd)
   serves_accepted (Mkdir path) accepts = changed (Mkdir path) _ _ refl (ap (answered s (Mkdir path)) accepts)
-      (subst (λ l. IsMapOf s.limit (map_of (made l old.nodes path (KeptDir empty))) (step s (Mkdir path)).0.tree) least_is (mkdir_mapped laws s old.nodes whole path accepts))
+      (subst (λ l. IsMapOf s.limit.nodes (map_of (made l old.nodes path (KeptDir empty))) (step s (Mkdir path)).0.tree) least_is (mkdir_mapped laws s old.nodes whole path accepts))
   serves_accepted (Create path) accepts = changed (Create path) _ _ refl (ap (answered s (Create path)) accepts)
-      (subst (λ l. IsMapOf s.limit (map_of (made l old.nodes path (KeptFile 1 []))) (step s (Create path)).0.tree) least_is (create_mapped laws s old.nodes whole path accepts))
+      (subst (λ l. IsMapOf s.limit.nodes (map_of (made l old.nodes path (KeptFile 1 []))) (step s (Create path)).0.tree) least_is (create_mapped laws s old.nodes whole path accepts))
   serves_accepted (Write path offset bytes) accepts = writes (Write path offset bytes) path offset bytes refl (ap (answered s (Write path offset bytes)) accepts)
       (λ some. write_mapped laws s old.nodes whole path offset bytes some accepts)
   serves_accepted (Fill path offset count byte) accepts = writes (Fill path offset count byte) path offset (replicate count byte) refl (ap (answered s (Fill path offset count byte)) accepts)
@@ -229,11 +229,11 @@ module _ (laws : MapLaws) (old : State) (kept : IsKept old) where
   serves_accepted Bad accepts = (refl, kept)
 
   -- refused, or done
-  serves_by : (cmd : Cmd) (o : Option Refusal) → reason (least old) (snapshots_of old.kept) (map_of old.nodes) cmd ≡ o → Serves cmd (served_by old o (accepted old cmd))
+  serves_by : (cmd : Cmd) (o : Option Refusal) → reason old.layout (least old) (snapshots_of old.kept) (map_of old.nodes) cmd ≡ o → Serves cmd (served_by old o (accepted old cmd))
   serves_by cmd None e = serves_accepted cmd (reason_is cmd ∙ e)
   serves_by cmd (Some why) e = unchanged cmd (Refused why) (ap (answered s cmd) (reason_is cmd ∙ e))
 
   -- each command
   pub serves : (cmd : Cmd) (new : State) (reply : Reply) → served old cmd ≡ (new, reply) → (step s cmd ≡ (session_of new, reply)) × IsKept new
   serves (At name l) new reply is = subst (λ r. Serves (At name l) r) is (looks name l (get old.kept name) refl, kept)
-  serves cmd new reply is = subst (λ r. Serves cmd r) is (serves_by cmd (reason (least old) (snapshots_of old.kept) (map_of old.nodes) cmd) refl)
+  serves cmd new reply is = subst (λ r. Serves cmd r) is (serves_by cmd (reason old.layout (least old) (snapshots_of old.kept) (map_of old.nodes) cmd) refl)

@@ -3,10 +3,13 @@ use Rattle.std.proofs.Common.{◌≡◌, ℕ, ◌+◌, false, List, [], ◌∷�
 use Rattle.std.proofs.lemmas.List.{append_cancel_left}
 use Rattle.std.specs.Ordering.{eq_by_cmp}
 use Rattle.std.specs.FinMap.{get, remove, entries, entries_sorted}
+use Rattle.base_types.specs.declared.layout.Layout.{Layout}
+use Rattle.base_types.specs.Layouts.{directory_blocks}
+use Rattle.base_types.specs.LayoutLaws.{directory_blocks_rise}
 use Rattle.lang_tree.specs.Tree.{Names, path_cmp}
 use Rattle.lang_tree.specs.Paths.{strip, is_within, lone_name, moved_path, moved_by, parent}
 use Rattle.lang_tree.specs.Names.{holds_names, renamed}
-use Rattle.lang_tree.specs.Figures.{directory_blocks, growth, release}
+use Rattle.lang_tree.specs.Figures.{growth, release}
 use Rattle.lang_tree.proofs.basics.Order.{path_total, path_same}
 use Rattle.lang_tree.proofs.basics.Strips.{strip_is, strip_at, not_behind, within_at, parted}
 use Rattle.lang_tree.proofs.basics.Finds.{tied, which_key, gone_here, stays}
@@ -15,14 +18,15 @@ use Rattle.lang_tree.proofs.walking.Found.{none_held}
 use Rattle.lang_tree.proofs.moves.Renames.{none_at, found, two_apart, free_after}
 use Rattle.lang_tree.proofs.soundness.SoundMoves.{not_own_parent}
 use Rattle.lang_tree.proofs.counting.Totals.{total, total_same, total_changed, total_moved}
-use Rattle.lang_tree.proofs.blocks.BlockSums.{one_in, last_name, in_parent, one_at_parent, none_elsewhere, none_without, held, held_total, held_less, held_one_less, dirs, dirs_total, dirs_freed, grown, freed}
+use Rattle.lang_tree.proofs.blocks.BlockSums.{one_in, last_name, in_parent, one_at_parent, none_elsewhere, none_without, held, held_total, held_less, held_one_less, dirs, dirs_total, dirs_freed, more_names, fewer_names, grown, freed}
 
 abbrev Place : Type 0
 Place = List (List ℕ)
 
 -- what a directory frees with a name less it takes again with one more
-balance : (after between before freed count : ℕ) → after + freed ≡ between + growth count → between + release (1 + count) ≡ before → after + freed ≡ before
-balance after between before freed count out back = omega (arith, out, back)
+balance : (l : Layout) (after between before freed count : ℕ) → after + freed ≡ between + growth l count → between + release l (1 + count) ≡ before → after + freed ≡ before
+balance l after between before freed count out back =
+    let more = more_names l count in let fewer = fewer_names l count in let rises = directory_blocks_rise l count (1 + count) (omega arith) in omega (arith, out, back, more, fewer, rises)
 
 -- behind one front and behind another the same is left
 strip_both : (p r s : Place) → strip (p ++ s) (p ++ r) ≡ strip s r
@@ -37,7 +41,7 @@ both_one : (p q r s : Place) → one_in (p ++ s) (p ++ r) ≡ one_in (q ++ s) (q
 both_one p q r s = ap (λ o. if is_some (lone_name o) then 1 else 0) (strip_both p r s ∙ sym (strip_both q r s))
 
 -- what is at `from` moves to `to`, where nothing is
-module _ (names : Names) (from to : Place) (gone : get names to ≡ None) (free : holds_names names to ≡ false) (apart : is_within from to ≡ false) where
+module _ (l : Layout) (names : Names) (from to : Place) (gone : get names to ≡ None) (free : holds_names names to ≡ false) (apart : is_within from to ≡ false) where
   -- a path other than `from` lies after the move in the directory in which it lay
   one_stays : (q p : Place) (k m : ℕ) → get names q ≡ Some k → get names p ≡ Some m → (p ≡ from → ⊥) → one_in (moved_path from to q) (moved_path from to p) ≡ one_in q p
   one_stays q p k m at_q at_p off = by (strip from q) (strip from p) refl refl
@@ -103,13 +107,13 @@ module _ (names : Names) (from to : Place) (gone : get names to ≡ None) (free 
         let before = held_total names q in
         omega (arith, moved, change, top, before)
 
-    dirs_now : dirs (renamed names from to) ≡ total (λ e. directory_blocks (now e.0)) (entries names)
+    dirs_now : dirs l (renamed names from to) ≡ total (λ e. directory_blocks l (now e.0)) (entries names)
     unfolding now
-    dirs_now = dirs_total (renamed names from to) ∙ total_now (λ p. directory_blocks (held (renamed names from to) p))
+    dirs_now = dirs_total l (renamed names from to) ∙ total_now (λ p. directory_blocks l (held (renamed names from to) p))
 
     -- within one directory nothing changes
-    pub dirs_within : parent from ≡ parent to → dirs (renamed names from to) ≡ dirs names
-    dirs_within one = dirs_now ∙ total_same path_total (λ q. directory_blocks (now q)) (λ q. directory_blocks (held names q)) names (λ q m at_q. ap directory_blocks (same q m at_q)) ∙ sym (dirs_total names)
+    pub dirs_within : parent from ≡ parent to → dirs l (renamed names from to) ≡ dirs l names
+    dirs_within one = dirs_now ∙ total_same path_total (λ q. directory_blocks l (now q)) (λ q. directory_blocks l (held names q)) names (λ q m at_q. ap (directory_blocks l) (same q m at_q)) ∙ sym (dirs_total l names)
       where
         as_many : (q : Place) → one_in q from ≡ one_in q to
         as_many q = grind (arith, which_key path_same q (parent from), one_at_parent to to_below_root, which_key, path_same, one_in, one_at_parent, tied, path_total, none_elsewhere)
@@ -118,16 +122,16 @@ module _ (names : Names) (from to : Place) (gone : get names to ≡ None) (free 
         same q m at_q = let a = now_and_then q m at_q in let b = as_many q in omega (arith, a, b)
 
     -- from one directory to another
-    pub dirs_across : (parent from ≡ parent to → ⊥) → dirs (renamed names from to) + release (held names (parent from)) ≡ dirs names + growth (held names (parent to))
+    pub dirs_across : (parent from ≡ parent to → ⊥) → dirs l (renamed names from to) + release l (held names (parent from)) ≡ dirs l names + growth l (held names (parent to))
     dirs_across two =
-        let more = total_changed path_total path_same (λ q. directory_blocks (held names q + one_in q to)) (λ q. directory_blocks (held names q)) names (parent to) k to_up
-        (λ q m at_q off. ap directory_blocks (nothing_more q (none_elsewhere q to off))) in
-        let less = total_changed path_total path_same (λ q. directory_blocks (now q)) (λ q. directory_blocks (held names q + one_in q to)) names (parent from) j from_up
-        (λ q m at_q off. ap directory_blocks (nothing_less q m at_q (none_elsewhere q from off))) in
+        let more = total_changed path_total path_same (λ q. directory_blocks l (held names q + one_in q to)) (λ q. directory_blocks l (held names q)) names (parent to) k to_up
+        (λ q m at_q off. ap (directory_blocks l) (nothing_more q (none_elsewhere q to off))) in
+        let less = total_changed path_total path_same (λ q. directory_blocks l (now q)) (λ q. directory_blocks l (held names q + one_in q to)) names (parent from) j from_up
+        (λ q m at_q off. ap (directory_blocks l) (nothing_less q m at_q (none_elsewhere q from off))) in
         let one_less : held names (parent from) ≡ 1 + now (parent from) = left (parent from) (now_and_then (parent from) j from_up) (one_at_parent from below_root) (none_elsewhere (parent from) to two) in
-        let from_side = freed _ _ (now (parent from)) (sym less ∙ ap (λ c. total (λ e. directory_blocks (now e.0)) (entries names) + directory_blocks c) (nothing_more (parent from) (none_elsewhere (parent from) to two) ∙ one_less)) in
-        let to_side = grown _ _ (held names (parent to)) (more ∙ ap (λ c. total (λ e. directory_blocks (held names e.0)) (entries names) + directory_blocks c) (one_more (parent to) (one_at_parent to to_below_root))) in
-        ap₂ (λ d c. d + release c) dirs_now one_less ∙ from_side ∙ to_side ∙ ap (λ d. d + growth (held names (parent to))) (sym (dirs_total names))
+        let from_side = freed l _ _ (now (parent from)) (sym less ∙ ap (λ c. total (λ e. directory_blocks l (now e.0)) (entries names) + directory_blocks l c) (nothing_more (parent from) (none_elsewhere (parent from) to two) ∙ one_less)) in
+        let to_side = grown l _ _ (held names (parent to)) (more ∙ ap (λ c. total (λ e. directory_blocks l (held names e.0)) (entries names) + directory_blocks l c) (one_more (parent to) (one_at_parent to to_below_root))) in
+        ap₂ (λ d c. d + release l c) dirs_now one_less ∙ from_side ∙ to_side ∙ ap (λ d. d + growth l (held names (parent to))) (sym (dirs_total l names))
       where
         nothing_more : (q : Place) → one_in q to ≡ 0 → held names q + one_in q to ≡ held names q
         nothing_more q none = omega (arith, none)
@@ -142,7 +146,7 @@ module _ (names : Names) (from to : Place) (gone : get names to ≡ None) (free 
         left q a one none = omega (arith, a, one, none)
 
 -- the same where something is at `to`, which goes first: the directory above it holds as many names as before
-module _ (names : Names) (from to : Place) (free : holds_names names to ≡ false) (apart : is_within from to ≡ false) (n m j k : ℕ) (at : get names from ≡ Some n) (there : get names to ≡ Some m)
+module _ (l : Layout) (names : Names) (from to : Place) (free : holds_names names to ≡ false) (apart : is_within from to ≡ false) (n m j k : ℕ) (at : get names from ≡ Some n) (there : get names to ≡ Some m)
     (below_root : from ≡ [] → ⊥) (to_below_root : to ≡ [] → ⊥) (from_up : get names (parent from) ≡ Some j) (to_up : get names (parent to) ≡ Some k) where
   stays_there : (p : Place) (v : ℕ) → (p ≡ to → ⊥) → get names p ≡ Some v → get (remove names to) p ≡ Some v
   stays_there p v off e = stays path_total path_same names to p off ∙ e
@@ -154,7 +158,7 @@ module _ (names : Names) (from to : Place) (free : holds_names names to ≡ fals
   up_other : parent from ≡ to → ⊥
   up_other e = let end = last_name (parent from) from (in_parent from below_root) in none_held names to [] end.0 n free (ap (get names) (ap (λ p. p ++ end.0 ∷ []) (sym e) ∙ sym end.1) ∙ at)
 
-  pub dirs_onto : dirs (renamed (remove names to) from to) + release (held names (parent from)) ≡ dirs names
+  pub dirs_onto : dirs l (renamed (remove names to) from to) + release l (held names (parent from)) ≡ dirs l names
   dirs_onto = by (which_key path_same (parent from) (parent to))
     where
       gone : get (remove names to) to ≡ None
@@ -172,11 +176,11 @@ module _ (names : Names) (from to : Place) (free : holds_names names to ≡ fals
       to_above : get (remove names to) (parent to) ≡ Some k
       to_above = stays_there (parent to) k (not_own_parent to to_below_root) to_up
 
-      first : dirs (remove names to) + release (held names (parent to)) ≡ dirs names
-      first = dirs_freed names to m k there free to_below_root to_up
+      first : dirs l (remove names to) + release l (held names (parent to)) ≡ dirs l names
+      first = dirs_freed names to m k there free to_below_root to_up l
 
       up_as_before : (parent from ≡ parent to → ⊥) → held names (parent from) ≡ held (remove names to) (parent from)
       up_as_before two = let less = held_less names to m (parent from) there in let none = none_elsewhere (parent from) to two in omega (arith, less, none)
 
-      by : (parent from ≡ parent to) ⊎ (eq_by_cmp path_cmp (parent from) (parent to) ≡ false) → dirs (renamed (remove names to) from to) + release (held names (parent from)) ≡ dirs names
+      by : (parent from ≡ parent to) ⊎ (eq_by_cmp path_cmp (parent from) (parent to) ≡ false) → dirs l (renamed (remove names to) from to) + release l (held names (parent from)) ≡ dirs l names
       by h1 = grind (arith, held, dirs_within, gone, free_now, from_at, from_above, to_above, first, tied, path_total, dirs_across, held_one_less, balance, dirs, up_as_before)

@@ -1,14 +1,17 @@
 -- Blocks as sums: what the files of a tree take, and what its directories take with a path more or less.
-use Rattle.std.proofs.Common.{◌≡◌, ℕ, ◌+◌, true, false, if◌then◌else◌, List, [], ◌∷◌, ◌++◌, length, Option, Some, None, is_some, refl, sym, ap, ap₂, ◌∙◌, ◌⊎◌, arith, true≢false}
+use Rattle.std.proofs.Common.{◌≡◌, ℕ, ◌+◌, ◌-◌, true, false, if◌then◌else◌, List, [], ◌∷◌, ◌++◌, length, Option, Some, None, is_some, refl, sym, ap, ap₂, ◌∙◌, arith, true≢false}
 use Rattle.std.proofs.lemmas.Bool.{false_from_ne_true}
 use Rattle.std.specs.List.{filter_map}
 use Rattle.std.specs.Cmp.{nat_cmp_total}
 use Rattle.std.specs.FinMap.{nat_cmp-IsAntisymmetric, get, insert, remove, entries}
 use Rattle.std.proofs.lemmas.Option.{none-some}
+use Rattle.base_types.specs.declared.layout.Layout.{Layout}
+use Rattle.base_types.specs.Layouts.{directory_blocks}
+use Rattle.base_types.specs.LayoutLaws.{directory_blocks_rise, no_directory_blocks}
 use Rattle.lang_tree.specs.Tree.{Names, Nodes, Thing}
 use Rattle.lang_tree.specs.Paths.{strip, name_in, lone_name, is_below, parent}
 use Rattle.lang_tree.specs.Names.{names_in, holds_names}
-use Rattle.lang_tree.specs.Figures.{content_blocks, file_blocks, directory_blocks, all_directory_blocks, growth, release}
+use Rattle.lang_tree.specs.Figures.{content_blocks, file_blocks, all_directory_blocks, growth, release}
 use Rattle.lang_tree.proofs.basics.Order.{path_total, path_same}
 use Rattle.lang_tree.proofs.basics.Strips.{strip_is, strip_join, from_end, parent_append}
 use Rattle.lang_tree.proofs.basics.Finds.{gone_here, stays, put_back}
@@ -98,55 +101,63 @@ holds_none names path free = held_total names path
 
 -- The blocks of the directories.
 
-abbrev pub dirs : Names → ℕ
-dirs names = all_directory_blocks names (entries names)
+abbrev pub dirs : Layout → Names → ℕ
+dirs l names = all_directory_blocks l names (entries names)
 
-each_dir : (names : Names) (es : List (Place × ℕ)) → all_directory_blocks names es ≡ total (λ e. directory_blocks (held names e.0)) es
-each_dir names [] = refl
-each_dir names (e ∷ es) = ap (λ n. directory_blocks (held names e.0) + n) (each_dir names es)
+each_dir : (l : Layout) (names : Names) (es : List (Place × ℕ)) → all_directory_blocks l names es ≡ total (λ e. directory_blocks l (held names e.0)) es
+each_dir l names [] = refl
+each_dir l names (e ∷ es) = ap (λ n. directory_blocks l (held names e.0) + n) (each_dir l names es)
 
-pub dirs_total : (names : Names) → dirs names ≡ total (λ e. directory_blocks (held names e.0)) (entries names)
-dirs_total names = each_dir names (entries names)
+pub dirs_total : (l : Layout) (names : Names) → dirs l names ≡ total (λ e. directory_blocks l (held names e.0)) (entries names)
+dirs_total l names = each_dir l names (entries names)
 
-pub grown : (before after count : ℕ) → after + directory_blocks count ≡ before + directory_blocks (1 + count) → after ≡ before + growth count
-grown before after count e = omega arith
+-- the same count, written in the two ways
+pub more_names : (l : Layout) (count : ℕ) → directory_blocks l (count + 1) ≡ directory_blocks l (1 + count)
+more_names l count = ap (directory_blocks l) (omega arith)
 
-pub freed : (before after count : ℕ) → before + directory_blocks count ≡ after + directory_blocks (1 + count) → after + release (1 + count) ≡ before
-freed before after count e = omega arith
+pub fewer_names : (l : Layout) (count : ℕ) → directory_blocks l (1 + count - 1) ≡ directory_blocks l count
+fewer_names l count = ap (directory_blocks l) (omega arith)
+
+pub grown : (l : Layout) (before after count : ℕ) → after + directory_blocks l count ≡ before + directory_blocks l (1 + count) → after ≡ before + growth l count
+grown l before after count e = let more = more_names l count in let rises = directory_blocks_rise l count (1 + count) (omega arith) in omega (arith, e, more, rises)
+
+pub freed : (l : Layout) (before after count : ℕ) → before + directory_blocks l count ≡ after + directory_blocks l (1 + count) → after + release l (1 + count) ≡ before
+freed l before after count e = let fewer = fewer_names l count in let rises = directory_blocks_rise l count (1 + count) (omega arith) in omega (arith, e, fewer, rises)
 
 -- a new path, with nothing below it and a directory above it
-module _ (names : Names) (path : Place) (n k : ℕ) (none : get names path ≡ None) (empty : held names path ≡ 0) (below_root : path ≡ [] → ⊥) (up_at : get names (parent path) ≡ Some k) where
+module _ (l : Layout) (names : Names) (path : Place) (n k : ℕ) (none : get names path ≡ None) (empty : held names path ≡ 0) (below_root : path ≡ [] → ⊥) (up_at : get names (parent path) ≡ Some k) where
   blocks_then : Place → ℕ
-  blocks_then p = directory_blocks (held (insert names path n) p)
+  blocks_then p = directory_blocks l (held (insert names path n) p)
 
   blocks_now : Place → ℕ
-  blocks_now p = directory_blocks (held names p)
+  blocks_now p = directory_blocks l (held names p)
 
-  pub dirs_more : dirs (insert names path n) + directory_blocks (held names (parent path)) ≡ dirs names + directory_blocks (1 + held names (parent path))
+  pub dirs_more : dirs l (insert names path n) + directory_blocks l (held names (parent path)) ≡ dirs l names + directory_blocks l (1 + held names (parent path))
   unfolding blocks_then blocks_now
   dirs_more =
       let own : one_in path path ≡ 0 = none_elsewhere path path (λ e. none-some k (sym none ∙ ap (get names) e ∙ up_at)) in
-      let of_path : directory_blocks (held (insert names path n) path) ≡ 0 = ap directory_blocks (held_more names path n path none ∙ ap₂ (λ a b. a + b) own empty) in
+      let of_path : directory_blocks l (held (insert names path n) path) ≡ 0 =
+      ap (directory_blocks l) (held_more names path n path none ∙ ap₂ (λ a b. a + b) own empty) ∙ no_directory_blocks l in
       let of_up : held (insert names path n) (parent path) ≡ 1 + held names (parent path) = held_more names path n (parent path) none ∙ ap (λ a. a + held names (parent path)) (one_at_parent path below_root) in
       let with_path = total_inserted path_total (λ e. blocks_then e.0) names path n none in
-      let at_up = total_changed path_total path_same blocks_then blocks_now names (parent path) k up_at (λ p m at off. ap directory_blocks (held_same names path n p none off)) in
-      omega (arith, dirs_total (insert names path n), dirs_total names, of_path, with_path, at_up, ap directory_blocks of_up)
+      let at_up = total_changed path_total path_same blocks_then blocks_now names (parent path) k up_at (λ p m at off. ap (directory_blocks l) (held_same names path n p none off)) in
+      omega (arith, dirs_total l (insert names path n), dirs_total l names, of_path, with_path, at_up, ap (directory_blocks l) of_up)
 
-  pub dirs_grown : dirs (insert names path n) ≡ dirs names + growth (held names (parent path))
-  dirs_grown = grown _ _ _ dirs_more
+  pub dirs_grown : dirs l (insert names path n) ≡ dirs l names + growth l (held names (parent path))
+  dirs_grown = grown l _ _ _ dirs_more
 
 -- a path that goes, with nothing below it
 module _ (names : Names) (path : Place) (n k : ℕ) (at : get names path ≡ Some n) (free : holds_names names path ≡ false) (below_root : path ≡ [] → ⊥) (up_at : get names (parent path) ≡ Some k) where
   pub held_one_less : held names (parent path) ≡ 1 + held (remove names path) (parent path)
   held_one_less = held_less names path n (parent path) at ∙ ap (λ a. a + held (remove names path) (parent path)) (one_at_parent path below_root)
 
-  pub dirs_freed : dirs (remove names path) + release (held names (parent path)) ≡ dirs names
-  dirs_freed =
+  pub dirs_freed : (l : Layout) → dirs l (remove names path) + release l (held names (parent path)) ≡ dirs l names
+  dirs_freed l =
       let gone = gone_here path_total names path path refl in
       let all = held_less names path n path at in
       let whole = holds_none names path free in
       let empty : held (remove names path) path ≡ 0 = omega (arith, all, whole) in
       let up_left = stays path_total path_same names path (parent path) (not_own_parent path below_root) ∙ up_at in
-      let back = ap (λ m. dirs m + directory_blocks (held (remove names path) (parent path))) (sym (put_back path_total path_same names path n at)) in
-      ap (λ a. dirs (remove names path) + release a) held_one_less
-      ∙ freed _ _ _ (back ∙ dirs_more (remove names path) path n k gone empty below_root up_left)
+      let back = ap (λ m. dirs l m + directory_blocks l (held (remove names path) (parent path))) (sym (put_back path_total path_same names path n at)) in
+      ap (λ a. dirs l (remove names path) + release l a) held_one_less
+      ∙ freed l _ _ _ (back ∙ dirs_more l (remove names path) path n k gone empty below_root up_left)

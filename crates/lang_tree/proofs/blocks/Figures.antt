@@ -1,5 +1,5 @@
 -- A command changes a session exactly where it costs something in the journal, sync points aside.
-use Rattle.std.proofs.Common.{◌≡◌, ℕ, ◌+◌, ◌-◌, ◌<◌, ◌≤◌, ◌==◌, Bool, true, false, ◌||◌, if◌then◌else◌, nat_lt, length, replicate, Option, ap, ◌∙◌, ◌⊎◌, arith, lt-ltb, le-ltb, eqb-true}
+use Rattle.std.proofs.Common.{◌≡◌, ℕ, ◌<◌, ◌==◌, Bool, true, false, ◌||◌, if◌then◌else◌, nat_lt, length, replicate, Option, ap, ◌∙◌, arith, lt-ltb, le-ltb, eqb-true}
 use Rattle.std.proofs.lemmas.Bool.{cases_lt, eqb-false}
 use Rattle.std.proofs.lemmas.List.{length-replicate}
 use Rattle.lang_tree.specs.declared.command.Cmd.{Cmd}

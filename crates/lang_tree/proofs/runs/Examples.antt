@@ -1,14 +1,15 @@
 -- Short runs from an empty tree, and small trees, worked out.
-use Rattle.std.proofs.Common.{◌≡◌, ℕ, true, false, List, [], ◌∷◌, ◌++◌, Some, None, cond, refl, sym, ◌∙◌, inl, length, codes}
+use Rattle.std.proofs.Common.{◌≡◌, ℕ, true, false, List, [], ◌∷◌, ◌++◌, Some, None, cond, refl, sym, ◌∙◌, inl, length, replicate, codes}
 use Rattle.std.specs.Cmp.{nat_cmp_total}
 use Rattle.std.specs.Ordering.{eq_by_cmp, nat_cmp}
 use Rattle.std.specs.Cmp.Lexicographic.{slice_cmp}
 use Rattle.std.specs.FinMap.{nat_cmp-IsAntisymmetric, get, insert, remove, empty, entries, put, get-insert, get-empty, entries-insert, len-empty, len-entries}
 use Rattle.std.proofs.lemmas.List.{nil_from_length}
+use Rattle.base_types.specs.declared.layout.Layout.TheVariants.{One, Two}
 use Rattle.lang_tree.specs.declared.command.Cmd.TheVariants.{Mkdir, Create, Write, Link, Rename, Rmdir}
 use Rattle.lang_tree.specs.declared.command.Reply.TheVariants.{Ok as Done, Refused}
-use Rattle.lang_tree.specs.declared.command.Refusal.TheVariants.{NotFound, NotDir, NotEmpty}
-use Rattle.lang_tree.specs.Tree.{Names, Nodes, Kept, Thing, Dir, File, alone, path_cmp}
+use Rattle.lang_tree.specs.declared.command.Refusal.TheVariants.{NotFound, NotDir, NotEmpty, NameTooLong}
+use Rattle.lang_tree.specs.Tree.{Names, Nodes, Bounds, Kept, Thing, Dir, File, alone, in_layout_one, path_cmp}
 use Rattle.lang_tree.specs.Names.{path_count}
 use Rattle.lang_tree.specs.Conditions.{least_unused}
 use Rattle.lang_tree.specs.Step.{Session, start, step}
@@ -52,7 +53,7 @@ abbrev c : List (List ℕ)
 c = codes "c" ∷ []
 
 abbrev changed_to_tree : Names → Nodes → Session
-changed_to_tree names nodes = record { tree = alone names nodes; limit = 16; points = 0; changed = true; durable = 0 }
+changed_to_tree names nodes = record { tree = alone names nodes; limit = in_layout_one 16; points = 0; changed = true; durable = 0 }
 
 -- One file with two paths.
 
@@ -62,7 +63,7 @@ with_a = changed_to_tree (insert (insert empty [] 1) a 2) (insert (insert empty 
 abbrev with_link : Session
 with_link = changed_to_tree (insert (insert (insert empty [] 1) a 2) b 2) (insert (insert empty 1 Dir) 2 (File []))
 
-pub create_a : step (start 16) (Create a) ≡ (with_a, Done)
+pub create_a : step (start (in_layout_one 16)) (Create a) ≡ (with_a, Done)
 unfolding least_unused
 create_a = simp (name_at, node_at, no_name, no_node, none_kept)
 
@@ -72,7 +73,7 @@ link_b = simp (name_at, node_at, no_name, all_names, none_in)
 rename_b : step with_link (Rename a b) ≡ (with_link, Done)
 rename_b = simp (name_at, node_at)
 
-pub one_node : (end : Session) × Run (λ why. false) (start 16) (Create a ∷ Link a b ∷ Rename a b ∷ []) (Done ∷ Done ∷ Done ∷ []) end
+pub one_node : (end : Session) × Run (λ why. false) (start (in_layout_one 16)) (Create a ∷ Link a b ∷ Rename a b ∷ []) (Done ∷ Done ∷ Done ∷ []) end
     × (get end.tree.names a ≡ Some 2) × (get end.tree.names b ≡ Some 2) × (path_count end.tree.names 2 ≡ 2)
 one_node = (with_link, (with_a, inl create_a, (with_link, inl link_b, (with_link, inl rename_b, refl))), simp name_at, simp name_at, simp (all_names, none_in))
 
@@ -90,7 +91,7 @@ write_past = simp (name_at, node_at)
 link_lost : step with_a (Link b a) ≡ (with_a, Refused NotFound)
 link_lost = simp (name_at, node_at, no_name, no_node)
 
-pub first_reasons : (end : Session) × Run (λ why. false) (start 16) (Create a ∷ Rmdir [] ∷ Rename [] a ∷ Write (a ++ b) 0 (120 ∷ []) ∷ Link b a ∷ [])
+pub first_reasons : (end : Session) × Run (λ why. false) (start (in_layout_one 16)) (Create a ∷ Rmdir [] ∷ Rename [] a ∷ Write (a ++ b) 0 (120 ∷ []) ∷ Link b a ∷ [])
     (Done ∷ Refused NotEmpty ∷ Refused NotDir ∷ Refused NotDir ∷ Refused NotFound ∷ []) end
 first_reasons = (with_a, (with_a, inl create_a, (with_a, inl rmdir_root, (with_a, inl rename_root, (with_a, inl write_past, (with_a, inl link_lost, refl))))))
 
@@ -102,7 +103,7 @@ with_dir = changed_to_tree (insert (insert empty [] 1) a 2) (insert (insert empt
 abbrev with_inner : Session
 with_inner = changed_to_tree (insert (insert (insert empty [] 1) a 2) (a ++ c) 3) (insert (insert (insert empty 1 Dir) 2 Dir) 3 (File []))
 
-make_a : step (start 16) (Mkdir a) ≡ (with_dir, Done)
+make_a : step (start (in_layout_one 16)) (Mkdir a) ≡ (with_dir, Done)
 unfolding least_unused
 make_a = simp (name_at, node_at, no_name, no_node, none_kept)
 
@@ -116,7 +117,7 @@ with_moved = changed_to_tree (insert (insert (insert empty (b ++ c) 3) b 2) [] 1
 rename_dir : step with_inner (Rename a b) ≡ (with_moved, Done)
 rename_dir = simp (name_at, node_at, no_name, all_names, none_in)
 
-pub dir_moves : (end : Session) × Run (λ why. false) (start 16) (Mkdir a ∷ Create (a ++ c) ∷ Rename a b ∷ []) (Done ∷ Done ∷ Done ∷ []) end
+pub dir_moves : (end : Session) × Run (λ why. false) (start (in_layout_one 16)) (Mkdir a ∷ Create (a ++ c) ∷ Rename a b ∷ []) (Done ∷ Done ∷ Done ∷ []) end
     × (get end.tree.names b ≡ Some 2) × (get end.tree.names (b ++ c) ≡ Some 3) × (get end.tree.names a ≡ None) × (get end.tree.names (a ++ c) ≡ None)
 dir_moves = (with_moved, (with_dir, inl make_a, (with_inner, inl create_inner, (with_moved, inl rename_dir, refl))), simp name_at, simp name_at, simp (name_at, no_name), simp (name_at, no_name))
 
@@ -148,15 +149,40 @@ make_c : step with_one (Mkdir c) ≡ (with_next, Done)
 unfolding least_unused
 make_c = simp (name_at, node_at, no_name, no_node, none_kept)
 
-pub onto_file : (end : Session) × Run (λ why. false) (start 16) (Create a ∷ Create b ∷ Rename a b ∷ Mkdir c ∷ []) (Done ∷ Done ∷ Done ∷ Done ∷ []) end
+pub onto_file : (end : Session) × Run (λ why. false) (start (in_layout_one 16)) (Create a ∷ Create b ∷ Rename a b ∷ Mkdir c ∷ []) (Done ∷ Done ∷ Done ∷ Done ∷ []) end
     × (get end.tree.names a ≡ None) × (get end.tree.names b ≡ Some 2) × (get end.tree.names c ≡ Some 3)
 onto_file = (with_next, (with_a, inl create_a, (with_two, inl create_b, (with_one, inl rename_onto, (with_next, inl make_c, refl)))), simp (name_at, no_name), simp name_at, simp name_at)
 
+-- A name of 60 bytes.
+
+abbrev long : List (List ℕ)
+long = replicate 60 97 ∷ []
+
+abbrev bounds_two : Bounds
+bounds_two = record { nodes = 16; layout = Two }
+
+abbrev with_long : Session
+with_long = record { tree = alone (insert (insert empty [] 1) long 2) (insert (insert empty 1 Dir) 2 (File [])); limit = bounds_two; points = 0; changed = true; durable = 0 }
+
+create_long : step (start (in_layout_one 16)) (Create long) ≡ (start (in_layout_one 16), Refused NameTooLong)
+unfolding least_unused
+create_long = simp (name_at, node_at, no_name, no_node, none_kept)
+
+pub long_refused : Run (λ why. false) (start (in_layout_one 16)) (Create long ∷ []) (Refused NameTooLong ∷ []) (start (in_layout_one 16))
+long_refused = (start (in_layout_one 16), inl create_long, refl)
+
+create_taken : step (start bounds_two) (Create long) ≡ (with_long, Done)
+unfolding least_unused
+create_taken = simp (name_at, node_at, no_name, no_node, none_kept)
+
+pub long_taken : (end : Session) × Run (λ why. false) (start bounds_two) (Create long ∷ []) (Done ∷ []) end × (get end.tree.names long ≡ Some 2)
+long_taken = (with_long, (with_long, inl create_taken, refl), simp name_at)
+
 -- Blocks and figures.
 
-pub three_blocks : (bytes : List ℕ) → length bytes ≡ 1025 → blocks (alone (insert (insert empty [] 1) a 2) (insert (insert empty 1 Dir) 2 (File bytes))) ≡ 3
+pub three_blocks : (bytes : List ℕ) → length bytes ≡ 1025 → blocks One (alone (insert (insert empty [] 1) a 2) (insert (insert empty 1 Dir) 2 (File bytes))) ≡ 3
 three_blocks bytes long = simp (all_names, all_nodes, none_in, none_of, long)
 
-pub first_name : figures 1 (start 16) (Create a) ≡ record { need = 1; cost = 100; freed = 0 }
+pub first_name : figures 1 (start (in_layout_one 16)) (Create a) ≡ record { need = 1; cost = 100; freed = 0 }
 unfolding least_unused
 first_name = simp (name_at, node_at, no_name, no_node, none_kept, all_names, none_in)

@@ -1,5 +1,5 @@
 -- No dsync or dwait answers a point that isn't made: the greatest one that they answered is the last point at most. And only replies to them and to durable promise a point.
-use Rattle.std.proofs.Common.{◌≡◌, ◌==◌, ℕ, nat_le, ◌<◌, ◌≤◌, ◌^◌, Bool, true, false, if◌then◌else◌, List, Option, None, Some, refl, sym, ap, ◌∙◌, inl, inr, arith}
+use Rattle.std.proofs.Common.{◌≡◌, ℕ, nat_le, Bool, true, false, if◌then◌else◌, List, Option, None, Some, refl, sym, ap, ◌∙◌, inl, inr, arith}
 use Rattle.std.proofs.lemmas.Bool.{false≢true, leb-true}
 use Rattle.std.specs.FinMap.{get}
 use Rattle.lang_tree.specs.declared.command.Cmd.{Cmd}

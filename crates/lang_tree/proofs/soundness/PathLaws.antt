@@ -1,6 +1,7 @@
 -- The laws on paths on which other crates are built, in the form in which they are promised.
-use Rattle.std.proofs.Common.{◌≡◌, ℕ, ◌≤◌, ◌==◌, true, false, if◌then◌else◌, List, [], ◌∷◌, ◌++◌, Some, None, sym, refl, ap, ◌∙◌, arith, append_assoc}
+use Rattle.std.proofs.Common.{◌≡◌, ℕ, ◌≤◌, true, false, List, [], ◌∷◌, ◌++◌, Some, None, sym, refl, ap, ◌∙◌, arith, append_assoc}
 use Rattle.std.specs.FinMap.{get, remove}
+use Rattle.base_types.specs.declared.layout.Layout.{Layout}
 use Rattle.lang_tree.specs.Tree.{Tree, Names, IsSound}
 use Rattle.lang_tree.specs.Paths.{is_within}
 use Rattle.lang_tree.specs.Names.{path_count, holds_names, renamed}
@@ -42,10 +43,10 @@ unlink_finds limit t path s e = let can = can_unlink limit t s path e in (can.fr
 pub rmdir_finds : (limit : ℕ) (t : Tree) (path : List (List ℕ)) → IsSound limit t → rmdir_refusal t path ≡ None → (holds_names t.names path ≡ false) × (path ≡ [] → ⊥)
 rmdir_finds limit t path s e = let can = can_rmdir limit t s path e in (can.free, can.below_root)
 
-pub move_finds : (limit : ℕ) (t : Tree) (from to : List (List ℕ)) → IsSound limit t → rename_refusal t from to ≡ None → is_same_node t from to ≡ false
+pub move_finds : (limit : ℕ) (l : Layout) (t : Tree) (from to : List (List ℕ)) → IsSound limit t → rename_refusal l t from to ≡ None → is_same_node t from to ≡ false
     → (is_within from to ≡ false) × (holds_names t.names to ≡ false) × (to ≡ [] → ⊥)
-move_finds limit t from to s e other = let can = target_apart limit t s from to e other in (can.apart, can.free, can.below_root)
+move_finds limit l t from to s e other = let can = target_apart limit t s from to l e other in (can.apart, can.free, can.below_root)
 
 -- what moves is there
-pub source_there : (limit : ℕ) (t : Tree) (from to : List (List ℕ)) → IsSound limit t → rename_refusal t from to ≡ None → (n : ℕ) × (get t.names from ≡ Some n)
-source_there limit t from to s e = grind (arith, no_reasons, walked_there, s.root)
+pub source_there : (limit : ℕ) (l : Layout) (t : Tree) (from to : List (List ℕ)) → IsSound limit t → rename_refusal l t from to ≡ None → (n : ℕ) × (get t.names from ≡ Some n)
+source_there limit l t from to s e = grind (arith, no_reasons, walked_there, s.root)

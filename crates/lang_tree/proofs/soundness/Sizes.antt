@@ -1,5 +1,5 @@
 -- No command makes a file larger than 2^30 bytes.
-use Rattle.std.proofs.Common.{◌≡◌, ℕ, ◌+◌, ◌-◌, ◌≤◌, ◌==◌, nat_lt, Bool, true, false, cond, ◌&&◌, if◌then◌else◌, List, [], ◌∷◌, ◌++◌, length, replicate, Option, Some, None, is_some, refl, sym, ap, ◌∙◌, subst, T, arith, true≢false, nat_le}
+use Rattle.std.proofs.Common.{◌≡◌, ℕ, ◌+◌, ◌-◌, ◌≤◌, ◌==◌, nat_lt, Bool, true, false, cond, ◌&&◌, if◌then◌else◌, List, [], ◌∷◌, ◌++◌, length, replicate, Option, Some, None, is_some, refl, sym, ap, ◌∙◌, subst, T, arith, nat_le}
 use Rattle.std.proofs.lemmas.Bool.{ltb-false}
 use Rattle.std.proofs.lemmas.List.{length-append, length-take, length-drop, length-replicate}
 use Rattle.std.specs.Ordering.{eq_by_cmp, nat_cmp}
@@ -10,7 +10,7 @@ use Rattle.lang_tree.specs.declared.command.Cmd.{Cmd}
 use Rattle.lang_tree.specs.declared.command.Cmd.TheVariants.{Mkdir, Create, Write, Fill, Read, Truncate, Link, Unlink, Rmdir, Rename, Stat, List as ListNames, Snap, Unsnap, Snaps, At, Osync, Dsync, Durable, Dwait, Poll, Bad}
 use Rattle.lang_tree.specs.declared.command.Reply.TheVariants.{Ok as Done}
 use Rattle.lang_tree.specs.declared.command.Refusal.{Refusal}
-use Rattle.lang_tree.specs.Tree.{Tree, Nodes, Thing, Dir, File, HasSmallFiles}
+use Rattle.lang_tree.specs.Tree.{Tree, Bounds, Nodes, Thing, Dir, File, HasSmallFiles}
 use Rattle.lang_tree.specs.Walk.{is_same_node}
 use Rattle.lang_tree.specs.Conditions.{when, first_reason, is_too_large, least_unused, refusal, write_refusal, truncate_refusal}
 use Rattle.lang_tree.specs.Step.{Session, start, step, accepted, changed_to, with_node, with_bytes, edited_at, edited, linked_by, removed, removed_by, moved, snapped_by, write, truncate, osync, dwait, written, resized}
@@ -117,8 +117,8 @@ dwait_small s n true small = small
 dwait_small s n false small = small
 
 accepted_small : (s : Session) (cmd : Cmd) → refusal s.limit s.tree cmd ≡ None → HasSmallFiles s.tree.nodes → HasSmallFiles (accepted s cmd).0.tree.nodes
-accepted_small s (Mkdir path) free small = node_small 1073741824 s.tree path Dir (least_unused s.limit s.tree) no_file small
-accepted_small s (Create path) free small = node_small 1073741824 s.tree path (File []) (least_unused s.limit s.tree) empty_file small
+accepted_small s (Mkdir path) free small = node_small 1073741824 s.tree path Dir (least_unused s.limit.nodes s.tree) no_file small
+accepted_small s (Create path) free small = node_small 1073741824 s.tree path (File []) (least_unused s.limit.nodes s.tree) empty_file small
 accepted_small s (Write path offset bytes) free small = write_small s path offset bytes free small
 accepted_small s (Fill path offset count byte) free small =
     write_small s path offset (replicate count byte) (ap (write_refusal s.tree path offset) (length-replicate count byte) ∙ free) small
@@ -130,7 +130,7 @@ accepted_small s (Rmdir path) free small = removed_small 1073741824 s.tree path 
 accepted_small s (Rename from to) free small = rename_small_by (is_same_node s.tree from to) s from to small
 accepted_small s (Stat path) free small = small
 accepted_small s (ListNames path) free small = small
-accepted_small s (Snap name) free small = snapped_small 1073741824 s.tree name (least_unused s.limit s.tree) small
+accepted_small s (Snap name) free small = snapped_small 1073741824 s.tree name (least_unused s.limit.nodes s.tree) small
 accepted_small s (Unsnap name) free small = small
 accepted_small s Snaps free small = small
 accepted_small s (At name l) free small = small
@@ -144,5 +144,5 @@ accepted_small s Bad free small = small
 pub step_small : (s : Session) (cmd : Cmd) → HasSmallFiles s.tree.nodes → HasSmallFiles (step s cmd).0.tree.nodes
 step_small s cmd small = grind (arith, refusal s.limit s.tree cmd, s.limit, s.tree, accepted_small)
 
-pub start_small : (n : ℕ) → HasSmallFiles (start n).tree.nodes
-start_small n = with_small 1073741824 empty 1 Dir (λ k bytes e. absurd (none_some (File bytes) (sym (get-empty nat_cmp k) ∙ e))) no_file
+pub start_small : (limit : Bounds) → HasSmallFiles (start limit).tree.nodes
+start_small limit = with_small 1073741824 empty 1 Dir (λ k bytes e. absurd (none_some (File bytes) (sym (get-empty nat_cmp k) ∙ e))) no_file

@@ -1,5 +1,5 @@
 -- What a snapshot keeps stays as it was made until it is taken away, and looks at it are answered as the tree of that moment was.
-use Rattle.std.proofs.Common.{◌≡◌, ◌≢◌, ℕ, suc, ◌<◌, arith, Bool, false, List, [], ◌∷◌, ◌++◌, is_none, is_some, Option, Some, None, refl, sym, ap, ◌∙◌, inl, inr}
+use Rattle.std.proofs.Common.{◌≡◌, ◌≢◌, ℕ, suc, arith, Bool, false, List, [], ◌∷◌, ◌++◌, is_none, is_some, Option, Some, None, refl, sym, ap, ◌∙◌, inl, inr}
 use Rattle.std.proofs.lemmas.Bool.{true≢false}
 use Rattle.std.specs.List.{All}
 use Rattle.std.specs.FinMap.{get}
@@ -11,7 +11,7 @@ use Rattle.lang_tree.specs.declared.command.Reply.{Reply}
 use Rattle.lang_tree.specs.declared.command.Reply.TheVariants.{Refused}
 use Rattle.lang_tree.specs.declared.command.Refusal.{Refusal}
 use Rattle.lang_tree.specs.declared.command.Refusal.TheVariants.{Exists, NoNode, IsDir, NotDir}
-use Rattle.lang_tree.specs.Tree.{Tree, Kept, kept_tree}
+use Rattle.lang_tree.specs.Tree.{Tree, Bounds, Kept, kept_tree}
 use Rattle.lang_tree.specs.Walk.{walk_from, enter, is_dir, is_file, thing_at, refusal_in}
 use Rattle.lang_tree.specs.Conditions.{when, first_reason, least_unused, refusal, at_refusal, look_refusal}
 use Rattle.lang_tree.specs.Step.{Session, session_on, step, answered, kept_of, snapped_by, look_command, seen, seen_in, stat_by}
@@ -22,22 +22,22 @@ use Rattle.lang_tree.proofs.walking.Found.{no_reason, not_so}
 use Rattle.lang_tree.proofs.soundness.Snapshots.{name_total, name_same, answered_keeps}
 
 -- an accepted snapshot has a new name and a number
-new_name : (limit : ℕ) (t : Tree) (name : List ℕ) → refusal limit t (Snap name) ≡ None → get t.snapshots name ≡ None
+new_name : (limit : Bounds) (t : Tree) (name : List ℕ) → refusal limit t (Snap name) ≡ None → get t.snapshots name ≡ None
 new_name limit t name e =
-    lacks (get t.snapshots name) (not_so (is_some (get t.snapshots name)) Exists (no_reason (when (is_some (get t.snapshots name)) Exists) (when (is_none (least_unused limit t)) NoNode ∷ []) e).0)
+    lacks (get t.snapshots name) (not_so (is_some (get t.snapshots name)) Exists (no_reason (when (is_some (get t.snapshots name)) Exists) (when (is_none (least_unused limit.nodes t)) NoNode ∷ []) e).0)
 
-new_number : (limit : ℕ) (t : Tree) (name : List ℕ) → refusal limit t (Snap name) ≡ None → is_none (least_unused limit t) ≡ false
+new_number : (limit : Bounds) (t : Tree) (name : List ℕ) → refusal limit t (Snap name) ≡ None → is_none (least_unused limit.nodes t) ≡ false
 new_number limit t name e =
-    let one = no_reason (when (is_some (get t.snapshots name)) Exists) (when (is_none (least_unused limit t)) NoNode ∷ []) e in
-    not_so (is_none (least_unused limit t)) NoNode (no_reason (when (is_none (least_unused limit t)) NoNode) [] one.1).0
+    let one = no_reason (when (is_some (get t.snapshots name)) Exists) (when (is_none (least_unused limit.nodes t)) NoNode ∷ []) e in
+    not_so (is_none (least_unused limit.nodes t)) NoNode (no_reason (when (is_none (least_unused limit.nodes t)) NoNode) [] one.1).0
 
 -- it is made of the tree as it is
 pub is_made : (s : Session) (name : List ℕ) → refusal s.limit s.tree (Snap name) ≡ None
-    → (n : ℕ) × (least_unused s.limit s.tree ≡ Some n) × (get (step s (Snap name)).0.tree.snapshots name ≡ Some (kept_of n s.tree))
-is_made s name e = by (least_unused s.limit s.tree) refl (new_number s.limit s.tree name e)
+    → (n : ℕ) × (least_unused s.limit.nodes s.tree ≡ Some n) × (get (step s (Snap name)).0.tree.snapshots name ≡ Some (kept_of n s.tree))
+is_made s name e = by (least_unused s.limit.nodes s.tree) refl (new_number s.limit s.tree name e)
   where
-    by : (o : Option ℕ) → least_unused s.limit s.tree ≡ o → is_none o ≡ false
-        → (n : ℕ) × (least_unused s.limit s.tree ≡ Some n) × (get (step s (Snap name)).0.tree.snapshots name ≡ Some (kept_of n s.tree))
+    by : (o : Option ℕ) → least_unused s.limit.nodes s.tree ≡ o → is_none o ≡ false
+        → (n : ℕ) × (least_unused s.limit.nodes s.tree ≡ Some n) × (get (step s (Snap name)).0.tree.snapshots name ≡ Some (kept_of n s.tree))
     by None is some = absurd (true≢false some)
     by (Some n) is some = (
       n,
@@ -59,7 +59,7 @@ module _ (s : Session) (name : List ℕ) (k : Kept) (there : get s.tree.snapshot
 
   answered_stays : (cmd : Cmd) (r : Option Refusal) → refusal s.limit s.tree cmd ≡ r → cmd ≢ Unsnap name → get (answered s cmd r).0.tree.snapshots name ≡ Some k
   answered_stays cmd (Some why) e other = there
-  answered_stays (Snap new) None e other = snapped_stays new (new_name s.limit s.tree new e) (least_unused s.limit s.tree)
+  answered_stays (Snap new) None e other = snapped_stays new (new_name s.limit s.tree new e) (least_unused s.limit.nodes s.tree)
   answered_stays (Unsnap old) None e other = stays name_total name_same s.tree.snapshots old name (λ same. other (ap Unsnap (sym same))) ∙ there
   answered_stays cmd None e other = ap (λ m. get m name) (answered_keeps s cmd None refl).same ∙ there
 

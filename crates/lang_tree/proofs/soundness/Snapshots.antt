@@ -109,8 +109,8 @@ dwait_keeps s n false = nothing_new s.tree
 
 pub answered_keeps : (s : Session) (cmd : Cmd) (r : Option Refusal) → changes_snapshots cmd ≡ false → KeepsSnapshots (answered s cmd r).0.tree s.tree
 answered_keeps s cmd (Some why) live = nothing_new s.tree
-answered_keeps s (Mkdir path) None live = added_keeps s.limit s.tree path Dir
-answered_keeps s (Create path) None live = added_keeps s.limit s.tree path (File [])
+answered_keeps s (Mkdir path) None live = added_keeps s.limit.nodes s.tree path Dir
+answered_keeps s (Create path) None live = added_keeps s.limit.nodes s.tree path (File [])
 answered_keeps s (Write path offset bytes) None live = choice_keeps s _ (length bytes == 0) (edited_keeps s.tree (written offset bytes) (get s.tree.names path))
 answered_keeps s (Fill path offset count byte) None live =
     choice_keeps s _ (length (replicate count byte) == 0) (edited_keeps s.tree (written offset (replicate count byte)) (get s.tree.names path))
@@ -213,13 +213,13 @@ module _ (limit : ℕ) (t : Tree) (ok : IsSound limit t) (has : HasSoundSnapshot
     sound = λ other k at. has.sound other k (was name_total t.snapshots name other k at);
   }
 
-answered_sound : (s : Session) (cmd : Cmd) (r : Option Refusal) → IsSound s.limit s.tree → HasSoundSnapshots s.limit s.tree → HasSoundSnapshots s.limit (answered s cmd r).0.tree
+answered_sound : (s : Session) (cmd : Cmd) (r : Option Refusal) → IsSound s.limit.nodes s.tree → HasSoundSnapshots s.limit.nodes s.tree → HasSoundSnapshots s.limit.nodes (answered s cmd r).0.tree
 answered_sound s cmd (Some why) ok has = has
-answered_sound s (Snap name) None ok has = snap_sound s.limit s.tree ok has name
-answered_sound s (Unsnap name) None ok has = unsnap_sound s.limit s.tree ok has name
-answered_sound s cmd None ok has = still_sound s.limit (answered s cmd None).0.tree s.tree (answered_keeps s cmd None refl) has
+answered_sound s (Snap name) None ok has = snap_sound s.limit.nodes s.tree ok has name
+answered_sound s (Unsnap name) None ok has = unsnap_sound s.limit.nodes s.tree ok has name
+answered_sound s cmd None ok has = still_sound s.limit.nodes (answered s cmd None).0.tree s.tree (answered_keeps s cmd None refl) has
 
-pub step_sound : (s : Session) (cmd : Cmd) → IsSound s.limit s.tree → HasSoundSnapshots s.limit s.tree → HasSoundSnapshots s.limit (step s cmd).0.tree
+pub step_sound : (s : Session) (cmd : Cmd) → IsSound s.limit.nodes s.tree → HasSoundSnapshots s.limit.nodes s.tree → HasSoundSnapshots s.limit.nodes (step s cmd).0.tree
 step_sound s cmd ok has = answered_sound s cmd (refusal s.limit s.tree cmd) ok has
 
 -- Without snapshots.

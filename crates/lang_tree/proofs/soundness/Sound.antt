@@ -4,22 +4,23 @@ use Rattle.std.specs.Cmp.{nat_cmp_total}
 use Rattle.std.specs.FinMap.{nat_cmp-IsAntisymmetric, get, insert, empty, get-empty}
 use Rattle.std.specs.Ordering.{nat_cmp}
 use Rattle.std.proofs.lemmas.Option.{same_Some, none-some}
+use Rattle.base_types.specs.declared.layout.Layout.{Layout}
 use Rattle.lang_tree.specs.declared.command.Cmd.{Cmd}
 use Rattle.lang_tree.specs.declared.command.Cmd.TheVariants.{Mkdir, Create, Write, Fill, Read, Truncate, Link, Unlink, Rmdir, Rename, Stat, List as ListNames, Snap, Unsnap, Snaps, At, Osync, Dsync, Durable, Dwait, Poll, Bad}
 use Rattle.lang_tree.specs.declared.command.Reply.{Reply}
 use Rattle.lang_tree.specs.declared.command.Reply.TheVariants.{Ok as Done}
 use Rattle.lang_tree.specs.declared.command.Refusal.{Refusal}
-use Rattle.lang_tree.specs.declared.command.Refusal.TheVariants.{Exists, IsDir, TooManyLinks}
-use Rattle.lang_tree.specs.Tree.{Tree, Names, Nodes, Snapshots, Thing, Dir, File, IsSound, path_cmp}
+use Rattle.lang_tree.specs.declared.command.Refusal.TheVariants.{IsDir}
+use Rattle.lang_tree.specs.Tree.{Tree, Bounds, Names, Nodes, Snapshots, Thing, Dir, File, IsSound, path_cmp}
 use Rattle.lang_tree.specs.Paths.{parent}
 use Rattle.lang_tree.specs.Names.{holds_names}
-use Rattle.lang_tree.specs.Walk.{walk_refusal, parent_refusal, thing_at, is_dir, is_file, is_there, is_same_node, links, content}
+use Rattle.lang_tree.specs.Walk.{walk_refusal, thing_at, is_dir, is_file, is_same_node, content}
 use Rattle.lang_tree.specs.Conditions.{when, least_unused, file_refusal, link_refusal, rmdir_refusal, refusal}
 use Rattle.lang_tree.specs.Step.{Session, start, step, answered, changed_to, edited, written, resized, linked_by, linked, removed, moved, snapped, snapped_by, unsnapped, osync, dwait}
 use Rattle.lang_tree.proofs.basics.Order.{path_total, path_same}
 use Rattle.lang_tree.proofs.basics.Strips.{lacks, no_append}
 use Rattle.lang_tree.proofs.basics.Finds.{put_here, look}
-use Rattle.lang_tree.proofs.walking.Found.{no_reason, no_reasons, not_so, thing_is, walked_there, parent_is, nothing_below_file, target_apart}
+use Rattle.lang_tree.proofs.walking.Found.{link_reasons, no_reason, no_reasons, not_so, thing_is, walked_there, parent_is, nothing_below_file, target_apart}
 use Rattle.lang_tree.proofs.soundness.SoundChanges.{with_link, added_sound, edited_sound}
 use Rattle.lang_tree.proofs.soundness.SoundMoves.{removed_sound, moved_onto_sound}
 
@@ -35,17 +36,12 @@ module _ (limit : ℕ) (t : Tree) (s : IsSound limit t) where
   pub file_there : (path : List (List ℕ)) (n : ℕ) → get t.names path ≡ Some n → is_dir (thing_at t path) ≡ false → (bytes : List ℕ) × (get t.nodes n ≡ Some (File bytes))
   file_there path n at no_dir = grind (arith, s.named path n at, thing_at t path, s.named, t.nodes, thing_is)
 
-  linked_sound : (path other : List (List ℕ)) → link_refusal t path other ≡ None → IsSound limit (linked t path other)
-  linked_sound path other e =
-      let many : Option Refusal = when (nat_le 65535 (links t path)) TooManyLinks in
-      let dir : Option Refusal = when (is_dir (thing_at t path)) IsDir in
-      let there : Option Refusal = when (is_there t other) Exists in
-      let one = no_reason (walk_refusal t path) (parent_refusal t other ∷ there ∷ dir ∷ many ∷ []) e in
-      let two = no_reason (parent_refusal t other) (there ∷ dir ∷ many ∷ []) one.1 in
-      let r = no_reasons there dir many two.1 in
-      let free : get t.names other ≡ None = lacks (get t.names other) (not_so (is_there t other) Exists r.0) in
-      let up = parent_is t other s.root (λ root. none-some 1 (sym (ap (get t.names) (sym root) ∙ free) ∙ s.root)) two.0 in
-      by (get t.names path) refl free (not_so (is_dir (thing_at t path)) IsDir r.1) up
+  linked_sound : (l : Layout) (path other : List (List ℕ)) → link_refusal l t path other ≡ None → IsSound limit (linked t path other)
+  linked_sound l path other e =
+      let r = link_reasons l t path other e in
+      let free : get t.names other ≡ None = lacks (get t.names other) r.2 in
+      let up = parent_is t other s.root (λ root. none-some 1 (sym (ap (get t.names) (sym root) ∙ free) ∙ s.root)) r.1 in
+      by (get t.names path) refl free r.3 up
     where
       by : (o : Option ℕ) → get t.names path ≡ o → get t.names other ≡ None → is_dir (thing_at t path) ≡ false → (k : ℕ) × (get t.names (parent other) ≡ Some k) × (get t.nodes k ≡ Some Dir)
           → IsSound limit (linked_by t other o)
@@ -89,14 +85,14 @@ unsnapped_sound : (limit : ℕ) (t : Tree) → IsSound limit t → (name : List 
 unsnapped_sound limit t s name = with_snapshots_sound limit t _ s
 
 abbrev pub Sound : Session → Type 0
-Sound s = IsSound s.limit s.tree
+Sound s = IsSound s.limit.nodes s.tree
 
 -- what a command leaves is sound, and its greatest number is as it was
 abbrev Stays : Session → Session × Reply → Type 0
-Stays s answer = (IsSound s.limit answer.0.tree) × (answer.0.limit ≡ s.limit)
+Stays s answer = (IsSound s.limit.nodes answer.0.tree) × (answer.0.limit ≡ s.limit)
 
 -- nothing changes where the test holds, and else this tree comes
-choice_stays : (s : Session) (t : Tree) (b : Bool) → Sound s → (b ≡ false → IsSound s.limit t) → Stays s (if b then (s, Done) else changed_to s t)
+choice_stays : (s : Session) (t : Tree) (b : Bool) → Sound s → (b ≡ false → IsSound s.limit.nodes t) → Stays s (if b then (s, Done) else changed_to s t)
 choice_stays s t b h1 h2 = grind arith
 
 osync_stays : (s : Session) (b : Bool) → Sound s → Stays s (osync s b)
@@ -107,22 +103,22 @@ dwait_stays s n true ok = (ok, refl)
 dwait_stays s n false ok = (ok, refl)
 
 accepted_stays : (s : Session) (cmd : Cmd) → Sound s → refusal s.limit s.tree cmd ≡ None → Stays s (answered s cmd None)
-accepted_stays s (Mkdir path) ok e = (added_sound s.limit s.tree ok path Dir e, refl)
-accepted_stays s (Create path) ok e = (added_sound s.limit s.tree ok path (File []) e, refl)
-accepted_stays s (Write path offset bytes) ok e = choice_stays s (edited s.tree path (written offset bytes)) (length bytes == 0) ok (λ _. edited_sound s.limit s.tree ok path (written offset bytes))
+accepted_stays s (Mkdir path) ok e = (added_sound s.limit.nodes s.tree ok s.limit.layout path Dir e, refl)
+accepted_stays s (Create path) ok e = (added_sound s.limit.nodes s.tree ok s.limit.layout path (File []) e, refl)
+accepted_stays s (Write path offset bytes) ok e = choice_stays s (edited s.tree path (written offset bytes)) (length bytes == 0) ok (λ _. edited_sound s.limit.nodes s.tree ok path (written offset bytes))
 accepted_stays s (Fill path offset count byte) ok e =
-    choice_stays s (edited s.tree path (written offset (replicate count byte))) (length (replicate count byte) == 0) ok (λ _. edited_sound s.limit s.tree ok path (written offset (replicate count byte)))
+    choice_stays s (edited s.tree path (written offset (replicate count byte))) (length (replicate count byte) == 0) ok (λ _. edited_sound s.limit.nodes s.tree ok path (written offset (replicate count byte)))
 accepted_stays s (Read path offset count) ok e = (ok, refl)
-accepted_stays s (Truncate path size) ok e = choice_stays s (edited s.tree path (resized size)) (size == length (content s.tree path)) ok (λ _. edited_sound s.limit s.tree ok path (resized size))
-accepted_stays s (Link path other) ok e = (linked_sound s.limit s.tree ok path other e, refl)
-accepted_stays s (Unlink path) ok e = (gone_sound s.limit s.tree ok path (can_unlink s.limit s.tree ok path e), refl)
-accepted_stays s (Rmdir path) ok e = (gone_sound s.limit s.tree ok path (can_rmdir s.limit s.tree ok path e), refl)
+accepted_stays s (Truncate path size) ok e = choice_stays s (edited s.tree path (resized size)) (size == length (content s.tree path)) ok (λ _. edited_sound s.limit.nodes s.tree ok path (resized size))
+accepted_stays s (Link path other) ok e = (linked_sound s.limit.nodes s.tree ok s.limit.layout path other e, refl)
+accepted_stays s (Unlink path) ok e = (gone_sound s.limit.nodes s.tree ok path (can_unlink s.limit.nodes s.tree ok path e), refl)
+accepted_stays s (Rmdir path) ok e = (gone_sound s.limit.nodes s.tree ok path (can_rmdir s.limit.nodes s.tree ok path e), refl)
 accepted_stays s (Rename from to) ok e =
-    choice_stays s (moved (removed s.tree to) from to) (is_same_node s.tree from to) ok (λ other. moved_onto_sound s.limit s.tree ok from to (target_apart s.limit s.tree ok from to e other))
+    choice_stays s (moved (removed s.tree to) from to) (is_same_node s.tree from to) ok (λ other. moved_onto_sound s.limit.nodes s.tree ok from to (target_apart s.limit.nodes s.tree ok from to s.limit.layout e other))
 accepted_stays s (Stat path) ok e = (ok, refl)
 accepted_stays s (ListNames path) ok e = (ok, refl)
-accepted_stays s (Snap name) ok e = (snapped_sound s.limit s.tree ok name, refl)
-accepted_stays s (Unsnap name) ok e = (unsnapped_sound s.limit s.tree ok name, refl)
+accepted_stays s (Snap name) ok e = (snapped_sound s.limit.nodes s.tree ok name, refl)
+accepted_stays s (Unsnap name) ok e = (unsnapped_sound s.limit.nodes s.tree ok name, refl)
 accepted_stays s Snaps ok e = (ok, refl)
 accepted_stays s (At name l) ok e = (ok, refl)
 accepted_stays s Osync ok e = osync_stays s s.changed ok
@@ -135,7 +131,7 @@ accepted_stays s Bad ok e = (ok, refl)
 answered_stays : (s : Session) (cmd : Cmd) (r : Option Refusal) → refusal s.limit s.tree cmd ≡ r → Sound s → Stays s (answered s cmd r)
 answered_stays s cmd r h1 h2 = grind (arith, accepted_stays)
 
-pub step_sound : (s : Session) (cmd : Cmd) → IsSound s.limit s.tree → IsSound s.limit (step s cmd).0.tree
+pub step_sound : (s : Session) (cmd : Cmd) → IsSound s.limit.nodes s.tree → IsSound s.limit.nodes (step s cmd).0.tree
 step_sound s cmd ok = (answered_stays s cmd (refusal s.limit s.tree cmd) refl ok).0
 
 -- The greatest number stays, sound or not.
@@ -164,7 +160,7 @@ no_names = empty
 abbrev no_nodes : Nodes
 no_nodes = empty
 
-pub start_sound : (limit : ℕ) → 1 ≤ limit → IsSound limit (start limit).tree
+pub start_sound : (limit : Bounds) → 1 ≤ limit.nodes → IsSound limit.nodes (start limit).tree
 start_sound limit low = record {
   root = put_here path_total no_names [] 1 [] refl;
   root_dir = put_here nat_cmp_total no_nodes 1 Dir 1 refl;

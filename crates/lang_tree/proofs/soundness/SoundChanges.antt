@@ -4,16 +4,15 @@ use Rattle.std.specs.List.{range_with_len}
 use Rattle.std.specs.Cmp.{nat_cmp_total}
 use Rattle.std.specs.FinMap.{nat_cmp-IsAntisymmetric, get, insert}
 use Rattle.std.proofs.lemmas.Option.{same_Some, none-some}
-use Rattle.lang_tree.specs.declared.command.Refusal.TheVariants.{Exists, NoNode}
+use Rattle.base_types.specs.declared.layout.Layout.{Layout}
 use Rattle.lang_tree.specs.Tree.{Tree, Thing, Dir, File, IsSound}
 use Rattle.lang_tree.specs.Paths.{parent}
-use Rattle.lang_tree.specs.Walk.{parent_refusal, is_there}
-use Rattle.lang_tree.specs.Conditions.{when, is_snapshot, least_unused, make_refusal}
+use Rattle.lang_tree.specs.Conditions.{is_snapshot, least_unused, make_refusal}
 use Rattle.lang_tree.specs.Step.{with_node, added, with_bytes, edited_at, edited}
 use Rattle.lang_tree.proofs.basics.Order.{path_total, path_same}
 use Rattle.lang_tree.proofs.basics.Strips.{lacks, parent_append}
 use Rattle.lang_tree.proofs.basics.Finds.{put_here, look, keeps}
-use Rattle.lang_tree.proofs.walking.Found.{no_reasons, not_so, dir_file, parent_is}
+use Rattle.lang_tree.proofs.walking.Found.{make_reasons, dir_file, parent_is}
 
 found_in : (test : ℕ → Bool) (a n m : ℕ) → first test (range_with_len a n) ≡ Some m → (test m ≡ true) × (a ≤ m) × (m < a + n)
 found_in test a zero m e = absurd (none-some m e)
@@ -170,14 +169,14 @@ module _ (limit : ℕ) (t : Tree) (s : IsSound limit t) where
 
   -- The effects of the commands.
 
-  pub added_sound : (path : List (List ℕ)) (x : Thing) → make_refusal limit t path ≡ None → IsSound limit (added limit t path x)
-  added_sound path x e = by (least_unused limit t) refl
+  pub added_sound : (l : Layout) (path : List (List ℕ)) (x : Thing) → make_refusal (record { nodes = limit; layout = l }) t path ≡ None → IsSound limit (added limit t path x)
+  added_sound l path x e = by (least_unused limit t) refl
     where
       by : (o : Option ℕ) → least_unused limit t ≡ o → IsSound limit (with_node t path x o)
       by None is = s
       by (Some m) is =
-          let r = no_reasons (parent_refusal t path) (when (is_there t path) Exists) (when (is_none (least_unused limit t)) NoNode) e in
-          let free : get t.names path ≡ None = lacks (get t.names path) (not_so (is_there t path) Exists r.1) in
+          let r = make_reasons (record { nodes = limit; layout = l }) t path e in
+          let free : get t.names path ≡ None = lacks (get t.names path) r.1 in
           let up = parent_is t path s.root (λ root. none-some 1 (sym (ap (get t.names) (sym root) ∙ free) ∙ s.root)) r.0 in
           let number = unused_is limit m t is in
           with_new path m up.0 x free number.0 number.1 number.2 up.1 up.2

@@ -1,14 +1,16 @@
 -- What walks and refusals tell of a sound tree: what is there, what is a directory, and what lies below a path.
-use Rattle.std.proofs.Common.{◌≡◌, ℕ, Bool, true, false, ◌&&◌, List, [], ◌∷◌, ◌++◌, Option, Some, None, option_and_then, Ok, is_some, if◌then◌else◌, sym, refl, ap, ◌∙◌, ◌⊎◌, inl, inr, append_assoc, append-nil, eq-eqb, arith}
+use Rattle.std.proofs.Common.{◌≡◌, ℕ, Bool, true, false, ◌&&◌, List, [], ◌∷◌, ◌++◌, Option, Some, None, option_and_then, Ok, is_none, is_some, nat_le, if◌then◌else◌, sym, refl, ap, ◌∙◌, ◌⊎◌, inl, inr, append_assoc, append-nil, eq-eqb, arith}
 use Rattle.std.proofs.lemmas.Bool.{false_from_ne_true}
 use Rattle.std.specs.FinMap.{get, entries, get-entries}
 use Rattle.std.proofs.lemmas.Option.{none-some}
+use Rattle.base_types.specs.declared.layout.Layout.{Layout}
 use Rattle.lang_tree.specs.declared.command.Refusal.{Refusal}
-use Rattle.lang_tree.specs.Tree.{Tree, Names, Thing, Dir, File, IsSound}
-use Rattle.lang_tree.specs.Paths.{is_within, is_below, parent}
+use Rattle.lang_tree.specs.declared.command.Refusal.TheVariants.{Exists, IsDir, TooManyLinks, NoNode, NameTooLong}
+use Rattle.lang_tree.specs.Tree.{Tree, Bounds, Names, Thing, Dir, File, IsSound}
+use Rattle.lang_tree.specs.Paths.{is_within, is_below, parent, is_too_long}
 use Rattle.lang_tree.specs.Names.{holds_names}
-use Rattle.lang_tree.specs.Walk.{walk, walk_from, is_dir, is_file, thing_at, walk_refusal, parent_refusal, are_same, is_same_node}
-use Rattle.lang_tree.specs.Conditions.{when, first_reason, onto_refusal, rename_refusal}
+use Rattle.lang_tree.specs.Walk.{walk, walk_from, is_dir, is_file, is_there, thing_at, walk_refusal, parent_refusal, are_same, is_same_node, links}
+use Rattle.lang_tree.specs.Conditions.{when, first_reason, least_unused, make_refusal, link_refusal, onto_refusal, rename_refusal}
 use Rattle.lang_tree.proofs.basics.Order.{path_total, path_same}
 use Rattle.lang_tree.proofs.basics.Strips.{within_is, below_is, below_at, from_end, no_append, parent_append}
 use Rattle.lang_tree.proofs.basics.Finds.{any_found, found_any}
@@ -18,11 +20,31 @@ use Rattle.lang_tree.proofs.basics.Finds.{any_found, found_any}
 pub no_reason : (r : Option Refusal) (rest : List (Option Refusal)) → first_reason (r ∷ rest) ≡ None → (r ≡ None) × (first_reason rest ≡ None)
 no_reason r rest h1 = grind arith
 
-pub no_reasons : (a b c : Option Refusal) → first_reason (a ∷ b ∷ c ∷ []) ≡ None → (a ≡ None) × (b ≡ None) × (c ≡ None)
-no_reasons a b c e = grind (arith, no_reason)
+pub no_reasons : (a b c : Option Refusal) (rest : List (Option Refusal)) → first_reason (a ∷ b ∷ c ∷ rest) ≡ None → (a ≡ None) × (b ≡ None) × (c ≡ None)
+no_reasons a b c rest e = grind (arith, no_reason)
 
 pub not_so : (b : Bool) (why : Refusal) → when b why ≡ None → b ≡ false
 not_so b why h1 = grind arith
+
+-- what an accepted new node finds
+pub make_reasons : (limit : Bounds) (t : Tree) (path : List (List ℕ)) → make_refusal limit t path ≡ None
+    → (parent_refusal t path ≡ None) × (is_there t path ≡ false) × (is_none (least_unused limit.nodes t) ≡ false)
+make_reasons limit t path e =
+    let r = no_reasons (parent_refusal t path) (when (is_there t path) Exists) (when (is_none (least_unused limit.nodes t)) NoNode) (when (is_too_long limit.layout path) NameTooLong ∷ []) e in
+    (r.0, not_so (is_there t path) Exists r.1, not_so (is_none (least_unused limit.nodes t)) NoNode r.2)
+
+-- what an accepted link finds
+pub link_reasons : (l : Layout) (t : Tree) (path other : List (List ℕ)) → link_refusal l t path other ≡ None
+    → (walk_refusal t path ≡ None) × (parent_refusal t other ≡ None) × (is_there t other ≡ false) × (is_dir (thing_at t path) ≡ false)
+link_reasons l t path other e =
+    let long : Option Refusal = when (is_too_long l other) NameTooLong in
+    let many : Option Refusal = when (nat_le 65535 (links t path)) TooManyLinks in
+    let dir : Option Refusal = when (is_dir (thing_at t path)) IsDir in
+    let there : Option Refusal = when (is_there t other) Exists in
+    let one = no_reason (walk_refusal t path) (parent_refusal t other ∷ there ∷ dir ∷ many ∷ long ∷ []) e in
+    let two = no_reason (parent_refusal t other) (there ∷ dir ∷ many ∷ long ∷ []) one.1 in
+    let r = no_reasons there dir many (long ∷ []) two.1 in
+    (one.0, two.0, not_so (is_there t other) Exists r.0, not_so (is_dir (thing_at t path)) IsDir r.1)
 
 -- Directories and files.
 
@@ -159,9 +181,9 @@ module _ (limit : ℕ) (t : Tree) (s : IsSound limit t) (from to : List (List �
           first [] is at = no_append end.0 end.1 (sym end.2 ∙ is)
           first (x ∷ p) is at = none_held t.names to p x n free (ap (λ q. get t.names (q ++ x ∷ p)) root ∙ at)
 
-  pub target_apart : rename_refusal t from to ≡ None → is_same_node t from to ≡ false → CanMove t from to
-  target_apart e other =
-      let r = no_reasons (walk_refusal t from) (parent_refusal t to) (if is_same_node t from to then None else onto_refusal t from to) e in
+  pub target_apart : (l : Layout) → rename_refusal l t from to ≡ None → is_same_node t from to ≡ false → CanMove t from to
+  target_apart l e other =
+      let r = no_reasons (walk_refusal t from) (parent_refusal t to) (if is_same_node t from to then None else onto_refusal t from to) (when (is_too_long l to) NameTooLong ∷ []) e in
       let n = walked_there t from s.root r.0 in
       let onto : onto_refusal t from to ≡ None = ap (λ b. if b then None else onto_refusal t from to) (sym other) ∙ r.2 in
       let free = onto_free n.0 n.1 onto in

@@ -9,13 +9,13 @@ use Rattle.fs_memtree.proofs.plain.PlainTree.new.Goals as goal
 
 pub invariant_of-result : goal.invariant_of-result
 invariant_of-result c =
-    let is : c.in_ok-state.state ≡ first_state c.args.nodes = search rules in
-    subst IsSoundState (sym is) (first_sound c.the_maps_are_lawful.ensures c.args.nodes c.requires)
+    let is : c.in_ok-state.state ≡ first_state c.args.nodes c.args.layout = search rules in
+    subst IsSoundState (sym is) (first_sound c.the_maps_are_lawful.ensures c.args.nodes c.args.layout c.requires)
 
 pub returns-clause-start : goal.returns-clause-start
 returns-clause-start c =
-    let is : c.in_ok-state.state ≡ first_state c.args.nodes = search rules in
-    ap session_of is ∙ first_session c.the_maps_are_lawful.ensures c.args.nodes c.requires
+    let is : c.in_ok-state.state ≡ first_state c.args.nodes c.args.layout = search rules in
+    ap session_of is ∙ first_session c.the_maps_are_lawful.ensures c.args.nodes c.args.layout c.requires
 
 pub returns-clause-sound : goal.returns-clause-sound
 returns-clause-sound c =

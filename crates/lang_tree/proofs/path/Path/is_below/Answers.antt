@@ -1,5 +1,4 @@
-use Rattle.std.proofs.Common.{◌≡◌, ◌∙◌, ◌≤◌, ◌<◌, arith}
-use Rattle.std.specs.List.{starts_with}
+use Rattle.std.proofs.Common.{arith}
 use Rattle.lang_tree.proofs.basics.BelowPath.{below_longer, starts_below}
 use Rattle.lang_tree.proofs.path.Path.is_below.Goals as goal
 
