@@ -1,6 +1,7 @@
 -- The first record on a formatted disk, and its life, written out: a write of one data block, on a disk of the least geometry after its first mount.
 use Rattle.std.specs.Prelude.{ℕ, ◌==◌, if◌then◌else◌, false, List, [], ◌∷◌, replicate}
 use Rattle.base_types.specs.Seal.{Blocks, sha256}
+use Rattle.base_types.specs.declared.layout.Layout.TheVariants.{One}
 use Rattle.disk_contract.specs.Cell.{cell_of}
 use Rattle.layout_geometry.specs.Geometry.{Geometry}
 use Rattle.layout_journal.specs.declared.entry.EntryKind.TheVariants.{Payload, Fresh}
@@ -16,7 +17,7 @@ use Rattle.crash_argument.specs.Formatted.{mount_events}
 
 -- Its bitmap is block 18, its node table begins with block 19, and its data with block 23.
 abbrev pub least : Geometry
-least = record { n = 64; j = 16; i = 16 }
+least = record { n = 64; j = 16; i = 16; layout = One }
 
 -- the bitmap block with the bit of block 23 set too
 unfoldable pub first_bitmap : List ℕ

@@ -14,7 +14,7 @@ use Rattle.layout_bytes.specs.declared.node.NodeKind.{NodeKind}
 use Rattle.layout_bytes.specs.declared.node.NodeKind.TheVariants.{Dir, File, Snapshot}
 use Rattle.layout_bytes.specs.Bitmap.{is_set}
 use Rattle.layout_bytes.specs.Bytes.{are_zeros, when}
-use Rattle.layout_bytes.specs.Node.{node_of, node_at, node_bytes}
+use Rattle.layout_bytes.specs.Node.{node_size, content_of, node_of, node_at, node_bytes}
 use Rattle.layout_extent.specs.Renew.{IsAmong}
 use Rattle.lang_tree.specs.Tree.{Tree, Kept}
 use Rattle.crash_stands.specs.Files.{files_of, file_of, used_node, joined, past_content}
@@ -96,23 +96,23 @@ module _ (laws : NodeLaws) (kept : KeptLaws) (g : Geometry) (fits : IsGeometry g
   -- What is read.
 
   nothing_there : is.inodes n ≡ None
-  nothing_there = subst (λ (o : Option Node). IsInodeOf (option_map (file_of old) o) (is.inodes n)) adds.free (is.read n)
+  nothing_there = subst (λ (o : Option Node). IsInodeOf g.layout (option_map (file_of g.layout old) o) (is.inodes n)) adds.free (is.read n)
 
-  reads : (k : ℕ) → IsInodeOf (files_of g new k) (is.inodes k)
+  reads : (k : ℕ) → IsInodeOf g.layout (files_of g new k) (is.inodes k)
   reads k = by (cases_eq k n)
     where
-      other : (o : Option Node) → used_node g old k ≡ o → IsInodeOf (option_map (file_of old) o) (is.inodes k) → IsInodeOf (option_map (file_of new) o) (is.inodes k)
+      other : (o : Option Node) → used_node g old k ≡ o → IsInodeOf g.layout (option_map (file_of g.layout old) o) (is.inodes k) → IsInodeOf g.layout (option_map (file_of g.layout new) o) (is.inodes k)
       other None none read = read
       other (Some node) used read =
-          subst (λ (xs : List ℕ). IsInodeOf (Some (record { kind = node.kind; links = node.links; bytes = take node.size xs })) (is.inodes k)) (sym (joined_stays k node used)) read
+          subst (λ (xs : List ℕ). IsInodeOf g.layout (Some (record { kind = node.kind; links = node.links; bytes = take (content_of g.layout node.kind node.size) xs })) (is.inodes k)) (sym (joined_stays k node used)) read
 
-      by : (k ≡ n) ⊎ (k ≢ n) → IsInodeOf (files_of g new k) (is.inodes k)
+      by : (k ≡ n) ⊎ (k ≢ n) → IsInodeOf g.layout (files_of g new k) (is.inodes k)
       by (inl same) =
-          subst (λ l. IsInodeOf (files_of g new l) (is.inodes l)) (sym same)
-          (subst (λ (o : Option Node). IsInodeOf (option_map (file_of new) o) (is.inodes n)) (sym adds.is_node)
-          (subst (λ (x : Option Inode). IsInodeOf (Some (file_of new adds.node)) x) (sym nothing_there) adds.kind))
+          subst (λ l. IsInodeOf g.layout (files_of g new l) (is.inodes l)) (sym same)
+          (subst (λ (o : Option Node). IsInodeOf g.layout (option_map (file_of g.layout new) o) (is.inodes n)) (sym adds.is_node)
+          (subst (λ (x : Option Inode). IsInodeOf g.layout (Some (file_of g.layout new adds.node)) x) (sym nothing_there) adds.kind))
       by (inr apart) =
-          subst (λ (o : Option Node). IsInodeOf (option_map (file_of new) o) (is.inodes k)) (sym (adds.others k apart)) (other (used_node g old k) refl (is.read k))
+          subst (λ (o : Option Node). IsInodeOf g.layout (option_map (file_of g.layout new) o) (is.inodes k)) (sym (adds.others k apart)) (other (used_node g old k) refl (is.read k))
 
   -- What the new snapshot keeps.
 
@@ -122,21 +122,21 @@ module _ (laws : NodeLaws) (kept : KeptLaws) (g : Geometry) (fits : IsGeometry g
   kept_block : (k i b : ℕ) → HasKeptBlock g new places k i b → HasBlock g old k i b
   kept_block k i b h = record { node = h.node; is_node = (kept_is k h.node h.is_node).0; place = h.place }
 
-  long : length places ≡ 1 + table_blocks g + dirs_from (kept_nodes g new places) 1 g.i
+  long : length places ≡ 1 + table_blocks g + dirs_from g.layout (kept_nodes g new places) 1 g.i
   long =
-      adds.long ∙ ap (λ c. 1 + table_blocks g + c) (sym (same_counts (used_node g old) 1 g.i))
-      ∙ ap (λ (ns : NodesInUse). 1 + table_blocks g + dirs_from ns 1 g.i) (sym (nodes laws g old new places adds.made))
+      adds.long ∙ ap (λ c. 1 + table_blocks g + c) (sym (same_counts g.layout (used_node g old) 1 g.i))
+      ∙ ap (λ (ns : NodesInUse). 1 + table_blocks g + dirs_from g.layout ns 1 g.i) (sym (nodes laws g old new places adds.made))
 
-  zeros_where_none : (k : ℕ) → 1 ≤ k → k ≤ g.i → kept_nodes g new places k ≡ None → node_bytes g (kept_table new places g) k ≡ replicate 256 0
+  zeros_where_none : (k : ℕ) → 1 ≤ k → k ≤ g.i → kept_nodes g new places k ≡ None → node_bytes g (kept_table new places g) k ≡ replicate (node_size g.layout) 0
   zeros_where_none k from upto none = by (slice_index (node_bytes g old k) 0 == 3) refl
     where
-      bytes : (b : Bool) → (slice_index (node_bytes g old k) 0 == 3) ≡ b → node_bytes g (kept_table new places g) k ≡ (if b then replicate 256 0 else node_bytes g old k)
-      bytes b e = adds.made.table k from upto ∙ ap (λ s. if s then replicate 256 0 else node_bytes g old k) e
+      bytes : (b : Bool) → (slice_index (node_bytes g old k) 0 == 3) ≡ b → node_bytes g (kept_table new places g) k ≡ (if b then replicate (node_size g.layout) 0 else node_bytes g old k)
+      bytes b e = adds.made.table k from upto ∙ ap (λ s. if s then replicate (node_size g.layout) 0 else node_bytes g old k) e
 
       here : node_at g (kept_table new places g) k ≡ None
       here = sym (ap (λ s. when s (node_at g (kept_table new places g) k)) (and_from _ _ (le-leb _ _ from) (le-leb _ _ upto))) ∙ none
 
-      by : (b : Bool) → (slice_index (node_bytes g old k) 0 == 3) ≡ b → node_bytes g (kept_table new places g) k ≡ replicate 256 0
+      by : (b : Bool) → (slice_index (node_bytes g old k) 0 == 3) ≡ b → node_bytes g (kept_table new places g) k ≡ replicate (node_size g.layout) 0
       by true e = bytes true e
       by false e = bytes false e ∙ is.sound.free k from upto (sym (ap (node_of g) (bytes false e)) ∙ here)
 
@@ -148,8 +148,8 @@ module _ (laws : NodeLaws) (kept : KeptLaws) (g : Geometry) (fits : IsGeometry g
     free = zeros_where_none;
     tail = λ k node used dir.
         let its = kept_is k node used in
-        ap (λ (ns : NodesInUse). are_zeros (drop node.size (joined new (places_by ns (dir_part g places) k node)))) (nodes laws g old new places adds.made)
-        ∙ ap (λ (xs : List ℕ). are_zeros (drop node.size xs)) (bytes_kept laws g old new places adds.made k node its.0 its.1)
+        ap (λ (ns : NodesInUse). are_zeros (drop (content_of g.layout node.kind node.size) (joined new (places_by g.layout ns (dir_part g places) k node)))) (nodes laws g old new places adds.made)
+        ∙ ap (λ (xs : List ℕ). are_zeros (drop (content_of g.layout node.kind node.size) xs)) (bytes_kept laws g old new places adds.made k node its.0 its.1)
         ∙ is.sound.tail k node its.0 dir;
   }
 
@@ -243,12 +243,12 @@ module _ (laws : NodeLaws) (kept : KeptLaws) (g : Geometry) (fits : IsGeometry g
           ap (λ (x : Node). x.kind) (same_Some h.node file.2.node (sym used ∙ ap (used_node g old) same.0 ∙ file.2.is_node)) ∙ file.3
       by (inr used) (inr one) = is.sound.shared k i b (record { node = h.node; is_node = used; place = h.place }) one
 
-  tail : (k : ℕ) (node : Node) → ((k ≡ n) × (node ≡ adds.node)) ⊎ (used_node g old k ≡ Some node) → node.kind ≡ Dir → are_zeros (past_content new node) ≡ true
+  tail : (k : ℕ) (node : Node) → ((k ≡ n) × (node ≡ adds.node)) ⊎ (used_node g old k ≡ Some node) → node.kind ≡ Dir → are_zeros (past_content g.layout new node) ≡ true
   tail k node (inl mine) dir = absurd (no_dir (sym adds.kind ∙ ap (λ (x : Node). x.kind) (sym mine.1) ∙ dir))
     where
       no_dir : Snapshot ≡ Dir → ⊥
       no_dir e = cc
-  tail k node (inr used) dir = ap (λ (xs : List ℕ). are_zeros (drop node.size xs)) (joined_stays k node used) ∙ is.sound.tail k node used dir
+  tail k node (inr used) dir = ap (λ (xs : List ℕ). are_zeros (drop (content_of g.layout node.kind node.size) xs)) (joined_stays k node used) ∙ is.sound.tail k node used dir
 
   sound_kept : (k : ℕ) (node : Node) → ((k ≡ n) × (node ≡ adds.node)) ⊎ (used_node g old k ≡ Some node) → node.kind ≡ Snapshot → IsSoundKept g new (run_places node.runs)
   sound_kept k node (inl mine) kind = subst (λ ps. IsSoundKept g new ps) (sym (ap (λ (x : Node). run_places x.runs) mine.1 ∙ adds.runs)) sound_new

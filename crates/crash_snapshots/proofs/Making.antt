@@ -1,13 +1,17 @@
 -- Where the blocks of a snapshot are written to places that no file has, the blocks have it.
-use Rattle.std.proofs.Common.{◌≡◌, ℕ, zero, suc, ◌+◌, ◌-◌, ◌*◌, ◌/◌, ◌%◌, ◌<◌, ◌≤◌, ◌==◌, Bool, true, false, if◌then◌else◌, List, [], ◌∷◌, ◌++◌, length, take, drop, replicate, get_or, slice_index, Some, eq-eqb, refl, sym, ap, ◌∙◌, arith}
-use Rattle.std.proofs.Math.Seq.{take-append_seam, drop-append_seam, drop-append-add}
+use Rattle.std.proofs.Common.{◌≡◌, ℕ, zero, suc, ◌+◌, ◌-◌, ◌<◌, ◌≤◌, ◌==◌, Bool, true, false, if◌then◌else◌, List, [], ◌∷◌, ◌++◌, length, take, drop, replicate, get_or, slice_index, Some, eq-eqb, refl, sym, ap, ap₂, ◌∙◌, arith}
+use Rattle.std.proofs.Math.Seq.{take-append_seam, drop-append-add}
 use Rattle.std.proofs.lemmas.Bool.{ne_eqb}
-use Rattle.std.proofs.lemmas.List.{length-append, length-drop, length-take-le, length-replicate, take_all}
+use Rattle.std.proofs.lemmas.List.{length-append, length-drop, length-take-le, length-replicate}
 use Rattle.std.proofs.lemmas.Option.{slice_get-get_or}
+use Rattle.std.specs.List.{range_with_len}
 use Rattle.base_types.specs.Seal.{Blocks}
-use Rattle.layout_geometry.specs.Geometry.{Geometry, IsGeometry, table_start, nodes_in_block, node_size}
-use Rattle.layout_bytes.specs.Node.{node_bytes}
-use Rattle.crash_stands.specs.Files.{used_node}
+use Rattle.base_types.specs.declared.layout.Layout.{Layout}
+use Rattle.base_types.specs.Layouts.{nodes_in_block, nodes_before, node_block, node_rank, rank_byte, node_byte}
+use Rattle.base_types.specs.LayoutLaws.{node_within, node_in_table, nodes_in_table, node_byte_is, node_is, rank_below, first_rank, next_rank}
+use Rattle.layout_geometry.specs.Geometry.{Geometry, IsGeometry, table_start}
+use Rattle.layout_bytes.specs.Node.{node_size, node_bytes}
+use Rattle.crash_stands.specs.Files.{joined, used_node}
 use Rattle.crash_stands.specs.Places.{table_blocks, kept_table, dir_part}
 use Rattle.crash_snapshots.specs.Places.{all_dirs}
 use Rattle.crash_snapshots.specs.Kept.{AreCopies, kept_bytes, HasSnapshot}
@@ -80,48 +84,43 @@ table_block g m i zero j below = absurd (omega (arith, below))
 table_block g m i (suc n) zero below = ap (kept_block g m) {x = i} {y = i + 0} (omega arith)
 table_block g m i (suc n) (suc j) below = table_block g m (i + 1) n j (omega (arith, below)) ∙ ap (kept_block g m) {x = i + 1 + j} {y = i + suc j} (omega arith)
 
--- one of four pieces of the same length
-pick : (n : ℕ) (piece : ℕ → List ℕ) → ((r : ℕ) → r < 4 → length (piece r) ≡ n) → (r : ℕ) → r < 4 → take n (drop (n * r) (piece 0 ++ (piece 1 ++ (piece 2 ++ piece 3)))) ≡ piece r
-pick n piece long zero below =
-    ap (λ k. take n (drop k (piece 0 ++ (piece 1 ++ (piece 2 ++ piece 3))))) {x = n * 0} {y = 0} (omega arith)
-    ∙ ap (λ k. take k (piece 0 ++ (piece 1 ++ (piece 2 ++ piece 3)))) (sym (long 0 below))
-    ∙ take-append_seam (piece 0) (piece 1 ++ (piece 2 ++ piece 3))
-pick n piece long (suc zero) below =
-    ap (λ k. take n (drop k (piece 0 ++ (piece 1 ++ (piece 2 ++ piece 3))))) {x = n * 1} {y = length (piece 0)} (omega (arith, long 0 (omega arith)))
-    ∙ ap (take n) (drop-append_seam (piece 0) (piece 1 ++ (piece 2 ++ piece 3)))
-    ∙ ap (λ k. take k (piece 1 ++ (piece 2 ++ piece 3))) (sym (long 1 below))
-    ∙ take-append_seam (piece 1) (piece 2 ++ piece 3)
-pick n piece long (suc (suc zero)) below =
-    ap (λ k. take n (drop k (piece 0 ++ (piece 1 ++ (piece 2 ++ piece 3))))) {x = n * 2} {y = length (piece 0) + length (piece 1)} (omega (arith, long 0 (omega arith), long 1 (omega arith)))
-    ∙ ap (take n) (drop-append-add (piece 0) (piece 1 ++ (piece 2 ++ piece 3)) (length (piece 1)))
-    ∙ ap (take n) (drop-append_seam (piece 1) (piece 2 ++ piece 3))
-    ∙ ap (λ k. take k (piece 2 ++ piece 3)) (sym (long 2 below))
-    ∙ take-append_seam (piece 2) (piece 3)
-pick n piece long (suc (suc (suc zero))) below =
-    ap (λ k. take n (drop k (piece 0 ++ (piece 1 ++ (piece 2 ++ piece 3))))) {x = n * 3} {y = length (piece 0) + (length (piece 1) + length (piece 2))}
-    (omega (arith, long 0 (omega arith), long 1 (omega arith), long 2 (omega arith)))
-    ∙ ap (take n) (drop-append-add (piece 0) (piece 1 ++ (piece 2 ++ piece 3)) (length (piece 1) + length (piece 2)))
-    ∙ ap (take n) (drop-append-add (piece 1) (piece 2 ++ piece 3) (length (piece 2)))
-    ∙ ap (take n) (drop-append_seam (piece 2) (piece 3))
-    ∙ take_all n (piece 3) (omega (arith, long 3 below))
-pick n piece long (suc (suc (suc (suc r)))) below = absurd (omega (arith, below))
+-- one of some pieces of the same length, where each begins behind the one before
+pick : (n : ℕ) (piece : ℕ → List ℕ) (place : ℕ → ℕ) → place 0 ≡ 0 → ((r : ℕ) → place (r + 1) ≡ place r + n) → (from count : ℕ)
+    → ((r : ℕ) → r < from + count → length (piece r) ≡ n) → (r : ℕ) → r < count → take n (drop (place r) (joined piece (range_with_len from count))) ≡ piece (from + r)
+pick n piece place first next from zero long r below = absurd (omega (arith, below))
+pick n piece place first next from (suc count) long zero below =
+    let rest = joined piece (range_with_len (from + 1) count) in
+    ap (λ at. take n (drop at (piece from ++ rest))) first
+    ∙ ap (λ k. take k (piece from ++ rest)) (sym (long from (omega arith)))
+    ∙ take-append_seam (piece from) rest
+    ∙ ap piece {x = from} {y = from + 0} (omega arith)
+pick n piece place first next from (suc count) long (suc r) below =
+    let rest = joined piece (range_with_len (from + 1) count) in
+    let behind : place (r + 1) ≡ length (piece from) + place r = omega (arith, next r, long from (omega arith)) in
+    ap (λ at. take n (drop (place at) (piece from ++ rest))) {x = suc r} {y = r + 1} (omega arith)
+    ∙ ap (λ at. take n (drop at (piece from ++ rest))) behind
+    ∙ ap (take n) (drop-append-add (piece from) rest (place r))
+    ∙ pick n piece place first next (from + 1) count (λ q low. long q (omega (arith, low))) r (omega (arith, below))
+    ∙ ap piece {x = from + 1 + r} {y = from + suc r} (omega arith)
 
-kept_length : (bytes : List ℕ) → length bytes ≡ 256 → length (kept_bytes bytes) ≡ 256
-kept_length bytes long = by (slice_index bytes 0 == 3)
+kept_length : (l : Layout) (bytes : List ℕ) → length bytes ≡ node_size l → length (kept_bytes l bytes) ≡ node_size l
+kept_length l bytes long = by (slice_index bytes 0 == 3)
   where
-    by : (t : Bool) → length (if t then replicate 256 0 else bytes) ≡ 256
-    by true = length-replicate {A = ℕ} 256 0
+    by : (t : Bool) → length (if t then replicate (node_size l) 0 else bytes) ≡ node_size l
+    by true = length-replicate {A = ℕ} (node_size l) 0
     by false = long
 
 module _ (g : Geometry) (m : Blocks) (name : List ℕ) (places : List ℕ) (fits : IsGeometry g) (can : CanHold g m name places) where
   new : Blocks
   new = with_blocks m places (snapshot_of g m name)
 
-  bytes_length : (k : ℕ) → 1 ≤ k → k ≤ g.i → length (node_bytes g m k) ≡ 256
+  bytes_length : (k : ℕ) → 1 ≤ k → k ≤ g.i → length (node_bytes g m k) ≡ node_size g.layout
   bytes_length k from upto =
-      let block : List ℕ = m (table_start g + (k - 1) / nodes_in_block) in
-      let whole : length block ≡ 1024 = can.table (table_start g + (k - 1) / nodes_in_block) (omega arith) (omega (arith, from, upto, fits.whole_blocks)) in
-      length-take-le 256 (drop (256 * ((k - 1) % 4)) block) (omega (arith, whole, length-drop (256 * ((k - 1) % 4)) block))
+      let block : List ℕ = m (table_start g + node_block g.layout k) in
+      let within = node_in_table g.layout g.i k fits.whole_blocks from upto in
+      let whole : length block ≡ 1024 = can.table (table_start g + node_block g.layout k) (omega arith) (omega (arith, within)) in
+      length-take-le (node_size g.layout) (drop (node_byte g.layout k) block)
+      (omega (arith, whole, length-drop (node_byte g.layout k) block, node_within g.layout k))
 
   has_length : length places ≡ suc (table_blocks g + length (all_dirs (used_node g m) 1 g.i))
   has_length =
@@ -138,15 +137,23 @@ module _ (g : Geometry) (m : Blocks) (name : List ℕ) (places : List ℕ) (fits
       ∙ table_block g m 0 (table_blocks g) i below
       ∙ ap (kept_block g m) {x = 0 + i} {y = i} (omega arith)
 
-  nodes_are : (k : ℕ) → 1 ≤ k → k ≤ g.i → node_bytes g (kept_table new places g) k ≡ kept_bytes (node_bytes g m k)
+  -- a piece of block i of the table is whole
+  piece_length : (i : ℕ) → i < table_blocks g → (q : ℕ) → q < nodes_in_block g.layout → length (kept_piece g m i q) ≡ node_size g.layout
+  piece_length i within q below =
+      let k : ℕ = nodes_before g.layout i + q + 1 in
+      let upto = nodes_in_table g.layout g.i i fits.whole_blocks (omega (arith, within)) in
+      kept_length g.layout (node_bytes g m k) (bytes_length k (omega arith) (omega (arith, below, upto)))
+
+  nodes_are : (k : ℕ) → 1 ≤ k → k ≤ g.i → node_bytes g (kept_table new places g) k ≡ kept_bytes g.layout (node_bytes g m k)
   nodes_are k from upto =
-      let i = (k - 1) / nodes_in_block in
-      let r = (k - 1) % nodes_in_block in
-      let within : i < table_blocks g = omega (arith, from, upto, fits.whole_blocks) in
-      ap (λ (xs : List ℕ). take node_size (drop (node_size * r) xs))
+      let i : ℕ = node_block g.layout k in
+      let r : ℕ = node_rank g.layout k in
+      let within : i < table_blocks g = omega (arith, node_in_table g.layout g.i k fits.whole_blocks from upto) in
+      ap₂ (λ (at : ℕ) (xs : List ℕ). take (node_size g.layout) (drop at xs)) (node_byte_is g.layout k)
       (ap (λ j. new (get_or places (1 + j) 0)) {x = table_start g + i - table_start g} {y = i} (omega arith) ∙ table_is i within)
-      ∙ pick node_size (kept_piece g m i) (λ q below. kept_length (node_bytes g m (4 * i + 1 + q)) (bytes_length (4 * i + 1 + q) (omega arith) (omega (arith, below, within)))) r (omega arith)
-      ∙ ap (λ j. kept_bytes (node_bytes g m j)) {x = 4 * i + 1 + r} {y = k} (omega (arith, from))
+      ∙ pick (node_size g.layout) (kept_piece g m i) (rank_byte g.layout) (first_rank g.layout) (next_rank g.layout) 0 (nodes_in_block g.layout)
+      (λ q low. piece_length i within q (omega (arith, low))) r (rank_below g.layout k)
+      ∙ ap (λ j. kept_bytes g.layout (node_bytes g m j)) {x = nodes_before g.layout i + (0 + r) + 1} {y = k} (omega (arith, node_is g.layout k from))
 
   dirs_are : AreCopies m new (all_dirs (used_node g m) 1 g.i) (dir_part g places)
   unfolding new

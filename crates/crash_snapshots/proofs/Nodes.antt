@@ -5,13 +5,13 @@ use Rattle.std.proofs.lemmas.Bool.{and_parts, leb-true, eqb-true}
 use Rattle.std.proofs.lemmas.Option.{none-some, same_Some}
 use Rattle.base_types.specs.Seal.{Blocks}
 use Rattle.base_types.specs.Runs.{run_places}
+use Rattle.base_types.specs.declared.layout.Layout.{Layout}
 use Rattle.layout_geometry.specs.Geometry.{Geometry, data_start}
 use Rattle.layout_bytes.specs.declared.node.Node.{Node}
 use Rattle.layout_bytes.specs.declared.node.NodeKind.{NodeKind}
 use Rattle.layout_bytes.specs.declared.node.NodeKind.TheVariants.{Free, Dir, File, Snapshot}
 use Rattle.layout_bytes.specs.Bytes.{when}
-use Rattle.layout_bytes.specs.Node.{node_of, node_with, node_at, node_bytes, node_fields, node_fits, spare_zeros}
-use Rattle.lang_tree.specs.Figures.{blocks_for}
+use Rattle.layout_bytes.specs.Node.{node_size, content_blocks, used_kind, node_of, node_with, node_at, node_bytes, node_fields, node_fits, spare_zeros}
 use Rattle.crash_stands.specs.Files.{used_node}
 use Rattle.crash_stands.specs.Places.{NodesInUse, is_copied, dir_blocks, dirs_from}
 use Rattle.crash_snapshots.specs.Places.{places_of_dir, all_dirs}
@@ -23,7 +23,7 @@ pub record NodeLaws : Type 0 where
   pub number : (g : Geometry) (m : Blocks) (k : ℕ) (node : Node) → used_node g m k ≡ Some node → (1 ≤ k) × (k ≤ g.i)
   pub kind : (g : Geometry) (m : Blocks) (k : ℕ) (node : Node) → used_node g m k ≡ Some node → node.kind ≢ Free
   pub within : (g : Geometry) (m : Blocks) (k : ℕ) (node : Node) → used_node g m k ≡ Some node → (i b : ℕ) → slice_get (run_places node.runs) i ≡ Some b → (data_start g ≤ b) × (b < g.n)
-  pub count : (g : Geometry) (m : Blocks) (k : ℕ) (node : Node) → used_node g m k ≡ Some node → length (run_places node.runs) ≡ blocks_for node.size
+  pub count : (g : Geometry) (m : Blocks) (k : ℕ) (node : Node) → used_node g m k ≡ Some node → length (run_places node.runs) ≡ content_blocks g.layout node.kind node.size
 
 when_some : {A : Type 0} (t : Bool) (x : Option A) (y : A) → when t x ≡ Some y → (t ≡ true) × (x ≡ Some y)
 when_some true x y e = (refl, e)
@@ -51,7 +51,7 @@ snapshot_is File is = cc
 
 kind_of : (g : Geometry) (b : List ℕ) (kind : NodeKind) (node : Node) → node_with g b (Some kind) ≡ Some node → node.kind ≡ kind
 kind_of g b kind node e =
-    let spare = when_some (spare_zeros b) (when (node_fits g (node_fields kind b)) (Some (node_fields kind b))) node e in
+    let spare = when_some (spare_zeros g.layout b) (when (node_fits g (node_fields kind b)) (Some (node_fields kind b))) node e in
     let fits = when_some (node_fits g (node_fields kind b)) (Some (node_fields kind b)) node spare.1 in
     ap (λ (m : Node). m.kind) (sym (same_Some (node_fields kind b) node fits.1))
 
@@ -69,12 +69,16 @@ snapshot_read g b node e =
     let n = slice_index b 0 in
     snapshot_by g b n (n == 1) (n == 2) (n == 3) node refl refl refl e
 
-pub zeros_none : (g : Geometry) → node_of g (replicate 256 0) ≡ None
+first_zero : (n : ℕ) → slice_index (replicate n 0) 0 ≡ 0
+first_zero zero = refl
+first_zero (suc n) = refl
+
+zeros_none : (g : Geometry) → node_of g (replicate (node_size g.layout) 0) ≡ None
 unfolding node_of
-zeros_none g = refl
+zeros_none g = ap (λ n. node_with g (replicate (node_size g.layout) 0) (used_kind n)) (first_zero (node_size g.layout))
 
 -- the bytes of a node as a snapshot keeps them are read as the node, where it is no snapshot
-kept_by : (g : Geometry) (b : List ℕ) (o : Option Node) (t : Bool) → node_of g b ≡ o → (slice_index b 0 == 3) ≡ t → node_of g (if t then replicate 256 0 else b) ≡ option_and_then unless_snapshot o
+kept_by : (g : Geometry) (b : List ℕ) (o : Option Node) (t : Bool) → node_of g b ≡ o → (slice_index b 0 == 3) ≡ t → node_of g (if t then replicate (node_size g.layout) 0 else b) ≡ option_and_then unless_snapshot o
 kept_by g b None true at is = zeros_none g
 kept_by g b None false at is = at
 kept_by g b (Some node) true at is = zeros_none g ∙ sym (ap (λ s. if s then None else Some node) (snapshot_read g b node at ∙ is))
@@ -85,7 +89,7 @@ when_and true f o = refl
 when_and false f o = refl
 
 -- nodes whose bytes are as a snapshot keeps them are the same, without snapshots
-pub nodes_kept : (g : Geometry) (m n : Blocks) → ((k : ℕ) → 1 ≤ k → k ≤ g.i → node_bytes g n k ≡ kept_bytes (node_bytes g m k)) → (k : ℕ) → used_node g n k ≡ plain_nodes (used_node g m) k
+pub nodes_kept : (g : Geometry) (m n : Blocks) → ((k : ℕ) → 1 ≤ k → k ≤ g.i → node_bytes g n k ≡ kept_bytes g.layout (node_bytes g m k)) → (k : ℕ) → used_node g n k ≡ plain_nodes (used_node g m) k
 nodes_kept g m n same k = when_same (nat_le 1 k && nat_le k g.i) (node_at g n k) (option_and_then unless_snapshot (node_at g m k)) (λ is.
     let number = and_parts (nat_le 1 k) (nat_le k g.i) is in
     ap (node_of g) (same k (leb-true 1 k number.0) (leb-true k g.i number.1))
@@ -125,28 +129,28 @@ same_dirs nodes k (suc n) = ap₂ (λ (xs ys : List ℕ). xs ++ ys) (by (nodes k
     by None = refl
     by (Some node) = in_use node (is_snapshot node.kind) refl
 
-pub same_counts : (nodes : NodesInUse) (k n : ℕ) → dirs_from (plain_nodes nodes) k n ≡ dirs_from nodes k n
-same_counts nodes k zero = refl
-same_counts nodes k (suc n) = ap₂ (λ x y. x + y) (by (nodes k)) (same_counts nodes (k + 1) n)
+pub same_counts : (l : Layout) (nodes : NodesInUse) (k n : ℕ) → dirs_from l (plain_nodes nodes) k n ≡ dirs_from l nodes k n
+same_counts l nodes k zero = refl
+same_counts l nodes k (suc n) = ap₂ (λ x y. x + y) (by (nodes k)) (same_counts l nodes (k + 1) n)
   where
-    in_use : (node : Node) (t : Bool) → is_snapshot node.kind ≡ t → dir_blocks (if t then None else Some node) ≡ dir_blocks (Some node)
-    in_use node true is = sym (ap (λ b. if b then blocks_for node.size else 0) (not_copied node.kind is))
+    in_use : (node : Node) (t : Bool) → is_snapshot node.kind ≡ t → dir_blocks l (if t then None else Some node) ≡ dir_blocks l (Some node)
+    in_use node true is = sym (ap (λ b. if b then content_blocks l node.kind node.size else 0) (not_copied node.kind is))
     in_use node false is = refl
 
-    by : (o : Option Node) → dir_blocks (option_and_then unless_snapshot o) ≡ dir_blocks o
+    by : (o : Option Node) → dir_blocks l (option_and_then unless_snapshot o) ≡ dir_blocks l o
     by None = refl
     by (Some node) = in_use node (is_snapshot node.kind) refl
 
 -- The directories.
 
-module _ (old new : Blocks) (nodes : NodesInUse) (count : (k : ℕ) (node : Node) → nodes k ≡ Some node → length (run_places node.runs) ≡ blocks_for node.size) where
-  by_kind : (node : Node) (t : Bool) → is_copied node.kind ≡ t → length (run_places node.runs) ≡ blocks_for node.size
-      → length (if t then run_places node.runs else []) ≡ (if t then blocks_for node.size else 0)
+module _ (l : Layout) (old new : Blocks) (nodes : NodesInUse) (count : (k : ℕ) (node : Node) → nodes k ≡ Some node → length (run_places node.runs) ≡ content_blocks l node.kind node.size) where
+  by_kind : (node : Node) (t : Bool) → is_copied node.kind ≡ t → length (run_places node.runs) ≡ content_blocks l node.kind node.size
+      → length (if t then run_places node.runs else []) ≡ (if t then content_blocks l node.kind node.size else 0)
   by_kind node true e long = long
   by_kind node false e long = refl
 
   -- a node's blocks as a directory are as many as are counted
-  dir_length : (k : ℕ) (o : Option Node) → nodes k ≡ o → length (places_of_dir o) ≡ dir_blocks o
+  dir_length : (k : ℕ) (o : Option Node) → nodes k ≡ o → length (places_of_dir o) ≡ dir_blocks l o
   dir_length k None e = refl
   dir_length k (Some node) e = by_kind node (is_copied node.kind) refl (count k node e)
 
@@ -155,7 +159,7 @@ module _ (old new : Blocks) (nodes : NodesInUse) (count : (k : ℕ) (node : Node
 
   -- among the copies of all directories' blocks those of one directory are where it is counted
   pub dir_copies : (k n j : ℕ) (ps : List ℕ) (node : Node) → AreCopies old new (all_dirs nodes k n) ps → j < n → nodes (k + j) ≡ Some node → is_copied node.kind ≡ true
-      → AreCopies old new (run_places node.runs) (take (blocks_for node.size) (drop (dirs_from nodes k j) ps))
+      → AreCopies old new (run_places node.runs) (take (content_blocks l node.kind node.size) (drop (dirs_from l nodes k j) ps))
   dir_copies k zero j ps node are below at dir = absurd (omega (arith, below))
   dir_copies k (suc n) zero ps node are below at dir =
       let here : nodes k ≡ Some node = ap nodes {x = k} {y = k + 0} (omega arith) ∙ at in
@@ -166,7 +170,7 @@ module _ (old new : Blocks) (nodes : NodesInUse) (count : (k : ℕ) (node : Node
       let rest = copies_rest old new (places_of_dir (nodes k)) (all_dirs nodes (k + 1) n) ps are in
       let there : nodes (k + 1 + j) ≡ Some node = ap nodes {x = k + 1 + j} {y = k + suc j} (omega arith) ∙ at in
       let further = dir_copies (k + 1) n j (drop (length (places_of_dir (nodes k))) ps) node rest (omega (arith, below)) there dir in
-      subst (λ qs. AreCopies old new (run_places node.runs) (take (blocks_for node.size) qs))
-      (ap (λ c. drop (dirs_from nodes (k + 1) j) (drop c ps)) (dir_length k (nodes k) refl)
-      ∙ drop-drop (dirs_from nodes (k + 1) j) (dir_blocks (nodes k)) ps)
+      subst (λ qs. AreCopies old new (run_places node.runs) (take (content_blocks l node.kind node.size) qs))
+      (ap (λ c. drop (dirs_from l nodes (k + 1) j) (drop c ps)) (dir_length k (nodes k) refl)
+      ∙ drop-drop (dirs_from l nodes (k + 1) j) (dir_blocks l (nodes k)) ps)
       further

@@ -13,6 +13,7 @@ use Rattle.layout_bytes.specs.declared.node.Node.{Node}
 use Rattle.layout_bytes.specs.declared.node.NodeKind.TheVariants.{Snapshot}
 use Rattle.layout_bytes.specs.Bitmap.{is_set}
 use Rattle.layout_bytes.specs.Bytes.{are_zeros}
+use Rattle.layout_bytes.specs.Node.{content_of}
 use Rattle.lang_tree.specs.Tree.{Tree, Kept, HasSoundSnapshots}
 use Rattle.crash_stands.specs.Files.{files_of, file_of, used_node, joined}
 use Rattle.crash_stands.specs.Inodes.{Inode, IsInodeOf, inode_by}
@@ -126,27 +127,27 @@ module _ (laws : NodeLaws) (kept : KeptLaws) (g : Geometry) (fits : IsGeometry g
   -- What is read.
 
   number_free : is.inodes its.number ≡ None
-  number_free = by (is.inodes its.number) (subst (λ (o : Option Node). IsInodeOf (option_map (file_of old) o) (is.inodes its.number)) takes.is_node (is.read its.number))
+  number_free = by (is.inodes its.number) (subst (λ (o : Option Node). IsInodeOf g.layout (option_map (file_of g.layout old) o) (is.inodes its.number)) takes.is_node (is.read its.number))
     where
-      by : (x : Option Inode) → IsInodeOf (Some (file_of old takes.node)) x → x ≡ None
+      by : (x : Option Inode) → IsInodeOf g.layout (Some (file_of g.layout old takes.node)) x → x ≡ None
       by None reads = refl
       by (Some x) reads =
-          let file = file_of old takes.node in
-          absurd (none-some x (sym (ap (λ kind. inode_by kind file.links file.bytes) takes.kind) ∙ reads))
+          let file = file_of g.layout old takes.node in
+          absurd (none-some x (sym (ap (λ kind. inode_by g.layout kind file.links file.bytes) takes.kind) ∙ reads))
 
-  reads : (k : ℕ) → IsInodeOf (files_of g new k) (is.inodes k)
+  reads : (k : ℕ) → IsInodeOf g.layout (files_of g new k) (is.inodes k)
   reads k = by (cases_eq k its.number)
     where
-      other : k ≢ its.number → (o : Option Node) → used_node g old k ≡ o → IsInodeOf (option_map (file_of old) o) (is.inodes k) → IsInodeOf (option_map (file_of new) o) (is.inodes k)
+      other : k ≢ its.number → (o : Option Node) → used_node g old k ≡ o → IsInodeOf g.layout (option_map (file_of g.layout old) o) (is.inodes k) → IsInodeOf g.layout (option_map (file_of g.layout new) o) (is.inodes k)
       other apart None none read = read
       other apart (Some node) used read =
-          subst (λ (xs : List ℕ). IsInodeOf (Some (record { kind = node.kind; links = node.links; bytes = take node.size xs })) (is.inodes k)) (sym (joined_stays k node apart used)) read
+          subst (λ (xs : List ℕ). IsInodeOf g.layout (Some (record { kind = node.kind; links = node.links; bytes = take (content_of g.layout node.kind node.size) xs })) (is.inodes k)) (sym (joined_stays k node apart used)) read
 
-      by : (k ≡ its.number) ⊎ (k ≢ its.number) → IsInodeOf (files_of g new k) (is.inodes k)
+      by : (k ≡ its.number) ⊎ (k ≢ its.number) → IsInodeOf g.layout (files_of g new k) (is.inodes k)
       by (inl same) =
-          subst (λ (o : Option Node). IsInodeOf (option_map (file_of new) o) (is.inodes k)) (sym (used_gone k same)) (ap is.inodes same ∙ number_free)
+          subst (λ (o : Option Node). IsInodeOf g.layout (option_map (file_of g.layout new) o) (is.inodes k)) (sym (used_gone k same)) (ap is.inodes same ∙ number_free)
       by (inr apart) =
-          subst (λ (o : Option Node). IsInodeOf (option_map (file_of new) o) (is.inodes k)) (sym (takes.others k apart)) (other apart (used_node g old k) refl (is.read k))
+          subst (λ (o : Option Node). IsInodeOf g.layout (option_map (file_of g.layout new) o) (is.inodes k)) (sym (takes.others k apart)) (other apart (used_node g old k) refl (is.read k))
 
   -- Soundness.
 
@@ -180,7 +181,7 @@ module _ (laws : NodeLaws) (kept : KeptLaws) (g : Geometry) (fits : IsGeometry g
     free = takes.bare;
     tail = λ k node used dir.
         let was = left k node used in
-        ap (λ (xs : List ℕ). are_zeros (drop node.size xs)) (joined_stays k node was.0 was.1) ∙ is.sound.tail k node was.1 dir;
+        ap (λ (xs : List ℕ). are_zeros (drop (content_of g.layout node.kind node.size) xs)) (joined_stays k node was.0 was.1) ∙ is.sound.tail k node was.1 dir;
     shared = λ k i b h one. is.sound.shared k i b (block_there k i b h) (kept_there b one).0;
     kept = λ k node used kind.
         let was = left k node used in

@@ -2,11 +2,12 @@
 use Rattle.std.specs.Prelude.{◌≡◌, ℕ, ◌≤◌, ◌==◌, ⊤, Bool, true, false, if◌then◌else◌, List, [], ◌∷◌, replicate, slice_get, slice_index, None, Some, option_and_then}
 use Rattle.base_types.specs.Seal.{Blocks}
 use Rattle.base_types.specs.Runs.{run_places}
-use Rattle.layout_geometry.specs.Geometry.{Geometry, node_size}
+use Rattle.base_types.specs.declared.layout.Layout.{Layout}
+use Rattle.layout_geometry.specs.Geometry.{Geometry}
 use Rattle.layout_bytes.specs.declared.node.Node.{Node}
 use Rattle.layout_bytes.specs.declared.node.NodeKind.{NodeKind}
 use Rattle.layout_bytes.specs.declared.node.NodeKind.TheVariants.{Free, Dir, File, Snapshot}
-use Rattle.layout_bytes.specs.Node.{node_bytes, kind_byte}
+use Rattle.layout_bytes.specs.Node.{node_size, node_bytes, kind_byte}
 use Rattle.crash_stands.specs.Files.{Files, used_node}
 use Rattle.crash_stands.specs.Places.{kept_table, dir_part}
 use Rattle.crash_snapshots.specs.Places.{all_dirs}
@@ -30,11 +31,11 @@ AreCopies old new [] (p ∷ ps) = ⊥
 AreCopies old new (b ∷ bs) [] = ⊥
 
 -- the bytes of a node as a snapshot keeps them: zeros of another snapshot
-abbrev pub kept_bytes : List ℕ → List ℕ
-kept_bytes bytes = if slice_index bytes 0 == kind_byte Snapshot then replicate node_size 0 else bytes
+abbrev pub kept_bytes : Layout → List ℕ → List ℕ
+kept_bytes l bytes = if slice_index bytes 0 == kind_byte Snapshot then replicate (node_size l) 0 else bytes
 
 -- The blocks `new` have a snapshot of the blocks `old` at these places: the node table without snapshots, and the blocks of all directories. The blocks of files are as they were.
 pub record HasSnapshot (g : Geometry) (old new : Blocks) (places : List ℕ) : Type 0 where
-  pub table : (k : ℕ) → 1 ≤ k → k ≤ g.i → node_bytes g (kept_table new places g) k ≡ kept_bytes (node_bytes g old k)
+  pub table : (k : ℕ) → 1 ≤ k → k ≤ g.i → node_bytes g (kept_table new places g) k ≡ kept_bytes g.layout (node_bytes g old k)
   pub dirs : AreCopies old new (all_dirs (used_node g old) 1 g.i) (dir_part g places)
   pub files : (k i b : ℕ) (node : Node) → used_node g old k ≡ Some node → node.kind ≡ File → slice_get (run_places node.runs) i ≡ Some b → new b ≡ old b

@@ -1,13 +1,15 @@
 -- A snapshot of blocks, made in other blocks.
-use Rattle.std.specs.Prelude.{◌≡◌, ℕ, zero, suc, ◌+◌, ◌*◌, ◌<◌, ◌≤◌, ◌==◌, if◌then◌else◌, List, [], ◌∷◌, ◌++◌, length, slice_get, Some}
+use Rattle.std.specs.Prelude.{◌≡◌, ℕ, zero, suc, ◌+◌, ◌<◌, ◌≤◌, ◌==◌, if◌then◌else◌, List, [], ◌∷◌, ◌++◌, length, slice_get, Some}
+use Rattle.std.specs.List.{range_with_len}
 use Rattle.base_types.specs.Seal.{Blocks}
 use Rattle.base_types.specs.Runs.{run_places}
-use Rattle.layout_geometry.specs.Geometry.{Geometry, table_start, data_start, nodes_in_block}
+use Rattle.base_types.specs.Layouts.{nodes_in_block, nodes_before}
+use Rattle.layout_geometry.specs.Geometry.{Geometry, table_start, data_start}
 use Rattle.layout_bytes.specs.declared.node.Node.{Node}
 use Rattle.layout_bytes.specs.declared.node.NodeKind.TheVariants.{File}
 use Rattle.layout_extent.specs.Renew.{AreOnce, IsAmong}
 use Rattle.layout_bytes.specs.Node.{node_bytes}
-use Rattle.crash_stands.specs.Files.{used_node}
+use Rattle.crash_stands.specs.Files.{joined, used_node}
 use Rattle.crash_stands.specs.Places.{table_blocks}
 use Rattle.crash_snapshots.specs.Places.{all_dirs}
 use Rattle.crash_snapshots.specs.Kept.{kept_bytes}
@@ -25,11 +27,11 @@ blocks_at m (b ∷ bs) = m b ∷ blocks_at m bs
 
 -- node r of block i of the node table, counted from 0, as a snapshot keeps it
 abbrev pub kept_piece : Geometry → Blocks → ℕ → ℕ → List ℕ
-kept_piece g m i r = kept_bytes (node_bytes g m (nodes_in_block * i + 1 + r))
+kept_piece g m i r = kept_bytes g.layout (node_bytes g m (nodes_before g.layout i + r + 1))
 
--- block i of the node table as a snapshot keeps it
+-- block i of the node table as a snapshot keeps it: all nodes of the block, one behind the other
 abbrev pub kept_block : Geometry → Blocks → ℕ → List ℕ
-kept_block g m i = kept_piece g m i 0 ++ (kept_piece g m i 1 ++ (kept_piece g m i 2 ++ kept_piece g m i 3))
+kept_block g m i = joined (kept_piece g m i) (range_with_len 0 (nodes_in_block g.layout))
 
 -- n blocks of it from block i on
 abbrev pub kept_blocks : Geometry → Blocks → ℕ → ℕ → List (List ℕ)

@@ -26,7 +26,7 @@ pub fn a_snapshot_reads_as_the_blocks_did()
     ensures files { (g : Geometry) (old new : Blocks) (places : List ℕ) → HasSnapshot g old new places → (k : ℕ)
         → kept_files g new places k ≡ without_snapshots (files_of g old) k }
     ensures map { (g : Geometry) (old new : Blocks) (places : List ℕ) (t : Tree) → IsTreeOf g old t → HasSnapshot g old new places
-        → IsMapOf g.i (inodes_of (kept_files g new places)) t }
+        → IsMapOf g.i (inodes_of g.layout (kept_files g new places)) t }
     ensures tree { (g : Geometry) (old new : Blocks) (places : List ℕ) (t : Tree) (n : ℕ) → IsTreeOf g old t → HasSnapshot g old new places
         → KeepsTree g new places (record { number = n; names = t.names; nodes = t.nodes }) }
 {

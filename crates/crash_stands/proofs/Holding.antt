@@ -1,5 +1,5 @@
 -- The snapshots of blocks that stand for a tree: they are the tree's, they are sound, and their numbers are no inodes'.
-use Rattle.std.proofs.Common.{◌≡◌, ◌≢◌, ◌↔◌, ℕ, ◌-◌, ◌<◌, ◌≤◌, ◌&&◌, ◌⊎◌, inl, inr, Bool, true, false, not, IsTrue, is_none, List, length, take, drop, replicate, get_or, Option, Some, None, option_map, find, refl, sym, ap, ap₂, subst, ◌∙◌}
+use Rattle.std.proofs.Common.{◌≡◌, ◌↔◌, ℕ, ◌-◌, ◌<◌, ◌≤◌, ◌&&◌, ◌⊎◌, inl, inr, Bool, true, false, not, IsTrue, is_none, List, length, take, drop, replicate, get_or, Option, Some, None, option_map, find, refl, sym, ap, ap₂, subst, ◌∙◌}
 use Rattle.std.proofs.Math.Seq.{take-append_seam}
 use Rattle.std.proofs.lemmas.Bool.{and_right, cases_Bool}
 use Rattle.std.proofs.lemmas.Option.{none-some, same_Some}
@@ -9,6 +9,7 @@ use Rattle.std.specs.Cmp.Lexicographic.{lists_total}
 use Rattle.std.specs.FinMap.{nat_cmp-IsAntisymmetric, slice_cmp-IsAntisymmetric, get, empty, get-empty, same_map}
 use Rattle.base_types.specs.Seal.{Blocks}
 use Rattle.base_types.specs.Runs.{run_places}
+use Rattle.base_types.specs.declared.layout.Layout.{Layout}
 use Rattle.layout_geometry.specs.Geometry.{Geometry, data_start}
 use Rattle.layout_bytes.specs.declared.node.Node.{Node}
 use Rattle.layout_bytes.specs.declared.node.NodeKind.TheVariants.{Snapshot}
@@ -34,7 +35,7 @@ name_in a b e =
 -- a snapshot keeps one tree
 pub keeps_one : (g : Geometry) (m : Blocks) (places : List ℕ) (k l : Kept) → KeepsTree g m places k → KeepsTree g m places l → (k.names ≡ l.names) × (k.nodes ≡ l.nodes)
 keeps_one g m places k l x y =
-    one_tree g.i x.inodes (kept_tree k) (kept_tree l) x.map (alike g.i y.inodes x.inodes (kept_tree l) (one_map (kept_files g m places) y.inodes x.inodes y.read x.read) y.map)
+    one_tree g.i x.inodes (kept_tree k) (kept_tree l) x.map (alike g.i y.inodes x.inodes (kept_tree l) (one_map g.layout (kept_files g m places) y.inodes x.inodes y.read x.read) y.map)
 
 -- a number has one name, and one tree that is kept
 held_once : (g : Geometry) (m : Blocks) (a b : List ℕ) (k l : Kept) → HoldsSnapshot g m a k → HoldsSnapshot g m b l → k.number ≡ l.number → (a ≡ b) × (k ≡ l)
@@ -66,17 +67,17 @@ same_snapshots g m t u x y =
 -- Numbers.
 
 -- a snapshot's number is no inode's
-not_inode : (file : FileNode) (o : Option Inode) → file.kind ≡ Snapshot → IsInodeOf (Some file) o → o ≡ None
-not_inode file None is reads = refl
-not_inode file (Some x) is reads = absurd (none-some x (sym (no_inode file is) ∙ reads))
+not_inode : (l : Layout) (file : FileNode) (o : Option Inode) → file.kind ≡ Snapshot → IsInodeOf l (Some file) o → o ≡ None
+not_inode l file None is reads = refl
+not_inode l file (Some x) is reads = absurd (none-some x (sym (no_inode l file is) ∙ reads))
 
 module _ (g : Geometry) (m : Blocks) (t : Tree) (is : IsTreeOf g m t) where
   -- a node reads as what the tree has under its number
-  reads_so : (n : ℕ) (o : Option Node) → used_node g m n ≡ o → IsInodeOf (option_map (file_of m) o) (is.inodes n)
-  reads_so n o used = subst (λ (p : Option Node). IsInodeOf (option_map (file_of m) p) (is.inodes n)) used (is.read n)
+  reads_so : (n : ℕ) (o : Option Node) → used_node g m n ≡ o → IsInodeOf g.layout (option_map (file_of g.layout m) o) (is.inodes n)
+  reads_so n o used = subst (λ (p : Option Node). IsInodeOf g.layout (option_map (file_of g.layout m) p) (is.inodes n)) used (is.read n)
 
   no_node : (n : ℕ) (node : Node) → used_node g m n ≡ Some node → node.kind ≡ Snapshot → get t.nodes n ≡ None
-  no_node n node used kind = is.map.shows.nodes n ∙ ap (option_map thing_of) (not_inode (file_of m node) (is.inodes n) kind (reads_so n (Some node) used))
+  no_node n node used kind = is.map.shows.nodes n ∙ ap (option_map thing_of) (not_inode g.layout (file_of g.layout m node) (is.inodes n) kind (reads_so n (Some node) used))
 
   pub sound_snapshots : HasSoundSnapshots g.i t
   sound_snapshots = record {
@@ -100,7 +101,7 @@ module _ (g : Geometry) (m : Blocks) (t : Tree) (is : IsTreeOf g m t) where
             let held = is.keeps its.0 its.1 its.2 in
             absurd (none-some held.node (sym unused ∙ ap (used_node g m) (sym its.3) ∙ held.is_node))
 
-    in_use : (n : ℕ) (node : Node) (o : Option Inode) → used_node g m n ≡ Some node → is.inodes n ≡ o → IsInodeOf (Some (file_of m node)) o
+    in_use : (n : ℕ) (node : Node) (o : Option Inode) → used_node g m n ≡ Some node → is.inodes n ≡ o → IsInodeOf g.layout (Some (file_of g.layout m node)) o
         → (is_none (get t.nodes n) && not (is_snapshot t.snapshots n)) ≡ false
     in_use n node None used at kind =
         let its = is.each n node used kind in
@@ -110,7 +111,7 @@ module _ (g : Geometry) (m : Blocks) (t : Tree) (is : IsTreeOf g m t) where
     pub unused : (n : ℕ) → is_none (files_of g m n) ≡ (is_none (get t.nodes n) && not (is_snapshot t.snapshots n))
     unused n = by (used_node g m n) refl
       where
-        by : (o : Option Node) → used_node g m n ≡ o → is_none (option_map (file_of m) o) ≡ (is_none (get t.nodes n) && not (is_snapshot t.snapshots n))
+        by : (o : Option Node) → used_node g m n ≡ o → is_none (option_map (file_of g.layout m) o) ≡ (is_none (get t.nodes n) && not (is_snapshot t.snapshots n))
         by None none =
             sym (ap₂ (λ a b. a && not b) (ap is_none (is.map.shows.nodes n ∙ ap (option_map thing_of) (reads_so n None none))) (no_snapshot n none))
         by (Some node) used = sym (in_use n node (is.inodes n) used refl (reads_so n (Some node) used))

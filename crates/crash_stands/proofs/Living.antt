@@ -1,16 +1,18 @@
 -- Blocks that have the live blocks of others stand for the same tree, with its snapshots.
-use Rattle.std.proofs.Common.{◌≡◌, ◌⊎◌, inl, inr, ℕ, ◌+◌, ◌-◌, ◌*◌, ◌/◌, ◌%◌, ◌<◌, ◌≤◌, nat_le, nat_lt, true, false, ◌&&◌, ◌||◌, IsTrue, List, drop, take, length, slice_get, get_or, Option, None, Some, option_map, refl, sym, subst, ap, ap₂, ◌∙◌, arith}
+use Rattle.std.proofs.Common.{◌≡◌, ◌⊎◌, inl, inr, ℕ, ◌+◌, ◌*◌, ◌/◌, ◌<◌, ◌≤◌, nat_le, nat_lt, true, false, ◌&&◌, ◌||◌, IsTrue, List, drop, take, length, slice_get, get_or, Option, None, Some, option_map, refl, sym, subst, ap, ap₂, ◌∙◌, arith}
 use Rattle.std.proofs.lemmas.Bool.{and_parts, and_from, ltb-true, le-leb, lt-ltb, or_right}
 use Rattle.std.proofs.lemmas.Option.{slice_get-get_or}
 use Rattle.base_types.specs.Seal.{Blocks}
 use Rattle.base_types.specs.Runs.{run_places}
-use Rattle.layout_geometry.specs.Geometry.{Geometry, IsGeometry, bitmap_start, bitmap_blocks, table_start, data_start, nodes_in_block}
+use Rattle.base_types.specs.Layouts.{node_block, node_byte}
+use Rattle.base_types.specs.LayoutLaws.{node_in_table}
+use Rattle.layout_geometry.specs.Geometry.{Geometry, IsGeometry, bitmap_start, bitmap_blocks, table_start, data_start}
 use Rattle.layout_journal.specs.Run.{is_live}
 use Rattle.layout_bytes.specs.declared.node.Node.{Node}
 use Rattle.layout_bytes.specs.declared.node.NodeKind.TheVariants.{Dir, Snapshot}
 use Rattle.layout_bytes.specs.Bitmap.{is_set, bit_in}
 use Rattle.layout_bytes.specs.Bytes.{are_zeros}
-use Rattle.layout_bytes.specs.Node.{node_size, node_of, node_at, node_bytes}
+use Rattle.layout_bytes.specs.Node.{node_size, content_of, node_of, node_at, node_bytes}
 use Rattle.lang_tree.specs.Tree.{Tree, Kept}
 use Rattle.crash_stands.specs.Files.{files_of, file_of, used_node, joined, past_content}
 use Rattle.crash_stands.specs.Inodes.{IsInodeOf}
@@ -79,8 +81,8 @@ module _ (g : Geometry) (fits : IsGeometry g) (map m : Blocks) (sound : AreSound
   -- The nodes.
 
   bytes_same : (k : ℕ) → 1 ≤ k → k ≤ g.i → node_bytes g m k ≡ node_bytes g map k
-  bytes_same k from upto = ap (λ (xs : List ℕ). take node_size (drop (node_size * ((k - 1) % nodes_in_block)) xs))
-      (low_same (table_start g + (k - 1) / nodes_in_block) (omega arith) (omega (arith, from, upto, fits.whole_blocks)))
+  bytes_same k from upto = ap (λ (xs : List ℕ). take (node_size g.layout) (drop (node_byte g.layout k) xs))
+      (low_same (table_start g + node_block g.layout k) (omega arith) (omega (arith, node_in_table g.layout g.i k fits.whole_blocks from upto)))
 
   node_same : (k : ℕ) → 1 ≤ k → k ≤ g.i → node_at g m k ≡ node_at g map k
   node_same k from upto = ap (node_of g) (bytes_same k from upto)
@@ -98,11 +100,11 @@ module _ (g : Geometry) (fits : IsGeometry g) (map m : Blocks) (sound : AreSound
   places_same k node used = joined_same map m (run_places node.runs) (own_same k node used)
 
   files_same : (k : ℕ) → files_of g m k ≡ files_of g map k
-  files_same k = ap (option_map (file_of m)) (used_same k) ∙ by (used_node g map k) refl
+  files_same k = ap (option_map (file_of g.layout m)) (used_same k) ∙ by (used_node g map k) refl
     where
-      by : (o : Option Node) → used_node g map k ≡ o → option_map (file_of m) o ≡ option_map (file_of map) o
+      by : (o : Option Node) → used_node g map k ≡ o → option_map (file_of g.layout m) o ≡ option_map (file_of g.layout map) o
       by None none = refl
-      by (Some node) used = ap (λ (xs : List ℕ). Some (record { kind = node.kind; links = node.links; bytes = take node.size xs })) (places_same k node used)
+      by (Some node) used = ap (λ (xs : List ℕ). Some (record { kind = node.kind; links = node.links; bytes = take (content_of g.layout node.kind node.size) xs })) (places_same k node used)
 
   -- The snapshots.
 
@@ -155,10 +157,10 @@ module _ (g : Geometry) (fits : IsGeometry g) (map m : Blocks) (sound : AreSound
   here b (inl h) = inl (h.0, h.1, block_here h.0 h.1 b h.2)
   here b (inr is) = inr (is_kept_here b is)
 
-  tail : (k : ℕ) (node : Node) → used_node g m k ≡ Some node → node.kind ≡ Dir → are_zeros (past_content m node) ≡ true
+  tail : (k : ℕ) (node : Node) → used_node g m k ≡ Some node → node.kind ≡ Dir → are_zeros (past_content g.layout m node) ≡ true
   tail k node used dir =
       let its = sym (used_same k) ∙ used in
-      ap (λ (xs : List ℕ). are_zeros (drop node.size xs)) (places_same k node its) ∙ sound.tail k node its dir
+      ap (λ (xs : List ℕ). are_zeros (drop (content_of g.layout node.kind node.size) xs)) (places_same k node its) ∙ sound.tail k node its dir
 
   sound_here : AreSound g m
   unfolding block_there
@@ -196,7 +198,7 @@ module _ (g : Geometry) (fits : IsGeometry g) (map m : Blocks) (sound : AreSound
 pub tree_alive : (g : Geometry) → IsGeometry g → (map m : Blocks) (t : Tree) → ((b : ℕ) → IsTrue (is_live g map b) → m b ≡ map b) → IsTreeOf g map t → IsTreeOf g m t
 tree_alive g fits map m t same h = record {
   inodes = h.inodes;
-  read = λ k. subst (λ x. IsInodeOf x (h.inodes k)) (sym (files_same g fits map m h.sound same k)) (h.read k);
+  read = λ k. subst (λ x. IsInodeOf g.layout x (h.inodes k)) (sym (files_same g fits map m h.sound same k)) (h.read k);
   map = h.map;
   sound = sound_here g fits map m h.sound same;
   keeps = λ name k at. held_here g fits map m h.sound same name k (h.keeps name k at);

@@ -7,7 +7,7 @@ use Rattle.std.specs.Cmp.Lexicographic.{lists_total}
 use Rattle.std.specs.FinMap.{get, insert, empty, get-insert, get-empty}
 use Rattle.std.proofs.lemmas.Option.{same_Some, none-some}
 use Rattle.layout_bytes.specs.declared.slot.Slot.{Slot}
-use Rattle.lang_tree.specs.Tree.{path_cmp, Dir}
+use Rattle.lang_tree.specs.Tree.{Bounds, path_cmp, Dir}
 use Rattle.lang_tree.specs.Step.{start}
 use Rattle.crash_stands.specs.Inodes.{Inode, ADir, AFile, root_alone, thing_of, AreDistinct}
 use Rattle.crash_stands.specs.Walks.{entries_of, walk, LeadsTo}
@@ -56,7 +56,7 @@ number_of : (k : ℕ) (x : Inode) → root_alone k ≡ Some x → k ≡ 1
 number_of k x e = (at_root k x e).0
 
 -- the root alone is the map of the tree that every session starts with
-pub root_is_map : (limit : ℕ) → 1 ≤ limit → IsMapOf limit root_alone (start limit).tree
+pub root_is_map : (limit : Bounds) → 1 ≤ limit.nodes → IsMapOf limit.nodes root_alone (start limit).tree
 root_is_map limit low = record {
   root = ([], refl);
   distinct = root_is_distinct;

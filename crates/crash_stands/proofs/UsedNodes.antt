@@ -1,18 +1,18 @@
--- Nodes in use: their numbers, their kinds, and their blocks, which are data blocks and as many as their bytes need.
-use Rattle.std.proofs.Common.{◌≡◌, ◌≢◌, ◌⊎◌, inl, inr, ℕ, zero, suc, ◌+◌, ◌/◌, ◌<◌, ◌≤◌, ◌==◌, nat_le, nat_lt, Bool, true, false, not, ◌&&◌, if◌then◌else◌, List, [], ◌∷◌, ◌++◌, length, slice_get, slice_index, Option, None, Some, refl, subst, ap, ◌∙◌, arith}
+-- Nodes in use: their numbers, their kinds, and their blocks, which are data blocks and as many as their content needs.
+use Rattle.std.proofs.Common.{◌≡◌, ◌≢◌, ◌⊎◌, inl, inr, ℕ, zero, suc, ◌+◌, ◌<◌, ◌≤◌, ◌==◌, nat_le, nat_lt, Bool, true, false, not, ◌&&◌, if◌then◌else◌, List, [], ◌∷◌, ◌++◌, length, slice_get, slice_index, Option, None, Some, refl, subst, ap, ◌∙◌, arith}
 use Rattle.std.proofs.lemmas.Bool.{and_parts, leb-true, eqb-true}
 use Rattle.std.proofs.lemmas.List.{length-append}
 use Rattle.std.proofs.lemmas.Option.{none-some, same_Some}
 use Rattle.base_types.specs.Seal.{Blocks}
 use Rattle.base_types.specs.declared.places.Run.{Run}
+use Rattle.base_types.specs.Layouts.{most_runs}
 use Rattle.base_types.specs.Runs.{blocks_from, run_places}
 use Rattle.layout_geometry.specs.Geometry.{Geometry, data_start}
 use Rattle.layout_bytes.specs.declared.node.Node.{Node}
 use Rattle.layout_bytes.specs.declared.node.NodeKind.{NodeKind}
 use Rattle.layout_bytes.specs.declared.node.NodeKind.TheVariants.{Free, Dir, File, Snapshot}
 use Rattle.layout_bytes.specs.Bytes.{when}
-use Rattle.layout_bytes.specs.Node.{node_of, node_with, node_at, node_bytes, node_fields, node_fits, spare_zeros, runs_fit, run_blocks, kind_fits}
-use Rattle.lang_tree.specs.Figures.{blocks_for}
+use Rattle.layout_bytes.specs.Node.{content_blocks, node_of, node_with, node_at, node_bytes, node_fields, node_fits, spare_zeros, runs_fit, run_blocks, kind_fits}
 use Rattle.crash_stands.specs.Files.{used_node}
 use Rattle.crash_stands.specs.Places.{is_copied}
 
@@ -54,22 +54,22 @@ places_length : (rs : List Run) → length (run_places rs) ≡ run_blocks rs
 places_length [] = refl
 places_length (r ∷ rs) = omega (arith, length-append (blocks_from r.first r.count) (run_places rs), run_length r.first r.count, places_length rs)
 
--- a node in use is none that is free, its runs fit, and they have as many blocks as its bytes need
+-- a node in use is none that is free, its runs fit, and they have as many blocks as its content needs
 record IsUsed (g : Geometry) (node : Node) : Type 0 where
   used : node.kind ≢ Free
   runs : runs_fit g 0 node.runs ≡ true
-  count : run_blocks node.runs ≡ (node.size + 1023) / 1024
+  count : run_blocks node.runs ≡ content_blocks g.layout node.kind node.size
 
 with_parts : (g : Geometry) (b : List ℕ) (kind : NodeKind) (node : Node) → kind ≢ Free → node_with g b (Some kind) ≡ Some node → IsUsed g node
 with_parts g b kind node used e =
-    let spare = when_some (spare_zeros b) (when (node_fits g (node_fields kind b)) (Some (node_fields kind b))) node e in
+    let spare = when_some (spare_zeros g.layout b) (when (node_fits g (node_fields kind b)) (Some (node_fields kind b))) node e in
     let fits = when_some (node_fits g (node_fields kind b)) (Some (node_fields kind b)) node spare.1 in
     let whole : node_fits g node ≡ true = subst (λ (m : Node). node_fits g m ≡ true) (same_Some (node_fields kind b) node fits.1) fits.0 in
     let some = and_parts (nat_lt 0 node.links) _ whole in
-    let few = and_parts (nat_le (length node.runs) 28) _ some.1 in
+    let few = and_parts (nat_le (length node.runs) (most_runs g.layout)) _ some.1 in
     let runs = and_parts (runs_fit g 0 node.runs) _ few.1 in
-    let blocks = and_parts (run_blocks node.runs == (node.size + 1023) / 1024) (kind_fits node node.kind) runs.1 in
-    record { used = λ free. used (ap (λ (m : Node). m.kind) (same_Some (node_fields kind b) node fits.1) ∙ free); runs = runs.0; count = eqb-true (run_blocks node.runs) ((node.size + 1023) / 1024) blocks.0 }
+    let blocks = and_parts (run_blocks node.runs == content_blocks g.layout node.kind node.size) (kind_fits node node.kind) runs.1 in
+    record { used = λ free. used (ap (λ (m : Node). m.kind) (same_Some (node_fields kind b) node fits.1) ∙ free); runs = runs.0; count = eqb-true (run_blocks node.runs) (content_blocks g.layout node.kind node.size) blocks.0 }
 
 used_by : (g : Geometry) (b : List ℕ) (p q r : Bool) (node : Node) → node_with g b (if p then Some Dir else if q then Some File else if r then Some Snapshot else None) ≡ Some node → IsUsed g node
 used_by g b true q r node e = with_parts g b Dir node (λ free. cc) e
@@ -90,7 +90,7 @@ used_kind_is g m k node e = (is_used g m k node e).used
 pub used_data : (g : Geometry) (m : Blocks) (k : ℕ) (node : Node) → used_node g m k ≡ Some node → (i b : ℕ) → slice_get (run_places node.runs) i ≡ Some b → (data_start g ≤ b) × (b < g.n)
 used_data g m k node e i b at = runs_data g 0 node.runs i b (is_used g m k node e).runs at
 
-pub used_count : (g : Geometry) (m : Blocks) (k : ℕ) (node : Node) → used_node g m k ≡ Some node → length (run_places node.runs) ≡ blocks_for node.size
+pub used_count : (g : Geometry) (m : Blocks) (k : ℕ) (node : Node) → used_node g m k ≡ Some node → length (run_places node.runs) ≡ content_blocks g.layout node.kind node.size
 used_count g m k node e = places_length node.runs ∙ (is_used g m k node e).count
 
 pub used_within : (g : Geometry) (m : Blocks) (k : ℕ) (node : Node) → used_node g m k ≡ Some node → (1 ≤ k) × (k ≤ g.i)

@@ -4,6 +4,7 @@ use Rattle.base_types.specs.Seal.{Blocks}
 use Rattle.base_types.specs.Runs.{run_places}
 use Rattle.layout_geometry.specs.Geometry.{Geometry}
 use Rattle.layout_bytes.specs.declared.node.Node.{Node}
+use Rattle.layout_bytes.specs.Node.{content_of}
 use Rattle.crash_stands.specs.Files.{FileNode, Files, joined, used_node}
 use Rattle.crash_stands.specs.Places.{NodesInUse, is_copied, table_blocks, kept_table, dir_part, places_by}
 
@@ -13,10 +14,11 @@ kept_nodes g m places = used_node g (kept_table m places g)
 
 -- where kept node k has its blocks
 abbrev pub kept_places : Geometry → Blocks → List ℕ → ℕ → Node → List ℕ
-kept_places g m places = places_by (kept_nodes g m places) (dir_part g places)
+kept_places g m places = places_by g.layout (kept_nodes g m places) (dir_part g places)
 
 abbrev pub kept_file : Geometry → Blocks → List ℕ → ℕ → Node → FileNode
-kept_file g m places k node = record { kind = node.kind; links = node.links; bytes = take node.size (joined m (kept_places g m places k node)) }
+kept_file g m places k node =
+    record { kind = node.kind; links = node.links; bytes = take (content_of g.layout node.kind node.size) (joined m (kept_places g m places k node)) }
 
 -- the nodes that it keeps, each with its bytes
 abbrev pub kept_files : Geometry → Blocks → List ℕ → Files

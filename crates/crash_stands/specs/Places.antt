@@ -2,11 +2,12 @@
 use Rattle.std.specs.Prelude.{ℕ, zero, suc, ◌+◌, ◌-◌, Bool, true, false, if◌then◌else◌, List, take, drop, get_or, Option, None, Some}
 use Rattle.base_types.specs.Seal.{Blocks}
 use Rattle.base_types.specs.Runs.{run_places}
+use Rattle.base_types.specs.declared.layout.Layout.{Layout}
 use Rattle.layout_geometry.specs.Geometry.{Geometry, table_start, data_start}
 use Rattle.layout_bytes.specs.declared.node.Node.{Node}
 use Rattle.layout_bytes.specs.declared.node.NodeKind.{NodeKind}
 use Rattle.layout_bytes.specs.declared.node.NodeKind.TheVariants.{Free, Dir, File, Snapshot}
-use Rattle.lang_tree.specs.Figures.{blocks_for}
+use Rattle.layout_bytes.specs.Node.{content_blocks}
 
 -- the nodes in use, by their numbers
 abbrev pub NodesInUse : Type 0
@@ -34,15 +35,16 @@ abbrev pub dir_part : Geometry → List ℕ → List ℕ
 dir_part g places = drop (1 + table_blocks g) places
 
 -- how many blocks of directories a node has
-abbrev pub dir_blocks : Option Node → ℕ
-dir_blocks None = 0
-dir_blocks (Some node) = if is_copied node.kind then blocks_for node.size else 0
+abbrev pub dir_blocks : Layout → Option Node → ℕ
+dir_blocks l None = 0
+dir_blocks l (Some node) = if is_copied node.kind then content_blocks l node.kind node.size else 0
 
 -- how many the directories among n numbers from k on have
-abbrev pub dirs_from : NodesInUse → ℕ → ℕ → ℕ
-dirs_from nodes k zero = 0
-dirs_from nodes k (suc n) = dir_blocks (nodes k) + dirs_from nodes (k + 1) n
+abbrev pub dirs_from : Layout → NodesInUse → ℕ → ℕ → ℕ
+dirs_from l nodes k zero = 0
+dirs_from l nodes k (suc n) = dir_blocks l (nodes k) + dirs_from l nodes (k + 1) n
 
 -- the places of node k, a directory's among these of all directories, in the order of their numbers, and a file's its own
-abbrev pub places_by : NodesInUse → List ℕ → ℕ → Node → List ℕ
-places_by nodes dirs k node = if is_copied node.kind then take (blocks_for node.size) (drop (dirs_from nodes 1 (k - 1)) dirs) else run_places node.runs
+abbrev pub places_by : Layout → NodesInUse → List ℕ → ℕ → Node → List ℕ
+places_by l nodes dirs k node =
+    if is_copied node.kind then take (content_blocks l node.kind node.size) (drop (dirs_from l nodes 1 (k - 1)) dirs) else run_places node.runs

@@ -34,8 +34,8 @@ pub record AreSound (g : Geometry) (m : Blocks) : Type 0 where
   pub marked : (b : ℕ) → data_start g ≤ b → b < g.n → IsTrue (is_set g m b) ↔ (((k : ℕ) × (i : ℕ) × HasBlock g m k i b) ⊎ IsKeptBlock g m b)
   pub past : (b : ℕ) → g.n ≤ b → b < 8192 * bitmap_blocks g → is_set g m b ≡ false
   -- a node out of use, and a directory's blocks past its last slot
-  pub free : (k : ℕ) → 1 ≤ k → k ≤ g.i → node_at g m k ≡ None → node_bytes g m k ≡ replicate node_size 0
-  pub tail : (k : ℕ) (node : Node) → used_node g m k ≡ Some node → node.kind ≡ Dir → IsTrue (are_zeros (past_content m node))
+  pub free : (k : ℕ) → 1 ≤ k → k ≤ g.i → node_at g m k ≡ None → node_bytes g m k ≡ replicate (node_size g.layout) 0
+  pub tail : (k : ℕ) (node : Node) → used_node g m k ≡ Some node → node.kind ≡ Dir → IsTrue (are_zeros (past_content g.layout m node))
   -- a block that a snapshot keeps is no directory's and no snapshot's own
   pub shared : (k i b : ℕ) (has : HasBlock g m k i b) → IsKeptBlock g m b → has.node.kind ≡ File
   pub kept : (k : ℕ) (node : Node) → used_node g m k ≡ Some node → node.kind ≡ Snapshot → IsSoundKept g m (run_places node.runs)
@@ -47,7 +47,7 @@ HasNoSnapshots g m = (k : ℕ) (node : Node) → used_node g m k ≡ Some node �
 -- The snapshot at these places keeps these paths and nodes: its files read as an inode map that is theirs.
 pub record KeepsTree (g : Geometry) (m : Blocks) (places : List ℕ) (k : Kept) : Type 0 where
   pub inodes : Inodes
-  pub read : AreInodesOf (kept_files g m places) inodes
+  pub read : AreInodesOf g.layout (kept_files g m places) inodes
   pub map : IsMapOf g.i inodes (kept_tree k)
 
 -- The node under its number is the snapshot of this name, and it keeps these paths and nodes.
@@ -64,7 +64,7 @@ pub record HoldsSnapshot (g : Geometry) (m : Blocks) (name : List ℕ) (k : Kept
 -- The map of blocks stands for the tree: its nodes read as an inode map that is that of the tree, its snapshots are those of the tree, and it is sound.
 pub record IsTreeOf (g : Geometry) (m : Blocks) (t : Tree) : Type 0 where
   pub inodes : Inodes
-  pub read : AreInodesOf (files_of g m) inodes
+  pub read : AreInodesOf g.layout (files_of g m) inodes
   pub map : IsMapOf g.i inodes t
   pub sound : AreSound g m
   -- each snapshot of the tree is there, and each that is there is one of the tree

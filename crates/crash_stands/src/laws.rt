@@ -6,6 +6,7 @@ ghost use Rattle.base_types.specs.Seal.{Blocks};
 ghost use Rattle.layout_geometry.specs.Geometry.{Geometry, geometry_fits};
 ghost use Rattle.layout_journal.specs.Formatted.{formatted};
 ghost use Rattle.layout_journal.specs.Run.{live_part};
+ghost use Rattle.crash_stands.specs.Bounds.{bounds_of};
 ghost use Rattle.crash_stands.specs.Stands.{IsTreeOf, StandsFor};
 ghost use Rattle.lang_tree.specs.Step.{start};
 ghost use Rattle.lang_tree.specs.Tree.{Tree, IsSound, HasSoundSnapshots};
@@ -20,9 +21,9 @@ use layout_journal::{
 /// The formatted disk of a geometry stands for the root alone: its live blocks do, its image does, and
 /// so does each image that has the same first n blocks.
 pub fn the_formatted_disk_stands_for_the_root()
-    ensures blocks { (g : Geometry) → geometry_fits g ≡ true → IsTreeOf g (live_part g (formatted g)) (start g.i).tree }
-    ensures image { (g : Geometry) → geometry_fits g ≡ true → StandsFor g.n (formatted g) (start g.i).tree }
-    ensures alike { (g : Geometry) (img : Blocks) → geometry_fits g ≡ true → ((b : ℕ) → b < g.n → img b ≡ formatted g b) → StandsFor g.n img (start g.i).tree }
+    ensures blocks { (g : Geometry) → geometry_fits g ≡ true → IsTreeOf g (live_part g (formatted g)) (start (bounds_of g)).tree }
+    ensures image { (g : Geometry) → geometry_fits g ≡ true → StandsFor g.n (formatted g) (start (bounds_of g)).tree }
+    ensures alike { (g : Geometry) (img : Blocks) → geometry_fits g ≡ true → ((b : ℕ) → b < g.n → img b ≡ formatted g b) → StandsFor g.n img (start (bounds_of g)).tree }
 {
     geometries_are_within_limits();
     journal_blocks_read_back();

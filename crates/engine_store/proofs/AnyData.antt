@@ -15,6 +15,7 @@ use Rattle.layout_journal.specs.Spelling.{header_block, IsHeader, fits_in}
 use Rattle.layout_journal.specs.Run.{Newest, Record, CanFollow, HeldIs, live_part}
 use Rattle.layout_journal.specs.Formatted.{formatted, empty_header}
 use Rattle.lang_tree.specs.Step.{start}
+use Rattle.crash_stands.specs.Bounds.{bounds_of}
 use Rattle.crash_stands.specs.Stands.{IsTreeOf, StandsFor}
 
 -- what layout_journal promises of the formatted disk's bits and journal
@@ -128,8 +129,8 @@ module _ (g : Geometry) (is : IsGeometry g) (law : IsFormatted g) where
   )
 
   -- and stands for the tree that the formatted disk's live blocks stand for
-  pub stands_whatever : geometry_fits g ≡ true → ((h : Header) → IsHeader h → header_of h.geom.n (header_block h) ≡ Some h) → IsTreeOf g (live_part g (formatted g)) (start g.i).tree
-      → (img : Blocks) → ((b : ℕ) → b < data_start g → img b ≡ formatted g b) → StandsFor g.n img (start g.i).tree
+  pub stands_whatever : geometry_fits g ≡ true → ((h : Header) → IsHeader h → header_of h.geom.n (header_block h) ≡ Some h) → IsTreeOf g (live_part g (formatted g)) (start (bounds_of g)).tree
+      → (img : Blocks) → ((b : ℕ) → b < data_start g → img b ≡ formatted g b) → StandsFor g.n img (start (bounds_of g)).tree
   stands_whatever fits reads tree img same =
       let held = held_whatever fits reads img same in
-      record { map = live_part g (formatted g); held = held.0; tree = subst (λ k. IsTreeOf k (live_part g (formatted g)) (start g.i).tree) (sym held.1) tree }
+      record { map = live_part g (formatted g); held = held.0; tree = subst (λ k. IsTreeOf k (live_part g (formatted g)) (start (bounds_of g)).tree) (sym held.1) tree }

@@ -9,6 +9,7 @@ use Rattle.layout_geometry.specs.Geometry.{Geometry, bitmap_start, data_start}
 use Rattle.lang_tree.specs.Step.{start}
 use Rattle.layout_journal.specs.Formatted.{formatted}
 use Rattle.layout_journal.specs.Run.{live_part}
+use Rattle.crash_stands.specs.Bounds.{bounds_of}
 use Rattle.crash_stands.specs.Stands.{StandsFor}
 use Rattle.crash_argument.specs.Ledger.{HoldsUnder, cells_of}
 use Rattle.crash_argument.specs.LastWrites.{AvoidsBlock}
@@ -71,7 +72,7 @@ pub record LeavesFormatted {A E : Type 0} (g : Geometry) (result : Result A E) (
   -- what is settled holds the formatted disk's map
   pub holds : OnOk result (HoldsUnder g.n g (settled_on new) (live_part g (formatted g)))
   -- and stands for the tree of the root alone
-  pub stands : OnOk result (StandsFor g.n (settled_on new) (start g.i).tree)
+  pub stands : OnOk result (StandsFor g.n (settled_on new) (start (bounds_of g)).tree)
   -- the data are as they were
   pub kept : (b : ℕ) → data_start g ≤ b → cells_of new b ≡ cells_of old b
 

@@ -6,6 +6,7 @@ ghost use Rattle.base_types.specs.Seal.{Blocks};
 ghost use Rattle.layout_geometry.specs.Geometry.{Geometry, geometry_fits, data_start};
 ghost use Rattle.layout_journal.specs.Formatted.{formatted};
 ghost use Rattle.layout_journal.specs.Run.{HeldIs, live_part};
+ghost use Rattle.crash_stands.specs.Bounds.{bounds_of};
 ghost use Rattle.crash_stands.specs.Stands.{StandsFor};
 ghost use Rattle.lang_tree.specs.Step.{start};
 
@@ -19,7 +20,7 @@ pub fn the_data_of_a_formatted_disk_may_be_anything()
     ensures held { (g : Geometry) (img : Blocks) → geometry_fits g ≡ true → ((b : ℕ) → b < data_start g → img b ≡ formatted g b)
         → (held : HeldIs g.n img (live_part g (formatted g))) × (held.header.geom ≡ g) }
     ensures stands { (g : Geometry) (img : Blocks) → geometry_fits g ≡ true → ((b : ℕ) → b < data_start g → img b ≡ formatted g b)
-        → StandsFor g.n img (start g.i).tree }
+        → StandsFor g.n img (start (bounds_of g)).tree }
 {
     geometries_are_within_limits();
     journal_blocks_read_back();

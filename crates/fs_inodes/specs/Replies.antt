@@ -1,5 +1,6 @@
 -- What each command that answers no sync point answers, from inodes and from what snapshots keep.
 use Rattle.std.specs.Prelude.{ℕ, take, drop, Option, None, Some}
+use Rattle.base_types.specs.declared.layout.Layout.{Layout}
 use Rattle.lang_tree.specs.declared.command.Cmd.{Cmd}
 use Rattle.lang_tree.specs.declared.command.Cmd.TheVariants.{Read, Stat, List as ListNames, Snaps, At, Bad}
 use Rattle.std.specs.FinMap.{get, keys}
@@ -35,6 +36,6 @@ abbrev pub reply_by : Snapshots → Inodes → Cmd → Option Refusal → Reply
 reply_by kept m cmd (Some why) = Refused why
 reply_by kept m cmd None = accepted_reply kept m cmd
 
--- the reply, where this is the least unused number and these are the snapshots
-abbrev pub reply_of : Option ℕ → Snapshots → Inodes → Cmd → Reply
-reply_of least kept m cmd = reply_by kept m cmd (reason least kept m cmd)
+-- the reply in a layout, where this is the least unused number and these are the snapshots
+abbrev pub reply_of : Layout → Option ℕ → Snapshots → Inodes → Cmd → Reply
+reply_of l least kept m cmd = reply_by kept m cmd (reason l least kept m cmd)

@@ -2,10 +2,11 @@
 use Rattle.std.specs.Prelude.{◌≡◌, ◌≢◌, ℕ, ◌≤◌, ◌+◌, ◌==◌, if◌then◌else◌, true, false, List, [], ◌∷◌, ◌++◌, slice_get, find, is_none, None, Some, option_and_then}
 use Rattle.std.specs.List.{range_with_len}
 use Rattle.std.specs.FinMap.{get, insert, remove, empty}
+use Rattle.base_types.specs.declared.layout.Layout.{Layout}
 use Rattle.layout_bytes.specs.declared.slot.Slot.{Slot}
 use Rattle.lang_tree.specs.declared.command.Cmd.{Cmd}
 use Rattle.lang_tree.specs.declared.command.Cmd.TheVariants.{Rename}
-use Rattle.lang_tree.specs.Tree.{Tree, Names, Thing, Dir, File, IsSound}
+use Rattle.lang_tree.specs.Tree.{Tree, Bounds, Names, Thing, Dir, File, IsSound}
 use Rattle.lang_tree.specs.Paths.{parent, is_within}
 use Rattle.lang_tree.specs.Names.{path_count, holds_names, renamed}
 use Rattle.lang_tree.specs.Walk.{is_same_node}
@@ -28,7 +29,7 @@ pub record TreeLaws : Type 0 where
   pub held : (names : Names) (p rest : List (List ℕ)) (name : List ℕ) (n : ℕ) → get names (p ++ name ∷ rest) ≡ Some n → holds_names names p ≡ true
   pub holds : (limit : ℕ) (t : Tree) (p : List (List ℕ)) → IsSound limit t → holds_names t.names p ≡ true → (name : List ℕ) × (n : ℕ) × (get t.names (p ++ name ∷ []) ≡ Some n)
   -- what keeps a tree sound
-  pub sound_step : (s : Session) (cmd : Cmd) → IsSound s.limit s.tree → IsSound s.limit (step s cmd).0.tree
+  pub sound_step : (s : Session) (cmd : Cmd) → IsSound s.limit.nodes s.tree → IsSound s.limit.nodes (step s cmd).0.tree
   pub same_limit : (s : Session) (cmd : Cmd) → (step s cmd).0.limit ≡ s.limit
   pub sound_node : (limit : ℕ) (t : Tree) (path : List (List ℕ)) (n k : ℕ) (x : Thing) → IsSound limit t → get t.names path ≡ None → get t.nodes n ≡ None → 1 ≤ n → n ≤ limit
       → get t.names (parent path) ≡ Some k → get t.nodes k ≡ Some Dir → IsSound limit (record t { names = insert t.names path n; nodes = insert t.nodes n x })
@@ -41,18 +42,18 @@ pub record TreeLaws : Type 0 where
   -- what goes or moves
   pub unlinked : (limit : ℕ) (t : Tree) (path : List (List ℕ)) → IsSound limit t → file_refusal t path ≡ None → (holds_names t.names path ≡ false) × (path ≢ [])
   pub removed : (limit : ℕ) (t : Tree) (path : List (List ℕ)) → IsSound limit t → rmdir_refusal t path ≡ None → (holds_names t.names path ≡ false) × (path ≢ [])
-  pub moved : (limit : ℕ) (t : Tree) (from to : List (List ℕ)) → IsSound limit t → rename_refusal t from to ≡ None → is_same_node t from to ≡ false
+  pub moved : (limit : ℕ) (l : Layout) (t : Tree) (from to : List (List ℕ)) → IsSound limit t → rename_refusal l t from to ≡ None → is_same_node t from to ≡ false
       → (is_within from to ≡ false) × (holds_names t.names to ≡ false) × (to ≢ [])
-  pub move_second : (s : Session) (from to rest : List (List ℕ)) → IsSound s.limit s.tree → refusal s.limit s.tree (Rename from to) ≡ None → is_same_node s.tree from to ≡ false
+  pub move_second : (s : Session) (from to rest : List (List ℕ)) → IsSound s.limit.nodes s.tree → refusal s.limit s.tree (Rename from to) ≡ None → is_same_node s.tree from to ≡ false
       → get (step s (Rename from to)).0.tree.names (to ++ rest) ≡ get s.tree.names (from ++ rest)
-  pub move_first : (s : Session) (from to rest : List (List ℕ)) → IsSound s.limit s.tree → refusal s.limit s.tree (Rename from to) ≡ None → is_same_node s.tree from to ≡ false
+  pub move_first : (s : Session) (from to rest : List (List ℕ)) → IsSound s.limit.nodes s.tree → refusal s.limit s.tree (Rename from to) ≡ None → is_same_node s.tree from to ≡ false
       → get (step s (Rename from to)).0.tree.names (from ++ rest) ≡ None
-  pub move_others : (s : Session) (from to path : List (List ℕ)) → IsSound s.limit s.tree → refusal s.limit s.tree (Rename from to) ≡ None → is_same_node s.tree from to ≡ false
+  pub move_others : (s : Session) (from to path : List (List ℕ)) → IsSound s.limit.nodes s.tree → refusal s.limit s.tree (Rename from to) ≡ None → is_same_node s.tree from to ≡ false
       → is_within from path ≡ false → is_within to path ≡ false → get (step s (Rename from to)).0.tree.names path ≡ get s.tree.names path
   -- what a map has in common with its tree
   pub walk_last : (e : Entries) (k : ℕ) (up : List (List ℕ)) (name : List ℕ) → walk e k (up ++ name ∷ []) ≡ option_and_then (λ j. e j name) (walk e k up)
   pub map_sound : (limit : ℕ) (m : Inodes) (t : Tree) → IsMapOf limit m t → IsSound limit t
-  pub map_start : (limit : ℕ) → 1 ≤ limit → IsMapOf limit root_alone (start limit).tree
+  pub map_start : (limit : Bounds) → 1 ≤ limit.nodes → IsMapOf limit.nodes root_alone (start limit).tree
   -- what its slots name
   pub slot_root : (limit : ℕ) (m : Inodes) (t : Tree) → IsMapOf limit m t → (k i : ℕ) (slots : List Slot) (s : Slot) → m k ≡ Some (ADir slots) → slice_get slots i ≡ Some s → s.node ≢ 1
   pub slot_used : (limit : ℕ) (m : Inodes) (t : Tree) → IsMapOf limit m t → (k i : ℕ) (slots : List Slot) (s : Slot) → m k ≡ Some (ADir slots) → slice_get slots i ≡ Some s → (x : Inode) × (m s.node ≡ Some x)

@@ -19,18 +19,18 @@ use crate::tree::the_tree_is_lawful;
 /// bytes, and its links as before.
 pub fn new_bytes_are_mapped()
     ensures write { (s : Session) (m new : Inodes) (path : List (List ℕ)) (offset : ℕ) (bytes : List ℕ) (node links : ℕ) (old : List ℕ)
-        → IsMapOf s.limit m s.tree → refusal s.limit s.tree (Write path offset bytes) ≡ None
+        → IsMapOf s.limit.nodes m s.tree → refusal s.limit s.tree (Write path offset bytes) ≡ None
         → 0 < length bytes → LeadsTo m path node → m node ≡ Some (AFile links old) → Sets m new node (Some (AFile links (written offset bytes old)))
-        → IsMapOf s.limit new (step s (Write path offset bytes)).0.tree }
-    ensures fill { (s : Session) (m new : Inodes) (path : List (List ℕ)) (offset count byte node links : ℕ) (old : List ℕ) → IsMapOf s.limit m s.tree
+        → IsMapOf s.limit.nodes new (step s (Write path offset bytes)).0.tree }
+    ensures fill { (s : Session) (m new : Inodes) (path : List (List ℕ)) (offset count byte node links : ℕ) (old : List ℕ) → IsMapOf s.limit.nodes m s.tree
         → refusal s.limit s.tree (Fill path offset count byte) ≡ None
         → 0 < count → LeadsTo m path node → m node ≡ Some (AFile links old)
         → Sets m new node (Some (AFile links (written offset (replicate count byte) old)))
-        → IsMapOf s.limit new (step s (Fill path offset count byte)).0.tree }
-    ensures truncate { (s : Session) (m new : Inodes) (path : List (List ℕ)) (size node links : ℕ) (old : List ℕ) → IsMapOf s.limit m s.tree
+        → IsMapOf s.limit.nodes new (step s (Fill path offset count byte)).0.tree }
+    ensures truncate { (s : Session) (m new : Inodes) (path : List (List ℕ)) (size node links : ℕ) (old : List ℕ) → IsMapOf s.limit.nodes m s.tree
         → refusal s.limit s.tree (Truncate path size) ≡ None
         → size ≢ length old → LeadsTo m path node → m node ≡ Some (AFile links old) → Sets m new node (Some (AFile links (resized size old)))
-        → IsMapOf s.limit new (step s (Truncate path size)).0.tree }
+        → IsMapOf s.limit.nodes new (step s (Truncate path size)).0.tree }
 {
     the_tree_is_lawful();
 }
@@ -43,11 +43,11 @@ pub fn what_changes_nothing_keeps_the_map()
     ensures looked { (s : Session) (cmd : Cmd) → looks_alone cmd ≡ true → (step s cmd).0.tree ≡ s.tree }
     ensures nothing_written { (s : Session) (path : List (List ℕ)) (offset : ℕ) → (step s (Write path offset [])).0 ≡ s }
     ensures nothing_filled { (s : Session) (path : List (List ℕ)) (offset byte : ℕ) → (step s (Fill path offset 0 byte)).0 ≡ s }
-    ensures same_size { (s : Session) (m : Inodes) (path : List (List ℕ)) (node links : ℕ) (bytes : List ℕ) → IsMapOf s.limit m s.tree
+    ensures same_size { (s : Session) (m : Inodes) (path : List (List ℕ)) (node links : ℕ) (bytes : List ℕ) → IsMapOf s.limit.nodes m s.tree
         → LeadsTo m path node → m node ≡ Some (AFile links bytes)
         → (step s (Truncate path (length bytes))).0 ≡ s }
-    ensures same_node { (s : Session) (m : Inodes) (from to : List (List ℕ)) (node : ℕ) → IsMapOf s.limit m s.tree → LeadsTo m from node
+    ensures same_node { (s : Session) (m : Inodes) (from to : List (List ℕ)) (node : ℕ) → IsMapOf s.limit.nodes m s.tree → LeadsTo m from node
         → LeadsTo m to node → (step s (Rename from to)).0 ≡ s }
-    ensures snapshots { (s : Session) (m : Inodes) (cmd : Cmd) → changes_snapshots cmd ≡ true → IsMapOf s.limit m s.tree
-        → IsMapOf s.limit m (step s cmd).0.tree }
+    ensures snapshots { (s : Session) (m : Inodes) (cmd : Cmd) → changes_snapshots cmd ≡ true → IsMapOf s.limit.nodes m s.tree
+        → IsMapOf s.limit.nodes m (step s cmd).0.tree }
 {}

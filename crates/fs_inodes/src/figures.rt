@@ -4,7 +4,7 @@
 ghost use Rattle.std.specs.Prelude.{◌≡◌, ◌+◌, ℕ, false};
 ghost use Rattle.std.specs.FinMap.{entries};
 ghost use Rattle.lang_tree.specs.declared.command.Cmd.{Cmd};
-ghost use Rattle.lang_tree.specs.Tree.{Tree};
+ghost use Rattle.lang_tree.specs.Tree.{Bounds, Tree};
 ghost use Rattle.lang_tree.specs.Conditions.{least_unused};
 ghost use Rattle.lang_tree.specs.Figures.{all_directory_blocks, blocks, figures};
 ghost use Rattle.lang_tree.specs.Sharing.{BlocksAlone, SharedNodes, figures_over};
@@ -20,12 +20,13 @@ use lang_tree::the_figures_are_the_blocks;
 /// from inodes, from snapshots and from what these share with the tree or have alone. After a command that is no snap
 /// or unsnap the inode map has so many blocks more as it needs where nothing is shared, and so many fewer as it frees.
 pub fn the_map_gives_the_figures()
-    ensures blocks { (limit : ℕ) (m : Inodes) (t : Tree) → IsMapOf limit m t → blocks t ≡ blocks_of limit m }
-    ensures directories { (limit : ℕ) (m : Inodes) (t : Tree) → IsMapOf limit m t → directories_from m 1 limit ≡ all_directory_blocks t.names (entries t.names) }
-    ensures over { (bitmap : ℕ) (shared : SharedNodes) (alone : BlocksAlone) (s : Session) (m : Inodes) (cmd : Cmd) → IsMapOf s.limit m s.tree
-        → figures_over bitmap shared alone s cmd ≡ cost_over bitmap shared alone s.limit (least_unused s.limit s.tree) s.tree.snapshots m cmd }
-    ensures change { (bitmap : ℕ) (s : Session) (m new : Inodes) (cmd : Cmd) → changes_snapshots cmd ≡ false → IsMapOf s.limit m s.tree
-        → IsMapOf s.limit new (step s cmd).0.tree
+    ensures blocks { (limit : Bounds) (m : Inodes) (t : Tree) → IsMapOf limit.nodes m t → blocks limit.layout t ≡ blocks_of limit m }
+    ensures directories { (limit : Bounds) (m : Inodes) (t : Tree) → IsMapOf limit.nodes m t
+        → directories_from limit.layout m 1 limit.nodes ≡ all_directory_blocks limit.layout t.names (entries t.names) }
+    ensures over { (bitmap : ℕ) (shared : SharedNodes) (alone : BlocksAlone) (s : Session) (m : Inodes) (cmd : Cmd) → IsMapOf s.limit.nodes m s.tree
+        → figures_over bitmap shared alone s cmd ≡ cost_over bitmap shared alone s.limit (least_unused s.limit.nodes s.tree) s.tree.snapshots m cmd }
+    ensures change { (bitmap : ℕ) (s : Session) (m new : Inodes) (cmd : Cmd) → changes_snapshots cmd ≡ false → IsMapOf s.limit.nodes m s.tree
+        → IsMapOf s.limit.nodes new (step s cmd).0.tree
         → blocks_of s.limit new + (figures bitmap s cmd).freed ≡ blocks_of s.limit m + (figures bitmap s cmd).need }
 {
     the_tree_is_lawful();

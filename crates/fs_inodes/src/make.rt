@@ -16,14 +16,14 @@ use crate::tree::the_tree_is_lawful;
 /// A mkdir or create that isn't refused: a slot comes behind the last one of the parent, and the least
 /// unused number is a directory without slots, or a file without bytes and with one link.
 pub fn a_new_node_is_mapped()
-    ensures mkdir { (s : Session) (m new : Inodes) (up : List (List ℕ)) (name : List ℕ) (dir node : ℕ) → IsMapOf s.limit m s.tree
+    ensures mkdir { (s : Session) (m new : Inodes) (up : List (List ℕ)) (name : List ℕ) (dir node : ℕ) → IsMapOf s.limit.nodes m s.tree
         → refusal s.limit s.tree (Mkdir (up ++ name ∷ [])) ≡ None
-        → LeadsTo m up dir → least_unused s.limit s.tree ≡ Some node → AddsSlot m new dir node name (new_inode Dir)
-        → IsMapOf s.limit new (step s (Mkdir (up ++ name ∷ []))).0.tree }
-    ensures create { (s : Session) (m new : Inodes) (up : List (List ℕ)) (name : List ℕ) (dir node : ℕ) → IsMapOf s.limit m s.tree
+        → LeadsTo m up dir → least_unused s.limit.nodes s.tree ≡ Some node → AddsSlot m new dir node name (new_inode Dir)
+        → IsMapOf s.limit.nodes new (step s (Mkdir (up ++ name ∷ []))).0.tree }
+    ensures create { (s : Session) (m new : Inodes) (up : List (List ℕ)) (name : List ℕ) (dir node : ℕ) → IsMapOf s.limit.nodes m s.tree
         → refusal s.limit s.tree (Create (up ++ name ∷ [])) ≡ None
-        → LeadsTo m up dir → least_unused s.limit s.tree ≡ Some node → AddsSlot m new dir node name (new_inode (File []))
-        → IsMapOf s.limit new (step s (Create (up ++ name ∷ []))).0.tree }
+        → LeadsTo m up dir → least_unused s.limit.nodes s.tree ≡ Some node → AddsSlot m new dir node name (new_inode (File []))
+        → IsMapOf s.limit.nodes new (step s (Create (up ++ name ∷ []))).0.tree }
 {
     the_tree_is_lawful();
 }
@@ -32,9 +32,9 @@ pub fn a_new_node_is_mapped()
 /// that it names has one link more.
 pub fn a_new_path_is_mapped()
     ensures link { (s : Session) (m new : Inodes) (path up : List (List ℕ)) (name : List ℕ) (dir node links : ℕ) (bytes : List ℕ)
-        → IsMapOf s.limit m s.tree → refusal s.limit s.tree (Link path (up ++ name ∷ [])) ≡ None
+        → IsMapOf s.limit.nodes m s.tree → refusal s.limit s.tree (Link path (up ++ name ∷ [])) ≡ None
         → LeadsTo m path node → m node ≡ Some (AFile links bytes) → LeadsTo m up dir → AddsSlot m new dir node name (AFile (links + 1) bytes)
-        → IsMapOf s.limit new (step s (Link path (up ++ name ∷ []))).0.tree }
+        → IsMapOf s.limit.nodes new (step s (Link path (up ++ name ∷ []))).0.tree }
 {
     the_tree_is_lawful();
 }

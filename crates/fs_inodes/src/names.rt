@@ -43,8 +43,8 @@ pub fn the_map_gives_the_names()
 pub fn the_map_gives_the_reply()
     ensures stat { (limit : ℕ) (m : Inodes) (t : Tree) (path : List (List ℕ)) → IsMapOf limit m t → stat t path ≡ stat_in m path }
     ensures looks { (limit : ℕ) (m : Inodes) (t : Tree) (l : Look) → IsMapOf limit m t → (look_refusal t l ≡ look_reason m l) × (seen t l ≡ shown m l) }
-    ensures reply { (s : Session) (m : Inodes) (cmd : Cmd) → IsMapOf s.limit m s.tree → answers_point cmd ≡ false
-        → (step s cmd).1 ≡ reply_of (least_unused s.limit s.tree) s.tree.snapshots m cmd }
+    ensures reply { (s : Session) (m : Inodes) (cmd : Cmd) → IsMapOf s.limit.nodes m s.tree → answers_point cmd ≡ false
+        → (step s cmd).1 ≡ reply_of s.limit.layout (least_unused s.limit.nodes s.tree) s.tree.snapshots m cmd }
 {
     the_tree_is_lawful();
 }

@@ -14,12 +14,12 @@ use crate::tree::the_tree_is_lawful;
 /// An unlink or rmdir that isn't refused: the slot goes and the last one comes into the hole; a directory
 /// goes, and a file has one link less or goes with its last one.
 pub fn a_lost_path_is_mapped()
-    ensures unlink { (s : Session) (m new : Inodes) (up : List (List ℕ)) (name : List ℕ) (dir node : ℕ) → IsMapOf s.limit m s.tree
+    ensures unlink { (s : Session) (m new : Inodes) (up : List (List ℕ)) (name : List ℕ) (dir node : ℕ) → IsMapOf s.limit.nodes m s.tree
         → refusal s.limit s.tree (Unlink (up ++ name ∷ [])) ≡ None
-        → LeadsTo m up dir → TakesSlot m new dir node name → IsMapOf s.limit new (step s (Unlink (up ++ name ∷ []))).0.tree }
-    ensures rmdir { (s : Session) (m new : Inodes) (up : List (List ℕ)) (name : List ℕ) (dir node : ℕ) → IsMapOf s.limit m s.tree
+        → LeadsTo m up dir → TakesSlot m new dir node name → IsMapOf s.limit.nodes new (step s (Unlink (up ++ name ∷ []))).0.tree }
+    ensures rmdir { (s : Session) (m new : Inodes) (up : List (List ℕ)) (name : List ℕ) (dir node : ℕ) → IsMapOf s.limit.nodes m s.tree
         → refusal s.limit s.tree (Rmdir (up ++ name ∷ [])) ≡ None
-        → LeadsTo m up dir → TakesSlot m new dir node name → IsMapOf s.limit new (step s (Rmdir (up ++ name ∷ []))).0.tree }
+        → LeadsTo m up dir → TakesSlot m new dir node name → IsMapOf s.limit.nodes new (step s (Rmdir (up ++ name ∷ []))).0.tree }
 {
     the_tree_is_lawful();
 }

@@ -18,10 +18,10 @@ use crate::tree::the_tree_is_lawful;
 /// nothing of it changes. A move between two paths of one node changes nothing
 /// (`what_changes_nothing_keeps_the_map`).
 pub fn a_move_is_mapped()
-    ensures rename { (s : Session) (m new : Inodes) (up to : List (List ℕ)) (name other : List ℕ) (from into node : ℕ) → IsMapOf s.limit m s.tree
+    ensures rename { (s : Session) (m new : Inodes) (up to : List (List ℕ)) (name other : List ℕ) (from into node : ℕ) → IsMapOf s.limit.nodes m s.tree
         → refusal s.limit s.tree (Rename (up ++ name ∷ []) (to ++ other ∷ [])) ≡ None
         → LeadsTo m up from → LeadsTo m to into → MovesSlot m new from into node name other
-        → IsMapOf s.limit new (step s (Rename (up ++ name ∷ []) (to ++ other ∷ []))).0.tree }
+        → IsMapOf s.limit.nodes new (step s (Rename (up ++ name ∷ []) (to ++ other ∷ []))).0.tree }
 {
     the_tree_is_lawful();
 }

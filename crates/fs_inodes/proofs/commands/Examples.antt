@@ -2,13 +2,14 @@
 use Rattle.std.proofs.Common.{◌≡◌, ◌≢◌, ℕ, ◌+◌, ◌<◌, ◌==◌, false, List, [], ◌∷◌, ◌++◌, length, codes, slice_get, Some, None, option_and_then, sym, refl, ap, subst, ◌∙◌, arith}
 use Rattle.std.specs.FinMap.{empty}
 use Rattle.std.proofs.lemmas.Option.{same_Some, none-some}
+use Rattle.base_types.specs.declared.layout.Layout.TheVariants.{One}
 use Rattle.layout_bytes.specs.declared.slot.Slot.{Slot}
 use Rattle.layout_directory.specs.Directory.{without_at}
 use Rattle.lang_tree.specs.declared.command.Cmd.{Cmd}
 use Rattle.lang_tree.specs.declared.command.Cmd.TheVariants.{Mkdir, Create, Write, Link, Unlink, Rename}
 use Rattle.lang_tree.specs.Conditions.{least_unused, refusal}
 use Rattle.lang_tree.specs.Step.{Session, step, start, written, changes_snapshots}
-use Rattle.lang_tree.specs.Tree.{Thing, Dir, File}
+use Rattle.lang_tree.specs.Tree.{Bounds, Thing, Dir, File, in_layout_one}
 use Rattle.crash_stands.specs.Inodes.{Inode, Inodes, ADir, AFile, root_alone}
 use Rattle.crash_stands.specs.Maps.{IsMapOf}
 use Rattle.crash_stands.specs.Walks.{LeadsTo, node_in}
@@ -24,9 +25,9 @@ use Rattle.fs_inodes.proofs.lookups.Reasons.{reason_given}
 use Rattle.fs_inodes.proofs.commands.Made.{sets, adds, takes, moves}
 use Rattle.fs_inodes.proofs.commands.Commands.{Makes, made_shown, link_shown, unlink_shown, write_shown, rename_shown}
 
--- a session of at most 16 numbers with its map, and without snapshots
+-- a session of at most 16 numbers in layout 1 with its map, and without snapshots
 record Has (s : Session) (m : Inodes) : Type 0 where
-  limit : s.limit ≡ 16
+  limit : s.limit ≡ in_layout_one 16
   map : IsMapOf 16 m s.tree
   alone : s.tree.snapshots ≡ empty
 
@@ -45,61 +46,62 @@ with_node m n x d slots name = with_inode (with_inode m n (Some x)) d (Some (ADi
 -- One command more.
 module _ (laws : TreeLaws) (s : Session) (m : Inodes) (has : Has s m) where
   -- the least unused number
-  free_here : least_unused s.limit s.tree ≡ least_free 16 m
-  free_here = ap (λ l. least_unused l s.tree) has.limit ∙ unused_is_free laws 16 m s.tree has.alone has.map.shows.nodes
+  free_here : least_unused s.limit.nodes s.tree ≡ least_free 16 m
+  free_here = ap (λ (b : Bounds). least_unused b.nodes s.tree) has.limit ∙ unused_is_free laws 16 m s.tree has.alone has.map.shows.nodes
 
   -- of any kind
-  go : (new : Inodes) (cmd : Cmd) → changes_snapshots cmd ≡ false → reason (least_free 16 m) empty m cmd ≡ None → (IsMapOf s.limit m s.tree → refusal s.limit s.tree cmd ≡ None → IsMapOf s.limit new (step s cmd).0.tree) → Has (step s cmd).0 new
+  go : (new : Inodes) (cmd : Cmd) → changes_snapshots cmd ≡ false → reason One (least_free 16 m) empty m cmd ≡ None → (IsMapOf s.limit.nodes m s.tree → refusal s.limit s.tree cmd ≡ None → IsMapOf s.limit.nodes new (step s cmd).0.tree) → Has (step s cmd).0 new
   go new cmd live accepts does =
-      let is : IsMapOf s.limit m s.tree = subst (λ l. IsMapOf l m s.tree) (sym has.limit) has.map in
-      let given : refusal s.limit s.tree cmd ≡ None = reason_given laws s.limit m s.tree (agrees laws s.limit m s.tree is) cmd
-      ∙ ap (λ l. reason l s.tree.snapshots m cmd) free_here ∙ ap (λ kept. reason (least_free 16 m) kept m cmd) has.alone ∙ accepts in
+      let is : IsMapOf s.limit.nodes m s.tree = subst (λ (b : Bounds). IsMapOf b.nodes m s.tree) (sym has.limit) has.map in
+      let given : refusal s.limit s.tree cmd ≡ None = reason_given laws s.limit m s.tree (agrees laws s.limit.nodes m s.tree is) cmd
+      ∙ ap (λ (b : Bounds). reason b.layout (least_unused s.limit.nodes s.tree) s.tree.snapshots m cmd) has.limit
+      ∙ ap (λ l. reason One l s.tree.snapshots m cmd) free_here ∙ ap (λ kept. reason One (least_free 16 m) kept m cmd) has.alone ∙ accepts in
       record {
         limit = laws.same_limit s cmd ∙ has.limit;
-        map = subst (λ l. IsMapOf l new (step s cmd).0.tree) has.limit (does is given);
+        map = subst (λ (b : Bounds). IsMapOf b.nodes new (step s cmd).0.tree) has.limit (does is given);
         alone = laws.same_snapshots s cmd live ∙ has.alone;
       }
 
   -- a mkdir or a create
-  made : (cmd : Cmd) (up : Path) (name : List ℕ) (d n : ℕ) (thing : Thing) (slots : List Slot) → Makes s cmd (up ++ name ∷ []) thing → changes_snapshots cmd ≡ false → reason (least_free 16 m) empty m cmd ≡ None → LeadsTo m up d → least_free 16 m ≡ Some n
+  made : (cmd : Cmd) (up : Path) (name : List ℕ) (d n : ℕ) (thing : Thing) (slots : List Slot) → Makes s cmd (up ++ name ∷ []) thing → changes_snapshots cmd ≡ false → reason One (least_free 16 m) empty m cmd ≡ None → LeadsTo m up d → least_free 16 m ≡ Some n
       → m d ≡ Some (ADir slots) → (d == n) ≡ false → Has (step s cmd).0 (with_node m n (new_inode thing) d slots name)
   made cmd up name d n thing slots makes live accepts leads free dir apart = go (with_node m n (new_inode thing) d slots name) cmd live accepts (λ is given.
       made_shown laws s m (with_node m n (new_inode thing) d slots name) is cmd up name d n thing makes given leads (free_here ∙ free) (adds m d n name (new_inode thing) slots dir (differ d n apart)))
 
   -- a link
-  linked : (path up : Path) (name : List ℕ) (d n links : ℕ) (bytes : List ℕ) (slots : List Slot) → reason (least_free 16 m) empty m (Link path (up ++ name ∷ [])) ≡ None → LeadsTo m path n → m n ≡ Some (AFile links bytes) → LeadsTo m up d
+  linked : (path up : Path) (name : List ℕ) (d n links : ℕ) (bytes : List ℕ) (slots : List Slot) → reason One (least_free 16 m) empty m (Link path (up ++ name ∷ [])) ≡ None → LeadsTo m path n → m n ≡ Some (AFile links bytes) → LeadsTo m up d
       → m d ≡ Some (ADir slots) → (d == n) ≡ false → Has (step s (Link path (up ++ name ∷ []))).0 (with_node m n (AFile (links + 1) bytes) d slots name)
   linked path up name d n links bytes slots accepts to_file file leads dir apart = go (with_node m n (AFile (links + 1) bytes) d slots name) (Link path (up ++ name ∷ [])) refl accepts (λ is given.
       link_shown laws s m (with_node m n (AFile (links + 1) bytes) d slots name) is path up name d n links bytes given to_file file leads (adds m d n name (AFile (links + 1) bytes) slots dir (differ d n apart)))
 
   -- an unlink
-  unlinked : (up : Path) (name : List ℕ) (d n place : ℕ) (slots : List Slot) → reason (least_free 16 m) empty m (Unlink (up ++ name ∷ [])) ≡ None → LeadsTo m up d → m d ≡ Some (ADir slots) → slice_get slots place ≡ Some (slot_of n name)
+  unlinked : (up : Path) (name : List ℕ) (d n place : ℕ) (slots : List Slot) → reason One (least_free 16 m) empty m (Unlink (up ++ name ∷ [])) ≡ None → LeadsTo m up d → m d ≡ Some (ADir slots) → slice_get slots place ≡ Some (slot_of n name)
       → (d == n) ≡ false → Has (step s (Unlink (up ++ name ∷ []))).0 (with_inode (with_inode m d (Some (ADir (without_at place slots)))) n (option_and_then one_link_less (m n)))
   unlinked up name d n place slots accepts leads dir slot apart = go _ (Unlink (up ++ name ∷ [])) refl accepts (λ is given.
       unlink_shown laws s m _ is up name d n given leads (takes m d n place name slots dir slot (differ d n apart)))
 
   -- a write to a file
-  wrote : (path : Path) (offset : ℕ) (bytes : List ℕ) (n links : ℕ) (old : List ℕ) → reason (least_free 16 m) empty m (Write path offset bytes) ≡ None → 0 < length bytes → LeadsTo m path n → m n ≡ Some (AFile links old)
+  wrote : (path : Path) (offset : ℕ) (bytes : List ℕ) (n links : ℕ) (old : List ℕ) → reason One (least_free 16 m) empty m (Write path offset bytes) ≡ None → 0 < length bytes → LeadsTo m path n → m n ≡ Some (AFile links old)
       → Has (step s (Write path offset bytes)).0 (with_inode m n (Some (AFile links (written offset bytes old))))
   wrote path offset bytes n links old accepts some leads file = go _ (Write path offset bytes) refl accepts (λ is given.
       write_shown laws s m _ is path offset bytes n links old given some leads file (sets m n (Some (AFile links (written offset bytes old)))))
 
   -- a move
-  moved : (up to : Path) (name other : List ℕ) (d c n place : ℕ) → reason (least_free 16 m) empty m (Rename (up ++ name ∷ []) (to ++ other ∷ [])) ≡ None → LeadsTo m up d → LeadsTo m to c → m d ≡ Some (ADir (slots_of (m d)))
+  moved : (up to : Path) (name other : List ℕ) (d c n place : ℕ) → reason One (least_free 16 m) empty m (Rename (up ++ name ∷ []) (to ++ other ∷ [])) ≡ None → LeadsTo m up d → LeadsTo m to c → m d ≡ Some (ADir (slots_of (m d)))
       → slice_get (slots_of (m d)) place ≡ Some (slot_of n name) → m c ≡ Some (ADir (slots_of (m c))) → node_in (slots_of (m c)) other ≢ Some n → node_in (slots_of (m c)) other ≢ Some d → node_in (slots_of (m c)) other ≢ Some c
       → Has (step s (Rename (up ++ name ∷ []) (to ++ other ∷ []))).0 (with_move m d place c (slot_of n other))
   moved up to name other d c n place accepts leads leads_to from slot into one two three = go _ (Rename (up ++ name ∷ []) (to ++ other ∷ [])) refl accepts (λ is given.
       rename_shown laws s m _ is up to name other d c n given leads leads_to (moves m d c n place name other (slots_of (m d)) (slots_of (m c)) from slot into one two three))
 
 -- the first session with its map
-first : TreeLaws → Has (start 16) root_alone
-first laws = record { limit = refl; map = laws.map_start 16 (omega arith); alone = refl }
+first : TreeLaws → Has (start (in_layout_one 16)) root_alone
+first laws = record { limit = refl; map = laws.map_start (in_layout_one 16) (omega arith); alone = refl }
 
 -- after a mkdir, a create, a link, a move, an unlink and a write: the last map, with its three inodes
-pub short_map : (laws : TreeLaws) → (m : Inodes) × IsMapOf 16 m (after (start 16) short_run).tree
+pub short_map : (laws : TreeLaws) → (m : Inodes) × IsMapOf 16 m (after (start (in_layout_one 16)) short_run).tree
     × (m 1 ≡ Some (ADir (slot_of 2 (codes "a") ∷ []))) × (m 2 ≡ Some (ADir (slot_of 3 (codes "h") ∷ []))) × (m 3 ≡ Some (AFile 1 (120 ∷ [])))
 short_map laws =
-    let h1 = made laws (start 16) root_alone (first laws) (Mkdir (codes "a" ∷ [])) [] (codes "a") 1 2 Dir [] (refl, refl) refl refl refl refl refl refl in
+    let h1 = made laws (start (in_layout_one 16)) root_alone (first laws) (Mkdir (codes "a" ∷ [])) [] (codes "a") 1 2 Dir [] (refl, refl) refl refl refl refl refl refl in
     let h2 = made laws _ _ h1 (Create (codes "a" ∷ codes "f" ∷ [])) (codes "a" ∷ []) (codes "f") 2 3 (File []) [] (refl, refl) refl refl refl refl refl refl in
     let h3 = linked laws _ _ h2 (codes "a" ∷ codes "f" ∷ []) [] (codes "g") 1 3 1 [] (slot_of 2 (codes "a") ∷ []) refl refl refl refl refl refl in
     let h4 = moved laws _ _ h3 [] (codes "a" ∷ []) (codes "g") (codes "h") 1 2 3 1 refl refl refl refl refl refl (none-some 3) (none-some 1) (none-some 2) in
@@ -108,10 +110,10 @@ short_map laws =
     (_, h6.map, refl, refl, refl)
 
 -- after two creates and a mkdir a move of each kind, with a third create before the last one, which takes the number that is free again: the last map, with its inodes
-pub moves_map : (laws : TreeLaws) → (m : Inodes) × IsMapOf 16 m (after (start 16) run_of_moves).tree
+pub moves_map : (laws : TreeLaws) → (m : Inodes) × IsMapOf 16 m (after (start (in_layout_one 16)) run_of_moves).tree
     × (m 1 ≡ Some (ADir (slot_of 4 (codes "a") ∷ []))) × (m 4 ≡ Some (ADir (slot_of 2 (codes "f") ∷ []))) × (m 2 ≡ Some (AFile 1 [])) × (m 3 ≡ None)
 moves_map laws =
-    let h1 = made laws (start 16) root_alone (first laws) (Create (codes "f" ∷ [])) [] (codes "f") 1 2 (File []) [] (refl, refl) refl refl refl refl refl refl in
+    let h1 = made laws (start (in_layout_one 16)) root_alone (first laws) (Create (codes "f" ∷ [])) [] (codes "f") 1 2 (File []) [] (refl, refl) refl refl refl refl refl refl in
     let h2 = made laws _ _ h1 (Create (codes "g" ∷ [])) [] (codes "g") 1 3 (File []) (slot_of 2 (codes "f") ∷ []) (refl, refl) refl refl refl refl refl refl in
     let h3 = made laws _ _ h2 (Mkdir (codes "a" ∷ [])) [] (codes "a") 1 4 Dir (slot_of 2 (codes "f") ∷ slot_of 3 (codes "g") ∷ []) (refl, refl) refl refl refl refl refl refl in
     let h4 = moved laws _ _ h3 [] [] (codes "f") (codes "h") 1 1 2 0 refl refl refl refl refl refl (none-some 2) (none-some 1) (none-some 1) in

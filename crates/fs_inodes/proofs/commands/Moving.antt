@@ -30,7 +30,7 @@ empty_at laws limit m t a p n at free b = by (which (entry_in (m n) b))
 pub removed_names : (t : Tree) (path : Path) → (removed t path).names ≡ remove t.names path
 removed_names t path = grind (arith, get t.names path, t.names, no_name)
 
-module _ (laws : TreeLaws) (s : Session) (m new : Inodes) (a : Agrees s.limit m s.tree) (up to : Path) (name other : List ℕ) (d c n : ℕ)
+module _ (laws : TreeLaws) (s : Session) (m new : Inodes) (a : Agrees s.limit.nodes m s.tree) (up to : Path) (name other : List ℕ) (d c n : ℕ)
     (at_up : get s.tree.names up ≡ Some d) (up_dir : get s.tree.nodes d ≡ Some Dir) (at_to : get s.tree.names to ≡ Some c) (to_dir : get s.tree.nodes c ≡ Some Dir)
     (there : get s.tree.names (up ++ name ∷ []) ≡ Some n)
     (accepted : refusal s.limit s.tree (Rename (up ++ name ∷ []) (to ++ other ∷ [])) ≡ None) (differ : is_same_node s.tree (up ++ name ∷ []) (to ++ other ∷ []) ≡ false)
@@ -41,11 +41,11 @@ module _ (laws : TreeLaws) (s : Session) (m new : Inodes) (a : Agrees s.limit m 
     (distinct : (k : ℕ) (slots : List Slot) → new k ≡ Some (ADir slots) → AreDistinct slots) where
   -- it doesn't lead below itself
   apart : is_within (up ++ name ∷ []) (to ++ other ∷ []) ≡ false
-  apart = (laws.moved s.limit s.tree (up ++ name ∷ []) (to ++ other ∷ []) a.sound accepted differ).0
+  apart = (laws.moved s.limit.nodes s.limit.layout s.tree (up ++ name ∷ []) (to ++ other ∷ []) a.sound accepted differ).0
 
   -- and not to what holds names
   free : holds_names s.tree.names (to ++ other ∷ []) ≡ false
-  free = (laws.moved s.limit s.tree (up ++ name ∷ []) (to ++ other ∷ []) a.sound accepted differ).1
+  free = (laws.moved s.limit.nodes s.limit.layout s.tree (up ++ name ∷ []) (to ++ other ∷ []) a.sound accepted differ).1
 
   -- the tree after the step
   moved_tree : (step s (Rename (up ++ name ∷ []) (to ++ other ∷ []))).0.tree ≡ moved (removed s.tree (to ++ other ∷ [])) (up ++ name ∷ []) (to ++ other ∷ [])
@@ -66,7 +66,7 @@ module _ (laws : TreeLaws) (s : Session) (m new : Inodes) (a : Agrees s.limit m 
   moved_count k = grind (arith, removed_names, s.tree, laws.count_moved, s.tree.names, free)
 
   -- the new map is that of the tree after the move
-  pub moved_agrees : Agrees s.limit new (step s (Rename (up ++ name ∷ []) (to ++ other ∷ []))).0.tree
+  pub moved_agrees : Agrees s.limit.nodes new (step s (Rename (up ++ name ∷ []) (to ++ other ∷ []))).0.tree
   moved_agrees = record {
     sound = laws.sound_step s (Rename (up ++ name ∷ []) (to ++ other ∷ [])) a.sound;
     goes = moved_goes;

@@ -171,16 +171,16 @@ module _ (limit : ℕ) (m new : Inodes) (t : Tree) (a : Agrees limit m t) (name 
     others = ch.others;
   }
 
-module _ (laws : TreeLaws) (s : Session) (m new : Inodes) (a : Agrees s.limit m s.tree) (up to : Path) (name other : List ℕ) (d c n : ℕ)
+module _ (laws : TreeLaws) (s : Session) (m new : Inodes) (a : Agrees s.limit.nodes m s.tree) (up to : Path) (name other : List ℕ) (d c n : ℕ)
     (at_up : get s.tree.names up ≡ Some d) (at_to : get s.tree.names to ≡ Some c) (ch : MovesName m new d c n name other)
     (accepted : refusal s.limit s.tree (Rename (up ++ name ∷ []) (to ++ other ∷ [])) ≡ None) where
   -- the first path leads to the node
   first_path : get s.tree.names (up ++ name ∷ []) ≡ Some n
-  first_path = under s.limit m s.tree a up d ch.slots name at_up ch.from_dir ∙ ch.there
+  first_path = under s.limit.nodes m s.tree a up d ch.slots name at_up ch.from_dir ∙ ch.there
 
   -- the second one leads where the second name does
   second_path : get s.tree.names (to ++ other ∷ []) ≡ node_in ch.target other
-  second_path = under s.limit m s.tree a to c ch.target other at_to ch.into_dir
+  second_path = under s.limit.nodes m s.tree a to c ch.target other at_to ch.into_dir
 
   -- and not to that node
   two_nodes : is_same_node s.tree (up ++ name ∷ []) (to ++ other ∷ []) ≡ false
@@ -188,7 +188,7 @@ module _ (laws : TreeLaws) (s : Session) (m new : Inodes) (a : Agrees s.limit m 
 
   -- nothing stands below what goes
   old_empty : (w : ℕ) → node_in ch.target other ≡ Some w → (b : List ℕ) → entry_in (m w) b ≡ None
-  old_empty w is = empty_at laws s.limit m s.tree a (to ++ other ∷ []) w (second_path ∙ is) (laws.moved s.limit s.tree (up ++ name ∷ []) (to ++ other ∷ []) a.sound accepted two_nodes).1
+  old_empty w is = empty_at laws s.limit.nodes m s.tree a (to ++ other ∷ []) w (second_path ∙ is) (laws.moved s.limit.nodes s.limit.layout s.tree (up ++ name ∷ []) (to ++ other ∷ []) a.sound accepted two_nodes).1
 
   -- Each number: one of the two directories, what goes, or another one.
   module _ (k : ℕ) where
@@ -236,7 +236,7 @@ module _ (laws : TreeLaws) (s : Session) (m new : Inodes) (a : Agrees s.limit m 
     where
       by : (node_in ch.target other ≡ None) ⊎ ((w : ℕ) × (node_in ch.target other ≡ Some w)) → get (removed s.tree (to ++ other ∷ [])).nodes k ≡ option_map thing_of (new k)
       by (inl none) = ap (λ t. get t.nodes k) (ap (removed_by s.tree (to ++ other ∷ [])) (second_path ∙ none)) ∙ a.nodes k ∙ alike k (λ e. none-some k (sym none ∙ e))
-      by (inr some) = nodes_onto laws s.limit m new s.tree a (to ++ other ∷ []) some.0 (second_path ∙ some.1) (ch.left some.0 some.1)
+      by (inr some) = nodes_onto laws s.limit.nodes m new s.tree a (to ++ other ∷ []) some.0 (second_path ∙ some.1) (ch.left some.0 some.1)
           (λ j off. alike j (λ e. off (same_Some j some.0 (sym e ∙ some.1)))) k
 
   -- and each file has as many paths as links
@@ -245,11 +245,11 @@ module _ (laws : TreeLaws) (s : Session) (m new : Inodes) (a : Agrees s.limit m 
     where
       by : (node_in ch.target other ≡ None) ⊎ ((w : ℕ) × (node_in ch.target other ≡ Some w)) → path_count (removed s.tree (to ++ other ∷ [])).names k ≡ links
       by (inl none) = ap (λ t. path_count t.names k) (ap (removed_by s.tree (to ++ other ∷ [])) (second_path ∙ none)) ∙ a.links k links bytes (file_same k links bytes (λ e. none-some k (sym none ∙ e)) is)
-      by (inr some) = links_onto laws s.limit m new s.tree a (to ++ other ∷ []) some.0 (second_path ∙ some.1) (ch.left some.0 some.1)
+      by (inr some) = links_onto laws s.limit.nodes m new s.tree a (to ++ other ∷ []) some.0 (second_path ∙ some.1) (ch.left some.0 some.1)
           (λ j l bs off. file_same j l bs (λ e. off (same_Some j some.0 (sym e ∙ some.1)))) k links bytes is
 
   -- the new map is that of the tree after the move
-  pub renamed_agrees : Agrees s.limit new (step s (Rename (up ++ name ∷ []) (to ++ other ∷ []))).0.tree
-  renamed_agrees = moved_agrees laws s m new a up to name other d c n at_up (dir_of s.limit m s.tree a d ch.slots ch.from_dir) at_to (dir_of s.limit m s.tree a c ch.target ch.into_dir) first_path accepted two_nodes
+  pub renamed_agrees : Agrees s.limit.nodes new (step s (Rename (up ++ name ∷ []) (to ++ other ∷ []))).0.tree
+  renamed_agrees = moved_agrees laws s m new a up to name other d c n at_up (dir_of s.limit.nodes m s.tree a d ch.slots ch.from_dir) at_to (dir_of s.limit.nodes m s.tree a c ch.target ch.into_dir) first_path accepted two_nodes
       ch.come ch.gone entry_others
       nodes_left links_left slots_distinct

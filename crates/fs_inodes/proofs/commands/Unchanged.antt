@@ -34,11 +34,11 @@ pub nothing_filled : (s : Session) (path : Path) (offset byte : ℕ) → (step s
 nothing_filled s path offset byte = left s (Fill path offset 0 byte) refl
 
 -- a truncate to the size that the file has
-pub same_size : (s : Session) (m : Inodes) (path : Path) (n links : ℕ) (bytes : List ℕ) → IsMapOf s.limit m s.tree → LeadsTo m path n → m n ≡ Some (AFile links bytes) → (step s (Truncate path (length bytes))).0 ≡ s
+pub same_size : (s : Session) (m : Inodes) (path : Path) (n links : ℕ) (bytes : List ℕ) → IsMapOf s.limit.nodes m s.tree → LeadsTo m path n → m n ≡ Some (AFile links bytes) → (step s (Truncate path (length bytes))).0 ≡ s
 same_size s m path n links bytes is leads file = grind (arith, s.tree.names, is.shows.names, s.tree, s.tree.nodes, is.shows.nodes, eq-eqb)
 
 -- a move between two paths of one node
-pub same_node : (s : Session) (m : Inodes) (from to : Path) (n : ℕ) → IsMapOf s.limit m s.tree → LeadsTo m from n → LeadsTo m to n → (step s (Rename from to)).0 ≡ s
+pub same_node : (s : Session) (m : Inodes) (from to : Path) (n : ℕ) → IsMapOf s.limit.nodes m s.tree → LeadsTo m from n → LeadsTo m to n → (step s (Rename from to)).0 ≡ s
 same_node s m from to n is leads leads_to = grind (arith, s.tree, is.shows.names, eq-eqb)
 
 -- what is the map of a tree is that of one with other snapshots
@@ -54,12 +54,12 @@ snapped_aside : (limit : ℕ) (m : Inodes) (t : Tree) (name : List ℕ) (o : Opt
 snapped_aside limit m t name None is = is
 snapped_aside limit m t name (Some n) is = snapshots_aside limit m t _ is
 
-answered_aside : (s : Session) (m : Inodes) (cmd : Cmd) (r : Option Refusal) → changes_snapshots cmd ≡ true → IsMapOf s.limit m s.tree → IsMapOf s.limit m (answered s cmd r).0.tree
+answered_aside : (s : Session) (m : Inodes) (cmd : Cmd) (r : Option Refusal) → changes_snapshots cmd ≡ true → IsMapOf s.limit.nodes m s.tree → IsMapOf s.limit.nodes m (answered s cmd r).0.tree
 answered_aside s m cmd (Some why) changes is = is
-answered_aside s m (Snap name) None changes is = snapped_aside s.limit m s.tree name (least_unused s.limit s.tree) is
-answered_aside s m (Unsnap name) None changes is = snapshots_aside s.limit m s.tree _ is
+answered_aside s m (Snap name) None changes is = snapped_aside s.limit.nodes m s.tree name (least_unused s.limit.nodes s.tree) is
+answered_aside s m (Unsnap name) None changes is = snapshots_aside s.limit.nodes m s.tree _ is
 answered_aside s m cmd None changes is = absurd (false≢true changes)
 
 -- a snap or an unsnap
-pub changed_aside : (s : Session) (m : Inodes) (cmd : Cmd) → changes_snapshots cmd ≡ true → IsMapOf s.limit m s.tree → IsMapOf s.limit m (step s cmd).0.tree
+pub changed_aside : (s : Session) (m : Inodes) (cmd : Cmd) → changes_snapshots cmd ≡ true → IsMapOf s.limit.nodes m s.tree → IsMapOf s.limit.nodes m (step s cmd).0.tree
 changed_aside s m cmd changes is = answered_aside s m cmd (refusal s.limit s.tree cmd) changes is

@@ -1,11 +1,12 @@
 -- Each command is refused by the tree for the reason that the inode map gives.
-use Rattle.std.proofs.Common.{◌≡◌, ℕ, Bool, ◌&&◌, List, ◌∷◌, nat_le, Option, None, if◌then◌else◌, refl, ap, ap₂, arith}
+use Rattle.std.proofs.Common.{◌≡◌, ℕ, Bool, ◌&&◌, List, ◌∷◌, length, nat_le, Option, None, if◌then◌else◌, refl, ap, ap₂}
 use Rattle.lang_tree.specs.declared.command.Cmd.{Cmd}
+use Rattle.lang_tree.specs.declared.command.Cmd.TheVariants.{Mkdir, Create, Write, Fill, Read, Truncate, Link, Unlink, Rmdir, Rename, Stat, List as ListNames, Snap, Unsnap, Snaps, At, Osync, Dsync, Durable, Dwait, Poll, Bad}
 use Rattle.lang_tree.specs.declared.command.Look.{Look}
 use Rattle.lang_tree.specs.declared.command.Look.TheVariants as look
 use Rattle.lang_tree.specs.declared.command.Refusal.{Refusal}
 use Rattle.lang_tree.specs.declared.command.Refusal.TheVariants.{Exists, NotDir, IsDir, NotEmpty, BelowItself, TooManyLinks}
-use Rattle.lang_tree.specs.Tree.{Tree}
+use Rattle.lang_tree.specs.Tree.{Bounds, Tree}
 use Rattle.lang_tree.specs.Paths.{is_below}
 use Rattle.lang_tree.specs.Walk.{refusal_in, walk_refusal, is_dir, thing_at}
 use Rattle.lang_tree.specs.Conditions.{when, first_reason, make_refusal, write_refusal, file_refusal, truncate_refusal, link_refusal, rmdir_refusal, onto_refusal, rename_refusal, list_refusal, look_refusal, refusal, least_unused}
@@ -38,10 +39,6 @@ module _ (laws : TreeLaws) (limit : ℕ) (m : Inodes) (t : Tree) (a : Agrees lim
   is_dir_where : (path : Path) → when (is_dir (thing_at t path)) IsDir ≡ when (is_dir_inode (inode_at m path)) IsDir
   is_dir_where path = where_so IsDir (is_dir_given limit m t a path)
 
-  -- a new node
-  make_given : (path : Path) → make_refusal limit t path ≡ make_reason (least_unused limit t) m path
-  make_given path = reasons (first (parent_given limit m t a path) (first (where_so Exists (there_given limit m t a path)) refl))
-
   -- bytes that come
   write_given : (path : Path) (offset count : ℕ) → write_refusal t path offset count ≡ write_reason m path offset count
   write_given path offset count = reasons (first (walk_given path) (first (is_dir_where path) refl))
@@ -53,11 +50,6 @@ module _ (laws : TreeLaws) (limit : ℕ) (m : Inodes) (t : Tree) (a : Agrees lim
   -- a truncate
   truncate_given : (path : Path) (size : ℕ) → truncate_refusal t path size ≡ truncate_reason m path size
   truncate_given path size = reasons (first (walk_given path) (first (is_dir_where path) refl))
-
-  -- another path
-  link_given : (path other : Path) → link_refusal t path other ≡ link_reason m path other
-  link_given path other = reasons (first (walk_given path) (first (parent_given limit m t a other) (first (where_so Exists (there_given limit m t a other)) (first (is_dir_where path)
-      (first (where_so TooManyLinks (ap (nat_le 65535) (links_given limit m t a laws path))) refl)))))
 
   -- an empty directory
   rmdir_given : (path : Path) → rmdir_refusal t path ≡ rmdir_reason m path
@@ -72,11 +64,6 @@ module _ (laws : TreeLaws) (limit : ℕ) (m : Inodes) (t : Tree) (a : Agrees lim
       (first (where_so NotEmpty (ap₂ ◌&&◌ (dir from) (ap₂ ◌&&◌ (dir to) (holds_given limit m t a laws to))))
       (first (where_so BelowItself (ap (λ b. b && is_below from to) (dir from))) refl))))
 
-  -- a move
-  rename_given : (from to : Path) → rename_refusal t from to ≡ rename_reason m from to
-  rename_given from to = reasons (first (walk_given from) (first (parent_given limit m t a to)
-      (first (ap₂ (λ b r. if b then None else r) (same_node_given limit m t a from to) (onto_given from to)) refl)))
-
   -- the names of a directory
   list_given : (path : Path) → list_refusal t path ≡ list_reason m path
   list_given path = reasons (first (walk_given path) (first (where_so NotDir (is_file_given limit m t a path)) refl))
@@ -87,6 +74,43 @@ module _ (laws : TreeLaws) (limit : ℕ) (m : Inodes) (t : Tree) (a : Agrees lim
   look_given (look.Stat path) = walk_given path
   look_given (look.List path) = list_given path
 
+module _ (laws : TreeLaws) (limit : Bounds) (m : Inodes) (t : Tree) (a : Agrees limit.nodes m t) where
+  -- a new node
+  make_given : (path : Path) → make_refusal limit t path ≡ make_reason limit.layout (least_unused limit.nodes t) m path
+  make_given path = reasons (first (parent_given limit.nodes m t a path) (first (where_so Exists (there_given limit.nodes m t a path)) refl))
+
+  -- another path
+  link_given : (path other : Path) → link_refusal limit.layout t path other ≡ link_reason limit.layout m path other
+  link_given path other =
+      reasons (first (walk_given laws limit.nodes m t a path) (first (parent_given limit.nodes m t a other) (first (where_so Exists (there_given limit.nodes m t a other))
+      (first (is_dir_where laws limit.nodes m t a path) (first (where_so TooManyLinks (ap (nat_le 65535) (links_given limit.nodes m t a laws path))) refl)))))
+
+  -- a move
+  rename_given : (from to : Path) → rename_refusal limit.layout t from to ≡ rename_reason limit.layout m from to
+  rename_given from to = reasons (first (walk_given laws limit.nodes m t a from) (first (parent_given limit.nodes m t a to)
+      (first (ap₂ (λ b r. if b then None else r) (same_node_given limit.nodes m t a from to) (onto_given laws limit.nodes m t a from to)) refl)))
+
   -- each command
-  pub reason_given : (cmd : Cmd) → refusal limit t cmd ≡ reason (least_unused limit t) t.snapshots m cmd
-  reason_given cmd = grind (arith, make_given, file_given, link_given, rmdir_given, rename_given, walk_given, list_given, reasons, first, is_dir_where)
+  pub reason_given : (cmd : Cmd) → refusal limit t cmd ≡ reason limit.layout (least_unused limit.nodes t) t.snapshots m cmd
+  reason_given (Mkdir path) = make_given path
+  reason_given (Create path) = make_given path
+  reason_given (Write path offset bytes) = write_given laws limit.nodes m t a path offset (length bytes)
+  reason_given (Fill path offset count byte) = write_given laws limit.nodes m t a path offset count
+  reason_given (Read path offset count) = file_given laws limit.nodes m t a path
+  reason_given (Truncate path size) = truncate_given laws limit.nodes m t a path size
+  reason_given (Link path other) = link_given path other
+  reason_given (Unlink path) = file_given laws limit.nodes m t a path
+  reason_given (Rmdir path) = rmdir_given laws limit.nodes m t a path
+  reason_given (Rename from to) = rename_given from to
+  reason_given (Stat path) = walk_given laws limit.nodes m t a path
+  reason_given (ListNames path) = list_given laws limit.nodes m t a path
+  reason_given (Snap name) = refl
+  reason_given (Unsnap name) = refl
+  reason_given Snaps = refl
+  reason_given (At name l) = refl
+  reason_given Osync = refl
+  reason_given Dsync = refl
+  reason_given Durable = refl
+  reason_given (Dwait n) = refl
+  reason_given Poll = refl
+  reason_given Bad = refl

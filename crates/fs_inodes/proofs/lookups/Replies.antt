@@ -56,21 +56,21 @@ module _ (limit : ℕ) (m : Inodes) (t : Tree) (a : Agrees limit m t) where
 either_done : (s : Session) (t : Tree) (b : Bool) → (if b then (s, Done) else changed_to s t).1 ≡ Done
 either_done s t b = grind arith
 
-module _ (laws : TreeLaws) (s : Session) (m : Inodes) (a : Agrees s.limit m s.tree) where
+module _ (laws : TreeLaws) (s : Session) (m : Inodes) (a : Agrees s.limit.nodes m s.tree) where
   -- the reply of a command that isn't refused
   accepted_given : (cmd : Cmd) → answers_point cmd ≡ false → (accepted s cmd).1 ≡ accepted_reply s.tree.snapshots m cmd
   accepted_given (Mkdir path) e = refl
   accepted_given (Create path) e = refl
   accepted_given (Write path offset bytes) e = either_done s (edited s.tree path (written offset bytes)) (length bytes == 0)
   accepted_given (Fill path offset count byte) e = either_done s (edited s.tree path (written offset (replicate count byte))) (length (replicate count byte) == 0)
-  accepted_given (Read path offset count) e = shown_given s.limit m s.tree a (look.Read path offset count)
+  accepted_given (Read path offset count) e = shown_given s.limit.nodes m s.tree a (look.Read path offset count)
   accepted_given (Truncate path size) e = either_done s (edited s.tree path (resized size)) (size == length (content s.tree path))
   accepted_given (Link path other) e = refl
   accepted_given (Unlink path) e = refl
   accepted_given (Rmdir path) e = refl
   accepted_given (Rename from to) e = either_done s (moved (removed s.tree to) from to) (is_same_node s.tree from to)
-  accepted_given (Stat path) e = shown_given s.limit m s.tree a (look.Stat path)
-  accepted_given (ListNames path) e = shown_given s.limit m s.tree a (look.List path)
+  accepted_given (Stat path) e = shown_given s.limit.nodes m s.tree a (look.Stat path)
+  accepted_given (ListNames path) e = shown_given s.limit.nodes m s.tree a (look.List path)
   accepted_given (Snap name) e = refl
   accepted_given (Unsnap name) e = refl
   accepted_given Snaps e = refl
@@ -87,5 +87,5 @@ module _ (laws : TreeLaws) (s : Session) (m : Inodes) (a : Agrees s.limit m s.tr
   reply_given_by cmd h1 r = grind (arith, accepted_given)
 
   -- the reply of each command that answers no point
-  pub reply_given : (cmd : Cmd) → answers_point cmd ≡ false → (step s cmd).1 ≡ reply_of (least_unused s.limit s.tree) s.tree.snapshots m cmd
+  pub reply_given : (cmd : Cmd) → answers_point cmd ≡ false → (step s cmd).1 ≡ reply_of s.limit.layout (least_unused s.limit.nodes s.tree) s.tree.snapshots m cmd
   reply_given cmd e = reply_given_by cmd e (refusal s.limit s.tree cmd) ∙ ap (reply_by s.tree.snapshots m cmd) (reason_given laws s.limit m s.tree a cmd)

@@ -4,7 +4,7 @@ use Rattle.std.proofs.lemmas.Bool.{cases_eq}
 use Rattle.std.specs.FinMap.{get}
 use Rattle.std.proofs.lemmas.Option.{none-some}
 use Rattle.layout_bytes.specs.declared.slot.Slot.{Slot}
-use Rattle.lang_tree.specs.Tree.{Tree, Dir, File}
+use Rattle.lang_tree.specs.Tree.{Tree, Dir, File, in_layout_one}
 use Rattle.lang_tree.specs.Step.{start}
 use Rattle.crash_stands.specs.Inodes.{Inode, Inodes, ADir, AFile, thing_of, root_alone}
 use Rattle.crash_stands.specs.Walks.{entries_of, node_in, walk}
@@ -316,7 +316,7 @@ module _ (laws : TreeLaws) (limit : ℕ) (w : Inodes) (rules : FollowsRules limi
   tree_by_rules =
       let root = rules.within 1 (ADir rules.root.0) rules.root.1 in
       scan (seen_slots limit w) root_alone
-      (record { tree = (start limit).tree; map = laws.map_start limit root.1; part = root_is_part w rules.root.0 rules.root.1 })
+      (record { tree = (start (in_layout_one limit)).tree; map = laws.map_start (in_layout_one limit) root.1; part = root_is_part w rules.root.0 rules.root.1 })
       (omega arith)
 
 -- And the map of a tree follows them.

@@ -6,13 +6,16 @@ use Rattle.std.specs.Cmp.{nat_cmp_total}
 use Rattle.std.specs.FinMap.{nat_cmp-IsAntisymmetric, get, entries, find, is_sorted, entries_sorted, get-entries}
 use Rattle.std.specs.FinMap.Entries.{below_all}
 use Rattle.std.proofs.lemmas.Option.{none-some}
+use Rattle.base_types.specs.declared.layout.Layout.{Layout}
+use Rattle.base_types.specs.Layouts.{directory_blocks}
+use Rattle.base_types.specs.LayoutLaws.{no_directory_blocks}
 use Rattle.lang_tree.specs.Tree.{Tree, Thing, Dir, path_cmp}
 use Rattle.lang_tree.specs.Names.{times, path_count}
-use Rattle.lang_tree.specs.Figures.{directory_blocks, content_blocks, file_blocks, all_directory_blocks, blocks}
+use Rattle.lang_tree.specs.Figures.{content_blocks, file_blocks, all_directory_blocks, blocks}
 use Rattle.crash_stands.specs.Inodes.{Inode, Inodes, ADir, AFile, thing_of}
 use Rattle.fs_inodes.specs.Lookups.{links_in}
 use Rattle.fs_inodes.specs.Listing.{links_from}
-use Rattle.fs_inodes.specs.Figures.{inode_blocks, dir_blocks, directories_from, blocks_from, blocks_of}
+use Rattle.fs_inodes.specs.Figures.{inode_blocks, dir_blocks, directories_from, blocks_from}
 use Rattle.fs_inodes.specs.TreeLaws.{TreeLaws}
 use Rattle.fs_inodes.proofs.basics.Paths.{Path}
 use Rattle.fs_inodes.proofs.basics.FinMaps.{path_total, path_same, tied, which_key}
@@ -52,14 +55,14 @@ sum_one f j c k zero low high here others = absurd (omega (arith, low, high))
 sum_one f j c k (suc n) low high here others = grind (arith, sum_one f j c (k + 1) n, cases_eq k j, sum_nothing)
 
 -- the blocks of inodes as such a sum
-pub blocks_summed : (m : Inodes) (k n : ℕ) → blocks_from m k n ≡ sum_from (λ i. inode_blocks (m i)) k n
-blocks_summed m k zero = refl
-blocks_summed m k (suc n) = ap (λ s. inode_blocks (m k) + s) (blocks_summed m (k + 1) n)
+pub blocks_summed : (l : Layout) (m : Inodes) (k n : ℕ) → blocks_from l m k n ≡ sum_from (λ i. inode_blocks l (m i)) k n
+blocks_summed l m k zero = refl
+blocks_summed l m k (suc n) = ap (λ s. inode_blocks l (m k) + s) (blocks_summed l m (k + 1) n)
 
 -- those of directories
-directories_summed : (m : Inodes) (k n : ℕ) → directories_from m k n ≡ sum_from (λ i. dir_blocks (m i)) k n
-directories_summed m k zero = refl
-directories_summed m k (suc n) = ap (λ s. dir_blocks (m k) + s) (directories_summed m (k + 1) n)
+directories_summed : (l : Layout) (m : Inodes) (k n : ℕ) → directories_from l m k n ≡ sum_from (λ i. dir_blocks l (m i)) k n
+directories_summed l m k zero = refl
+directories_summed l m k (suc n) = ap (λ s. dir_blocks l (m k) + s) (directories_summed l m (k + 1) n)
 
 -- The files.
 
@@ -150,14 +153,14 @@ module _ (laws : TreeLaws) (limit : ℕ) (m : Inodes) (t : Tree) (a : Agrees lim
   here_path e es = ap (λ b. cond b (Some e.1) (find path_cmp e.0 es)) (tied path_total path_same e.0 e.0 refl)
 
   -- what each path holds is what the directory that it leads to holds
-  dirs_by_number : (es : List (Path × ℕ)) → T (is_sorted path_cmp es) → ((p : Path) (n : ℕ) → find path_cmp p es ≡ Some n → get t.names p ≡ Some n)
-      → all_directory_blocks t.names es ≡ by_number (λ n. dir_blocks (m n)) es
-  dirs_by_number [] h are = refl
-  dirs_by_number (e ∷ es) h are =
+  dirs_by_number : (l : Layout) (es : List (Path × ℕ)) → T (is_sorted path_cmp es) → ((p : Path) (n : ℕ) → find path_cmp p es ≡ Some n → get t.names p ≡ Some n)
+      → all_directory_blocks l t.names es ≡ by_number (λ n. dir_blocks l (m n)) es
+  dirs_by_number l [] h are = refl
+  dirs_by_number l (e ∷ es) h are =
       ap₂ (λ x y. x + y)
-      (ap directory_blocks (names_count limit m t a e.0)
-      ∙ ap (λ o. dir_blocks (option_and_then m o)) (sym (number_given limit m t a e.0) ∙ are e.0 e.1 (here_path e es)))
-      (dirs_by_number es (both_of _ _ h).1 (λ p n is. are p n (later_paths e es h p n is)))
+      (ap (directory_blocks l) (names_count limit m t a e.0)
+      ∙ ap (λ o. dir_blocks l (option_and_then m o)) (sym (number_given limit m t a e.0) ∙ are e.0 e.1 (here_path e es)))
+      (dirs_by_number l es (both_of _ _ h).1 (λ p n is. are p n (later_paths e es h p n is)))
 
   -- each path leads to a number of the range
   pub numbers_within : (es : List (Path × ℕ)) → T (is_sorted path_cmp es) → ((p : Path) (n : ℕ) → find path_cmp p es ≡ Some n → get t.names p ≡ Some n) → AreNumbers es 1 limit
@@ -180,47 +183,52 @@ module _ (laws : TreeLaws) (limit : ℕ) (m : Inodes) (t : Tree) (a : Agrees lim
   nothing_times c n e = ap (λ n. c * n) e ∙ omega arith
 
   -- a directory has one path, and what is none has no slots
-  counted_once : (n : ℕ) → path_count t.names n * dir_blocks (m n) ≡ dir_blocks (m n)
-  counted_once n = by (m n) refl
+  counted_once : (l : Layout) (n : ℕ) → path_count t.names n * dir_blocks l (m n) ≡ dir_blocks l (m n)
+  counted_once l n = by (m n) refl
     where
-      by : (o : Option Inode) → m n ≡ o → path_count t.names n * dir_blocks o ≡ dir_blocks o
-      by None is = nothing_times (path_count t.names n) 0 refl
+      none : path_count t.names n * directory_blocks l 0 ≡ directory_blocks l 0
+      none = nothing_times (path_count t.names n) (directory_blocks l 0) (no_directory_blocks l) ∙ sym (no_directory_blocks l)
+
+      by : (o : Option Inode) → m n ≡ o → path_count t.names n * dir_blocks l o ≡ dir_blocks l o
+      by None is = none
       by (Some (ADir slots)) is =
           let dir : get t.nodes n ≡ Some Dir = a.nodes n ∙ ap (option_map thing_of) is in
           let p = a.sound.reached n Dir dir in
-          one_times (path_count t.names n) (directory_blocks (length slots)) (laws.count_dir limit t p.0 n a.sound p.1 dir)
-      by (Some (AFile links bytes)) is = nothing_times (path_count t.names n) 0 refl
+          one_times (path_count t.names n) (directory_blocks l (length slots)) (laws.count_dir limit t p.0 n a.sound p.1 dir)
+      by (Some (AFile links bytes)) is = none
 
   -- the blocks of all directories are those of the inodes
-  dirs_summed : all_directory_blocks t.names (entries t.names) ≡ sum_from (λ j. dir_blocks (m j)) 1 limit
-  dirs_summed =
-      dirs_by_number (entries t.names) (entries_sorted t.names) all_are
-      ∙ numbers_summed (λ n. dir_blocks (m n)) (entries t.names) 1 limit (numbers_within (entries t.names) (entries_sorted t.names) all_are)
-      ∙ sum_same (λ j. times j (entries t.names) * dir_blocks (m j)) (λ j. dir_blocks (m j)) counted_once 1 limit
+  dirs_summed : (l : Layout) → all_directory_blocks l t.names (entries t.names) ≡ sum_from (λ j. dir_blocks l (m j)) 1 limit
+  dirs_summed l =
+      dirs_by_number l (entries t.names) (entries_sorted t.names) all_are
+      ∙ numbers_summed (λ n. dir_blocks l (m n)) (entries t.names) 1 limit (numbers_within (entries t.names) (entries_sorted t.names) all_are)
+      ∙ sum_same (λ j. times j (entries t.names) * dir_blocks l (m j)) (λ j. dir_blocks l (m j)) (counted_once l) 1 limit
 
   -- and are so, number by number
-  pub directories_given : all_directory_blocks t.names (entries t.names) ≡ directories_from m 1 limit
-  directories_given = dirs_summed ∙ sym (directories_summed m 1 limit)
+  pub directories_given : (l : Layout) → all_directory_blocks l t.names (entries t.names) ≡ directories_from l m 1 limit
+  directories_given l = dirs_summed l ∙ sym (directories_summed l m 1 limit)
 
   -- nothing and a number
   zero_first : (n : ℕ) → 0 + n ≡ n
   zero_first n = omega arith
 
   -- the blocks of an inode are those of a file and of a directory
-  two_parts : (o : Option Inode) → thing_blocks (option_map thing_of o) + dir_blocks o ≡ inode_blocks o
-  two_parts o = grind arith
+  two_parts : (l : Layout) (o : Option Inode) → thing_blocks (option_map thing_of o) + dir_blocks l o ≡ inode_blocks l o
+  two_parts l None = omega (arith, no_directory_blocks l)
+  two_parts l (Some (ADir slots)) = omega arith
+  two_parts l (Some (AFile links bytes)) = omega (arith, no_directory_blocks l)
 
   -- the blocks of the tree are those of the inodes
-  pub blocks_given : blocks t ≡ blocks_of limit m
-  blocks_given =
+  pub blocks_given : (l : Layout) → blocks l t ≡ blocks_from l m 1 limit
+  blocks_given l =
       let files : file_blocks (entries t.nodes) ≡ sum_from (λ j. thing_blocks (find nat_cmp j (entries t.nodes))) 1 limit
       = files_summed (entries t.nodes) 1 limit (entries_sorted t.nodes) (λ j x is. let at = a.sound.within j x (get-entries t.nodes j ∙ is) in (at.0, omega (arith, at.1))) in
       ap₂ (λ x y. x + y)
       (files ∙ sum_same (λ j. thing_blocks (find nat_cmp j (entries t.nodes))) (λ j. thing_blocks (option_map thing_of (m j))) (λ j. ap thing_blocks (sym (get-entries t.nodes j) ∙ a.nodes j)) 1 limit)
-      dirs_summed
-      ∙ sym (sum_added (λ j. thing_blocks (option_map thing_of (m j))) (λ j. dir_blocks (m j)) 1 limit)
-      ∙ sum_same (λ j. thing_blocks (option_map thing_of (m j)) + dir_blocks (m j)) (λ j. inode_blocks (m j)) (λ j. two_parts (m j)) 1 limit
-      ∙ sym (blocks_summed m 1 limit)
+      (dirs_summed l)
+      ∙ sym (sum_added (λ j. thing_blocks (option_map thing_of (m j))) (λ j. dir_blocks l (m j)) 1 limit)
+      ∙ sum_same (λ j. thing_blocks (option_map thing_of (m j)) + dir_blocks l (m j)) (λ j. inode_blocks l (m j)) (λ j. two_parts l (m j)) 1 limit
+      ∙ sym (blocks_summed l m 1 limit)
 
   -- The links of all numbers are the paths.
 

@@ -16,9 +16,9 @@ returns-clause-files c = reads_as_before (laws c)
 
 pub returns-clause-map : goal.returns-clause-map
 returns-clause-map c = λ g old new places t tree has.
-    c.a_map_is_of_one_tree.ensures.alike g.i tree.inodes (inodes_of (kept_files g new places)) t
-    (λ k. c.files_have_one_map.ensures.one (files_of g old) tree.inodes tree.read k ∙ sym (same_inodes (files_of g old) k)
-    ∙ ap (λ (f : Files). inodes_of f k) (sym (everywhere (kept_files g new places) (without_snapshots (files_of g old)) (reads_as_before (laws c) g old new places has))))
+    c.a_map_is_of_one_tree.ensures.alike g.i tree.inodes (inodes_of g.layout (kept_files g new places)) t
+    (λ k. c.files_have_one_map.ensures.one g.layout (files_of g old) tree.inodes tree.read k ∙ sym (same_inodes g.layout (files_of g old) k)
+    ∙ ap (λ (f : Files). inodes_of g.layout f k) (sym (everywhere (kept_files g new places) (without_snapshots (files_of g old)) (reads_as_before (laws c) g old new places has))))
     tree.map
 
 pub returns-clause-tree : goal.returns-clause-tree

@@ -7,7 +7,7 @@ pub returns-clause-stat : goal.returns-clause-stat
 returns-clause-stat c = λ limit m t path is. stat_given limit m t (agrees c.the_tree_is_lawful.ensures limit m t is) path
 
 pub returns-clause-reply : goal.returns-clause-reply
-returns-clause-reply c = λ s m cmd is e. reply_given c.the_tree_is_lawful.ensures s m (agrees c.the_tree_is_lawful.ensures s.limit m s.tree is) cmd e
+returns-clause-reply c = λ s m cmd is e. reply_given c.the_tree_is_lawful.ensures s m (agrees c.the_tree_is_lawful.ensures s.limit.nodes m s.tree is) cmd e
 
 pub returns-clause-looks : goal.returns-clause-looks
 returns-clause-looks c = λ limit m t l is.
