@@ -16,7 +16,7 @@ use Rattle.fs_dirs.specs.declared.lookup.Found.{Found}
 
 -- the inodes as a draft has them
 abbrev pub inodes_in : State → DraftState → Inodes
-inodes_in s d = inodes_of (files_in s d)
+inodes_in s d = inodes_of s.books.geom.layout (files_in s d)
 
 -- node k is a directory
 abbrev pub IsDirectory : State → DraftState → ℕ → Type 0

@@ -1,6 +1,8 @@
 -- What the steps of reading a directory need and give.
-use Rattle.std.specs.Prelude.{◌≡◌, ◌≢◌, ℕ, ◌%◌, ◌^◌, ◌<◌, Bool, false, IsTrue, IfErr, IfNone, IfOk, IfSome, is_err, List, ◌++◌, length, take, drop, slice_get, Option, None, Some, Result, Ok}
+use Rattle.std.specs.Prelude.{◌≡◌, ◌≢◌, ℕ, ◌^◌, ◌<◌, Bool, false, IsTrue, IfErr, IfNone, IfOk, IfSome, is_err, List, ◌++◌, length, take, drop, slice_get, Option, None, Some, Result, Ok}
 use Rattle.std.specs.List.{All}
+use Rattle.base_types.specs.declared.layout.Layout.{Layout}
+use Rattle.base_types.specs.Layouts.{slots_before, slots_in_block, slot_block}
 use Rattle.layout_bytes.specs.declared.slot.Slot.{Slot}
 use Rattle.lang_tree.specs.declared.command.Refusal.{Refusal}
 use Rattle.lang_tree.specs.Tree.{Tree}
@@ -27,14 +29,18 @@ pub record MayReadBlocks (may_read : Type 0) (s : State) (node : List ℕ) : Typ
   pub inside : All (IsData s.books.geom) node
 
 -- A directory with these blocks has these slots.
-pub record HasSlots (v : NodeMap) (node : List ℕ) (slots : List Slot) : Type 0 where
+pub record HasSlots (l : Layout) (v : NodeMap) (node : List ℕ) (slots : List Slot) : Type 0 where
   pub dir : ℕ
-  pub is : inodes_of v.files dir ≡ Some (ADir slots)
+  pub is : inodes_of l v.files dir ≡ Some (ADir slots)
   pub blocks : node ≡ v.places dir
 
--- the slots of the block that begins with a place: at most 16
-abbrev pub slots_from : ℕ → List Slot → List Slot
-slots_from first slots = take 16 (drop first slots)
+-- the slot at this place is the first one of a block
+abbrev pub BeginsBlock : Layout → ℕ → Type 0
+BeginsBlock l place = slots_before l (slot_block l place) ≡ place
+
+-- the slots of the block that begins with a place: at most as many as a block has
+abbrev pub slots_from : Layout → ℕ → List Slot → List Slot
+slots_from l first slots = take (slots_in_block l) (drop first slots)
 
 -- no slot before this place has the name
 abbrev pub MissesBefore : List Slot → List ℕ → ℕ → Type 0
@@ -43,13 +49,13 @@ MissesBefore slots name first = (k : ℕ) (s : Slot) → k < first → slice_get
 -- A search in the blocks of a directory of so many slots has come to this place, which begins a block, and found nothing before it.
 pub record HasSought (tells : Bool) (start now : State) (v : NodeMap) (node : List ℕ) (count : ℕ) (name : List ℕ) (first : ℕ) : Type 0 where
   pub looks : LooksOnly tells false start now
-  pub begins : first % 16 ≡ 0
-  pub misses : IsTrue tells → (slots : List Slot) → HasSlots v node slots → length slots ≡ count → MissesBefore slots name first
+  pub begins : BeginsBlock start.books.geom.layout first
+  pub misses : IsTrue tells → (slots : List Slot) → HasSlots start.books.geom.layout v node slots → length slots ≡ count → MissesBefore slots name first
 
 -- This directory was read: its number is one of the table, it has so many slots, and these are its blocks, all of the data.
 pub record IsOpened (tells : Bool) (s : State) (v : NodeMap) (dir : Directory) : Type 0 where
   pub number : IsNumber s.books.geom.i dir.number
-  pub count : IsTrue tells → (x : Inode) → inodes_of v.files dir.number ≡ Some x → Some dir.count ≡ slot_count x
+  pub count : IsTrue tells → (x : Inode) → inodes_of s.books.geom.layout v.files dir.number ≡ Some x → Some dir.count ≡ slot_count x
   pub few : dir.count < 2 ^ 24
   pub blocks : IsTrue tells → dir.blocks ≡ v.places dir.number
   pub inside : All (IsData s.books.geom) dir.blocks
@@ -59,7 +65,7 @@ pub record OpensDirectory {E : Type 0} (tells : Bool) (k : ℕ) (result : Result
   -- the directory
   pub opened : IfOk result (λ found. IfSome found (λ dir. (dir.number ≡ k) × IsOpened tells t w dir))
   -- or nothing, where it has no slots to count
-  pub none : IsTrue tells → IfOk result (λ found. IfNone found ((x : Inode) → inodes_of v.files k ≡ Some x → None ≡ slot_count x))
+  pub none : IsTrue tells → IfOk result (λ found. IfNone found ((x : Inode) → inodes_of s.books.geom.layout v.files k ≡ Some x → None ≡ slot_count x))
   -- blocks are only read
   pub looks : LooksOnly tells (is_err result) s t
 
@@ -89,5 +95,5 @@ pub record HasWalked (tells : Bool) (start now : State) (m : Inodes) (names rest
 -- Of a directory of so many slots those before this place, which begins a block, were appended.
 pub record HasListed (tells : Bool) (start now : State) (v : NodeMap) (node : List ℕ) (count first : ℕ) (before into : List Slot) : Type 0 where
   pub looks : LooksOnly tells false start now
-  pub begins : first % 16 ≡ 0
-  pub listed : IsTrue tells → (slots : List Slot) → HasSlots v node slots → length slots ≡ count → into ≡ before ++ take first slots
+  pub begins : BeginsBlock start.books.geom.layout first
+  pub listed : IsTrue tells → (slots : List Slot) → HasSlots start.books.geom.layout v node slots → length slots ≡ count → into ≡ before ++ take first slots

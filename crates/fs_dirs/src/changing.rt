@@ -1,7 +1,8 @@
 //! Slots of a directory of a draft changed in place and taken out. One slot is written at a time, and never a
 //! whole directory; and no call here grows it.
 
-ghost use Rattle.std.specs.Prelude.{◌≡◌, ◌<◌, ◌-◌, ◌^◌, IsTrue, false, List, length, slice_get, Some, IfOk, IfSome, IfErr};
+ghost use Rattle.std.specs.Prelude.{◌≡◌, ◌≤◌, ◌<◌, ◌+◌, ◌-◌, ◌^◌, IsTrue, false, List, length, take, slice_get, Some, IfOk, IfSome, IfErr};
+ghost use Rattle.base_types.specs.Layouts.{longest_name, slot_size, slot_place, slots_in_block, directory_bytes};
 ghost use Rattle.layout_bytes.specs.declared.slot.Slot.{Slot as SlotValue};
 ghost use Rattle.layout_bytes.specs.Slot.{slot_spelling};
 ghost use Rattle.layout_directory.specs.Slots.{IsLawful};
@@ -13,23 +14,28 @@ ghost use Rattle.fs_files.specs.Calls.{LookRefused};
 ghost use Rattle.fs_files.specs.NodeMaps.{nodes_in};
 ghost use Rattle.fs_files.specs.Sound.{IsDraftOf};
 ghost use Rattle.fs_dirs.specs.Directories.{inodes_in};
-ghost use Rattle.fs_dirs.specs.Reading.{IsOpened};
+ghost use Rattle.fs_dirs.specs.Reading.{BeginsBlock, IsOpened};
 ghost use Rattle.fs_dirs.specs.Changing.{CutsSlots, SetsSlot, TakesSlot};
 ghost use Rattle.fs_dirs.specs.Changing.{HasPlace};
 
-use crate::block::{SLOTS_IN_BLOCK, ZEROS, read_slots, slot_in};
+use crate::block::{ZEROS, read_slots, slot_in};
 use crate::lookup::{Directory, open_directory};
+use base_types::limits::LONGEST_SLOT;
+use base_types::{Layout, the_numbers_of_a_layout_go_together};
 use engine_blocks::{Blocks, calls_compose};
 use fs_files::{
     Draft, FileRefusal, a_directory_has_whole_slots, a_directory_shares_no_block,
-    a_file_has_its_blocks, bytes_lie_in_blocks, where_nothing_is_kept,
+    a_file_fits_the_disk, a_file_has_its_blocks, bytes_lie_in_blocks, where_nothing_is_kept,
 };
 use fs_inodes::slots_follow_the_bytes;
-use layout_bytes::{SLOT_LENGTH, Slot};
-use layout_directory::write_slot;
+use layout_bytes::Slot;
+use layout_directory::{entries_follow_their_bytes, write_slot};
 use std::alloc::Global;
 
-/// The slot at `place` of directory `dir` is another one.
+/// The most bytes of a directory, which no directory on a disk has.
+const MOST_BYTES: u64 = 1 << 30;
+
+/// The slot at `place` of directory `dir` is another one, whose name has room in a slot.
 ///
 /// # Errors
 /// A read of the disk failed, which the disk has counted; or out of memory. The draft isn't to be used any
@@ -44,16 +50,19 @@ pub fn set_slot<S: Blocks>(
 ) -> Result<(), FileRefusal>
     requires look { MayLook S.tells (S.state blocks.old) draft.old dir }
     requires low { place < 2 ^ 24 }
+    requires short { length slot.now.name ≤ longest_name (S.state blocks.old).books.geom.layout }
     requires there { IsTrue S.tells → HasPlace (S.state blocks.old) draft.old dir place }
     ensures { SetsSlot S.tells dir place slot.now result (S.state blocks.old) (S.state blocks.new) draft.old draft.new }
 {
     a_directory_has_whole_slots::<S>();
     a_directory_shares_no_block::<S>();
+    a_file_fits_the_disk(blocks);
     bytes_lie_in_blocks();
     slots_follow_the_bytes();
-    let text = slot_text(slot);
-    let offset = SLOT_LENGTH as u64 * u64::from(place);
-    draft.overwrite(alloc, blocks, dir, offset, text.as_slice())?;
+    let layout = blocks.geom().layout();
+    let text = slot_text(slot, layout);
+    let bytes = &text[..layout.slot_length()];
+    draft.overwrite(alloc, blocks, dir, offset_of(place, layout), bytes)?;
     Ok(())
 }
 
@@ -115,14 +124,15 @@ fn slot_at<S: Blocks>(
     requires opened { IsOpened S.tells (S.state blocks.old) (nodes_in (S.state blocks.old) draft.now) dir.now }
     ensures slot { IsTrue S.tells → IfOk result (λ found. (slots : List SlotValue) → inodes_in (S.state blocks.old) draft.now dir.now.number ≡ Some (ADir slots)
         → place < length slots → found ≡ slice_get slots place) }
+    ensures short { IfOk result (λ found. IfSome found (λ s. length s.name ≤ longest_name (S.state blocks.old).books.geom.layout)) }
     ensures refused { IfErr result LookRefused }
     ensures looks { LooksOnly S.tells (fails_reading result) (S.state blocks.old) (S.state blocks.new) }
 {
-    let within = place % SLOTS_IN_BLOCK;
-    let first = place - within;
+    let layout = blocks.geom().layout();
+    let first = first_of(place, layout);
     let mut block = ZEROS;
     read_slots(draft, blocks, &dir.blocks, first, &mut block)?;
-    Ok(slot_in(&block, within))
+    Ok(slot_in(&block, place - first, layout))
 }
 
 /// Directory `dir` keeps its first `count` slots, which are fewer than it has.
@@ -144,19 +154,49 @@ fn cut_slots<S: Blocks>(
     a_directory_has_whole_slots::<S>();
     a_directory_shares_no_block::<S>();
     a_file_has_its_blocks::<S>();
+    a_file_fits_the_disk(blocks);
+    entries_follow_their_bytes();
     slots_follow_the_bytes();
     where_nothing_is_kept();
-    let size = SLOT_LENGTH as u64 * u64::from(count);
-    draft.cut_to(alloc, blocks, dir, size)?;
+    let layout = blocks.geom().layout();
+    draft.cut_to(alloc, blocks, dir, end_of(count, layout))?;
     Ok(())
 }
 
-/// The 64 bytes of a slot.
-pub(crate) fn slot_text(slot: &Slot) -> [u8; SLOT_LENGTH]
-    ensures text { result ≡ slot_spelling slot.now }
-    ensures lawful { IsLawful slot.now }
+/// Where the slot at a place begins. A place that no directory on a disk has may be told as another one.
+pub(crate) fn offset_of(place: u32, layout: Layout) -> u64
+    ensures within { result + slot_size layout ≤ 2 ^ 30 }
+    ensures place { slot_place layout place + slot_size layout ≤ 2 ^ 30 → result ≡ slot_place layout place }
 {
-    let mut text = [0; SLOT_LENGTH];
-    write_slot(slot, text.as_mut_slice());
+    let most = MOST_BYTES - layout.slot_length() as u64;
+    layout.slot_place(place).min(most)
+}
+
+/// How many bytes so many slots have. Where no directory on a disk has as many it may be told as another number.
+fn end_of(count: u32, layout: Layout) -> u64
+    ensures within { result ≤ 2 ^ 30 }
+    ensures count { directory_bytes layout count ≤ 2 ^ 30 → result ≡ directory_bytes layout count }
+{
+    layout.directory_bytes(u64::from(count)).min(MOST_BYTES)
+}
+
+/// The first place of the block that has the slot at this place.
+fn first_of(place: u32, layout: Layout) -> u32
+    ensures begins { BeginsBlock layout result }
+    ensures from { result ≤ place }
+    ensures upto { place < result + slots_in_block layout }
+{
+    layout.slots_before(layout.slot_block(place)) as u32
+}
+
+/// The bytes of a slot, whose name has room in one: the first ones, as many as a slot has in this layout.
+pub(crate) fn slot_text(slot: &Slot, layout: Layout) -> [u8; LONGEST_SLOT]
+    requires { length slot.now.name ≤ longest_name layout }
+    ensures text { take (slot_size layout) result ≡ slot_spelling layout slot.now }
+    ensures lawful { IsLawful layout slot.now }
+{
+    the_numbers_of_a_layout_go_together();
+    let mut text = [0; LONGEST_SLOT];
+    write_slot(slot, &mut text[..layout.slot_length()], layout);
     text
 }

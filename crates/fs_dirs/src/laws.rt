@@ -2,6 +2,7 @@
 //! nothing. They are for callers that make several calls on one draft.
 
 ghost use Rattle.std.specs.Prelude.{ℕ, ◌+◌, ◌*◌, ◌≤◌, ◌++◌, min, List, [], length};
+ghost use Rattle.base_types.specs.declared.layout.Layout.{Layout};
 ghost use Rattle.layout_geometry.specs.Geometry.{Geometry, bitmap_blocks};
 ghost use Rattle.layout_bytes.specs.declared.slot.Slot.{Slot};
 ghost use Rattle.crash_stands.specs.Files.{Files};
@@ -23,5 +24,6 @@ pub fn alterations_add_up()
 
 /// Where one directory has other slots and no other node changed, each node in use still reads as an inode.
 pub fn directories_are_read()
-    ensures { (old new : Files) (k : ℕ) (slots : List Slot) → IsWithSlots old new k slots → AreInodesOf old (inodes_of old) → AreInodesOf new (inodes_of new) }
+    ensures { (l : Layout) (old new : Files) (k : ℕ) (slots : List Slot) → IsWithSlots l old new k slots → AreInodesOf l old (inodes_of l old)
+        → AreInodesOf l new (inodes_of l new) }
 {}

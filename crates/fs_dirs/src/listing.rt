@@ -5,7 +5,8 @@ ghost use Rattle.std.specs.List.Sorted.{IsPermutation, IsSorted};
 ghost use Rattle.std.specs.Ordering.{nat_cmp};
 ghost use Rattle.std.specs.Cmp.Lexicographic.{slice_cmp};
 ghost use Rattle.layout_bytes.specs.declared.slot.Slot.{Slot as SlotValue};
-ghost use Rattle.layout_bytes.specs.Slot.{slots_in};
+ghost use Rattle.base_types.specs.Layouts.{slots_in_block};
+ghost use Rattle.layout_directory.specs.Directory.{ReadAs};
 ghost use Rattle.crash_stands.specs.Inodes.{ADir, inodes_of};
 ghost use Rattle.fs_files.specs.Asks.{MayLookAt};
 ghost use Rattle.fs_files.specs.Content.{fails_reading};
@@ -13,14 +14,13 @@ ghost use Rattle.fs_files.specs.Effects.{LooksOnly};
 ghost use Rattle.fs_files.specs.Calls.{LookRefused};
 ghost use Rattle.fs_dirs.specs.Reading.{MayReadBlocks, HasSlots};
 
-use crate::block::{SLOTS_IN_BLOCK, ZEROS, read_slots, slot_in};
+use crate::block::{ZEROS, read_slots, slot_in};
 use crate::lookup::open_directory;
-use base_types::{Block, Name, NoMemory};
+use base_types::{Block, Layout, Name, NoMemory};
 use engine_blocks::{Blocks, calls_compose};
 use fs_files::{FileRefusal, NodeBlocks, Nodes};
 use lang_tree::NameList;
 use layout_bytes::Slot;
-use layout_directory::entries_follow_their_bytes;
 use std::alloc::Global;
 
 /// The entries of directory `dir`, ascending by the bytes of their names. None where the node is no directory.
@@ -36,7 +36,7 @@ pub fn entries<N: Nodes, S: Blocks>(
 ) -> Result<Vec<Slot>, FileRefusal>
     requires { MayLookAt (N.may_read S.tells (S.state blocks.old) files.now) (S.state blocks.old) dir }
     ensures all { IsTrue S.tells → IfOk result (λ entries. (slots : List SlotValue)
-        → inodes_of (N.nodes (S.state blocks.old) files.now).files dir ≡ Some (ADir slots)
+        → inodes_of (S.state blocks.old).books.geom.layout (N.nodes (S.state blocks.old) files.now).files dir ≡ Some (ADir slots)
         → IsPermutation slots entries.items) }
     ensures sorted { IfOk result (λ entries. IsSorted (slice_cmp nat_cmp) (map (λ s. s.name) entries.items)) }
     ensures refused { IfErr result LookRefused }
@@ -71,7 +71,7 @@ pub fn names<N: Nodes, S: Blocks>(
 ) -> Result<NameList, FileRefusal>
     requires { MayLookAt (N.may_read S.tells (S.state blocks.old) files.now) (S.state blocks.old) dir }
     ensures all { IsTrue S.tells → IfOk result (λ names. (slots : List SlotValue)
-        → inodes_of (N.nodes (S.state blocks.old) files.now).files dir ≡ Some (ADir slots)
+        → inodes_of (S.state blocks.old).books.geom.layout (N.nodes (S.state blocks.old) files.now).files dir ≡ Some (ADir slots)
         → IsPermutation (map (λ s. s.name) slots) names) }
     ensures sorted { IfOk result (IsSorted (slice_cmp nat_cmp)) }
     ensures refused { IfErr result LookRefused }
@@ -117,20 +117,23 @@ fn push_slots<N: Nodes, S: Blocks>(
 ) -> Result<(), FileRefusal>
     requires read { MayReadBlocks (N.may_read S.tells (S.state blocks.old) files.now) (S.state blocks.old) node.now }
     requires few { count < 2 ^ 24 }
-    ensures slots { IsTrue S.tells → OnOk result ((slots : List SlotValue) → HasSlots (N.nodes (S.state blocks.old) files.now) node.now slots
+    ensures slots { IsTrue S.tells → OnOk result ((slots : List SlotValue)
+        → HasSlots (S.state blocks.old).books.geom.layout (N.nodes (S.state blocks.old) files.now) node.now slots
         → length slots ≡ count → into.new.items ≡ into.old.items ++ slots) }
     ensures refused { IfErr result LookRefused }
     ensures looks { LooksOnly S.tells (fails_reading result) (S.state blocks.old) (S.state blocks.new) }
 {
     calls_compose::<S>();
     files.laws(blocks);
+    let layout = blocks.geom().layout();
+    let most = layout.slots_in_block();
     let mut block = ZEROS;
     let mut first = 0;
     while first < count {
         read_slots(files, blocks, node, first, &mut block)?;
-        let entries = (count - first).min(SLOTS_IN_BLOCK);
-        push_block(&block, entries, into)?;
-        first += SLOTS_IN_BLOCK;
+        let entries = (count - first).min(most);
+        push_block(&block, entries, layout, into)?;
+        first += most;
     }
     Ok(())
 }
@@ -139,13 +142,17 @@ fn push_slots<N: Nodes, S: Blocks>(
 ///
 /// # Errors
 /// Out of memory.
-fn push_block(block: &Block, entries: u32, into: &mut Vec<Slot>) -> Result<(), NoMemory>
-    requires { entries ≤ 16 }
-    ensures { OnOk result ((slots : List SlotValue) → slots_in entries block.now ≡ Some slots → into.new.items ≡ into.old.items ++ slots) }
+fn push_block(
+    block: &Block,
+    entries: u32,
+    layout: Layout,
+    into: &mut Vec<Slot>,
+) -> Result<(), NoMemory>
+    requires { entries ≤ slots_in_block layout }
+    ensures { OnOk result ((slots : List SlotValue) → length slots ≡ entries → ReadAs layout block.now slots → into.new.items ≡ into.old.items ++ slots) }
 {
-    entries_follow_their_bytes();
     for place in 0..entries {
-        push_slot(block, place, into)?;
+        push_slot(block, place, layout, into)?;
     }
     Ok(())
 }
@@ -154,12 +161,17 @@ fn push_block(block: &Block, entries: u32, into: &mut Vec<Slot>) -> Result<(), N
 ///
 /// # Errors
 /// Out of memory.
-fn push_slot(block: &Block, place: u32, into: &mut Vec<Slot>) -> Result<(), NoMemory>
-    requires { place < 16 }
-    ensures { OnOk result ((entries : ℕ) (slots : List SlotValue) (s : SlotValue) → place < entries → slots_in entries block.now ≡ Some slots
+fn push_slot(
+    block: &Block,
+    place: u32,
+    layout: Layout,
+    into: &mut Vec<Slot>,
+) -> Result<(), NoMemory>
+    requires { place < slots_in_block layout }
+    ensures { OnOk result ((slots : List SlotValue) (s : SlotValue) → place < length slots → ReadAs layout block.now slots
         → slice_get slots place ≡ Some s → into.new.items ≡ into.old.items ++ s ∷ []) }
 {
-    match slot_in(block, place) {
+    match slot_in(block, place, layout) {
         Some(slot) => {
             into.push(slot)?;
             Ok(())

@@ -1,6 +1,7 @@
 //! Names looked up in a directory. It is read a block at a time, and nothing of it is kept.
 
-ghost use Rattle.std.specs.Prelude.{◌≡◌, ◌<◌, ◌/◌, ◌^◌, IsTrue, is_err, List, length, Some, IfOk, IfSome};
+ghost use Rattle.std.specs.Prelude.{◌≡◌, ◌<◌, ◌^◌, IsTrue, is_err, List, length, Some, IfOk, IfSome};
+ghost use Rattle.base_types.specs.Layouts.{slots_held};
 ghost use Rattle.layout_bytes.specs.declared.node.NodeKind.TheVariants.{Dir, File, Snapshot};
 ghost use Rattle.layout_bytes.specs.declared.slot.Slot.{Slot};
 ghost use Rattle.crash_stands.specs.Inodes.{Inode, inodes_of};
@@ -10,13 +11,13 @@ ghost use Rattle.fs_files.specs.Calls.{IsUsed};
 ghost use Rattle.fs_dirs.specs.Directories.{slot_count, Finds, IsNumber};
 ghost use Rattle.fs_dirs.specs.Reading.{LooksForName, OpensDirectory, IsOpened, MayReadBlocks, HasSlots};
 
-use crate::block::{SLOTS_IN_BLOCK, ZEROS, find_in, read_slots};
-use base_types::{Name, ReadFault};
+use crate::block::{ZEROS, find_in, read_slots};
+use base_types::{Layout, Name, ReadFault};
 use crash_stands::slots_name_nodes_in_use;
 use engine_blocks::{Blocks, calls_compose};
 use fs_files::{FileRefusal, NodeBlocks, Nodes};
 use fs_inodes::{a_name_stands_at_its_place, slots_follow_the_bytes};
-use layout_bytes::{NodeKind, SLOT_LENGTH};
+use layout_bytes::NodeKind;
 use layout_directory::a_name_has_its_first_place;
 
 /// Where a name stands in a directory.
@@ -28,8 +29,8 @@ pub struct Found {
     pub node: u32,
 }
 
-/// The most bytes of a directory, which no directory on a disk has.
-const MOST_BYTES: u64 = 1 << 30;
+/// The most slots of a directory, which no directory on a disk has.
+const MOST_SLOTS: u64 = 1 << 24;
 
 /// How many slots node `number` has, where it is a directory.
 ///
@@ -41,7 +42,8 @@ pub fn count_slots<N: Nodes, S: Blocks>(
     number: u32,
 ) -> Result<Option<u32>, ReadFault>
     requires { MayLookAt (N.may_read S.tells (S.state blocks.old) files.now) (S.state blocks.old) number }
-    ensures count { IsTrue S.tells → IfOk result (λ count. (x : Inode) → inodes_of (N.nodes (S.state blocks.old) files.now).files number ≡ Some x
+    ensures count { IsTrue S.tells → IfOk result (λ count. (x : Inode)
+        → inodes_of (S.state blocks.old).books.geom.layout (N.nodes (S.state blocks.old) files.now).files number ≡ Some x
         → count ≡ slot_count x) }
     ensures used { IsTrue S.tells → IfOk result (λ count. IfSome count (λ n. IsUsed (N.nodes (S.state blocks.old) files.now).files number)) }
     ensures few { IfOk result (λ count. IfSome count (λ n. n < 2 ^ 24)) }
@@ -52,20 +54,21 @@ pub fn count_slots<N: Nodes, S: Blocks>(
     let Some(facts) = files.look(blocks, number)? else {
         return Ok(None);
     };
-    Ok(slots_of(facts.kind, facts.size))
+    Ok(slots_of(facts.kind, facts.size, blocks.geom().layout()))
 }
 
-/// How many slots a node of this kind and so many bytes has. `None` for what is no directory, and where there are more bytes
+/// How many slots a node of this kind and so many bytes has. `None` for what is no directory, and where there are more
 /// than a disk has.
-fn slots_of(kind: NodeKind, size: u64) -> Option<u32>
+fn slots_of(kind: NodeKind, size: u64, layout: Layout) -> Option<u32>
     ensures few { IfSome result (λ count. count < 2 ^ 24) }
     ensures file { kind ≡ File → result ≡ None }
     ensures snapshot { kind ≡ Snapshot → result ≡ None }
-    ensures dir { kind ≡ Dir → size < 2 ^ 30 → result ≡ Some (size / 64) }
+    ensures dir { kind ≡ Dir → slots_held layout size < 2 ^ 24 → result ≡ Some (slots_held layout size) }
 {
+    let count = layout.slots_held(size);
     match kind {
         NodeKind::Free => None,
-        NodeKind::Dir if size < MOST_BYTES => Some((size / SLOT_LENGTH as u64) as u32),
+        NodeKind::Dir if count < MOST_SLOTS => Some(count as u32),
         NodeKind::Dir => None,
         NodeKind::File => None,
         NodeKind::Snapshot => None,
@@ -98,7 +101,8 @@ pub(crate) fn open_directory<N: Nodes, S: Blocks>(
     let Some(file) = files.open(blocks, number)? else {
         return Ok(None);
     };
-    let Some(count) = slots_of(file.facts.kind, file.facts.size) else {
+    let layout = blocks.geom().layout();
+    let Some(count) = slots_of(file.facts.kind, file.facts.size, layout) else {
         return Ok(None);
     };
     Ok(Some(Directory {
@@ -122,7 +126,7 @@ pub fn find_in_directory<N: Nodes, S: Blocks>(
     requires read { MayRead (N.may_read S.tells (S.state blocks.old) files.now) (S.state blocks.old) }
     requires opened { IsOpened S.tells (S.state blocks.old) (N.nodes (S.state blocks.old) files.now) dir.now }
     ensures { LooksForName S.tells dir.now.number name.now result (S.state blocks.old) (S.state blocks.new)
-        (inodes_of (N.nodes (S.state blocks.old) files.now).files) }
+        (inodes_of (S.state blocks.old).books.geom.layout (N.nodes (S.state blocks.old) files.now).files) }
 {
     slots_name_nodes_in_use();
     a_name_stands_at_its_place();
@@ -160,7 +164,8 @@ fn search<N: Nodes, S: Blocks>(
 ) -> Result<Option<Found>, ReadFault>
     requires read { MayReadBlocks (N.may_read S.tells (S.state blocks.old) files.now) (S.state blocks.old) node.now }
     requires few { count < 2 ^ 24 }
-    ensures found { IsTrue S.tells → IfOk result (λ found. (slots : List Slot) → HasSlots (N.nodes (S.state blocks.old) files.now) node.now slots
+    ensures found { IsTrue S.tells → IfOk result (λ found. (slots : List Slot)
+        → HasSlots (S.state blocks.old).books.geom.layout (N.nodes (S.state blocks.old) files.now) node.now slots
         → length slots ≡ count → Finds slots name.now found) }
     ensures place { IfOk result (λ found. IfSome found (λ f. f.place < 2 ^ 24)) }
     ensures looks { LooksOnly S.tells (is_err result) (S.state blocks.old) (S.state blocks.new) }
@@ -169,19 +174,21 @@ fn search<N: Nodes, S: Blocks>(
     files.laws(blocks);
     a_name_has_its_first_place();
     a_name_stands_at_its_place();
+    let layout = blocks.geom().layout();
+    let most = layout.slots_in_block();
     let mut block = ZEROS;
     let mut first = 0;
     while first < count {
         read_slots(files, blocks, node, first, &mut block)?;
-        let entries = (count - first).min(SLOTS_IN_BLOCK);
-        match find_in(&block, entries, name) {
+        let entries = (count - first).min(most);
+        match find_in(&block, entries, name, layout) {
             Some(found) => {
                 return Ok(Some(Found {
                     place: first + found.place,
                     node: found.node,
                 }));
             }
-            None => first += SLOTS_IN_BLOCK,
+            None => first += most,
         }
     }
     Ok(None)

@@ -34,8 +34,8 @@ pub fn walk<N: Nodes, S: Blocks>(
 ) -> Result<Result<u32, Refusal>, FileRefusal>
     requires read { MayRead (N.may_read S.tells (S.state blocks.old) files.now) (S.state blocks.old) }
     ensures end { IsTrue S.tells → IfOk result (λ end. (t : Tree)
-        → IsMapOf (S.state blocks.old).books.geom.i (inodes_of (N.nodes (S.state blocks.old) files.now).files) t
-        → end ≡ walk_on (inodes_of (N.nodes (S.state blocks.old) files.now).files) 1 path.now) }
+        → IsMapOf (S.state blocks.old).books.geom.i (inodes_of (S.state blocks.old).books.geom.layout (N.nodes (S.state blocks.old) files.now).files) t
+        → end ≡ walk_on (inodes_of (S.state blocks.old).books.geom.layout (N.nodes (S.state blocks.old) files.now).files) 1 path.now) }
     ensures number { IfOk result (λ end. IfOk end (IsNumber (S.state blocks.old).books.geom.i)) }
     ensures refused { IfErr result LookRefused }
     ensures looks { LooksOnly S.tells (fails_reading result) (S.state blocks.old) (S.state blocks.new) }
@@ -55,8 +55,8 @@ pub fn walk_to_parent<N: Nodes, S: Blocks>(
 ) -> Result<Result<Option<Directory>, Refusal>, FileRefusal>
     requires read { MayRead (N.may_read S.tells (S.state blocks.old) files.now) (S.state blocks.old) }
     ensures end { IsTrue S.tells → IfOk result (λ end. (t : Tree)
-        → IsMapOf (S.state blocks.old).books.geom.i (inodes_of (N.nodes (S.state blocks.old) files.now).files) t
-        → EndsAtParent (inodes_of (N.nodes (S.state blocks.old) files.now).files) path.now end) }
+        → IsMapOf (S.state blocks.old).books.geom.i (inodes_of (S.state blocks.old).books.geom.layout (N.nodes (S.state blocks.old) files.now).files) t
+        → EndsAtParent (inodes_of (S.state blocks.old).books.geom.layout (N.nodes (S.state blocks.old) files.now).files) path.now end) }
     ensures opened { IfOk result (λ end. IfOk end (λ up. IfSome up (IsOpened S.tells (S.state blocks.new) (N.nodes (S.state blocks.new) files.now)))) }
     ensures refused { IfErr result LookRefused }
     ensures looks { LooksOnly S.tells (fails_reading result) (S.state blocks.old) (S.state blocks.new) }
@@ -90,11 +90,11 @@ fn walk_names<N: Nodes, S: Blocks>(
 ) -> Result<Result<u32, Refusal>, FileRefusal>
     requires read { MayRead (N.may_read S.tells (S.state blocks.old) files.now) (S.state blocks.old) }
     ensures end { IsTrue S.tells → IfOk result (λ end. (t : Tree)
-        → IsMapOf (S.state blocks.old).books.geom.i (inodes_of (N.nodes (S.state blocks.old) files.now).files) t
-        → end ≡ walk_on (inodes_of (N.nodes (S.state blocks.old) files.now).files) 1 names.now) }
+        → IsMapOf (S.state blocks.old).books.geom.i (inodes_of (S.state blocks.old).books.geom.layout (N.nodes (S.state blocks.old) files.now).files) t
+        → end ≡ walk_on (inodes_of (S.state blocks.old).books.geom.layout (N.nodes (S.state blocks.old) files.now).files) 1 names.now) }
     ensures used { IsTrue S.tells → IfOk result (λ end. (t : Tree)
-        → IsMapOf (S.state blocks.old).books.geom.i (inodes_of (N.nodes (S.state blocks.old) files.now).files) t
-        → IfOk end (λ k. (x : Inode) × (inodes_of (N.nodes (S.state blocks.old) files.now).files k ≡ Some x))) }
+        → IsMapOf (S.state blocks.old).books.geom.i (inodes_of (S.state blocks.old).books.geom.layout (N.nodes (S.state blocks.old) files.now).files) t
+        → IfOk end (λ k. (x : Inode) × (inodes_of (S.state blocks.old).books.geom.layout (N.nodes (S.state blocks.old) files.now).files k ≡ Some x))) }
     ensures number { IfOk result (λ end. IfOk end (IsNumber (S.state blocks.old).books.geom.i)) }
     ensures refused { IfErr result LookRefused }
     ensures looks { LooksOnly S.tells (fails_reading result) (S.state blocks.old) (S.state blocks.new) }
@@ -124,9 +124,9 @@ fn enter<N: Nodes, S: Blocks>(
 ) -> Result<Result<u32, Refusal>, FileRefusal>
     requires { MayLookAt (N.may_read S.tells (S.state blocks.old) files.now) (S.state blocks.old) number }
     ensures step { IsTrue S.tells → IfOk result (λ next. (t : Tree) (x : Inode)
-        → IsMapOf (S.state blocks.old).books.geom.i (inodes_of (N.nodes (S.state blocks.old) files.now).files) t
-        → inodes_of (N.nodes (S.state blocks.old) files.now).files number ≡ Some x
-        → EntersOn (inodes_of (N.nodes (S.state blocks.old) files.now).files) number name.now next) }
+        → IsMapOf (S.state blocks.old).books.geom.i (inodes_of (S.state blocks.old).books.geom.layout (N.nodes (S.state blocks.old) files.now).files) t
+        → inodes_of (S.state blocks.old).books.geom.layout (N.nodes (S.state blocks.old) files.now).files number ≡ Some x
+        → EntersOn (inodes_of (S.state blocks.old).books.geom.layout (N.nodes (S.state blocks.old) files.now).files) number name.now next) }
     ensures number { IfOk result (λ next. IfOk next (IsNumber (S.state blocks.old).books.geom.i)) }
     ensures refused { IfErr result LookRefused }
     ensures looks { LooksOnly S.tells (fails_reading result) (S.state blocks.old) (S.state blocks.new) }

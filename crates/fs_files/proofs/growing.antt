@@ -4,4 +4,5 @@ pub mod Edges
 pub mod Placed
 pub mod Copied
 pub mod Outside
+pub mod Stretches
 pub mod Ranges

@@ -1,5 +1,5 @@
 -- What the calls on the files of a draft ask. It is described in docs/FILES.md.
-use Rattle.std.specs.Prelude.{◌≡◌, ℕ, ◌<◌, ◌≤◌, ◌%◌, ◌^◌, Bool, false, IsTrue, [], length, min, Some}
+use Rattle.std.specs.Prelude.{◌≡◌, ℕ, ◌<◌, ◌≤◌, ◌^◌, Bool, false, IsTrue, [], length, min, Some}
 use Rattle.layout_bytes.specs.declared.node.NodeKind.TheVariants.{Dir}
 use Rattle.crash_stands.specs.Files.{FileNode}
 use Rattle.engine_blocks.specs.Calls.{HasTurns}
@@ -7,6 +7,7 @@ use Rattle.engine_blocks.specs.State.{State}
 use Rattle.fs_files.specs.Calls.{files_in, places_in}
 use Rattle.fs_files.specs.Drafts.{DraftState}
 use Rattle.fs_files.specs.Growing.{taken_by}
+use Rattle.fs_files.specs.Nodes.{MayEndAt}
 use Rattle.fs_files.specs.Shared.{is_kept}
 use Rattle.fs_files.specs.Sound.{IsDraftOf}
 
@@ -41,7 +42,7 @@ pub record MayGrow (tells : Bool) (s : State) (d : DraftState) (number lo hi : �
 -- Node `number` may be cut to its first `count` bytes, where it is in use.
 pub record MayCut (tells : Bool) (s : State) (d : DraftState) (number count : ℕ) : Type 0 where
   pub size : count ≤ 2 ^ 30
-  -- a directory keeps whole slots
-  pub slots : IsTrue tells → (x : FileNode) → files_in s d number ≡ Some x → x.kind ≡ Dir → count % 64 ≡ 0
+  -- a directory keeps whole slots, and where it has room for no slot in its last block it has zeros behind them
+  pub slots : IsTrue tells → (x : FileNode) → files_in s d number ≡ Some x → x.kind ≡ Dir → MayEndAt s.books.geom.layout x.bytes count
   -- it has more bytes
   pub shorter : IsTrue tells → (x : FileNode) → files_in s d number ≡ Some x → count < length x.bytes

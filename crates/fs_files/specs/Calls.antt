@@ -1,7 +1,8 @@
 -- What the calls on files make of the files and of the draft. It is described in docs/FILES.md.
-use Rattle.std.specs.Prelude.{◌≡◌, ◌≢◌, ℕ, ◌+◌, ◌-◌, ◌*◌, ◌/◌, ◌<◌, ◌≤◌, ◌==◌, nat_le, ⊤, Bool, true, false, ◌&&◌, ◌||◌, if◌then◌else◌, List, [], ◌∷◌, ◌++◌, length, take, drop, Option, None, Some, is_some}
+use Rattle.std.specs.Prelude.{◌≡◌, ◌≢◌, ℕ, ◌+◌, ◌-◌, ◌*◌, ◌/◌, ◌<◌, ◌≤◌, ◌==◌, nat_le, min, ⊤, Bool, true, false, not, ◌&&◌, ◌||◌, if◌then◌else◌, List, [], ◌∷◌, ◌++◌, length, take, drop, Option, None, Some, is_some}
 use Rattle.base_types.specs.Seal.{Blocks}
 use Rattle.base_types.specs.Runs.{run_places}
+use Rattle.base_types.specs.Layouts.{most_runs}
 use Rattle.layout_geometry.specs.Geometry.{Geometry}
 use Rattle.layout_extent.specs.Runs.{stretches}
 use Rattle.layout_bytes.specs.declared.node.Node.{Node}
@@ -16,7 +17,7 @@ use Rattle.fs_files.specs.declared.refusal.FileRefusal.TheVariants as refusal
 use Rattle.fs_files.specs.Bytes.{blocks_for, met}
 use Rattle.fs_files.specs.Drafts.{DraftState, ChangesSome, change_of, drafted}
 use Rattle.fs_files.specs.Growing.{alone, places_after, taken_by}
-use Rattle.fs_files.specs.Nodes.{node_block}
+use Rattle.fs_files.specs.Nodes.{fills_blocks, node_block}
 use Rattle.fs_files.specs.Shared.{is_kept}
 
 -- what is looked up of a file: all but its bytes
@@ -82,15 +83,20 @@ pub record Grows (k : Bookkeeping) (x : FileNode) (places new_places : List ℕ)
   pub enough : taken_by (is_kept d.kept) lo hi places ≤ length (reusable_blocks k)
   pub taken : e.taken ≡ d.taken ++ take (taken_by (is_kept d.kept) lo hi places) (reusable_blocks k)
   pub placed : new_places ≡ places_after (is_kept d.kept) lo hi places (reusable_blocks k)
-  pub runs : stretches new_places ≤ 28
+  pub runs : stretches new_places ≤ most_runs k.geom.layout
   pub freed : e.freed ≡ d.freed
   pub fresh : length e.fresh ≤ length d.fresh + (if is_dir x.kind then 0 else taken_by (is_kept d.kept) lo hi places)
   pub changes : ChangesSome e
 
--- the blocks that a write of bytes `lo` to `hi` changes, new content aside: those that it meets and that aren't kept, a directory's new ones, and the node's where it grows or gets another block
+-- where the bytes begin that a write from byte `off` on changes: a gap before it is written too, but in a directory, which has zeros there
+abbrev pub written_from : FileNode → ℕ → ℕ
+written_from x off = if is_dir x.kind then off else min off (length x.bytes)
+
+-- the blocks that a write of bytes `off` to `hi` changes, new content aside: those that it meets and that aren't kept, a directory's new ones, and the node's where it grows or gets another block
 abbrev pub written_blocks : Geometry → (ℕ → Bool) → ℕ → FileNode → List ℕ → List ℕ → ℕ → ℕ → List ℕ
-written_blocks g kept number x places more lo hi =
-    alone kept (met lo hi places) ++ ((if is_dir x.kind then more else []) ++ (if nat_le hi (length x.bytes) && (taken_by kept lo hi places == 0) then [] else node_block g number ∷ []))
+written_blocks g kept number x places more off hi =
+    alone kept (met (written_from x off) hi places)
+    ++ ((if is_dir x.kind then more else []) ++ (if nat_le hi (length x.bytes) && (taken_by kept (min off (length x.bytes)) hi places == 0) then [] else node_block g number ∷ []))
 
 -- Node `number` changed in its block of the node table, and these blocks of its are to be freed.
 pub record SetsNode (g : Geometry) (number : ℕ) (gone : List ℕ) (d e : DraftState) : Type 0 where
@@ -107,23 +113,24 @@ pub record Shrinks (x : FileNode) (places new_places : List ℕ) (size : ℕ) (d
   pub fresh : length e.fresh ≤ length d.fresh
   pub changes : ChangesSome e
 
--- the blocks that a cut to `size` bytes changes: the node's, and a directory's last one where bytes of it are cut off
+-- the blocks that a cut to `size` bytes changes: the node's, and a directory's last one where slots of it are cut off
 abbrev pub cut_blocks : Geometry → ℕ → FileNode → List ℕ → ℕ → List ℕ
-cut_blocks g number x places size = (if is_dir x.kind then drop (size / 1024) (take (blocks_for size) places) else []) ++ node_block g number ∷ []
+cut_blocks g number x places size =
+    (if is_dir x.kind && not (fills_blocks g.layout size) then drop (size / 1024) (take (blocks_for size) places) else []) ++ node_block g number ∷ []
 
 -- The node has another size: it grew, shrank, or has the one that it had.
 pub record Resizes (k : Bookkeeping) (number : ℕ) (x : FileNode) (places new_places : List ℕ) (size : ℕ) (d e : DraftState) : Type 0 where
   pub same : size ≡ length x.bytes → e ≡ d
   pub changes : size ≢ length x.bytes → ChangesSome e
   pub grows : length x.bytes < size → Grows k x places new_places (length x.bytes) size d e
-  pub grows_among : length x.bytes < size → ChangesAmong (written_blocks k.geom (is_kept d.kept) number x places (drop (length places) new_places) (length x.bytes) size) d e
+  pub grows_among : length x.bytes < size → ChangesAmong (written_blocks k.geom (is_kept d.kept) number x places (drop (length places) new_places) size size) d e
   pub shrinks : size < length x.bytes → Shrinks x places new_places size d e
   pub shrinks_among : size < length x.bytes → ChangesAmong (cut_blocks k.geom number x places size) d e
 
--- Why a node didn't get so many blocks, which stand with its own as said: after settling fewer may be taken; or all would lie in more than 28 runs; or the disk failed as it settled, since there were fewer before. The others have their counts, or are free.
+-- Why a node didn't get so many blocks, which stand with its own as said: after settling fewer may be taken; or all would lie in more runs than a node has room for; or the disk failed as it settled, since there were fewer before. The others have their counts, or are free.
 abbrev pub GrowthRefused : ℕ → (List ℕ → List ℕ) → Bookkeeping → Bookkeeping → FileRefusal → Type 0
 GrowthRefused n with_more old new (refusal.Short need reusable) = (need ≡ n) × (reusable ≡ length (reusable_blocks new)) × (reusable < n) × (new.waiting ≡ 0)
-GrowthRefused n with_more old new (refusal.Scattered runs) = (runs ≡ stretches (with_more (take n (reusable_blocks new)))) × (28 < runs) × (n ≤ length (reusable_blocks new))
+GrowthRefused n with_more old new (refusal.Scattered runs) = (runs ≡ stretches (with_more (take n (reusable_blocks new)))) × (most_runs old.geom.layout < runs) × (n ≤ length (reusable_blocks new))
 GrowthRefused n with_more old new refusal.DiskFault = length (reusable_blocks old) < n
 GrowthRefused n with_more old new refusal.ReadFault = ⊤
 GrowthRefused n with_more old new refusal.NoMemory = ⊤

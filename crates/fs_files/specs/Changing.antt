@@ -35,7 +35,7 @@ pub record WritesAt {T : Type 0} (tells : Bool) (number off : ℕ) (ys : List �
   -- which blocks it changes, and that it changes one
   pub among : IsTrue tells → OnOk result ((x : FileNode) → files_in s d number ≡ Some x
       → 0 < length ys
-      → ChangesAmong (written_blocks s.books.geom (is_kept d.kept) number x (places_in s d number) (drop (length (places_in s d number)) (places_in t e number)) (min off (length x.bytes)) (off + length ys)) d e)
+      → ChangesAmong (written_blocks s.books.geom (is_kept d.kept) number x (places_in s d number) (drop (length (places_in s d number)) (places_in t e number)) off (off + length ys)) d e)
   pub changes : IsTrue tells → OnOk result (0 < length ys → ChangesSome e)
   -- why it is refused
   pub refused : IsTrue tells → IfErr result (λ why. (x : FileNode) → files_in s d number ≡ Some x

@@ -25,9 +25,9 @@ used_of node = used_by node node.kind
 
 -- Its spelling has as many bytes as a node, and is read as the node in use that it is; that of a free node is zeros.
 pub record ReadsBack (g : Geometry) (node : Node) : Type 0 where
-  pub size : length (node_spelling node) ≡ node_size
-  pub reads : node_of g (node_spelling node) ≡ used_of node
-  pub zeros : node.kind ≡ Free → node_spelling node ≡ replicate node_size 0
+  pub size : length (node_spelling g.layout node) ≡ node_size g.layout
+  pub reads : node_of g (node_spelling g.layout node) ≡ used_of node
+  pub zeros : node.kind ≡ Free → node_spelling g.layout node ≡ replicate (node_size g.layout) 0
 
 -- The blocks of the node table but this one are as before.
 abbrev pub KeepsTable : Geometry → Blocks → Blocks → ℕ → Type 0
@@ -36,7 +36,7 @@ KeepsTable g m n own = (b : ℕ) → table_start g ≤ b → b < data_start g �
 -- The node table has this node under number k, and every other as before. One out of use is zeros.
 pub record HasNewNode (g : Geometry) (m n : Blocks) (k : ℕ) (new : Option Node) : Type 0 where
   pub own : used_node g n k ≡ new
-  pub free : new ≡ None → node_bytes g n k ≡ replicate node_size 0
+  pub free : new ≡ None → node_bytes g n k ≡ replicate (node_size g.layout) 0
   pub others : (l : ℕ) → 1 ≤ l → l ≤ g.i → l ≢ k → node_bytes g n l ≡ node_bytes g m l
   pub table : (b : ℕ) → table_start g ≤ b → b < data_start g → length (n b) ≡ 1024
 
@@ -52,4 +52,4 @@ pub record ChangesNode (g : Geometry) (marks new_marks : ℕ → Bool) (m n : Bl
   pub once : AllPairs (λ a b. a ≢ b) (places_or_none new)
   pub inside : All (IsData g) (places_or_none new)
   pub whole : All (λ b. length (n b) ≡ 1024) (places_or_none new)
-  pub tail : (node : Node) → new ≡ Some node → node.kind ≡ Dir → IsTrue (are_zeros (past_content n node))
+  pub tail : (node : Node) → new ≡ Some node → node.kind ≡ Dir → IsTrue (are_zeros (past_content g.layout n node))

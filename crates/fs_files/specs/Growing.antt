@@ -2,6 +2,7 @@
 use Rattle.std.specs.Prelude.{◌≡◌, ℕ, ◌+◌, ◌-◌, ◌/◌, ◌%◌, ◌==◌, ◌≤◌, Bool, IsTrue, not, if◌then◌else◌, List, length, take, drop, get_or, slice_get, Option, None, Some, option_and_then}
 use Rattle.std.specs.List.{filter}
 use Rattle.base_types.specs.Seal.{Blocks}
+use Rattle.base_types.specs.Layouts.{most_runs}
 use Rattle.base_types.specs.declared.words.Class.{Class}
 use Rattle.layout_extent.specs.Renew.{makes_way, renewals, renewed}
 use Rattle.layout_extent.specs.Runs.{stretches}
@@ -32,7 +33,7 @@ alone kept places = filter (λ b. not (kept b)) places
 pub record GrowsPlaces (lo hi : ℕ) (k : Bookkeeping) (old new : OpenNode) (d e : DraftState) : Type 0 where
   pub enough : taken_by (is_kept d.kept) lo hi old.places ≤ length (reusable_blocks k)
   pub node : new ≡ record old { places = places_after (is_kept d.kept) lo hi old.places (reusable_blocks k) }
-  pub runs : stretches new.places ≤ 28
+  pub runs : stretches new.places ≤ most_runs k.geom.layout
   pub takeable : MayBeTaken k.geom k.reusable (take (taken_by (is_kept d.kept) lo hi old.places) (reusable_blocks k))
   pub takes : TakesBlocks (class_of old.kind) (take (taken_by (is_kept d.kept) lo hi old.places) (reusable_blocks k)) d e
 

@@ -3,6 +3,7 @@ pub mod Bytes
 pub mod Sound
 pub mod Effects
 pub mod Nodes
+pub mod Contents
 pub mod Content
 pub mod Calls
 pub mod Finish

@@ -1,5 +1,5 @@
 -- Lemmas on the blocks of nodes, and on looks, that crates above cite too. They add no meaning to the promises.
-use Rattle.std.proofs.Common.{◌≡◌, ◌≢◌, ◌⊎◌, inl, inr, ℕ, zero, suc, ◌+◌, ◌*◌, ◌/◌, ◌<◌, ◌≤◌, ◌==◌, ◌||◌, ◌&&◌, not, nat_lt, nat_le, Bool, true, false, List, [], ◌∷◌, ◌++◌, length, slice_get, slice_index, Option, Some, None, refl, sym, ap, subst, ◌∙◌, arith, rules}
+use Rattle.std.proofs.Common.{◌≡◌, ◌≢◌, ◌⊎◌, inl, inr, ℕ, zero, suc, ◌+◌, ◌*◌, ◌<◌, ◌≤◌, ◌==◌, ◌||◌, not, nat_lt, nat_le, Bool, true, false, List, [], ◌∷◌, ◌++◌, length, slice_get, slice_index, Option, Some, None, refl, sym, ap, subst, ◌∙◌, arith, rules}
 use Rattle.std.proofs.lemmas.List.{length-append}
 use Rattle.std.proofs.lemmas.Bool.{and_parts, leb-true, ltb-true, not-true, eqb-false, eqb-true, eq-eqb, false≢true, or_right, or_cases}
 use Rattle.std.proofs.lemmas.Option.{none-some, same_Some}
@@ -55,7 +55,7 @@ when_some false x y e = absurd (none-some y e)
 pub fits_with : (g : Geometry) (b : List ℕ) (o : Option NodeKind) (node : Node) → node_with g b o ≡ Some node → node_fits g node ≡ true
 fits_with g b None node e = absurd (none-some node e)
 fits_with g b (Some kind) node e =
-    let spare = when_some (spare_zeros b) (when (node_fits g (node_fields kind b)) (Some (node_fields kind b))) node e in
+    let spare = when_some (spare_zeros g.layout b) (when (node_fits g (node_fields kind b)) (Some (node_fields kind b))) node e in
     let fits = when_some (node_fits g (node_fields kind b)) (Some (node_fields kind b)) node spare.1 in
     subst (λ (m : Node). node_fits g m ≡ true) (same_Some (node_fields kind b) node fits.1) fits.0
 

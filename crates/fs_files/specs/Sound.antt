@@ -26,8 +26,8 @@ pub record AreSoundBy (g : Geometry) (marks : ℕ → Bool) (m : Blocks) : Type 
   pub «data» : (b : ℕ) → data_start g ≤ b → b < g.n → marks b ≡ true → length (m b) ≡ 1024
   pub own : (k l i j b : ℕ) → HasBlock g m k i b → HasBlock g m l j b → (k ≡ l) × (i ≡ j)
   pub marked : (b : ℕ) → data_start g ≤ b → b < g.n → (marks b ≡ true) ↔ ((k : ℕ) × (i : ℕ) × HasBlock g m k i b)
-  pub free : (k : ℕ) → 1 ≤ k → k ≤ g.i → node_at g m k ≡ None → node_bytes g m k ≡ replicate node_size 0
-  pub tail : (k : ℕ) (node : Node) → used_node g m k ≡ Some node → node.kind ≡ Dir → IsTrue (are_zeros (past_content m node))
+  pub free : (k : ℕ) → 1 ≤ k → k ≤ g.i → node_at g m k ≡ None → node_bytes g m k ≡ replicate (node_size g.layout) 0
+  pub tail : (k : ℕ) (node : Node) → used_node g m k ≡ Some node → node.kind ≡ Dir → IsTrue (are_zeros (past_content g.layout m node))
 
 -- something is put into the block, or it is freed
 abbrev pub is_filled : DraftState → ℕ → Bool
@@ -51,8 +51,8 @@ pub record AreSoundBeside (g : Geometry) (kept : ℕ → Bool) (m : Blocks) : Ty
   pub inside : (b : ℕ) → kept b ≡ true → IsData g b
   pub shared : (b k i : ℕ) (node : Node) → kept b ≡ true → HasBlock g m k i b → used_node g m k ≡ Some node → node.kind ≡ File
   pub past : (b : ℕ) → g.n ≤ b → b < 8192 * bitmap_blocks g → is_set g m b ≡ false
-  pub free : (k : ℕ) → 1 ≤ k → k ≤ g.i → node_at g m k ≡ None → node_bytes g m k ≡ replicate node_size 0
-  pub tail : (k : ℕ) (node : Node) → used_node g m k ≡ Some node → node.kind ≡ Dir → IsTrue (are_zeros (past_content m node))
+  pub free : (k : ℕ) → 1 ≤ k → k ≤ g.i → node_at g m k ≡ None → node_bytes g m k ≡ replicate (node_size g.layout) 0
+  pub tail : (k : ℕ) (node : Node) → used_node g m k ≡ Some node → node.kind ≡ Dir → IsTrue (are_zeros (past_content g.layout m node))
 
 -- These blocks are different ones, none of them is kept, and no node has one.
 pub record AreApartFrom (g : Geometry) (m : Blocks) (kept bs : List ℕ) : Type 0 where

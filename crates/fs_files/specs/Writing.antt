@@ -1,10 +1,12 @@
 -- What a write makes of a node and a draft, step by step: the node gets blocks, the gap before its bytes gets zeros, and the bytes are written.
-use Rattle.std.specs.Prelude.{◌≡◌, ◌≢◌, ◌⊎◌, ℕ, ◌+◌, ◌-◌, ◌*◌, ◌<◌, ◌≤◌, Bool, IsTrue, List, [], length, drop, replicate, min, max, Some}
+use Rattle.std.specs.Prelude.{◌≡◌, ◌≢◌, ◌⊎◌, ℕ, ◌+◌, ◌-◌, ◌*◌, ◌<◌, ◌≤◌, Bool, IsTrue, if◌then◌else◌, List, [], length, drop, replicate, min, max, Some}
 use Rattle.base_types.specs.Seal.{Blocks}
 use Rattle.crash_stands.specs.Files.{FileNode, joined, files_of}
 use Rattle.engine_blocks.specs.State.{Bookkeeping}
 use Rattle.layout_geometry.specs.Geometry.{Geometry}
 use Rattle.base_types.specs.declared.words.Class.TheVariants.{Meta}
+use Rattle.base_types.specs.declared.layout.Layout.{Layout}
+use Rattle.base_types.specs.Layouts.{node_byte}
 use Rattle.layout_bytes.specs.declared.node.Node.{Node}
 use Rattle.layout_bytes.specs.Node.{node_spelling, FitsAs}
 use Rattle.fs_files.specs.declared.nodes.OpenNode.{OpenNode}
@@ -12,15 +14,19 @@ use Rattle.fs_files.specs.Bytes.{met, overwrite}
 use Rattle.fs_files.specs.Content.{HasContent, HasNewBytes, WritesContent}
 use Rattle.fs_files.specs.Drafts.{DraftState, drafted, PutsBlock}
 use Rattle.fs_files.specs.Growing.{edge_of, taken_by, CopiesEdges, GrowsPlaces}
-use Rattle.fs_files.specs.Nodes.{class_of, node_of_open, node_block, node_byte}
+use Rattle.fs_files.specs.Nodes.{class_of, node_of_open, node_block}
 use Rattle.fs_files.specs.Frames.{ReadsBack}
 use Rattle.fs_files.specs.Shared.{is_kept}
 use Rattle.lang_tree.specs.Step.{written}
-use Rattle.fs_files.specs.Calls.{IsWithFile, with_bytes, places_of, written_blocks, ChangesAmong, Grows}
+use Rattle.fs_files.specs.Calls.{IsWithFile, is_dir, with_bytes, places_of, written_blocks, ChangesAmong, Grows}
 
 -- the open node with another size, as the node table has it
-abbrev pub with_size : OpenNode → ℕ → Node
-with_size node size = node_of_open (record node { size = size })
+abbrev pub with_size : Layout → OpenNode → ℕ → Node
+with_size l node size = node_of_open l (record node { size = size })
+
+-- where the gap ends that gets zeros before a write from byte `off` on: none is written in a directory, which has zeros behind its bytes
+abbrev pub gap_end : OpenNode → ℕ → ℕ
+gap_end node off = if is_dir node.kind then node.size else off
 
 -- The node's blocks have zeros from its end to byte `off`, where that is past it, within the first `held` of them; else nothing was done.
 pub record FillsGap (tells : Bool) (m : Blocks) (off held : ℕ) (node : OpenNode) (d e : DraftState) : Type 0 where
@@ -32,7 +38,7 @@ pub record FillsGap (tells : Bool) (m : Blocks) (off held : ℕ) (node : OpenNod
 -- The gap got zeros, and then these bytes were written behind it.
 pub record FillsBytes (tells : Bool) (m : Blocks) (off held : ℕ) (ys : List ℕ) (node : OpenNode) (d f : DraftState) : Type 0 where
   pub filled : DraftState
-  pub gap : FillsGap tells m off held node d filled
+  pub gap : FillsGap tells m (gap_end node off) held node d filled
   pub writes : WritesContent (class_of node.kind) (met off (off + length ys) node.places) filled f
   pub some : 0 < length ys → HasNewBytes f
   pub content : IsTrue tells → HasContent m filled node.places → HasContent m f node.places
@@ -59,8 +65,8 @@ pub record WritesOpen (tells : Bool) (k : Bookkeeping) (m : Blocks) (off : ℕ) 
 -- The node has at least so many bytes, in its block of the node table, which has these bytes before; where it had them already and takes no blocks, nothing was done.
 pub record KeepsSize (g : Geometry) (number size need : ℕ) (node : OpenNode) (table : List ℕ) (d e : DraftState) : Type 0 where
   pub same : size ≤ node.size → need ≡ 0 → e ≡ d
-  pub puts : (node.size < size) ⊎ (0 < need) → PutsBlock (node_block g number) (record { class = Meta; bytes = overwrite (node_byte number) (node_spelling (with_size node (max node.size size))) table }) d e
-  pub back : (node.size < size) ⊎ (0 < need) → FitsAs g (with_size node (max node.size size)) node.kind → ReadsBack g (with_size node (max node.size size))
+  pub puts : (node.size < size) ⊎ (0 < need) → PutsBlock (node_block g number) (record { class = Meta; bytes = overwrite (node_byte g.layout number) (node_spelling g.layout (with_size g.layout node (max node.size size))) table }) d e
+  pub back : (node.size < size) ⊎ (0 < need) → FitsAs g (with_size g.layout node (max node.size size)) node.kind → ReadsBack g (with_size g.layout node (max node.size size))
 
 -- What a write made of a file, in a draft of these blocks: its bytes, the blocks that it takes, and those that it changes.
 pub record WritesFile (k : Bookkeeping) (m : Blocks) (number off : ℕ) (ys : List ℕ) (d e : DraftState) : Type 0 where
@@ -69,4 +75,4 @@ pub record WritesFile (k : Bookkeeping) (m : Blocks) (number off : ℕ) (ys : Li
       → Grows k x (places_of k.geom (drafted d m) number) (places_of k.geom (drafted e m) number) (min off (length x.bytes)) (off + length ys) d e
   pub others : (l : ℕ) → l ≢ number → places_of k.geom (drafted e m) l ≡ places_of k.geom (drafted d m) l
   pub among : (x : FileNode) → files_of k.geom (drafted d m) number ≡ Some x
-      → ChangesAmong (written_blocks k.geom (is_kept d.kept) number x (places_of k.geom (drafted d m) number) (drop (length (places_of k.geom (drafted d m) number)) (places_of k.geom (drafted e m) number)) (min off (length x.bytes)) (off + length ys)) d e
+      → ChangesAmong (written_blocks k.geom (is_kept d.kept) number x (places_of k.geom (drafted d m) number) (drop (length (places_of k.geom (drafted d m) number)) (places_of k.geom (drafted e m) number)) off (off + length ys)) d e

@@ -146,6 +146,7 @@ impl<'a> Draft<'a> {
         requires most { links ≤ 65535 }
         ensures { SetsLinks S.tells number links result (S.state blocks.old) (S.state blocks.new) self.old self.new }
     {
+        a_list_has_its_runs();
         let geom = blocks.geom();
         geom.lawful();
         let mut table = ZEROS;
@@ -153,7 +154,8 @@ impl<'a> Draft<'a> {
             return Ok(());
         };
         node.links = links;
-        store(self, alloc, &geom, number, &node.to_node(), &mut table)?;
+        let node = node.to_node(geom.layout());
+        store(self, alloc, &geom, number, &node, &mut table)?;
         Ok(())
     }
 }

@@ -5,7 +5,7 @@
 ghost use Rattle.std.specs.Prelude.{◌≡◌, ◌≢◌, ◌≤◌, ◌<◌, ◌+◌, ◌*◌, ◌^◌, ℕ, false, IsTrue, is_err, List, length, take, drop, slice_get};
 ghost use Rattle.std.specs.Prelude.{Some, IfOk, IfErr, IfSome, OnOk, option_map};
 ghost use Rattle.std.specs.List.{All, AllPairs};
-ghost use Rattle.layout_geometry.specs.Geometry.{node_size};
+ghost use Rattle.base_types.specs.Layouts.{node_size};
 ghost use Rattle.layout_bytes.specs.Node.{node_of};
 ghost use Rattle.engine_blocks.specs.Puts.{IsData};
 ghost use Rattle.crash_stands.specs.Files.{FileNode, joined};
@@ -27,10 +27,10 @@ use engine_blocks::Blocks;
 use layout_geometry::Geom;
 use std::alloc::Global;
 
-/// The node in use that is in these 256 bytes, with its blocks. `None` where they are those of none.
+/// The node in use that is in these bytes, as many as a node has, with its blocks. `None` where they are those of none.
 pub fn node_in(bytes: &[u8], geom: &Geom) -> Option<OpenFile>
-    requires { length bytes.now ≡ node_size }
-    ensures node { option_map node_of_file result ≡ node_of geom.now bytes.now }
+    requires { length bytes.now ≡ node_size geom.now.layout }
+    ensures node { option_map (node_of_file geom.now.layout) result ≡ node_of geom.now bytes.now }
     ensures open { IfSome result (λ f. IsOpen geom.now (parts_of f)) }
 {
     let node = open_node(bytes, geom)?;
@@ -50,7 +50,7 @@ impl NodeBlocks {
     /// How many blocks there are.
     pub fn count(&self) -> u32
         ensures value { result ≡ length self.now }
-        ensures most { result ≤ 29360128 }
+        ensures most { result ≤ 62914560 }
     {
         self.places.count()
     }

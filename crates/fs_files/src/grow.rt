@@ -3,6 +3,7 @@
 
 ghost use Rattle.std.specs.Prelude.{◌≡◌, ◌↔◌, ◌≤◌, ◌<◌, ◌/◌, ℕ, List, [], None, false, IsTrue, IfErr, IfSome, IsOk, OnOk, get_or, length};
 ghost use Rattle.std.specs.List.{All};
+ghost use Rattle.base_types.specs.Layouts.{most_runs};
 ghost use Rattle.layout_extent.specs.Renew.{makes_way, renewals};
 ghost use Rattle.layout_extent.specs.Runs.{most_blocks, stretches};
 ghost use Rattle.engine_blocks.specs.Puts.{IsData};
@@ -10,7 +11,7 @@ ghost use Rattle.engine_blocks.specs.State.{reusable_blocks};
 ghost use Rattle.engine_blocks.specs.Calls.{AreLowest, HasTurns};
 ghost use Rattle.engine_blocks.specs.Effects.{ChangesNothing};
 ghost use Rattle.fs_files.specs.Bytes.{blocks_for};
-ghost use Rattle.fs_files.specs.Calls.{GrowthRefused, LookRefused};
+ghost use Rattle.fs_files.specs.Calls.{is_dir, GrowthRefused, LookRefused};
 ghost use Rattle.fs_files.specs.Content.{fails_reading, fails_settling};
 ghost use Rattle.fs_files.specs.Effects.{LooksOnly, LooksAndSettles};
 ghost use Rattle.fs_files.specs.Growing.{CopiesEdge, CopiesEdges, GrowsPlaces, ShrinksPlaces, edge_of, placed, taken_by};
@@ -21,7 +22,7 @@ use crate::FileRefusal;
 use crate::draft::{Draft, ZEROS};
 use crate::nodes::OpenNode;
 use base_types::limits::BLOCK_LENGTH;
-use base_types::{Class, NoMemory, Places};
+use base_types::{Class, Layout, NoMemory, Places};
 use engine_blocks::{Blocks, LowestRefusal};
 use layout_extent::{Runs, Scattered};
 use layout_node::NodeKind;
@@ -44,6 +45,18 @@ pub(crate) fn class_of(kind: NodeKind) -> Class
         NodeKind::Dir => Class::Meta,
         NodeKind::File => Class::Content,
         NodeKind::Snapshot => Class::Content,
+    }
+}
+
+/// Whether a node of this kind is a directory.
+pub(crate) fn is_dir(kind: NodeKind) -> bool
+    ensures { result ≡ is_dir kind }
+{
+    match kind {
+        NodeKind::Free => false,
+        NodeKind::Dir => true,
+        NodeKind::File => false,
+        NodeKind::Snapshot => false,
     }
 }
 
@@ -83,8 +96,8 @@ fn renewals(draft: &Draft, places: &Runs, from: u32, past: u32) -> u32
 /// kept ones that the bytes touch, and behind its own. They have zeros.
 ///
 /// # Errors
-/// Fewer may be taken; the node's blocks would lie in more than 28 runs; the disk failed; or out of memory.
-/// The draft isn't to be used any more then.
+/// Fewer may be taken; the node's blocks would lie in more runs than it has room for; the disk failed; or out of
+/// memory. The draft isn't to be used any more then.
 pub(crate) fn grow<S: Blocks>(
     draft: &mut Draft,
     alloc: Global,
@@ -107,10 +120,18 @@ pub(crate) fn grow<S: Blocks>(
     ensures settles { LooksAndSettles S.tells false (fails_settling result) (S.state blocks.old) (S.state blocks.new) }
     ensures looks { need ≤ length (reusable_blocks (S.state blocks.old).books) → ChangesNothing S.tells (S.state blocks.old) (S.state blocks.new) }
 {
-    blocks.geom().lawful();
+    let geom = blocks.geom();
+    geom.lawful();
     let mut list = Places::new(alloc);
     lowest(alloc, blocks, need, &mut list)?;
-    match renew(draft, &mut node.places, lo, hi, list.as_slice()) {
+    match renew(
+        draft,
+        &mut node.places,
+        lo,
+        hi,
+        list.as_slice(),
+        geom.layout(),
+    ) {
         Ok(()) => {}
         Err(Scattered { runs }) => return Err(FileRefusal::Scattered { runs }),
     }
@@ -122,20 +143,27 @@ pub(crate) fn grow<S: Blocks>(
 /// others behind all.
 ///
 /// # Errors
-/// The list would have more than 28 stretches of neighbours; it is as it was.
-fn renew(draft: &Draft, places: &mut Runs, lo: u64, hi: u64, list: &[u32]) -> Result<(), Scattered>
+/// The list would have more stretches of neighbours than a node of this layout has runs; it is as it was.
+fn renew(
+    draft: &Draft,
+    places: &mut Runs,
+    lo: u64,
+    hi: u64,
+    list: &[u32],
+    layout: Layout,
+) -> Result<(), Scattered>
     requires ordered { lo ≤ hi }
     requires size { hi ≤ largest_node }
     requires below { All (λ number. number < most_blocks) list.now }
-    ensures exact { IsOk result ↔ (stretches (placed (is_kept draft.now.kept) lo hi places.old list.now) ≤ 28) }
+    ensures exact { IsOk result ↔ (stretches (placed (is_kept draft.now.kept) lo hi places.old list.now) ≤ most_runs layout) }
     ensures ok { OnOk result (places.new ≡ placed (is_kept draft.now.kept) lo hi places.old list.now) }
     ensures runs { IfErr result (λ scattered. scattered.runs ≡ stretches (placed (is_kept draft.now.kept) lo hi places.old list.now)) }
 {
     if draft.keeps_none() {
-        return places.append(list);
+        return places.append(list, layout);
     }
     let from = (lo / BLOCK_LENGTH as u64) as u32;
-    places.renew(from, blocks_for(hi), draft.kept(), list)
+    places.renew(from, blocks_for(hi), draft.kept(), list, layout)
 }
 
 /// The kept block in which byte `at` lies, where it isn't the first one of it.

@@ -1,13 +1,14 @@
 //! Laws of drafts and of the files in them, each a function that changes nothing: what a draft is before
 //! anything was done, how many blocks a file has, and how many bytes a directory.
 
-ghost use Rattle.std.specs.Prelude.{◌≡◌, ◌≤◌, ◌+◌, ◌-◌, ◌*◌, ◌/◌, ◌%◌, ◌^◌, ◌++◌, ◌||◌, ℕ, Bool, [], false, IsTrue, List, length, Some};
+ghost use Rattle.std.specs.Prelude.{◌≡◌, ◌≤◌, ◌+◌, ◌-◌, ◌*◌, ◌/◌, ◌^◌, ◌++◌, ◌||◌, ℕ, Bool, [], false, IsTrue, List, length, Some};
 ghost use Rattle.engine_blocks.specs.Puts.{IsData};
 ghost use Rattle.engine_blocks.specs.Running.{HasNoBare, has};
 ghost use Rattle.fs_files.specs.Bytes.{blocks_for, met};
 ghost use Rattle.fs_files.specs.Calls.{files_in, places_in, places_of};
 ghost use Rattle.fs_files.specs.Drafts.{DraftState, FreesBlocks, begun_beside, nothing_drafted};
 ghost use Rattle.fs_files.specs.Effects.{LooksOnly, LooksAndSettles};
+ghost use Rattle.fs_files.specs.Nodes.{AreWholeSlots};
 ghost use Rattle.fs_files.specs.Sound.{AreApartFrom, AreSoundBeside, HasSoundKept, IsDraftOf, TellsKept};
 ghost use Rattle.fs_files.specs.Growing.{alone, placed, taken_by};
 ghost use Rattle.fs_files.specs.Shared.{is_kept};
@@ -75,7 +76,7 @@ pub fn a_file_fits_the_disk<S: Blocks>(blocks: &S)
 pub fn a_directory_has_whole_slots<S: Blocks>()
     ensures { (s : S) (d : DraftState) (k : ℕ) (x : FileNode) → IsTrue S.tells → IsDraftOf S.tells (S.state s) d → files_in (S.state s) d k ≡ Some x
         → x.kind ≡ Dir
-        → length x.bytes % 64 ≡ 0 }
+        → AreWholeSlots (S.state s).books.geom.layout (length x.bytes) }
 {}
 
 /// No block of a directory is kept.

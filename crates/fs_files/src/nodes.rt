@@ -1,30 +1,31 @@
 //! The nodes of the node table as a draft has them: reading one with its block, and writing it back. Its
 //! content is read and written elsewhere.
 
-ghost use Rattle.std.specs.Prelude.{◌≡◌, ◌≤◌, ◌<◌, ◌^◌, ℕ, false, IsTrue, is_err, IfOk, IfSome, OnOk, OnErr, option_map, length, slice_index};
+ghost use Rattle.std.specs.Prelude.{◌≡◌, ◌≤◌, ◌<◌, ◌%◌, ◌^◌, ℕ, false, IsTrue, is_err, IfOk, IfSome, OnOk, OnErr, option_map, length, slice_index};
 ghost use Rattle.base_types.specs.declared.words.Class.TheVariants.{Meta};
-ghost use Rattle.layout_geometry.specs.Geometry.{node_size};
+ghost use Rattle.base_types.specs.Layouts.{most_runs, node_byte, node_size};
 ghost use Rattle.layout_extent.specs.Runs.{AreTidy, LieBelow, most_blocks};
-ghost use Rattle.layout_bytes.specs.Node.{node_of, node_spelling, FitsAs};
+ghost use Rattle.layout_bytes.specs.declared.node.NodeKind.TheVariants.{Dir};
+ghost use Rattle.layout_bytes.specs.Node.{content_of, node_of, node_spelling, FitsAs};
 ghost use Rattle.crash_stands.specs.Files.{used_node};
 ghost use Rattle.fs_files.specs.Bytes.{overwrite};
 ghost use Rattle.fs_files.specs.Drafts.{drafted, PutsBlock};
 ghost use Rattle.fs_files.specs.Effects.{LooksOnly};
 ghost use Rattle.fs_files.specs.Frames.{ReadsBack};
-ghost use Rattle.fs_files.specs.Nodes.{node_of_open, node_block, node_byte, HasTable, IsOpen};
+ghost use Rattle.fs_files.specs.Nodes.{largest_node, node_of_open, node_block, HasTable, IsOpen};
 
 use crate::draft::Draft;
-use base_types::{Block, Class, NoMemory, ReadFault, RunList};
+use base_types::{Block, Class, Layout, NoMemory, ReadFault, RunList, nodes_lie_in_their_blocks};
 use engine_blocks::Blocks;
 use layout_extent::{Runs, a_list_has_its_runs, tidy_runs_are_those_of_their_numbers};
-use layout_geometry::{Geom, NODE_LENGTH};
+use layout_geometry::Geom;
 use layout_node::{
     Node, NodeKind, a_free_node_is_zeros, a_node_that_fits_has_a_spelling, a_spelling_has_one_node,
     nodes_in_use_are_read, read_node, write_node,
 };
 use std::alloc::Global;
 
-/// A node in use with the list of its blocks.
+/// A node in use with the list of its blocks, and with the number of its bytes in the place of what its size says.
 #[derive(Drop)]
 pub(crate) struct OpenNode {
     pub kind: NodeKind,
@@ -35,13 +36,14 @@ pub(crate) struct OpenNode {
 
 impl OpenNode {
     /// The node as the node table has it.
-    pub(crate) fn to_node(&self) -> Node
-        ensures { result ≡ node_of_open self.now }
+    pub(crate) fn to_node(&self, layout: Layout) -> Node
+        requires { self.now.size ≤ largest_node }
+        ensures { result ≡ node_of_open layout self.now }
     {
         Node {
             kind: self.kind,
             links: self.links,
-            size: self.size,
+            size: self.kind.size(self.size, layout),
             runs: copy_runs(self.places.list()),
         }
     }
@@ -72,25 +74,28 @@ pub(crate) fn load<S: Blocks>(
     requires above_zero { 1 ≤ number }
     requires in_table { number ≤ (S.state blocks.old).books.geom.i }
     ensures node { IsTrue S.tells → HasTable (S.state blocks.old) draft.now number
-        → IfOk result (λ found. option_map node_of_open found ≡ used_node (S.state blocks.old).books.geom (drafted draft.now (S.state blocks.old).map)
+        → IfOk result (λ found. option_map (node_of_open (S.state blocks.old).books.geom.layout) found
+        ≡ used_node (S.state blocks.old).books.geom (drafted draft.now (S.state blocks.old).map)
         number) }
     ensures table { IsTrue S.tells → HasTable (S.state blocks.old) draft.now number
         → OnOk result (table.new ≡ drafted draft.now (S.state blocks.old).map (node_block (S.state blocks.old).books.geom number)) }
     ensures open { IfOk result (λ found. IfSome found (IsOpen (S.state blocks.old).books.geom)) }
     ensures looks { LooksOnly S.tells (is_err result) (S.state blocks.old) (S.state blocks.new) }
 {
+    nodes_lie_in_their_blocks();
     let geom = blocks.geom();
     geom.lawful();
     let (block, at) = geom.node_place(number);
     draft.read(blocks, block, table)?;
     let at = at as usize;
-    Ok(open_node(&table[at..at + NODE_LENGTH], &geom))
+    let end = at + geom.layout().node_length();
+    Ok(open_node(&table[at..end], &geom))
 }
 
 /// The node in use in these bytes, if they are one's.
 pub(crate) fn open_node(bytes: &[u8], geom: &Geom) -> Option<OpenNode>
-    requires { length bytes.now ≡ node_size }
-    ensures node { option_map node_of_open result ≡ node_of geom.now bytes.now }
+    requires { length bytes.now ≡ node_size geom.now.layout }
+    ensures node { option_map (node_of_open geom.now.layout) result ≡ node_of geom.now bytes.now }
     ensures open { IfSome result (IsOpen geom.now) }
 {
     geom.lawful();
@@ -100,25 +105,29 @@ pub(crate) fn open_node(bytes: &[u8], geom: &Geom) -> Option<OpenNode>
     let Ok(node) = read_node(bytes, geom) else {
         return None;
     };
+    let layout = geom.layout();
     match node.kind {
         NodeKind::Free => None,
-        NodeKind::Dir => Some(opened(node)),
-        NodeKind::File => Some(opened(node)),
-        NodeKind::Snapshot => Some(opened(node)),
+        NodeKind::Dir => Some(opened(node, layout)),
+        NodeKind::File => Some(opened(node, layout)),
+        NodeKind::Snapshot => Some(opened(node, layout)),
     }
 }
 
 /// The node with the list of its blocks.
-fn opened(node: Node) -> OpenNode
+fn opened(node: Node, layout: Layout) -> OpenNode
     requires tidy { AreTidy node.runs }
     requires below { LieBelow most_blocks node.runs }
-    ensures { node_of_open result ≡ node }
+    requires few { node.size ≤ 2 ^ 38 }
+    requires slots { node.kind ≡ Dir → node.size % 64 ≡ 0 }
+    ensures node { node_of_open layout result ≡ node }
+    ensures size { result.size ≡ content_of layout node.kind node.size }
 {
     tidy_runs_are_those_of_their_numbers();
     OpenNode {
         kind: node.kind,
         links: node.links,
-        size: node.size,
+        size: node.kind.content(node.size, layout),
         places: Runs::of(node.runs),
     }
 }
@@ -128,7 +137,8 @@ fn byte_ranges(bytes: &[u8])
     ensures { (i : ℕ) → slice_index bytes.now i < 256 }
 {}
 
-/// Writes node `number` into its block, of which `table` has the bytes now, and puts that into the draft.
+/// Writes node `number` into its block, of which `table` has the bytes now, and puts that into the draft. It has no
+/// more runs than its layout has room for.
 ///
 /// # Errors
 /// Out of memory; then the draft is as before.
@@ -142,8 +152,10 @@ pub(crate) fn store(
 ) -> Result<(), NoMemory>
     requires above_zero { 1 ≤ number }
     requires in_table { number ≤ geom.now.i }
+    requires few { length node.now.runs ≤ most_runs geom.now.layout }
     ensures ok { OnOk result (PutsBlock (node_block geom.now number)
-        (record { class = Meta; bytes = overwrite (node_byte number) (node_spelling node.now) table.old }) draft.old draft.new) }
+        (record { class = Meta; bytes = overwrite (node_byte geom.now.layout number) (node_spelling geom.now.layout node.now) table.old })
+        draft.old draft.new) }
     ensures back { FitsAs geom.now node.now node.now.kind → ReadsBack geom.now node.now }
     ensures err { OnErr result (draft.new ≡ draft.old) }
 {
@@ -152,10 +164,13 @@ pub(crate) fn store(
     a_spelling_has_one_node();
     a_free_node_is_zeros();
     a_node_that_fits_has_a_spelling();
+    nodes_lie_in_their_blocks();
     links_range(node);
+    let layout = geom.layout();
     let (block, at) = geom.node_place(number);
     let at = at as usize;
-    write_node(node, &mut table[at..at + NODE_LENGTH]);
+    let end = at + layout.node_length();
+    write_node(node, &mut table[at..end], layout);
     draft.put(alloc, block, Class::Meta, table)
 }
 

@@ -1,6 +1,6 @@
 //! Numbered files that are read, whatever they are: those of a draft are one kind. Nothing is changed here.
 
-ghost use Rattle.std.specs.Prelude.{◌≡◌, ◌≢◌, ◌≤◌, ◌<◌, ◌+◌, ◌%◌, ◌^◌, ℕ, Bool};
+ghost use Rattle.std.specs.Prelude.{◌≡◌, ◌≢◌, ◌≤◌, ◌<◌, ◌+◌, ◌^◌, ℕ, Bool};
 ghost use Rattle.std.specs.Prelude.{IsTrue, is_err, take, drop, length, None, Some, IfOk, IfErr, IfSome, OnOk, option_map};
 ghost use Rattle.std.specs.List.{All};
 ghost use Rattle.layout_bytes.specs.declared.node.NodeKind.TheVariants.{Free, Dir};
@@ -12,6 +12,7 @@ ghost use Rattle.fs_files.specs.Calls.{block_bytes, facts_of, IsUsed, LookRefuse
 ghost use Rattle.fs_files.specs.Content.{fails_reading};
 ghost use Rattle.fs_files.specs.Effects.{LooksOnly};
 ghost use Rattle.fs_files.specs.NodeMaps.{NodeMap};
+ghost use Rattle.fs_files.specs.Nodes.{AreWholeSlots};
 ghost use Rattle.fs_files.specs.declared.node_blocks.OpenFile.{OpenFile};
 
 use crate::draft::Draft;
@@ -103,7 +104,7 @@ pub trait Nodes {
         ensures stays { (failed : Bool) (s t : S) → LooksOnly S.tells failed (S.state s) (S.state t) → may_read S.tells (S.state s) self.now
             → may_read S.tells (S.state t) self.now }
         ensures slots { IsTrue S.tells → may_read S.tells (S.state blocks.now) self.now → (k : ℕ) (x : FileNode)
-            → (nodes (S.state blocks.now) self.now).files k ≡ Some x → x.kind ≡ Dir → length x.bytes % 64 ≡ 0 }
+            → (nodes (S.state blocks.now) self.now).files k ≡ Some x → x.kind ≡ Dir → AreWholeSlots (S.state blocks.now).books.geom.layout (length x.bytes) }
         ensures few { IsTrue S.tells → may_read S.tells (S.state blocks.now) self.now → (k : ℕ) (x : FileNode)
             → (nodes (S.state blocks.now) self.now).files k ≡ Some x → length x.bytes + 1024 ≤ 2 ^ 30 }
         ensures zero { (nodes (S.state blocks.now) self.now).files 0 ≡ None }

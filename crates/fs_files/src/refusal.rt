@@ -36,7 +36,10 @@ impl fmt::Display for FileRefusal {
                 write!(f, "{need} blocks are needed, and {reusable} are free")
             }
             FileRefusal::Scattered { runs } => {
-                write!(f, "the blocks lie in {runs} runs, and there is room for 28")
+                write!(
+                    f,
+                    "the blocks lie in {runs} runs, more than there is room for"
+                )
             }
             FileRefusal::DiskFault => write!(f, "a call of the disk failed"),
             FileRefusal::NoMemory => write!(f, "out of memory"),

@@ -11,13 +11,10 @@ ghost use Rattle.fs_files.specs.Sound.{IsDraftOf};
 
 use crate::FileRefusal;
 use crate::draft::Draft;
-use base_types::limits::BLOCK_LENGTH;
-use base_types::{Block, ReadFault};
+use base_types::{
+    Block, Layout, ReadFault, nodes_lie_in_their_blocks, the_numbers_of_a_layout_go_together,
+};
 use engine_blocks::Blocks;
-use layout_geometry::NODE_LENGTH;
-
-/// How many nodes are in a block of the node table.
-const NODES_IN_BLOCK: u32 = (BLOCK_LENGTH / NODE_LENGTH) as u32;
 
 /// The least number from `from` on of a node that isn't in use, with its block in `table`. `None` where
 /// there is none. Each block of the node table from that of node `from` on is read once.
@@ -46,12 +43,13 @@ pub(crate) fn least_unused<S: Blocks>(
     let geom = blocks.geom();
     geom.lawful();
     let limit = geom.i();
+    let layout = geom.layout();
     let mut number = from;
     while number <= limit {
         let found = unused_in_block(draft, blocks, number, table)?;
         match found {
             Some(first) => return Ok(Some(first)),
-            None => number = block_end(number),
+            None => number = block_end(number, layout),
         }
     }
     Ok(None)
@@ -76,7 +74,8 @@ fn unused_in_block<S: Blocks>(
         (λ found. IfSome found (λ unused. IsFirstUnused (S.state blocks.old).books.geom (drafted draft.now (S.state blocks.old).map) number unused
         × (table.new ≡ drafted draft.now (S.state blocks.old).map (node_block (S.state blocks.old).books.geom unused)))) }
     ensures none { IsTrue S.tells → IfOk result
-        (λ found. IfNone found (AreUsed (S.state blocks.old).books.geom (drafted draft.now (S.state blocks.old).map) number (block_end number))) }
+        (λ found. IfNone found (AreUsed (S.state blocks.old).books.geom (drafted draft.now (S.state blocks.old).map) number
+        (block_end (S.state blocks.old).books.geom.layout number))) }
     ensures number { IfOk result (λ found. IfSome found (λ unused. (number ≤ unused) × (unused ≤ (S.state blocks.old).books.geom.i))) }
     ensures looks { LooksOnly S.tells (is_err result) (S.state blocks.old) (S.state blocks.new) }
 {
@@ -84,8 +83,9 @@ fn unused_in_block<S: Blocks>(
     geom.lawful();
     let (block, _) = geom.node_place(number);
     draft.read(blocks, block, table)?;
-    let end = block_end(number);
-    let first = first_without_kind(table, number, end);
+    let layout = geom.layout();
+    let end = block_end(number, layout);
+    let first = first_without_kind(table, number, end, layout);
     if first < end {
         return Ok(Some(first));
     }
@@ -93,26 +93,26 @@ fn unused_in_block<S: Blocks>(
 }
 
 /// The first number behind those of the nodes in the block of node `number`.
-fn block_end(number: u32) -> u32
+fn block_end(number: u32, layout: Layout) -> u32
     requires above_zero { 1 ≤ number }
     requires few { number ≤ 65536 }
-    ensures { result ≡ block_end number }
+    ensures { result ≡ block_end layout number }
 {
-    number + (NODES_IN_BLOCK - (number - 1) % NODES_IN_BLOCK)
+    layout.nodes_before(layout.node_block(number) + 1) + 1
 }
 
 /// The first node from `from` on whose kind byte is zero in these bytes of their block, or `end` where no node
 /// before it has such a byte.
-fn first_without_kind(table: &Block, from: u32, end: u32) -> u32
+fn first_without_kind(table: &Block, from: u32, end: u32, layout: Layout) -> u32
     requires above_zero { 1 ≤ from }
     requires ordered { from ≤ end }
     ensures low { from ≤ result }
     ensures high { result ≤ end }
-    ensures before { (l : ℕ) → from ≤ l → l < result → kind_in table.now l ≢ 0 }
-    ensures here { result < end → kind_in table.now result ≡ 0 }
+    ensures before { (l : ℕ) → from ≤ l → l < result → kind_in layout table.now l ≢ 0 }
+    ensures here { result < end → kind_in layout table.now result ≡ 0 }
 {
     for number in from..end {
-        if kind_byte(table, number) == 0 {
+        if kind_byte(table, number, layout) == 0 {
             return number;
         }
     }
@@ -120,9 +120,11 @@ fn first_without_kind(table: &Block, from: u32, end: u32) -> u32
 }
 
 /// The kind byte of node `number` in these bytes of its block.
-fn kind_byte(table: &Block, number: u32) -> u8
+fn kind_byte(table: &Block, number: u32, layout: Layout) -> u8
     requires { 1 ≤ number }
-    ensures { result ≡ kind_in table.now number }
+    ensures { result ≡ kind_in layout table.now number }
 {
-    table[NODE_LENGTH * ((number - 1) % NODES_IN_BLOCK) as usize]
+    the_numbers_of_a_layout_go_together();
+    nodes_lie_in_their_blocks();
+    table[layout.node_byte(number) as usize]
 }

@@ -1,7 +1,7 @@
 //! Writing bytes into a file of a draft: the gap before them, the blocks that they need, and the bytes
 //! themselves. What a draft is then is described by the clauses of `write_at`.
 
-ghost use Rattle.std.specs.Prelude.{◌≡◌, ◌⊎◌, ◌≤◌, ◌<◌, ◌+◌, ◌*◌, ◌%◌, ◌^◌, IsTrue, false, min, max, [], length, Some, IfErr, OnOk};
+ghost use Rattle.std.specs.Prelude.{◌≡◌, ◌⊎◌, ◌≤◌, ◌<◌, ◌+◌, ◌*◌, ◌^◌, IsTrue, false, min, max, [], length, Some, IfErr, OnOk};
 ghost use Rattle.std.specs.List.{All};
 ghost use Rattle.layout_bytes.specs.declared.node.NodeKind.TheVariants.{Dir};
 ghost use Rattle.engine_blocks.specs.Calls.{HasTurns};
@@ -16,17 +16,19 @@ ghost use Rattle.fs_files.specs.Content.{fails_reading, fails_settling};
 ghost use Rattle.fs_files.specs.Effects.{LooksOnly, LooksAndSettles};
 ghost use Rattle.fs_files.specs.Drafts.{drafted};
 ghost use Rattle.fs_files.specs.Growing.{placed, taken_by};
-ghost use Rattle.fs_files.specs.Nodes.{largest_node, node_block, node_of_open, IsOpen};
+ghost use Rattle.base_types.specs.Layouts.{most_runs};
+ghost use Rattle.layout_extent.specs.Runs.{stretches};
+ghost use Rattle.fs_files.specs.Nodes.{largest_node, node_block, node_of_open, AreWholeSlots, IsOpen};
 ghost use Rattle.fs_files.specs.Shared.{is_kept};
 ghost use Rattle.fs_files.specs.Sound.{IsDraftOf};
-ghost use Rattle.fs_files.specs.Writing.{FillsBytes, FillsGap, HasRoom, WritesOpen, KeepsSize, WritesFile};
+ghost use Rattle.fs_files.specs.Writing.{FillsBytes, FillsGap, HasRoom, WritesOpen, KeepsSize, WritesFile, gap_end};
 ghost use Rattle.crash_stands.specs.Files.{FileNode, used_node};
 
 use crate::FileRefusal;
 use crate::calls::fill_gap;
 use crate::content::write_content;
 use crate::draft::{Draft, ZEROS};
-use crate::grow::{class_of, copy_edges, edge, grow, taken_by};
+use crate::grow::{class_of, copy_edges, edge, grow, is_dir, taken_by};
 use crate::nodes::{OpenNode, load, store};
 use base_types::{Block, NoMemory};
 use engine_blocks::{Blocks, calls_compose};
@@ -39,7 +41,7 @@ impl<'a> Draft<'a> {
     /// change nothing. A block that a snapshot keeps isn't written: a new one stands in its stead.
     ///
     /// # Errors
-    /// Where it takes blocks: fewer may be taken; the node's would lie in more than 28 runs; or the
+    /// Where it takes blocks: fewer may be taken; the node's would lie in more runs than it has room for; or the
     /// disk failed as it settled. Else a read of the disk failed; or out of memory. The draft isn't to be
     /// used any more then.
     pub fn write_at<S: Blocks>(
@@ -54,7 +56,7 @@ impl<'a> Draft<'a> {
         requires used { IsTrue S.tells → IsUsed (files_in (S.state blocks.old) self.old) number }
         requires grows { MayGrow S.tells (S.state blocks.old) self.old number offset (offset + length bytes.now) }
         requires slots { IsTrue S.tells → (x : FileNode) → files_in (S.state blocks.old) self.old number ≡ Some x → x.kind ≡ Dir
-            → (max (length x.bytes) (offset + length bytes.now)) % 64 ≡ 0 }
+            → AreWholeSlots (S.state blocks.old).books.geom.layout (max (length x.bytes) (offset + length bytes.now)) }
         ensures { WritesAt S.tells number offset bytes.now result (S.state blocks.old) (S.state blocks.new) self.old self.new }
     {
         calls_compose::<S>();
@@ -133,10 +135,21 @@ fn write_behind<S: Blocks>(
     ensures refused { IfErr result LookRefused }
     ensures looks { LooksOnly S.tells (fails_reading result) (S.state blocks.old) (S.state blocks.new) }
 {
-    close_gap(draft, alloc, blocks, node, held, offset)?;
+    close_gap(draft, alloc, blocks, node, held, gap_end(node, offset))?;
     let class = class_of(node.kind);
     write_content(draft, alloc, blocks, &node.places, class, offset, bytes)?;
     Ok(())
+}
+
+/// Where the gap ends that gets zeros before a write from `offset` on: none is written in a directory, which has zeros
+/// behind its bytes.
+fn gap_end(node: &OpenNode, offset: u64) -> u64
+    ensures { result ≡ gap_end node.now offset }
+{
+    if is_dir(node.kind) {
+        return node.size;
+    }
+    offset
 }
 
 /// Zeros from the node's end to byte `offset`, where that is past it, within its first `held` blocks.
@@ -221,13 +234,18 @@ fn keep_size(
 ) -> Result<(), NoMemory>
     requires above_zero { 1 ≤ number }
     requires in_table { number ≤ geom.now.i }
+    requires size { size ≤ largest_node }
+    requires most { node.old.size ≤ largest_node }
+    requires runs { stretches node.old.places ≤ most_runs geom.now.layout }
     ensures { OnOk result (KeepsSize geom.now number size need node.old table.old draft.old draft.new) }
 {
     if size <= node.size && need == 0 {
         return Ok(());
     }
+    a_list_has_its_runs();
     node.size = node.size.max(size);
-    store(draft, alloc, geom, number, &node.to_node(), table)
+    let node = node.to_node(geom.layout());
+    store(draft, alloc, geom, number, &node, table)
 }
 
 /// Writes bytes into node `number`, which is `node`, from `offset` on. `table` has the bytes of its block
@@ -254,11 +272,12 @@ pub(crate) fn write_loaded<S: Blocks>(
     requires open { IsOpen (S.state blocks.old).books.geom node.old }
     requires draft { IsDraftOf S.tells (S.state blocks.old) draft.old }
     requires used { IsTrue S.tells → used_node (S.state blocks.old).books.geom (drafted draft.old (S.state blocks.old).map) number ≡ Some
-        (node_of_open node.old) }
+        (node_of_open (S.state blocks.old).books.geom.layout node.old) }
     requires table { IsTrue S.tells → table.old ≡ drafted draft.old (S.state blocks.old).map (node_block (S.state blocks.old).books.geom number) }
     requires once { IsTrue S.tells → 0 < taken_by (is_kept draft.old.kept) (min offset node.old.size) (offset + length bytes.now) node.old.places
         → draft.old.taken ≡ [] }
-    requires slots { IsTrue S.tells → node.old.kind ≡ Dir → (max node.old.size (offset + length bytes.now)) % 64 ≡ 0 }
+    requires slots { IsTrue S.tells → node.old.kind ≡ Dir
+        → AreWholeSlots (S.state blocks.old).books.geom.layout (max node.old.size (offset + length bytes.now)) }
     ensures draft { OnOk result (IsDraftOf S.tells (S.state blocks.new) draft.new) }
     ensures kept { OnOk result (draft.new.kept ≡ draft.old.kept) }
     ensures file { IsTrue S.tells → OnOk result (WritesFile (S.state blocks.new).books (S.state blocks.old).map number offset bytes.now draft.old draft.new) }

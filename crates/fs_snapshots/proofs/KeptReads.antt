@@ -1,18 +1,19 @@
 -- What is read of kept nodes.
-use Rattle.std.proofs.Common.{◌≡◌, ◌≢◌, ℕ, ◌+◌, ◌*◌, ◌%◌, ◌≤◌, List, length, take, All, AllPairs, Option, Some, None, option_map, refl, sym, ap, subst, ◌∙◌, arith}
-use Rattle.std.proofs.lemmas.Bool.{eqb-true}
+use Rattle.std.proofs.Common.{◌≡◌, ◌≢◌, ℕ, ◌+◌, ◌*◌, ◌≤◌, List, length, take, All, AllPairs, Option, Some, None, option_map, refl, sym, ap, subst, ◌∙◌, arith}
 use Rattle.std.proofs.lemmas.Option.{none-some, same_Some}
 use Rattle.base_types.specs.Seal.{Blocks}
 use Rattle.layout_geometry.specs.Geometry.{Geometry}
 use Rattle.layout_bytes.specs.declared.node.Node.{Node}
 use Rattle.layout_bytes.specs.declared.node.NodeKind.TheVariants.{Dir}
-use Rattle.layout_bytes.specs.Node.{kind_fits}
+use Rattle.layout_bytes.specs.Node.{content_of}
 use Rattle.engine_blocks.specs.Puts.{IsData}
 use Rattle.crash_stands.specs.Files.{FileNode, joined}
 use Rattle.crash_stands.specs.Kept.{kept_file, kept_files, kept_nodes, kept_places}
 use Rattle.fs_files.specs.Calls.{block_bytes}
+use Rattle.fs_files.specs.Contents.{whole_content}
+use Rattle.fs_files.specs.Nodes.{AreWholeSlots}
 use Rattle.fs_snapshots.specs.Kept.{IsWholeKept, places_by_node}
-use Rattle.fs_snapshots.proofs.Whole.{is_kept, kept_has, kept_length}
+use Rattle.fs_snapshots.proofs.Whole.{kept_has, kept_length}
 
 -- a kept file is that of a node in use
 pub kept_node : (g : Geometry) (m : Blocks) (places : List ℕ) (k : ℕ) (x : FileNode) → kept_files g m places k ≡ Some x → (node : Node) × (kept_nodes g m places k ≡ Some node) × (x ≡ kept_file g m places k node)
@@ -23,12 +24,11 @@ kept_node g m places k x at = by (kept_nodes g m places k) at
     by (Some node) e = (node, refl, sym (same_Some (kept_file g m places k node) x e))
 
 -- a directory's bytes are whole slots
-pub file_slots : (g : Geometry) (m : Blocks) (places : List ℕ) (k : ℕ) (x : FileNode) → All (IsData g) places → IsWholeKept g m places → kept_files g m places k ≡ Some x → x.kind ≡ Dir → length x.bytes % 64 ≡ 0
+pub file_slots : (g : Geometry) (m : Blocks) (places : List ℕ) (k : ℕ) (x : FileNode) → All (IsData g) places → IsWholeKept g m places → kept_files g m places k ≡ Some x → x.kind ≡ Dir → AreWholeSlots g.layout (length x.bytes)
 file_slots g m places k x inside w at dir =
     let r = kept_node g m places k x at in
-    ap (λ (y : FileNode). length y.bytes % 64) r.2
-    ∙ ap (λ n. n % 64) (kept_length g m places k r.0 inside w r.1)
-    ∙ eqb-true (r.0.size % 64) 0 (sym (ap (kind_fits r.0) (ap (λ (y : FileNode). y.kind) (sym r.2) ∙ dir)) ∙ (is_kept g m places k r.0 r.1).fits.kind)
+    subst (λ n. AreWholeSlots g.layout n) (sym (ap (λ (y : FileNode). length y.bytes) r.2 ∙ kept_length g m places k r.0 inside w r.1))
+    (whole_content g.layout r.0.kind r.0.size (ap (λ (y : FileNode). y.kind) (sym r.2) ∙ dir))
 
 -- it has few bytes, since its blocks are different ones of the data
 pub file_few : (g : Geometry) (m : Blocks) (places : List ℕ) (k : ℕ) (x : FileNode) → All (IsData g) places → IsWholeKept g m places
@@ -52,5 +52,5 @@ pub block_of : (g : Geometry) (m : Blocks) (places : List ℕ) (k : ℕ) (ps : L
 block_of g m places k ps x index block w inside at is begins =
     let r = kept_node g m places k x at in
     let same : ps ≡ kept_places g m places k r.0 = told_places g m places k r.0 ps r.1 is in
-    begins (subst (All (λ b. length (m b) ≡ 1024)) (sym same) (kept_has g m places k r.0 inside w r.1).whole) r.0.size x
-    (ap (λ (y : FileNode). y.bytes) r.2 ∙ ap (λ qs. take r.0.size (joined m qs)) (sym same))
+    begins (subst (All (λ b. length (m b) ≡ 1024)) (sym same) (kept_has g m places k r.0 inside w r.1).whole) (content_of g.layout r.0.kind r.0.size) x
+    (ap (λ (y : FileNode). y.bytes) r.2 ∙ ap (λ qs. take (content_of g.layout r.0.kind r.0.size) (joined m qs)) (sym same))

@@ -14,7 +14,7 @@ use Rattle.fs_files.specs.Places.{when_some}
 
 used_with : (g : Geometry) (b : List ℕ) (kind : NodeKind) (node : Node) → kind ≢ Free → node_with g b (Some kind) ≡ Some node → node.kind ≢ Free
 used_with g b kind node used e =
-    let spare = when_some (spare_zeros b) (when (node_fits g (node_fields kind b)) (Some (node_fields kind b))) node e in
+    let spare = when_some (spare_zeros g.layout b) (when (node_fits g (node_fields kind b)) (Some (node_fields kind b))) node e in
     let fits = when_some (node_fits g (node_fields kind b)) (Some (node_fields kind b)) node spare.1 in
     λ free. used (ap (λ (m : Node). m.kind) (same_Some (node_fields kind b) node fits.1) ∙ free)
 

@@ -1,5 +1,5 @@
 -- What a kept node has, where the snapshot is whole.
-use Rattle.std.proofs.Common.{◌≡◌, ◌≢◌, ℕ, ◌+◌, ◌-◌, ◌*◌, ◌/◌, ◌<◌, ◌≤◌, ◌==◌, ◌&&◌, Bool, true, false, min, nat_le, if◌then◌else◌, List, length, take, drop, get_or, All, AllPairs, slice_get, Some, refl, sym, ap, subst, ◌∙◌, arith}
+use Rattle.std.proofs.Common.{◌≡◌, ◌≢◌, ℕ, ◌+◌, ◌-◌, ◌*◌, ◌<◌, ◌≤◌, ◌&&◌, Bool, true, false, min, nat_le, if◌then◌else◌, List, length, take, drop, get_or, All, AllPairs, slice_get, Some, refl, sym, ap, subst, ◌∙◌, arith}
 use Rattle.std.proofs.lemmas.List.{length-take, length-drop, get_or-take, get_or-drop, drop-drop}
 use Rattle.std.proofs.lemmas.Bool.{and_parts, leb-true}
 use Rattle.std.proofs.lemmas.Option.{slice_get-get_or, slice_get_within, get_or_from_slice_get}
@@ -8,7 +8,7 @@ use Rattle.base_types.specs.Runs.{run_places}
 use Rattle.layout_geometry.specs.Geometry.{Geometry}
 use Rattle.layout_bytes.specs.declared.node.Node.{Node}
 use Rattle.layout_bytes.specs.declared.node.NodeKind.TheVariants.{File}
-use Rattle.layout_bytes.specs.Node.{node_at, node_bytes}
+use Rattle.layout_bytes.specs.Node.{content_of, content_blocks, node_at, node_bytes}
 use Rattle.layout_extent.specs.Renew.{AreOnce}
 use Rattle.engine_blocks.specs.Puts.{IsData}
 use Rattle.crash_stands.specs.Files.{joined, used_node}
@@ -58,7 +58,7 @@ once_pairs xs once i j d low high e =
 
 -- a file has its blocks
 file_has : (g : Geometry) (m : Blocks) (places : List ℕ) (k : ℕ) (node : Node) → IsWholeKept g m places → kept_nodes g m places k ≡ Some node → Fits g node → node.kind ≡ File
-    → HasItsBlocks g m node.size (run_places node.runs)
+    → HasItsBlocks g m (content_of g.layout node.kind node.size) (run_places node.runs)
 file_has g m places k node w used fits own =
     let ps = run_places node.runs in
     let at : (i d : ℕ) → i < length ps → slice_get ps i ≡ Some (get_or ps i d) = λ i d low. slice_get-get_or ps i d low in
@@ -84,56 +84,56 @@ part_once c f xs pairs i j d low high e =
 
 -- where a kept directory's places begin among those of the snapshot
 abbrev pub dir_first : Geometry → Blocks → List ℕ → ℕ → ℕ
-dir_first g m places k = dirs_from (kept_nodes g m places) 1 (k - 1) + (1 + table_blocks g)
+dir_first g m places k = dirs_from g.layout (kept_nodes g m places) 1 (k - 1) + (1 + table_blocks g)
 
 pub dir_places : (g : Geometry) (m : Blocks) (places : List ℕ) (k : ℕ) (node : Node) → is_copied node.kind ≡ true
-    → kept_places g m places k node ≡ take (blocks_for node.size) (drop (dir_first g m places k) places)
+    → kept_places g m places k node ≡ take (content_blocks g.layout node.kind node.size) (drop (dir_first g m places k) places)
 dir_places g m places k node own =
-    ap (λ (t : Bool). if t then take (blocks_for node.size) (drop (dirs_from (kept_nodes g m places) 1 (k - 1)) (dir_part g places)) else run_places node.runs) own
-    ∙ ap (take (blocks_for node.size)) (drop-drop (dirs_from (kept_nodes g m places) 1 (k - 1)) (1 + table_blocks g) places ∙ ap (λ n. drop n places) {x = 1 + table_blocks g + dirs_from (kept_nodes g m places) 1 (k - 1)} {y = dir_first g m places k} (omega arith))
+    ap (λ (t : Bool). if t then take (content_blocks g.layout node.kind node.size) (drop (dirs_from g.layout (kept_nodes g m places) 1 (k - 1)) (dir_part g places)) else run_places node.runs) own
+    ∙ ap (take (content_blocks g.layout node.kind node.size)) (drop-drop (dirs_from g.layout (kept_nodes g m places) 1 (k - 1)) (1 + table_blocks g) places ∙ ap (λ n. drop n places) {x = 1 + table_blocks g + dirs_from g.layout (kept_nodes g m places) 1 (k - 1)} {y = dir_first g m places k} (omega arith))
 
 pub file_places : (g : Geometry) (m : Blocks) (places : List ℕ) (k : ℕ) (node : Node) → is_copied node.kind ≡ false → kept_places g m places k node ≡ run_places node.runs
-file_places g m places k node own = ap (λ (t : Bool). if t then take (blocks_for node.size) (drop (dirs_from (kept_nodes g m places) 1 (k - 1)) (dir_part g places)) else run_places node.runs) own
+file_places g m places k node own = ap (λ (t : Bool). if t then take (content_blocks g.layout node.kind node.size) (drop (dirs_from g.layout (kept_nodes g m places) 1 (k - 1)) (dir_part g places)) else run_places node.runs) own
 
 -- there are as many of a directory as it needs
 pub dir_ends : (g : Geometry) (m : Blocks) (places : List ℕ) (k : ℕ) (node : Node) → IsWholeKept g m places → kept_nodes g m places k ≡ Some node → IsKept g k node → is_copied node.kind ≡ true
-    → dir_first g m places k + blocks_for node.size ≤ length places
+    → dir_first g m places k + content_blocks g.layout node.kind node.size ≤ length places
 dir_ends g m places k node w used kept own =
     let nodes = kept_nodes g m places in
-    let here : dirs_from nodes 1 k ≡ dirs_from nodes 1 (k - 1) + blocks_for node.size =
-    ap (dirs_from nodes 1) {x = k} {y = k - 1 + 1} (omega (arith, kept.from))
-    ∙ dirs_next nodes 1 (k - 1)
-    ∙ ap (λ n. dirs_from nodes 1 (k - 1) + n) (ap (λ n. dir_blocks (nodes n)) {x = 1 + (k - 1)} {y = k} (omega (arith, kept.from)) ∙ ap dir_blocks used ∙ ap (λ (t : Bool). if t then blocks_for node.size else 0) own) in
-    omega (arith, here, dirs_less nodes 1 k g.i kept.upto, w.sound.long)
+    let here : dirs_from g.layout nodes 1 k ≡ dirs_from g.layout nodes 1 (k - 1) + content_blocks g.layout node.kind node.size =
+    ap (dirs_from g.layout nodes 1) {x = k} {y = k - 1 + 1} (omega (arith, kept.from))
+    ∙ dirs_next g.layout nodes 1 (k - 1)
+    ∙ ap (λ n. dirs_from g.layout nodes 1 (k - 1) + n) (ap (λ n. dir_blocks g.layout (nodes n)) {x = 1 + (k - 1)} {y = k} (omega (arith, kept.from)) ∙ ap (dir_blocks g.layout) used ∙ ap (λ (t : Bool). if t then content_blocks g.layout node.kind node.size else 0) own) in
+    omega (arith, here, dirs_less g.layout nodes 1 k g.i kept.upto, w.sound.long)
 
 dir_has : (g : Geometry) (m : Blocks) (places : List ℕ) (k : ℕ) (node : Node) → All (IsData g) places → IsWholeKept g m places → kept_nodes g m places k ≡ Some node → IsKept g k node
-    → is_copied node.kind ≡ true → HasItsBlocks g m node.size (take (blocks_for node.size) (drop (dir_first g m places k) places))
+    → is_copied node.kind ≡ true → HasItsBlocks g m (content_of g.layout node.kind node.size) (take (content_blocks g.layout node.kind node.size) (drop (dir_first g m places k) places))
 dir_has g m places k node inside w used kept own = record {
-  «data» = part_all (IsData g) (blocks_for node.size) (dir_first g m places k) places inside;
-  whole = part_all (λ b. length (m b) ≡ 1024) (blocks_for node.size) (dir_first g m places k) places w.own;
-  once = part_once (blocks_for node.size) (dir_first g m places k) places (once_pairs places w.once);
+  «data» = part_all (IsData g) (content_blocks g.layout node.kind node.size) (dir_first g m places k) places inside;
+  whole = part_all (λ b. length (m b) ≡ 1024) (content_blocks g.layout node.kind node.size) (dir_first g m places k) places w.own;
+  once = part_once (content_blocks g.layout node.kind node.size) (dir_first g m places k) places (once_pairs places w.once);
   count =
       let ends = dir_ends g m places k node w used kept own in
-      omega (arith, length-take (blocks_for node.size) (drop (dir_first g m places k) places), length-drop (dir_first g m places k) places, ends);
+      omega (arith, length-take (content_blocks g.layout node.kind node.size) (drop (dir_first g m places k) places), length-drop (dir_first g m places k) places, ends);
 }
 
 -- each kept node has its blocks
 pub kept_has : (g : Geometry) (m : Blocks) (places : List ℕ) (k : ℕ) (node : Node) → All (IsData g) places → IsWholeKept g m places → kept_nodes g m places k ≡ Some node
-    → HasItsBlocks g m node.size (kept_places g m places k node)
+    → HasItsBlocks g m (content_of g.layout node.kind node.size) (kept_places g m places k node)
 kept_has g m places k node inside w used = by (is_copied node.kind) refl
   where
-    by : (t : Bool) → is_copied node.kind ≡ t → HasItsBlocks g m node.size (kept_places g m places k node)
-    by true own = subst (HasItsBlocks g m node.size) (sym (dir_places g m places k node own)) (dir_has g m places k node inside w used (is_kept g m places k node used) own)
-    by false own = subst (HasItsBlocks g m node.size) (sym (file_places g m places k node own)) (file_has g m places k node w used (is_kept g m places k node used).fits (file_kind node.kind (kept_kind g m places k node used) (w.sound.plain k node used) own))
+    by : (t : Bool) → is_copied node.kind ≡ t → HasItsBlocks g m (content_of g.layout node.kind node.size) (kept_places g m places k node)
+    by true own = subst (HasItsBlocks g m (content_of g.layout node.kind node.size)) (sym (dir_places g m places k node own)) (dir_has g m places k node inside w used (is_kept g m places k node used) own)
+    by false own = subst (HasItsBlocks g m (content_of g.layout node.kind node.size)) (sym (file_places g m places k node own)) (file_has g m places k node w used (is_kept g m places k node used).fits (file_kind node.kind (kept_kind g m places k node used) (w.sound.plain k node used) own))
 
--- and so as many bytes as it says
+-- and so as many bytes as its size tells
 pub kept_length : (g : Geometry) (m : Blocks) (places : List ℕ) (k : ℕ) (node : Node) → All (IsData g) places → IsWholeKept g m places → kept_nodes g m places k ≡ Some node
-    → length (kept_file g m places k node).bytes ≡ node.size
+    → length (kept_file g m places k node).bytes ≡ content_of g.layout node.kind node.size
 kept_length g m places k node inside w used =
     let has = kept_has g m places k node inside w used in
     let ps = kept_places g m places k node in
     let room : length (joined m ps) ≡ 1024 * length ps = joined_length m ps (λ b is. let p = place_of ps b is in all_at ps p.0 b has.whole p.1) in
-    omega (arith, length-take node.size (joined m ps), room, has.count)
+    omega (arith, length-take (content_of g.layout node.kind node.size) (joined m ps), room, has.count)
   where
     all_at : (ps : List ℕ) (i b : ℕ) → All (λ b. length (m b) ≡ 1024) ps → slice_get ps i ≡ Some b → length (m b) ≡ 1024
     all_at ps i b all at = subst (λ c. length (m c) ≡ 1024) (get_or_from_slice_get ps i b 0 at) (all i 0 (slice_get_within ps i b at))

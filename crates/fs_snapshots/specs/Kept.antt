@@ -1,9 +1,10 @@
 -- What a snapshot keeps, as it is read. It is described in README.md.
-use Rattle.std.specs.Prelude.{◌≡◌, ℕ, ◌+◌, ◌*◌, ◌<◌, ◌≤◌, Bool, IsTrue, List, [], length, slice_get, Option, None, Some}
+use Rattle.std.specs.Prelude.{◌≡◌, ℕ, ◌+◌, ◌<◌, ◌≤◌, Bool, IsTrue, List, [], length, slice_get, Option, None, Some}
 use Rattle.std.specs.List.{All}
 use Rattle.base_types.specs.Runs.{run_places}
 use Rattle.base_types.specs.Seal.{Blocks}
-use Rattle.layout_geometry.specs.Geometry.{Geometry, nodes_in_block}
+use Rattle.base_types.specs.Layouts.{nodes_before}
+use Rattle.layout_geometry.specs.Geometry.{Geometry}
 use Rattle.layout_bytes.specs.declared.node.Node.{Node}
 use Rattle.layout_bytes.specs.declared.node.NodeKind.TheVariants.{Snapshot}
 use Rattle.layout_extent.specs.Renew.{AreOnce}
@@ -44,7 +45,7 @@ pub record IsSnapshotAt (g : Geometry) (m : Blocks) (k : ℕ) (places : List ℕ
 
 -- the numbers say of the first blocks of the snapshot's node table how many blocks the directories before each have
 abbrev pub AreDirsBefore : Geometry → Blocks → List ℕ → List ℕ → Type 0
-AreDirsBefore g m places before = (i : ℕ) → i < length before → slice_get before i ≡ Some (dirs_from (kept_nodes g m places) 1 (nodes_in_block * i))
+AreDirsBefore g m places before = (i : ℕ) → i < length before → slice_get before i ≡ Some (dirs_from g.layout (kept_nodes g m places) 1 (nodes_before g.layout i))
 
 -- The snapshot has blocks of the data, those of a node table and one with its name among them, and was gone through: there is a number for each block of the table. Where blocks are known these are right.
 pub record IsGoneThrough (tells : Bool) (s : State) (v : KeptState) : Type 0 where
@@ -60,4 +61,4 @@ pub record MayReadKept (tells : Bool) (s : State) (v : KeptState) : Type 0 where
 
 -- the snapshot has as many blocks as it needs: one with its name, those of the node table, and those of the directories that it keeps
 abbrev pub HasItsParts : Geometry → Blocks → List ℕ → Type 0
-HasItsParts g m places = length places ≡ 1 + table_blocks g + dirs_from (kept_nodes g m places) 1 g.i
+HasItsParts g m places = length places ≡ 1 + table_blocks g + dirs_from g.layout (kept_nodes g m places) 1 g.i

@@ -1,10 +1,12 @@
 -- Lemmas on nodes that are read, on the bytes of nodes that a snapshot keeps, and on the names of snapshots, that crates above cite too. They add no meaning to the promises.
-use Rattle.std.proofs.Common.{◌≡◌, ◌≢◌, ℕ, ◌+◌, ◌-◌, ◌/◌, ◌<◌, ◌≤◌, ◌==◌, ◌&&◌, ◌||◌, nat_lt, nat_le, Bool, true, false, if◌then◌else◌, List, [], ◌∷◌, length, take, drop, replicate, get_or, slice_index, All, Option, Some, None, option_map, refl, sym, ap, subst, ◌∙◌, arith}
+use Rattle.std.proofs.Common.{◌≡◌, ℕ, ◌-◌, ◌<◌, ◌≤◌, ◌==◌, ◌&&◌, ◌||◌, nat_lt, nat_le, Bool, true, false, if◌then◌else◌, List, [], length, take, drop, replicate, get_or, slice_index, All, Option, Some, None, option_map, refl, sym, ap, subst, ◌∙◌, arith}
 use Rattle.std.proofs.Math.Seq.{take-append_seam}
+use Rattle.std.proofs.lemmas.List.{get_or-replicate}
 use Rattle.std.proofs.lemmas.Bool.{and_parts, eqb-true, false≢true, leb-true, ltb-true}
 use Rattle.std.proofs.lemmas.Bool.Decides.{nat_tests}
 use Rattle.std.proofs.lemmas.List.Elements.{All-drop, All-take}
 use Rattle.std.proofs.lemmas.Option.{none-some, same_Some}
+use Rattle.base_types.specs.LayoutLaws.{node_size_is}
 use Rattle.base_types.specs.Name.{is_name}
 use Rattle.base_types.specs.Seal.{Blocks}
 use Rattle.layout_geometry.specs.Geometry.{Geometry, bitmap_start, data_start}
@@ -14,7 +16,7 @@ use Rattle.layout_bytes.specs.declared.node.NodeKind.TheVariants.{Free, Dir, Fil
 use Rattle.layout_bytes.specs.declared.slot.Slot.{Slot}
 use Rattle.layout_bytes.specs.Bitmap.{is_set}
 use Rattle.layout_bytes.specs.Bytes.{when}
-use Rattle.layout_bytes.specs.Node.{kind_fits, node_at, node_bytes, node_fields, node_fits, node_of, node_with, run_blocks, runs_fit, spare_zeros, used_kind}
+use Rattle.layout_bytes.specs.Node.{most_runs, node_size, content_blocks, kind_fits, node_at, node_bytes, node_fields, node_fits, node_of, node_with, run_blocks, runs_fit, spare_zeros, used_kind}
 use Rattle.layout_bytes.specs.SnapshotName.{name_block}
 use Rattle.layout_journal.specs.Run.{is_live}
 use Rattle.engine_blocks.specs.Puts.{IsData}
@@ -30,22 +32,22 @@ use Rattle.fs_snapshots.specs.Known.{file_blocks}
 
 pub record Fits (g : Geometry) (node : Node) : Type 0 where
   pub links : 0 < node.links
-  pub few : length node.runs ≤ 28
+  pub few : length node.runs ≤ most_runs g.layout
   pub runs : runs_fit g 0 node.runs ≡ true
-  pub count : run_blocks node.runs ≡ (node.size + 1023) / 1024
+  pub count : run_blocks node.runs ≡ content_blocks g.layout node.kind node.size
   pub kind : kind_fits node node.kind ≡ true
 
 pub fits_parts : (g : Geometry) (node : Node) → node_fits g node ≡ true → Fits g node
 fits_parts g node fits =
     let some = and_parts (nat_lt 0 node.links) _ fits in
-    let few = and_parts (nat_le (length node.runs) 28) _ some.1 in
+    let few = and_parts (nat_le (length node.runs) (most_runs g.layout)) _ some.1 in
     let runs = and_parts (runs_fit g 0 node.runs) _ few.1 in
-    let blocks = and_parts (run_blocks node.runs == (node.size + 1023) / 1024) (kind_fits node node.kind) runs.1 in
+    let blocks = and_parts (run_blocks node.runs == content_blocks g.layout node.kind node.size) (kind_fits node node.kind) runs.1 in
     record {
       links = ltb-true 0 node.links some.0;
-      few = leb-true (length node.runs) 28 few.0;
+      few = leb-true (length node.runs) (most_runs g.layout) few.0;
       runs = runs.0;
-      count = eqb-true (run_blocks node.runs) ((node.size + 1023) / 1024) blocks.0;
+      count = eqb-true (run_blocks node.runs) (content_blocks g.layout node.kind node.size) blocks.0;
       kind = blocks.1;
     }
 
@@ -88,24 +90,24 @@ live g m b low high one = grind (arith, nat_tests)
 
 -- The blocks of a file are read from what a snapshot keeps of its node's bytes.
 
-none_in_zeros : (g : Geometry) → file_blocks (node_of g (replicate 256 0)) ≡ []
+none_in_zeros : (g : Geometry) → file_blocks (node_of g (replicate (node_size g.layout) 0)) ≡ []
 unfolding node_of
-none_in_zeros g = refl
+none_in_zeros g = ap (λ n. file_blocks (node_with g (replicate (node_size g.layout) 0) (used_kind n))) {x = slice_index (replicate (node_size g.layout) 0) 0} {y = 0} (get_or-replicate (node_size g.layout) 0 0 0 (omega (arith, node_size_is g.layout)))
 
 none_in_snapshot : (g : Geometry) (b : List ℕ) → slice_index b 0 ≡ 3 → file_blocks (node_of g b) ≡ []
 unfolding node_of
-none_in_snapshot g b is = ap (λ n. file_blocks (node_with g b (used_kind n))) is ∙ by (spare_zeros b) (node_fits g (node_fields Snapshot b))
+none_in_snapshot g b is = ap (λ n. file_blocks (node_with g b (used_kind n))) is ∙ by (spare_zeros g.layout b) (node_fits g (node_fields Snapshot b))
   where
     by : (s t : Bool) → file_blocks (when s (when t (Some (node_fields Snapshot b)))) ≡ []
     by true true = refl
     by true false = refl
     by false t = refl
 
-read_kept : (g : Geometry) (b : List ℕ) (t : Bool) → (slice_index b 0 == 3) ≡ t → file_blocks (node_of g (if t then replicate 256 0 else b)) ≡ file_blocks (node_of g b)
+read_kept : (g : Geometry) (b : List ℕ) (t : Bool) → (slice_index b 0 == 3) ≡ t → file_blocks (node_of g (if t then replicate (node_size g.layout) 0 else b)) ≡ file_blocks (node_of g b)
 read_kept g b false is = refl
 read_kept g b true is = none_in_zeros g ∙ sym (none_in_snapshot g b (eqb-true (slice_index b 0) 3 is))
 
-pub read_table : (g : Geometry) (m n : Blocks) → ((k : ℕ) → 1 ≤ k → k ≤ g.i → node_bytes g n k ≡ kept_bytes (node_bytes g m k)) → (k : ℕ) → file_blocks (used_node g n k) ≡ file_blocks (used_node g m k)
+pub read_table : (g : Geometry) (m n : Blocks) → ((k : ℕ) → 1 ≤ k → k ≤ g.i → node_bytes g n k ≡ kept_bytes g.layout (node_bytes g m k)) → (k : ℕ) → file_blocks (used_node g n k) ≡ file_blocks (used_node g m k)
 read_table g m n same k = by (nat_le 1 k && nat_le k g.i) refl
   where
     by : (t : Bool) → (nat_le 1 k && nat_le k g.i) ≡ t → file_blocks (when t (node_at g n k)) ≡ file_blocks (when t (node_at g m k))
@@ -127,8 +129,8 @@ one_name a b e =
     let long : length a ≡ length b = ap (λ (xs : List ℕ). get_or xs 0 0) e in
     sym (behind a) ∙ ap (λ (xs : List ℕ). take (length a) (drop 1 xs)) e ∙ ap (λ n. take n (drop 1 (name_block b))) long ∙ behind b
 
--- a name has 59 bytes at most
-pub short_name : (name : List ℕ) → is_name name ≡ true → length name ≤ 59
+-- a name has 255 bytes at most
+pub short_name : (name : List ℕ) → is_name name ≡ true → length name ≤ 255
 short_name name lawful =
     let tail = and_parts (nat_lt 0 (length name)) _ lawful in
-    leb-true (length name) 59 (and_parts (nat_le (length name) 59) _ tail.1).0
+    leb-true (length name) 255 (and_parts (nat_le (length name) 255) _ tail.1).0

@@ -3,6 +3,7 @@
 
 ghost use Rattle.std.specs.Prelude.{◌≡◌, ◌≤◌, ◌<◌, ◌+◌, false, IsTrue, IfOk, IfErr, length, min, get_or, take, drop};
 ghost use Rattle.std.specs.List.{All};
+ghost use Rattle.base_types.specs.Layouts.{nodes_in_block};
 ghost use Rattle.engine_blocks.specs.Puts.{IsData};
 ghost use Rattle.crash_stands.specs.Places.{dirs_from, table_blocks};
 ghost use Rattle.fs_files.specs.Effects.{LooksOnly};
@@ -12,7 +13,7 @@ ghost use Rattle.fs_snapshots.specs.Tables.{nodes_in};
 ghost use Rattle.fs_snapshots.specs.declared.refusal.SnapshotRefusal.TheVariants.{WrongSize};
 
 use crate::refusal::SnapshotRefusal;
-use crate::tables::{NODES_IN_BLOCK, dirs_in};
+use crate::tables::dirs_in;
 use base_types::Block;
 use engine_blocks::Blocks;
 use fs_files::{NodeBlocks, read_block_at};
@@ -64,13 +65,14 @@ impl KeptNodes {
         let Some(room) = places.count().checked_sub(1 + count) else {
             return Err(SnapshotRefusal::WrongSize);
         };
+        let nodes = geom.layout().nodes_in_block();
         let mut before = Vec::with_capacity(alloc, count as usize)?;
         let mut table = [0; 1024];
         let mut total = 0;
         for slot in 0..count {
             read_block_at(blocks, &places, 1 + slot, &mut table)?;
             before.push_reserved(total);
-            total += dirs_in(&table, &geom, NODES_IN_BLOCK);
+            total += dirs_in(&table, &geom, nodes);
             if total > room {
                 return Err(SnapshotRefusal::WrongSize);
             }
@@ -91,10 +93,11 @@ impl KeptNodes {
         count: u32,
         size: u32,
     ) -> NodeBlocks
-        requires few { count ≤ 4 }
+        requires few { count ≤ nodes_in_block geom.now.layout }
         requires slot { slot < length self.now.before }
         ensures { result ≡ take size
-            (drop (min (get_or self.now.before slot 0 + (1 + table_blocks geom.now + dirs_from (nodes_in geom.now table.now) 1 count)) 4294967295)
+            (drop (min (get_or self.now.before slot 0
+            + (1 + table_blocks geom.now + dirs_from geom.now.layout (nodes_in geom.now table.now) 1 count)) 4294967295)
             self.now.places) }
     {
         geom.lawful();

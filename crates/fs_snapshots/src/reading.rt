@@ -2,8 +2,7 @@
 //! those that its node names, a directory's are the snapshot's own.
 
 use crate::kept_nodes::KeptNodes;
-use crate::tables::NODES_IN_BLOCK;
-use base_types::{Block, Bytes, ReadFault};
+use base_types::{Block, Bytes, ReadFault, nodes_lie_in_their_blocks};
 use engine_blocks::Blocks;
 use fs_files::{
     FileFacts, FileRefusal, NodeBlocks, Nodes, OpenFile, different_blocks_are_few, node_in,
@@ -11,7 +10,6 @@ use fs_files::{
 };
 use layout_bytes::NodeKind;
 use layout_extent::a_list_has_its_runs;
-use layout_geometry::NODE_LENGTH;
 use std::alloc::Global;
 
 impl Nodes for KeptNodes {
@@ -31,15 +29,18 @@ impl Nodes for KeptNodes {
     fn open<S: Blocks>(&self, blocks: &mut S, number: u32) -> Result<Option<OpenFile>, ReadFault> {
         different_blocks_are_few(blocks);
         a_list_has_its_runs();
+        nodes_lie_in_their_blocks();
         let geom = blocks.geom();
         geom.lawful();
         let (block, at) = geom.node_place(number);
         let slot = block - geom.table_start();
-        let before = (number - 1) % NODES_IN_BLOCK;
+        let layout = geom.layout();
+        let before = layout.node_rank(number);
         let mut table = [0; 1024];
         read_block_at(blocks, &self.places, 1 + slot, &mut table)?;
         let at = at as usize;
-        let Some(file) = node_in(&table[at..at + NODE_LENGTH], &geom) else {
+        let end = at + layout.node_length();
+        let Some(file) = node_in(&table[at..end], &geom) else {
             return Ok(None);
         };
         match file.facts.kind {

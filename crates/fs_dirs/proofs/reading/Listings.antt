@@ -6,11 +6,13 @@ use Rattle.std.proofs.lemmas.Option.{slice_get-get_or}
 use Rattle.std.specs.List.Sorted.{IsSorted, IsSortedByKey}
 use Rattle.std.specs.Ordering.{nat_cmp, is_lt}
 use Rattle.std.specs.Cmp.Lexicographic.{slice_cmp}
+use Rattle.base_types.specs.Layouts.{slots_in_block}
 use Rattle.layout_bytes.specs.declared.slot.Slot.{Slot}
 use Rattle.engine_blocks.specs.State.{State}
 use Rattle.fs_files.specs.NodeMaps.{NodeMap}
 use Rattle.fs_files.specs.Effects.{LooksOnly}
 use Rattle.fs_dirs.specs.Reading.{HasSlots, HasListed, slots_from}
+use Rattle.fs_dirs.proofs.reading.BlockSlots.{begins_next}
 use Rattle.fs_dirs.proofs.reading.Looks.{looks_more}
 
 -- one slot more
@@ -26,15 +28,15 @@ one_more before old new slots place low is pushed =
 
 -- those of a block more
 pub block_more : (tells : Bool) (start now new : State) (v : NodeMap) (node : List ℕ) (count first : ℕ) (before old all : List Slot) → HasListed tells start now v node count first before old → LooksOnly tells false now new
-    → (IsTrue tells → (slots : List Slot) → HasSlots v node slots → length slots ≡ count → all ≡ old ++ slots_from first slots) → HasListed tells start new v node count (first + 16) before all
+    → (IsTrue tells → (slots : List Slot) → HasSlots start.books.geom.layout v node slots → length slots ≡ count → all ≡ old ++ slots_from start.books.geom.layout first slots) → HasListed tells start new v node count (first + slots_in_block start.books.geom.layout) before all
 block_more tells start now new v node count first before old all h looks more = record {
   looks = looks_more tells false start now new h.looks looks;
-  begins = omega (arith, h.begins);
+  begins = begins_next start.books.geom.layout first h.begins;
   listed = λ told slots has many.
       more told slots has many
-      ∙ ap (λ l. l ++ slots_from first slots) (h.listed told slots has many)
-      ∙ append_assoc before (take first slots) (slots_from first slots)
-      ∙ ap (λ l. before ++ l) (sym (take-add first 16 slots));
+      ∙ ap (λ l. l ++ slots_from start.books.geom.layout first slots) (h.listed told slots has many)
+      ∙ append_assoc before (take first slots) (slots_from start.books.geom.layout first slots)
+      ∙ ap (λ l. before ++ l) (sym (take-add first (slots_in_block start.books.geom.layout) slots));
 }
 
 -- at the end all slots

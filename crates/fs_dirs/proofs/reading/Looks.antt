@@ -1,7 +1,9 @@
 -- Looks, one behind the other: what may be read still may, and reads as before.
-use Rattle.std.proofs.Common.{◌≡◌, ℕ, Bool, IsTrue, All, Option, None, Some, IfNone, IfSome, sym, subst, ap, ◌∙◌}
+use Rattle.std.proofs.Common.{◌≡◌, ℕ, Bool, IsTrue, All, Option, None, Some, IfNone, IfSome, sym, subst, ap, ap₂, ◌∙◌}
+use Rattle.base_types.specs.declared.layout.Layout.{Layout}
 use Rattle.engine_blocks.specs.State.{Bookkeeping, State}
 use Rattle.engine_blocks.specs.Puts.{IsData}
+use Rattle.crash_stands.specs.Files.{Files}
 use Rattle.crash_stands.specs.Inodes.{Inodes, inodes_of}
 use Rattle.crash_stands.specs.Maps.{IsMapOf}
 use Rattle.lang_tree.specs.Tree.{Tree}
@@ -24,11 +26,14 @@ of_found {A} P o x is h = subst (λ (o : Option A). IfSome o P) is h
 pub of_none : {A P : Type 0} (o : Option A) → o ≡ None → IfNone o P → P
 of_none {A} {P} o is h = subst (λ (o : Option A). IfNone o P) is h
 
--- nodes that are the same have the same inodes
-pub same_read : (v w : NodeMap) → w ≡ v → inodes_of w.files ≡ inodes_of v.files
-same_read v w same = ap (λ (x : NodeMap). inodes_of x.files) same
-
 module _ (tells failed : Bool) (s t : State) (k : LooksOnly tells failed s t) where
+  pub same_layout : t.books.geom.layout ≡ s.books.geom.layout
+  same_layout = ap (λ (b : Bookkeeping). b.geom.layout) k.books
+
+  -- nodes that are the same have the same inodes
+  pub same_read : (v w : NodeMap) → w ≡ v → inodes_of t.books.geom.layout w.files ≡ inodes_of s.books.geom.layout v.files
+  same_read v w same = ap₂ (λ (l : Layout) (x : NodeMap). inodes_of l x.files) same_layout same
+
   -- the inodes are the map of the same tree
   pub same_map : (m n : Inodes) (tree : Tree) → n ≡ m → IsMapOf s.books.geom.i m tree → IsMapOf t.books.geom.i n tree
   same_map m n tree same h = subst (λ (b : Bookkeeping). IsMapOf b.geom.i n tree) (sym k.books) (subst (λ m. IsMapOf s.books.geom.i m tree) (sym same) h)
@@ -56,7 +61,7 @@ module _ (tells failed : Bool) (s t : State) (d : DraftState) (k : LooksOnly tel
 
   -- and so are the inodes
   pub same_inodes : IsTrue tells → inodes_in t d ≡ inodes_in s d
-  same_inodes told = ap inodes_of (same_files told)
+  same_inodes told = ap₂ (λ (l : Layout) (f : Files). inodes_of l f) (ap (λ (b : Bookkeeping). b.geom.layout) k.books) (same_files told)
 
   -- and the blocks of each node
   pub same_places : (n : ℕ) → IsTrue tells → places_in t d n ≡ places_in s d n

@@ -37,6 +37,17 @@ zero_past size xs zeros k past = by (cases k (length xs))
         ∙ zero_at (drop size xs) (k - size) zeros (omega (arith, length-drop size xs))
     by (inr l) = get_or_past xs k 0 l
 
+-- and whatever a list is said to have behind its end
+any_zero : (xs : List ℕ) (k z : ℕ) → IsTrue (are_zeros xs) → k < length xs → get_or xs k z ≡ 0
+any_zero [] k z zeros l = absurd (omega (arith, l))
+any_zero (x ∷ xs) zero z zeros l = let p : (x == 0) ≡ true = (and_parts (x == 0) (are_zeros xs) zeros).0 in grind (arith, nat_tests)
+any_zero (x ∷ xs) (suc k) z zeros l = any_zero xs k z (and_parts (x == 0) (are_zeros xs) zeros).1 (omega arith)
+
+pub zero_within : (size : ℕ) (xs : List ℕ) → IsTrue (are_zeros (drop size xs)) → (k z : ℕ) → size ≤ k → k < length xs → get_or xs k z ≡ 0
+zero_within size xs zeros k z past low =
+    ap (λ i. get_or xs i z) {x = k} {y = size + (k - size)} (omega (arith, past)) ∙ sym (get_or-drop size xs (k - size) z)
+    ∙ any_zero (drop size xs) (k - size) z zeros (omega (arith, length-drop size xs, past, low))
+
 -- a write from within or from the end on
 pub past_written : (size off n : ℕ) (ys xs : List ℕ) → IsTrue (are_zeros (drop size xs)) → size ≤ length xs → off + length ys ≤ length xs + n
     → IsTrue (are_zeros (drop (max size (off + length ys)) (overwrite off ys (xs ++ replicate n 0))))

@@ -3,6 +3,7 @@ use Rattle.std.proofs.Common.{◌≡◌, ◌≢◌, ◌⊎◌, inl, inr, ℕ, ze
 use Rattle.std.proofs.lemmas.Bool.{and_parts, cases_Bool, cases_lt, eq-eqb, eqb-true, false≢true, lt-leb, or_left, or_right, or_cases}
 use Rattle.std.proofs.lemmas.Bool.Decides.{nat_tests}
 use Rattle.base_types.specs.declared.words.Class.TheVariants.{Meta}
+use Rattle.base_types.specs.Layouts.{node_byte}
 use Rattle.layout_bytes.specs.Node.{node_spelling}
 use Rattle.layout_geometry.specs.Geometry.{Geometry}
 use Rattle.layout_bytes.specs.declared.node.NodeKind.{NodeKind}
@@ -13,11 +14,11 @@ use Rattle.fs_files.specs.declared.nodes.OpenNode.{OpenNode}
 use Rattle.fs_files.specs.Bytes.{blocks_for, met, overwrite}
 use Rattle.fs_files.specs.Calls.{is_dir}
 use Rattle.fs_files.specs.Drafts.{DraftState, change_of, is_meta, zeros_of, TakesBlocks}
-use Rattle.fs_files.specs.Nodes.{class_of, node_block, node_byte}
+use Rattle.fs_files.specs.Nodes.{class_of, node_block}
 use Rattle.fs_files.specs.Content.{WritesContent}
 use Rattle.fs_files.specs.Growing.{alone, taken_by}
 use Rattle.fs_files.specs.Writing.{KeepsSize, with_size}
-use Rattle.fs_files.proofs.drafts.Lists.{in_rest, has_alone, has_append}
+use Rattle.fs_files.proofs.drafts.Lists.{in_front, in_rest, has_alone, has_append}
 
 -- Blocks that bytes meet.
 
@@ -38,6 +39,20 @@ wider (suc a) (suc s) (suc c) (suc t) (x ∷ xs) b low high e = wider a s c t xs
 pub met_wider : (lo less hi more : ℕ) (xs : List ℕ) (b : ℕ) → less ≤ lo → hi ≤ more → has (met lo hi xs) b ≡ true → has (met less more xs) b ≡ true
 met_wider lo less hi more xs b low high e = wider (lo / 1024) (less / 1024) (blocks_for hi) (blocks_for more) xs b (omega (arith, low)) (omega (arith, high)) e
 
+-- of blocks with others behind them
+drop_front : (a c : ℕ) (xs ys : List ℕ) (b : ℕ) → has (drop a (take c (xs ++ ys))) b ≡ true → has ys b ≡ false → has (drop a (take c xs)) b ≡ true
+drop_front a c [] ys b e out = absurd (false≢true (sym out ∙ in_front c ys b (in_rest a (take c ys) b e)))
+drop_front a zero (x ∷ xs) ys b e out = e
+drop_front zero (suc c) (x ∷ xs) ys b e out = by (drop_front zero c xs ys b) (or_cases (b == x) (has (take c (xs ++ ys)) b) e)
+  where
+    by : (has (take c (xs ++ ys)) b ≡ true → has ys b ≡ false → has (take c xs) b ≡ true) → ((b == x) ≡ true) ⊎ (has (take c (xs ++ ys)) b ≡ true) → ((b == x) || has (take c xs) b) ≡ true
+    by further (inl same) = or_left (b == x) (has (take c xs) b) same
+    by further (inr rest) = or_right (b == x) (has (take c xs) b) (further rest out)
+drop_front (suc a) (suc c) (x ∷ xs) ys b e out = drop_front a c xs ys b e out
+
+pub met_front : (lo hi : ℕ) (xs ys : List ℕ) (b : ℕ) → has (met lo hi (xs ++ ys)) b ≡ true → has ys b ≡ false → has (met lo hi xs) b ≡ true
+met_front lo hi xs ys b e out = drop_front (lo / 1024) (blocks_for hi) xs ys b e out
+
 -- one of two, where a test says which
 if_cases : {A : Type 0} (t : Bool) (x y : Option A) → is_some (if t then x else y) ≡ true → ((t ≡ true) × (is_some x ≡ true)) ⊎ (is_some y ≡ true)
 if_cases t x y e = grind (arith, nat_tests)
@@ -50,17 +65,17 @@ pub fresh_of : (kind : NodeKind) (n : ℕ) → (if is_meta (class_of kind) then 
 fresh_of kind n = grind (arith, nat_tests)
 
 -- the blocks that a write may change
-abbrev pub may_change : Geometry → (ℕ → Bool) → ℕ → NodeKind → List ℕ → List ℕ → ℕ → ℕ → ℕ → List ℕ
-may_change g kept number kind ps more size lo hi = alone kept (met lo hi ps) ++ ((if is_dir kind then more else []) ++ (if nat_le hi size && (taken_by kept lo hi ps == 0) then [] else node_block g number ∷ []))
+abbrev pub may_change : Geometry → (ℕ → Bool) → ℕ → NodeKind → List ℕ → List ℕ → ℕ → ℕ → ℕ → ℕ → List ℕ
+may_change g kept number kind ps more size at lo hi = alone kept (met at hi ps) ++ ((if is_dir kind then more else []) ++ (if nat_le hi size && (taken_by kept lo hi ps == 0) then [] else node_block g number ∷ []))
 
 -- d, then base with new blocks, then f with bytes in blocks that these meet, then e with the node, where it grew or got blocks.
-module _ (g : Geometry) (kept : ℕ → Bool) (number lo hi : ℕ) (o p : OpenNode) (extra more : List ℕ) (d base f e : DraftState) (table : List ℕ)
+module _ (g : Geometry) (kept : ℕ → Bool) (number at lo hi : ℕ) (o p : OpenNode) (extra more : List ℕ) (d base f e : DraftState) (table : List ℕ)
     (keeps : KeepsSize g number hi (taken_by kept lo hi o.places) p table f e) (size : p.size ≡ o.size) (used : o.kind ≢ Free)
-    (writes : WritesContent (class_of o.kind) (met lo hi p.places) base f) (takes : TakesBlocks (class_of o.kind) extra d base)
-    (stays : (b : ℕ) → has (met lo hi p.places) b ≡ true → has extra b ≡ false → (has (met lo hi o.places) b ≡ true) × (kept b ≡ false))
+    (writes : WritesContent (class_of o.kind) (met at hi p.places) base f) (takes : TakesBlocks (class_of o.kind) extra d base)
+    (stays : (b : ℕ) → has (met at hi p.places) b ≡ true → has extra b ≡ false → (has (met at hi o.places) b ≡ true) × (kept b ≡ false))
     (behind : is_dir o.kind ≡ true → (b : ℕ) → has extra b ≡ true → has more b ≡ true) where
   abbrev mine : List ℕ
-  mine = may_change g kept number o.kind o.places more o.size lo hi
+  mine = may_change g kept number o.kind o.places more o.size at lo hi
 
   abbrev dirs : List ℕ
   dirs = if is_dir o.kind then more else []
@@ -68,7 +83,7 @@ module _ (g : Geometry) (kept : ℕ → Bool) (number lo hi : ℕ) (o p : OpenNo
   abbrev last : List ℕ
   last = if nat_le hi o.size && (taken_by kept lo hi o.places == 0) then [] else node_block g number ∷ []
 
-  in_mine : (b : ℕ) → (has (alone kept (met lo hi o.places)) b ≡ true) ⊎ ((has dirs b ≡ true) ⊎ (has last b ≡ true)) → has mine b ≡ true
+  in_mine : (b : ℕ) → (has (alone kept (met at hi o.places)) b ≡ true) ⊎ ((has dirs b ≡ true) ⊎ (has last b ≡ true)) → has mine b ≡ true
   in_mine b is = grind (arith, nat_tests, has_append)
 
   abbrev Known : ℕ → Type 0
@@ -100,17 +115,17 @@ module _ (g : Geometry) (kept : ℕ → Bool) (number lo hi : ℕ) (o p : OpenNo
           (λ file. absurd (false≢true (sym old ∙ ap is_some (takes.fresh b ∙ (λ i. if not (file i) && here i then Some (zeros_of (class_of o.kind)) else change_of d.fresh b)))))
           (kind_class o.kind used)
 
-      stayed : has (met lo hi p.places) b ≡ true → has extra b ≡ false → Known b
-      stayed at out = let s = stays b at out in known b (in_mine b (inl (has_alone kept (met lo hi o.places) b ∙ (λ i. s.0 i && not (s.1 i)))))
+      stayed : has (met at hi p.places) b ≡ true → has extra b ≡ false → Known b
+      stayed here out = let s = stays b here out in known b (in_mine b (inl (has_alone kept (met at hi o.places) b ∙ (λ i. s.0 i && not (s.1 i)))))
 
       by : (is_some (change_of base.fresh b) ≡ true) ⊎ (is_some (change_of base.fresh b) ≡ false) → Known b
       by (inl fresh) = base_known b (sym (ap is_some (writes.apart b fresh)) ∙ is)
-      by (inr old) = ⊎_elim (λ at. ⊎_elim (λ here. came old here) (λ out. stayed at out) (cases_Bool (has extra b)))
+      by (inr old) = ⊎_elim (λ within. ⊎_elim (λ here. came old here) (λ out. stayed within out) (cases_Bool (has extra b)))
           (λ was. base_known b was)
-          (or_cases (has (met lo hi p.places) b) (is_some (change_of base.changed b)) (writes.keys b is))
+          (or_cases (has (met at hi p.places) b) (is_some (change_of base.changed b)) (writes.keys b is))
 
   abbrev put : Changed
-  put = record { class = Meta; bytes = overwrite (node_byte number) (node_spelling (with_size p (max p.size hi))) table }
+  put = record { class = Meta; bytes = overwrite (node_byte g.layout number) (node_spelling g.layout (with_size g.layout p (max p.size hi))) table }
 
   own_known : (b : ℕ) → (p.size < hi) ⊎ (0 < taken_by kept lo hi o.places) → (node_block g number == b) ≡ true → Known b
   own_known b stored is = known b (in_mine b (inr (inr (ap (λ t. has (if t then [] else node_block g number ∷ []) b) not_same ∙ or_left (b == node_block g number) false (eq-eqb b (node_block g number) (sym (eqb-true (node_block g number) b is)))))))

@@ -1,11 +1,12 @@
 -- The blocks that came to a node, perhaps none, and what they leave of a draft.
-use Rattle.std.proofs.Common.{◌≡◌, ◌≢◌, ℕ, ◌-◌, ◌*◌, ◌/◌, ◌<◌, ◌≤◌, ◌||◌, Bool, true, false, IsTrue, List, [], ◌∷◌, length, take, All, refl, sym, ap, subst, ◌∙◌, arith, ⊎_elim}
+use Rattle.std.proofs.Common.{◌≡◌, ◌≢◌, ℕ, ◌-◌, ◌*◌, ◌/◌, ◌<◌, ◌≤◌, ◌||◌, Bool, true, false, IsTrue, List, [], ◌∷◌, length, take, get_or, All, refl, sym, ap, subst, ◌∙◌, arith, ⊎_elim}
 use Rattle.std.specs.List.{AllPairs}
 use Rattle.std.proofs.lemmas.Bool.{cases_lt, false≢true, false_from_ne_true, or_left}
 use Rattle.std.proofs.lemmas.List.{append-nil, length-take-le}
 use Rattle.std.proofs.lemmas.Bool.Decides.{nat_tests}
 use Rattle.base_types.specs.Seal.{Blocks}
 use Rattle.base_types.specs.declared.words.Class.{Class}
+use Rattle.base_types.specs.Layouts.{most_runs}
 use Rattle.layout_geometry.specs.Geometry.{IsGeometry}
 use Rattle.layout_extent.specs.Renew.{makes_way, renew}
 use Rattle.layout_extent.specs.Runs.{stretches}
@@ -16,7 +17,7 @@ use Rattle.fs_files.specs.declared.nodes.OpenNode.{OpenNode}
 use Rattle.fs_files.specs.Bytes.{blocks_for, met}
 use Rattle.fs_files.specs.Content.{HasContent, WritesContent}
 use Rattle.fs_files.specs.Drafts.{DraftState, change_of, drafted, marks_of, TakesBlocks}
-use Rattle.fs_files.specs.Growing.{placed, taken_by, GrowsPlaces}
+use Rattle.fs_files.specs.Growing.{placed, taken_by, CopiesEdge, GrowsPlaces}
 use Rattle.fs_files.specs.Nodes.{class_of}
 use Rattle.fs_files.specs.Shared.{is_kept}
 use Rattle.fs_files.specs.Sound.{FitsBooks}
@@ -24,6 +25,7 @@ use Rattle.fs_files.specs.Writing.{GetsBlocks, HasRoom}
 use Rattle.fs_files.proofs.bytes.Pieces.{writes_none}
 use Rattle.fs_files.proofs.bytes.Places.{AreNew, taken_zeros}
 use Rattle.fs_files.proofs.growing.Copied.{KeepsOutside, edges_written, keeps_outside}
+use Rattle.fs_files.proofs.growing.Edges.{edge_none}
 use Rattle.fs_files.proofs.frames.Rules.{HasRules, no_fresh, none_of, takes_others, takes_fits, takes_unmarked, takes_rules, taken_not_freed}
 use Rattle.fs_files.proofs.drafts.Lists.{each_of}
 use Rattle.fs_files.proofs.frames.Places.{all_of}
@@ -42,13 +44,14 @@ pub record Came (tells : Bool) (k : Bookkeeping) (m : Blocks) (lo hi : ℕ) (o p
   pub base : DraftState
   pub node : p ≡ record o { places = placed (is_kept d.kept) lo hi o.places qs }
   pub many : length qs ≡ taken_by (is_kept d.kept) lo hi o.places
-  pub runs : stretches o.places ≤ 28 → stretches p.places ≤ 28
+  pub runs : stretches o.places ≤ most_runs k.geom.layout → stretches p.places ≤ most_runs k.geom.layout
   pub takes : TakesBlocks (class_of o.kind) qs d base
   pub fits : FitsBooks k base
   pub inside : All (IsData k.geom) qs
   pub once : AllPairs (λ a b. a ≢ b) qs
   pub others : (b : ℕ) → has qs b ≡ false → drafted base m b ≡ drafted d m b
   pub edges : WritesContent (class_of o.kind) (met lo hi p.places) base g
+  pub plain : All (λ b. is_kept d.kept b ≡ false) o.places → g ≡ base
   pub sound : (live : ℕ → Bool) → ((b : ℕ) → IsReusable k.geom k.reusable b → k.marked b ≡ false) → HasRules k live d → CameSound k live qs d base
   pub outside : (live : ℕ → Bool) → ((b : ℕ) → IsReusable k.geom k.reusable b → k.marked b ≡ false) → HasRules k live d → IsTrue tells → ((b : ℕ) → has o.places b ≡ true → marks_of d k.marked b ≡ true) → HasContent m d o.places
       → KeepsOutside m lo hi o.places p.places d g
@@ -78,6 +81,7 @@ module _ (tells : Bool) (k : Bookkeeping) (m : Blocks) (lo hi : ℕ) (o : OpenNo
     once = λ i j x lt low. absurd (omega (arith, low));
     others = λ b out. refl;
     edges = writes_none (class_of o.kind) (met lo hi o.places) d;
+    plain = λ none. refl;
     sound = λ live free rules. record { rules = rules; unmarked = λ i x low. absurd (omega (arith, low)) };
     outside = λ live free rules told marked content. record {
       content = content;
@@ -153,6 +157,10 @@ module _ (tells : Bool) (k : Bookkeeping) (m : Blocks) (lo hi : ℕ) (o p : Open
     others = takes_others k (class_of o.kind) (news k lo hi o d) d gets.grown grows.takes gets.first grows.takeable m;
     edges = subst (λ (x : Class). WritesContent x (met lo hi p.places) gets.grown g) (ap class_of kind_so)
         (edges_written tells m (class_of p.kind) (is_kept d.kept) lo hi o.places p.places (news k lo hi o d) d gets.grown gets.copies.copied g some inside placed_so many gets.copies.low gets.copies.high);
+    plain = λ none.
+        let first : gets.copies.copied ≡ gets.grown = subst (λ x. CopiesEdge tells m (class_of p.kind) (get_or p.places (lo / 1024) 0) x gets.grown gets.copies.copied) (edge_none (is_kept d.kept) lo o.places none) gets.copies.low in
+        let last : g ≡ gets.copies.copied = subst (λ x. CopiesEdge tells m (class_of p.kind) (get_or p.places (hi / 1024) 0) x gets.copies.copied g) (edge_none (is_kept d.kept) hi o.places none) gets.copies.high in
+        last ∙ first;
     sound = sound_some;
     outside = outside_some;
   }

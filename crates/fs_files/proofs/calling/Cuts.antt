@@ -1,20 +1,22 @@
 -- A cut to fewer bytes: d, then f without the places past them, then g with zeros over the rest of a directory's last block, then e with the node.
-use Rattle.std.proofs.Common.{◌≡◌, ◌≢◌, ◌⊎◌, inl, inr, ℕ, ◌-◌, ◌*◌, ◌/◌, ◌%◌, ◌^◌, ◌<◌, ◌≤◌, ◌==◌, Bool, true, false, not, ◌&&◌, ◌||◌, if◌then◌else◌, IsTrue, List, [], ◌∷◌, ◌++◌, length, take, drop, replicate, All, Option, Some, None, is_some, refl, sym, ap, subst, ◌∙◌, arith, rules}
+use Rattle.std.proofs.Common.{◌≡◌, ◌≢◌, ◌⊎◌, inl, inr, ℕ, ◌+◌, ◌-◌, ◌*◌, ◌/◌, ◌%◌, ◌^◌, ◌<◌, ◌≤◌, ◌==◌, nat_le, Bool, true, false, not, ◌&&◌, ◌||◌, if◌then◌else◌, IsTrue, List, [], ◌∷◌, ◌++◌, length, take, drop, replicate, All, Option, Some, None, is_some, refl, sym, ap, subst, ◌∙◌, arith}
 use Rattle.std.specs.List.{AllPairs}
-use Rattle.std.proofs.lemmas.Bool.{cases_Bool, false≢true, or_left, or_right, or_cases, eq-eqb, eqb-true, false_from_ne_true}
-use Rattle.std.proofs.lemmas.List.{take-append-drop, length-take}
+use Rattle.std.proofs.lemmas.Bool.{and_from, and_parts, cases_Bool, false≢true, le-leb, or_left, or_right, or_cases, eq-eqb, eqb-true, false_from_ne_true}
+use Rattle.std.proofs.lemmas.List.{take-append-drop, length-take, drop-take, take-take}
 use Rattle.std.proofs.lemmas.Bool.Decides.{nat_tests}
 use Rattle.base_types.specs.Seal.{Blocks}
 use Rattle.base_types.specs.Runs.{run_places}
 use Rattle.base_types.specs.declared.places.Run.{Run}
 use Rattle.base_types.specs.declared.words.Class.TheVariants.{Meta}
+use Rattle.base_types.specs.declared.layout.Layout.{Layout}
+use Rattle.base_types.specs.Layouts.{most_runs, node_byte, slots_held}
 use Rattle.layout_extent.specs.Runs.{AreTidy, runs_of, stretches}
 use Rattle.layout_geometry.specs.Geometry.{Geometry, IsGeometry, table_start, data_start}
 use Rattle.layout_bytes.specs.declared.node.Node.{Node}
 use Rattle.layout_bytes.specs.declared.node.NodeKind.{NodeKind}
-use Rattle.layout_bytes.specs.declared.node.NodeKind.TheVariants.{Dir, File}
-use Rattle.layout_bytes.specs.Bytes.{are_zeros}
-use Rattle.layout_bytes.specs.Node.{node_fits, node_spelling, kind_fits, FitsAs}
+use Rattle.layout_bytes.specs.declared.node.NodeKind.TheVariants.{Free, Dir, File, Snapshot}
+use Rattle.layout_bytes.specs.Bytes.{are_zeros, has_zeros}
+use Rattle.layout_bytes.specs.Node.{content_of, size_of, node_fits, node_spelling, kind_fits, FitsAs}
 use Rattle.engine_blocks.specs.Puts.{IsData}
 use Rattle.engine_blocks.specs.Running.{has}
 use Rattle.engine_blocks.specs.State.{Bookkeeping, State}
@@ -25,16 +27,17 @@ use Rattle.fs_files.specs.declared.nodes.OpenNode.{OpenNode}
 use Rattle.fs_files.specs.Bytes.{overwrite, blocks_for}
 use Rattle.fs_files.specs.Calls.{IsWithFile, IsWithPlaces, Shrinks, ChangesAmong, files_in, places_in, places_or_none, with_bytes, is_dir, cut_blocks}
 use Rattle.fs_files.specs.Content.{HasContent}
+use Rattle.fs_files.specs.Contents.{blocks_of_size, content_of_size, next_block, next_within}
 use Rattle.fs_files.specs.Drafts.{DraftState, ChangesSome, change_of, drafted, PutsBlock, FreesBlocks}
 use Rattle.fs_files.specs.Effects.{LooksOnly}
 use Rattle.fs_files.specs.Growing.{ShrinksPlaces, alone}
 use Rattle.fs_files.specs.Frames.{used_of, ReadsBack}
-use Rattle.fs_files.specs.Nodes.{node_block, node_byte, node_of_open}
+use Rattle.fs_files.specs.Nodes.{node_block, node_of_open, AreWholeSlots, MayEndAt, fills_blocks}
 use Rattle.fs_files.specs.Resizing.{IsLoaded, ClearsRest, IsCleared}
 use Rattle.fs_files.specs.Shared.{is_kept}
 use Rattle.fs_files.specs.Sound.{FitsBooks, IsSoundDraft, IsDraftOf}
 use Rattle.fs_files.proofs.bytes.Calls.{cut_bytes, cut_filled}
-use Rattle.fs_files.proofs.bytes.Places.{content_cut, rest_apart}
+use Rattle.fs_files.proofs.bytes.Places.{bytes_cut, content_cut, rest_apart}
 use Rattle.fs_files.proofs.bytes.Sizes.{blocks_hold, blocks_rise}
 use Rattle.fs_files.proofs.calling.Nodes.{its_file}
 use Rattle.fs_files.proofs.calling.Resizes.{in_cleared, pairs_drop}
@@ -44,20 +47,36 @@ use Rattle.fs_files.proofs.frames.Carry.{draft_looks, files_look, places_look}
 use Rattle.fs_files.proofs.frames.Cells.{block_from, block_below}
 use Rattle.fs_files.proofs.frames.Fits.{fits_with}
 use Rattle.fs_files.proofs.frames.Frames.{node_places}
-use Rattle.fs_files.proofs.frames.Places.{has_block, used_marked, used_whole, all_of, parts_fit}
+use Rattle.fs_files.proofs.frames.Places.{has_block, node_file, used_marked, used_whole, all_of, parts_fit}
 use Rattle.fs_files.proofs.frames.Puts.{put_fits, put_changed, put_changes}
 use Rattle.fs_files.proofs.frames.Rules.{HasRules, rules_of, frees_others, frees_fits, frees_rules, writes_others, writes_fits, writes_rules}
 use Rattle.fs_files.proofs.frames.Spelled.{used_some, fits_as}
 use Rattle.fs_files.proofs.frames.Steps.{used_once}
+use Rattle.fs_files.proofs.growing.Stretches.{stretches_cut}
 
 -- the first blocks, which the node keeps, and the others
 abbrev pub kept_of : ℕ → OpenNode → List ℕ
 kept_of size o = take (blocks_for size) o.places
 
 -- the rules of a kind with another size
-pub sized_kind : (kind : NodeKind) (links was size : ℕ) (old_runs new_runs : List Run) → (kind ≡ Dir → size % 64 ≡ 0) → (kind ≡ File → size ≤ 2 ^ 30)
-    → kind_fits (record { kind = kind; links = links; size = was; runs = old_runs }) kind ≡ true → kind_fits (record { kind = kind; links = links; size = size; runs = new_runs }) kind ≡ true
-sized_kind kind links was size old_runs new_runs e h p = grind (arith, nat_tests)
+pub sized_kind : (l : Layout) (kind : NodeKind) (links was size : ℕ) (old_runs new_runs : List Run) → (kind ≡ File → size ≤ 2 ^ 30)
+    → kind_fits (record { kind = kind; links = links; size = was; runs = old_runs }) kind ≡ true → kind_fits (record { kind = kind; links = links; size = size_of l kind size; runs = new_runs }) kind ≡ true
+sized_kind l Free links was size old_runs new_runs few p = refl
+sized_kind l Dir links was size old_runs new_runs few p = eq-eqb (64 * slots_held l size % 64) 0 (omega arith)
+sized_kind l File links was size old_runs new_runs few p = and_from (nat_le links 65535) (nat_le size 1073741824) (and_parts (nat_le links 65535) (nat_le was 1073741824) p).0 (le-leb size 1073741824 (omega (arith, few refl)))
+sized_kind l Snapshot links was size old_runs new_runs few p = refl
+
+-- zeros up to a place behind the end of the first bytes
+zeros_before : (from end upto : ℕ) (xs : List ℕ) → IsTrue (has_zeros (take end xs) from upto) → from ≤ upto → upto ≤ end → IsTrue (are_zeros (drop from (take upto xs)))
+zeros_before from end upto xs zeros order within =
+    let n = upto - from in
+    let all : take n (drop from (take end xs)) ≡ drop from (take upto xs) =
+    ap (λ m. take n (drop from (take m xs))) {x = end} {y = from + (end - from)} (omega (arith, order, within))
+    ∙ ap (take n) (drop-take from (end - from) xs)
+    ∙ take-take n (end - from) (drop from xs) (omega (arith, order, within))
+    ∙ sym (drop-take from n xs)
+    ∙ ap (λ m. drop from (take m xs)) {x = from + n} {y = upto} (omega (arith, order)) in
+    subst (λ ys. IsTrue (are_zeros ys)) all zeros
 
 pub not_in : (xs : List ℕ) (b : ℕ) → (has xs b ≡ true → ⊥) → has xs b ≡ false
 not_in xs b isnt = false_from_ne_true (has xs b) (λ is. isnt is)
@@ -68,13 +87,13 @@ pub record CutsNode (tells : Bool) (s : State) (number size : ℕ) (o : OpenNode
   pub loaded : IsLoaded tells s d number o table
   pub less : size < o.size
   pub most : size ≤ 2 ^ 30
-  pub slots : IsTrue tells → o.kind ≡ Dir → size % 64 ≡ 0
-  pub few : stretches (kept_of size o) ≤ 28
-  pub is : node ≡ record { kind = o.kind; links = o.links; size = size; runs = runs_of (kept_of size o) }
+  pub slots : IsTrue tells → (x : FileNode) → files_in s d number ≡ Some x → x.kind ≡ Dir → MayEndAt s.books.geom.layout x.bytes size
+  pub is : node ≡ record { kind = o.kind; links = o.links; size = size_of s.books.geom.layout o.kind size; runs = runs_of (kept_of size o) }
   pub frees : FreesBlocks (alone (is_kept d.kept) (drop (blocks_for size) o.places)) d f
-  pub clears : ClearsRest o.kind size (kept_of size o) f g
-  pub cleared : IsTrue tells → HasContent s.map f (kept_of size o) → IsCleared s.map o.kind size (kept_of size o) f g
-  pub puts : PutsBlock (node_block s.books.geom number) (record { class = Meta; bytes = overwrite (node_byte number) (node_spelling node) table }) g e
+  pub clears : ClearsRest s.books.geom.layout o.kind size (kept_of size o) f g
+  pub cleared : IsTrue tells → HasContent s.map f (kept_of size o)
+      → (o.kind ≡ Dir → fills_blocks s.books.geom.layout size ≡ true → IsTrue (are_zeros (drop size (joined (drafted f s.map) (kept_of size o))))) → IsCleared s.map o.kind size (kept_of size o) f g
+  pub puts : PutsBlock (node_block s.books.geom number) (record { class = Meta; bytes = overwrite (node_byte s.books.geom.layout number) (node_spelling s.books.geom.layout node) table }) g e
   pub back : FitsAs s.books.geom node node.kind → ReadsBack s.books.geom node
   pub places : (xs : List ℕ) → run_places (runs_of xs) ≡ xs
   pub count : (xs : List ℕ) → length (runs_of xs) ≡ stretches xs
@@ -95,16 +114,16 @@ module _ (tells : Bool) (s : State) (number size : ℕ) (o : OpenNode) (node : N
   freed = alone (is_kept d.kept) gone
 
   abbrev rest : List ℕ
-  rest = if is_dir o.kind then drop (size / 1024) kept else []
+  rest = if is_dir o.kind && not (fills_blocks k.geom.layout size) then drop (size / 1024) kept else []
 
   abbrev c : Changed
-  c = record { class = Meta; bytes = overwrite (node_byte number) (node_spelling node) table }
+  c = record { class = Meta; bytes = overwrite (node_byte k.geom.layout number) (node_spelling k.geom.layout node) table }
 
   abbrev new : Node
-  new = record { kind = o.kind; links = o.links; size = size; runs = runs_of kept }
+  new = record { kind = o.kind; links = o.links; size = size_of k.geom.layout o.kind size; runs = runs_of kept }
 
   in_kept : (b : ℕ) → has rest b ≡ true → has kept b ≡ true
-  in_kept b mine = in_cleared (is_dir o.kind) (size / 1024) kept b mine
+  in_kept b mine = in_cleared (is_dir o.kind && not (fills_blocks k.geom.layout size)) (size / 1024) kept b mine
 
   in_places : (b : ℕ) → has kept b ≡ true → has o.places b ≡ true
   in_places b mine = in_front (blocks_for size) o.places b mine
@@ -180,14 +199,14 @@ module _ (tells : Bool) (s : State) (number size : ℕ) (o : OpenNode) (node : N
     sound : IsSoundDraft k m d
     sound = is.loaded.draft.sound known
 
-    used : used_node k.geom (drafted d m) number ≡ Some (node_of_open o)
+    used : used_node k.geom (drafted d m) number ≡ Some (node_of_open k.geom.layout o)
     used = sym (is.loaded.is known)
 
     ps : run_places (runs_of o.places) ≡ o.places
     ps = is.places o.places
 
     live_of : (b : ℕ) → has o.places b ≡ true → sound.live b ≡ true
-    live_of b mine = used_marked k.geom sound.live (drafted d m) number (node_of_open o) sound.blocks used b (ap (λ xs. has xs b) ps ∙ mine)
+    live_of b mine = used_marked k.geom sound.live (drafted d m) number (node_of_open k.geom.layout o) sound.blocks used b (ap (λ xs. has xs b) ps ∙ mine)
 
     -- these blocks are live then
     abbrev now : ℕ → Bool
@@ -195,16 +214,44 @@ module _ (tells : Bool) (s : State) (number size : ℕ) (o : OpenNode) (node : N
 
     d_content : HasContent m d o.places
     d_content = record {
-      whole = all_of (λ b. length (drafted d m b) ≡ 1024) o.places (λ b mine. used_whole k.geom sound.live (drafted d m) number (node_of_open o) sound.blocks used b (ap (λ xs. has xs b) ps ∙ mine));
-      once = subst (AllPairs (λ a b. a ≢ b)) ps (used_once k.geom sound.live (drafted d m) number (node_of_open o) sound.blocks used);
+      whole = all_of (λ b. length (drafted d m b) ≡ 1024) o.places (λ b mine. used_whole k.geom sound.live (drafted d m) number (node_of_open k.geom.layout o) sound.blocks used b (ap (λ xs. has xs b) ps ∙ mine));
+      once = subst (AllPairs (λ a b. a ≢ b)) ps (used_once k.geom sound.live (drafted d m) number (node_of_open k.geom.layout o) sound.blocks used);
       apart = all_of (λ b. is_some (change_of d.fresh b) ≡ true → change_of d.changed b ≡ None) o.places (λ b mine. sound.apart b);
     }
+
+    -- the file, and the bytes of its blocks
+    abbrev file : FileNode
+    file = file_of k.geom.layout (drafted d m) (node_of_open k.geom.layout o)
+
+    old_size : content_of k.geom.layout o.kind (size_of k.geom.layout o.kind o.size) ≡ o.size
+    old_size = content_of_size k.geom.layout o.kind o.size is.loaded.fits.slots
+
+    old_bytes : content k.geom.layout (drafted d m) (node_of_open k.geom.layout o) ≡ take o.size (joined (drafted d m) o.places)
+    old_bytes = ap (λ n. take n (joined (drafted d m) (run_places (runs_of o.places)))) old_size ∙ ap (λ xs. take o.size (joined (drafted d m) xs)) ps
+
+    may_end : o.kind ≡ Dir → MayEndAt k.geom.layout (take o.size (joined (drafted d m) o.places)) size
+    may_end dir = subst (λ bs. MayEndAt k.geom.layout bs size) old_bytes (is.slots known file (node_file k.geom (drafted d m) number (node_of_open k.geom.layout o) used) dir)
+
+    whole_now : o.kind ≡ Dir → AreWholeSlots k.geom.layout size
+    whole_now dir = (may_end dir).whole
+
+    new_size : content_of k.geom.layout o.kind (size_of k.geom.layout o.kind size) ≡ size
+    new_size = content_of_size k.geom.layout o.kind size whole_now
 
     f_content : HasContent m f kept
     f_content = content_cut m (is_kept d.kept) (blocks_for size) o.places d f d_content is.frees
 
+    -- where there is room for no slot more there are zeros
+    zeros_there : o.kind ≡ Dir → fills_blocks k.geom.layout size ≡ true → IsTrue (are_zeros (drop size (joined (drafted f m) kept)))
+    zeros_there dir full =
+        subst (λ xs. IsTrue (are_zeros (drop size xs))) (sym (bytes_cut m (is_kept d.kept) (blocks_for size) o.places d f d_content is.frees))
+        (zeros_before size o.size (1024 * blocks_for size) (joined (drafted d m) o.places)
+        (subst (λ n. IsTrue (has_zeros (take o.size (joined (drafted d m) o.places)) size n)) (next_block k.geom.layout size full) (may_end dir).gap)
+        (blocks_hold size).0
+        (omega (arith, next_block k.geom.layout size full, next_within k.geom.layout size o.size (whole_now dir) (is.loaded.fits.slots dir) is.less)))
+
     done : IsCleared m o.kind size kept f g
-    done = is.cleared known f_content
+    done = is.cleared known f_content zeros_there
 
     f_rules : HasRules k now f
     f_rules = frees_rules k freed d f is.frees sound.live gone refl gone_data
@@ -217,12 +264,12 @@ module _ (tells : Bool) (s : State) (number size : ℕ) (o : OpenNode) (node : N
     -- a directory's blocks aren't kept by a snapshot
     rest_alone : (b : ℕ) → has rest b ≡ true → is_kept f.kept b ≡ false
     rest_alone b mine = ap (λ ks. is_kept ks b) is.frees.kept ∙ false_from_ne_true (is_kept d.kept b) (λ held.
-        let at = has_block k.geom (drafted d m) number (node_of_open o) used b (ap (λ xs. has xs b) ps ∙ in_places b (in_kept b mine)) in
-        not_a_dir (is_dir o.kind) mine (ap is_dir (sound.shared b number at.0 (node_of_open o) held at.1 used)))
+        let at = has_block k.geom (drafted d m) number (node_of_open k.geom.layout o) used b (ap (λ xs. has xs b) ps ∙ in_places b (in_kept b mine)) in
+        not_a_dir (is_dir o.kind) (not (fills_blocks k.geom.layout size)) mine (ap is_dir (sound.shared b number at.0 (node_of_open k.geom.layout o) held at.1 used)))
       where
-        not_a_dir : (t : Bool) → has (if t then drop (size / 1024) kept else []) b ≡ true → t ≡ false → ⊥
-        not_a_dir true mine e = false≢true (sym e)
-        not_a_dir false mine e = false≢true mine
+        not_a_dir : (t u : Bool) → has (if t && u then drop (size / 1024) kept else []) b ≡ true → t ≡ false → ⊥
+        not_a_dir true u mine e = false≢true (sym e)
+        not_a_dir false u mine e = false≢true mine
 
     g_rules : HasRules k now g
     g_rules = writes_rules k Meta rest f g is.clears.writes now (all_of (λ b. now b ≡ true) rest (λ b mine. kept_live b (in_kept b mine)))
@@ -234,10 +281,13 @@ module _ (tells : Bool) (s : State) (number size : ℕ) (o : OpenNode) (node : N
         writes_others k Meta rest f g is.clears.writes m b (not_in rest b (λ mine. false≢true (sym out ∙ in_places b (in_kept b mine))))
         ∙ frees_others k freed d f is.frees m b (not_in freed b (λ mine. false≢true (sym out ∙ in_rest (blocks_for size) o.places b (in_alone (is_kept d.kept) gone b mine))))
 
+    few : stretches kept ≤ most_runs k.geom.layout
+    few = omega (arith, stretches_cut (blocks_for size) o.places, is.loaded.fits.runs)
+
     fits_new : node_fits k.geom new ≡ true
-    fits_new = fits_with k.geom o.kind o.links size kept (is.places kept) (is.count kept) (is.tidy kept) (parts_fit k.geom (node_of_open o) is.loaded.fits.fits).links is.few kept_data
-        (omega (arith, length-take (blocks_for size) o.places, is.loaded.fits.count, blocks_rise size o.size (omega (arith, is.less))))
-        (sized_kind o.kind o.links o.size size (runs_of o.places) (runs_of kept) (is.slots known) (λ file. is.most) (parts_fit k.geom (node_of_open o) is.loaded.fits.fits).kind)
+    fits_new = fits_with k.geom o.kind o.links (size_of k.geom.layout o.kind size) kept (is.places kept) (is.count kept) (is.tidy kept) (parts_fit k.geom (node_of_open k.geom.layout o) is.loaded.fits.fits).links few kept_data
+        (omega (arith, length-take (blocks_for size) o.places, is.loaded.fits.count, blocks_rise size o.size (omega (arith, is.less)), blocks_of_size k.geom.layout o.kind size whole_now))
+        (sized_kind k.geom.layout o.kind o.links (size_of k.geom.layout o.kind o.size) size (runs_of o.places) (runs_of kept) (λ file. is.most) (parts_fit k.geom (node_of_open k.geom.layout o) is.loaded.fits.fits).kind)
 
     back : ReadsBack k.geom new
     back = subst (ReadsBack k.geom) is.is (is.back (subst (λ n. FitsAs k.geom n n.kind) (sym is.is) (fits_as k.geom new is.loaded.fits.used fits_new)))
@@ -245,7 +295,7 @@ module _ (tells : Bool) (s : State) (number size : ℕ) (o : OpenNode) (node : N
     stored : IsStored k now m number new d g e
     stored = stored_after k sound.live now m number new c d g e is.geom is.loaded.from is.loaded.upto sound.blocks g_fits g_rules (is.clears.writes.kept ∙ is.frees.kept)
         (λ b from below. others b (none_of_table k.geom o.places b is.loaded.fits.«data» below))
-        (ap (λ n. overwrite (node_byte number) (node_spelling n) table) is.is ∙ ap (overwrite (node_byte number) (node_spelling new)) (is.loaded.block known))
+        (ap (λ n. overwrite (node_byte k.geom.layout number) (node_spelling k.geom.layout n) table) is.is ∙ ap (overwrite (node_byte k.geom.layout number) (node_spelling k.geom.layout new)) (is.loaded.block known))
         is.puts back
 
     -- the bytes, and what is past them
@@ -262,8 +312,8 @@ module _ (tells : Bool) (s : State) (number size : ℕ) (o : OpenNode) (node : N
     bytes : take size (joined (drafted g m) kept) ≡ resized size (take o.size (joined (drafted d m) o.places))
     bytes = grind (arith, nat_tests, cut_filled, d_content, size_fits, filled, done, cut_bytes)
 
-    tail : o.kind ≡ Dir → IsTrue (are_zeros (past_content (drafted g m) new))
-    tail dir = ap (λ xs. are_zeros (drop size (joined (drafted g m) xs))) (is.places kept)
+    tail : o.kind ≡ Dir → IsTrue (are_zeros (past_content k.geom.layout (drafted g m) new))
+    tail dir = ap (λ n. are_zeros (drop n (joined (drafted g m) (run_places (runs_of kept))))) new_size ∙ ap (λ xs. are_zeros (drop size (joined (drafted g m) xs))) (is.places kept)
         ∙ (cut_filled m (is_kept d.kept) o.places o.size size d f g d_content size_fits (omega (arith, is.less)) is.frees (filled (ap is_dir dir))).1
 
     whole : All (λ b. length (drafted g m b) ≡ 1024) (run_places (runs_of kept))
@@ -275,8 +325,8 @@ module _ (tells : Bool) (s : State) (number size : ℕ) (o : OpenNode) (node : N
     is_used : used_of new ≡ Some new
     is_used = used_some new is.loaded.fits.used
 
-    all : IsSoundDraft k m e × IsWithFile (files_of k.geom (drafted d m)) (files_of k.geom (drafted e m)) number (Some (file_of (drafted e m) new))
-    all = stored_cut k m number new (node_of_open o) d g e now sound stored refl is_used used inside whole tail kept gone
+    all : IsSoundDraft k m e × IsWithFile (files_of k.geom (drafted d m)) (files_of k.geom (drafted e m)) number (Some (file_of k.geom.layout (drafted e m) new))
+    all = stored_cut k m number new (node_of_open k.geom.layout o) d g e now sound stored refl is_used used inside whole tail kept gone
         (ps ∙ sym (take-append-drop (blocks_for size) o.places)) (is.places kept)
         (λ b from below out. others b (ap (λ xs. has xs b) (sym ps) ∙ out))
         (λ b. refl)
@@ -287,11 +337,12 @@ module _ (tells : Bool) (s : State) (number size : ℕ) (o : OpenNode) (node : N
     pub cut_node : used_node k.geom (drafted e m) number ≡ Some new
     cut_node = stored.node_is.own ∙ is_used
 
-    now_bytes : content (drafted e m) new ≡ resized size (content (drafted d m) (node_of_open o))
-    now_bytes = stored_content k m number new (node_of_open o) d g e now sound stored refl is_used used inside whole tail
+    now_bytes : content k.geom.layout (drafted e m) new ≡ resized size (content k.geom.layout (drafted d m) (node_of_open k.geom.layout o))
+    now_bytes = stored_content k m number new (node_of_open k.geom.layout o) d g e now sound stored refl is_used used inside whole tail
+        ∙ ap (λ n. take n (joined (drafted g m) (run_places (runs_of kept)))) new_size
         ∙ ap (λ xs. take size (joined (drafted g m) xs)) (is.places kept)
         ∙ bytes
-        ∙ ap (λ xs. resized size (take o.size (joined (drafted d m) xs))) (sym ps)
+        ∙ ap (resized size) (sym old_bytes)
 
     pub cut_file : (x : FileNode) → files_of k.geom (drafted d m) number ≡ Some x
         → IsWithFile (files_of k.geom (drafted d m)) (files_of k.geom (drafted e m)) number (Some (with_bytes x (resized size x.bytes)))
@@ -313,16 +364,43 @@ module _ (tells : Bool) (s : State) (number size : ℕ) (o : OpenNode) (node : N
     pub cut_changes : (x : FileNode) → files_of k.geom (drafted d m) number ≡ Some x → ChangesAmong (cut_blocks k.geom number x (places_in s d number) size) d e
     cut_changes x at = grind (arith, nat_tests, its_file, places_d, cut_among)
 
+-- the rest of a node's blocks is cleared, where they are known
+abbrev Clears : Bool → State → ℕ → DraftState → DraftState → Layout → OpenNode → Type 0
+Clears tells s size f g l o = IsTrue tells → HasContent s.map f o.places → (o.kind ≡ Dir → fills_blocks l size ≡ true → IsTrue (are_zeros (drop size (joined (drafted f s.map) o.places)))) → IsCleared s.map o.kind size o.places f g
+
 -- the steps of a cut are one
-pub cut_steps : (tells : Bool) (s : State) (number size n : ℕ) (o p : OpenNode) (node : Node) (table : List ℕ) (d f g e : DraftState) (h : Geometry) → h ≡ s.books.geom → IsGeometry h
-    → IsLoaded tells s d number o table → size < o.size → size ≤ 2 ^ 30 → (IsTrue tells → o.kind ≡ Dir → size % 64 ≡ 0)
-    → n ≡ blocks_for size → ShrinksPlaces n o p d f → stretches p.places ≤ 28
-    → ClearsRest p.kind size p.places f g → (IsTrue tells → HasContent s.map f p.places → IsCleared s.map p.kind size p.places f g)
-    → node ≡ record { kind = p.kind; links = p.links; size = size; runs = runs_of p.places }
-    → PutsBlock (node_block h number) (record { class = Meta; bytes = overwrite (node_byte number) (node_spelling node) table }) g e → (FitsAs h node node.kind → ReadsBack h node)
+pub cut_steps : (tells : Bool) (s : State) (number size n : ℕ) (o p : OpenNode) (node : Node) (table : List ℕ) (d f g e : DraftState) (h : Geometry) (l : Layout) → h ≡ s.books.geom → l ≡ h.layout → IsGeometry h
+    → IsLoaded tells s d number o table → size < o.size → size ≤ 2 ^ 30
+    → (IsTrue tells → (x : FileNode) → files_in s d number ≡ Some x → x.kind ≡ Dir → MayEndAt s.books.geom.layout x.bytes size)
+    → n ≡ blocks_for size → ShrinksPlaces n o p d f
+    → ClearsRest l p.kind size p.places f g
+    → Clears tells s size f g l p
+    → node ≡ record { kind = p.kind; links = p.links; size = size_of l p.kind size; runs = runs_of p.places }
+    → PutsBlock (node_block h number) (record { class = Meta; bytes = overwrite (node_byte h.layout number) (node_spelling h.layout node) table }) g e → (FitsAs h node node.kind → ReadsBack h node)
     → ((xs : List ℕ) → run_places (runs_of xs) ≡ xs) → ((xs : List ℕ) → length (runs_of xs) ≡ stretches xs) → ((xs : List ℕ) → AreTidy (runs_of xs))
     → CutsNode tells s number size o node table d f g e
-cut_steps tells s number size n o p node table d f g e h same geom loaded less most slots count shrinks few clears cleared node_is puts back places runs tidy = search (rules, arith)
+cut_steps tells s number size n o p node table d f g e h l same layout geom loaded less most slots count shrinks clears cleared node_is puts reads back runs tidy = record {
+  geom = subst IsGeometry same geom;
+  loaded = loaded;
+  less = less;
+  most = most;
+  slots = slots;
+  is = node_is ∙ (λ i. record { kind = (p_is i).kind; links = (p_is i).links; size = size_of (l_is i) (p_is i).kind size; runs = runs_of (p_is i).places });
+  frees = subst (λ m. FreesBlocks (alone (is_kept d.kept) (drop m o.places)) d f) count shrinks.frees;
+  clears = subst (λ (q : OpenNode). ClearsRest s.books.geom.layout q.kind size q.places f g) p_is (subst (λ (y : Layout). ClearsRest y p.kind size p.places f g) l_is clears);
+  cleared = subst (Clears tells s size f g s.books.geom.layout) p_is (subst (λ (y : Layout). Clears tells s size f g y p) l_is cleared);
+  puts = subst (λ (x : Geometry). PutsBlock (node_block x number) (record { class = Meta; bytes = overwrite (node_byte x.layout number) (node_spelling x.layout node) table }) g e) same puts;
+  back = subst (λ (x : Geometry). FitsAs x node node.kind → ReadsBack x node) same reads;
+  places = back;
+  count = runs;
+  tidy = tidy;
+}
+  where
+    l_is : l ≡ s.books.geom.layout
+    l_is = layout ∙ ap (λ (x : Geometry). x.layout) same
+
+    p_is : p ≡ record o { places = kept_of size o }
+    p_is = shrinks.node ∙ ap (λ m. record o { places = take m o.places }) count
 
 -- the files are those of the map that was looked at
 pub file_looks : (tells : Bool) (s t : State) (e : DraftState) (old : Files) (number : ℕ) (x : Option FileNode) → LooksOnly tells false s t → IsTrue tells

@@ -1,6 +1,6 @@
 -- A write into a node that was loaded, from the state before it to the one after it.
-use Rattle.std.proofs.Common.{◌≡◌, ◌⊎◌, ℕ, ◌+◌, ◌%◌, ◌^◌, ◌<◌, ◌≤◌, if◌then◌else◌, Bool, true, false, IsTrue, List, [], ◌∷◌, ◌++◌, length, drop, max, min, Some, is_some, refl, sym, ap, subst, ◌∙◌, arith, ⊎_elim}
-use Rattle.std.proofs.lemmas.Bool.{or_cases}
+use Rattle.std.proofs.Common.{◌≡◌, ◌⊎◌, ℕ, ◌+◌, ◌^◌, ◌<◌, ◌≤◌, if◌then◌else◌, Bool, true, false, IsTrue, List, [], ◌∷◌, ◌++◌, length, drop, max, min, All, Some, is_some, refl, sym, ap, subst, ◌∙◌, arith, ⊎_elim}
+use Rattle.std.proofs.lemmas.Bool.{cases_Bool, or_cases}
 use Rattle.std.proofs.lemmas.List.{length-take}
 use Rattle.base_types.specs.Seal.{Blocks}
 use Rattle.base_types.specs.Runs.{run_places}
@@ -11,19 +11,21 @@ use Rattle.engine_blocks.specs.Running.{has}
 use Rattle.engine_blocks.specs.State.{Bookkeeping, State, reusable_blocks, IsReusable}
 use Rattle.crash_stands.specs.Files.{FileNode, files_of, used_node}
 use Rattle.fs_files.specs.declared.nodes.OpenNode.{OpenNode}
-use Rattle.fs_files.specs.Calls.{places_of, is_dir, written_blocks, ChangesAmong, Grows}
-use Rattle.fs_files.specs.Content.{HasNewBytes}
+use Rattle.fs_files.specs.Calls.{places_of, is_dir, written_blocks, written_from, ChangesAmong, Grows}
+use Rattle.fs_files.specs.Bytes.{met}
+use Rattle.fs_files.specs.Content.{HasNewBytes, WritesContent}
 use Rattle.fs_files.specs.Drafts.{DraftState, ChangesSome, change_of, drafted}
 use Rattle.fs_files.specs.Effects.{LooksAndSettles}
 use Rattle.fs_files.specs.Growing.{places_after, taken_by}
-use Rattle.fs_files.specs.Nodes.{node_block, node_of_open, IsOpen}
+use Rattle.fs_files.specs.Nodes.{class_of, node_block, node_of_open, AreWholeSlots, IsOpen}
 use Rattle.fs_files.specs.Shared.{is_kept}
 use Rattle.fs_files.specs.Sound.{FitsBooks, IsSoundDraft, IsDraftOf}
 use Rattle.fs_files.specs.Writing.{KeepsSize, WritesFile, WritesOpen}
-use Rattle.fs_files.proofs.drafts.Alone.{none_placed}
+use Rattle.fs_files.proofs.bytes.Places.{met_in}
+use Rattle.fs_files.proofs.drafts.Lists.{each_of}
 use Rattle.fs_files.proofs.frames.Carry.{draft_settles}
 use Rattle.fs_files.proofs.frames.Puts.{put_changes}
-use Rattle.fs_files.proofs.calling.Among.{fresh_of, may_change, kept_known}
+use Rattle.fs_files.proofs.calling.Among.{fresh_of, may_change, kept_known, met_front}
 use Rattle.fs_files.proofs.calling.Came.{news}
 use Rattle.fs_files.proofs.calling.Stores as stores
 use Rattle.fs_files.proofs.calling.Writes as writes
@@ -47,8 +49,8 @@ module _ (tells : Bool) (k : Bookkeeping) (m : Blocks) (number off : ℕ) (ys : 
       (stores.stored_or tells k m number off ys o p d f e table geom opened fits some w from upto keeps)
 
   module _ (told : IsTrue tells) (sound : IsSoundDraft k m d) (free : (b : ℕ) → IsReusable k.geom k.reusable b → k.marked b ≡ false)
-      (used : used_node k.geom (drafted d m) number ≡ Some (node_of_open o)) (back : (xs : List ℕ) → run_places (runs_of xs) ≡ xs) (count : (xs : List ℕ) → length (runs_of xs) ≡ stretches xs) (tidy : (xs : List ℕ) → AreTidy (runs_of xs))
-      (at_table : table ≡ drafted d m (node_block k.geom number)) (few : off + length ys ≤ 2 ^ 30) (slots : o.kind ≡ Dir → max o.size (off + length ys) % 64 ≡ 0) (changes : ChangesSome e) where
+      (used : used_node k.geom (drafted d m) number ≡ Some (node_of_open k.geom.layout o)) (back : (xs : List ℕ) → run_places (runs_of xs) ≡ xs) (count : (xs : List ℕ) → length (runs_of xs) ≡ stretches xs) (tidy : (xs : List ℕ) → AreTidy (runs_of xs))
+      (at_table : table ≡ drafted d m (node_block k.geom number)) (few : off + length ys ≤ 2 ^ 30) (slots : o.kind ≡ Dir → AreWholeSlots k.geom.layout (max o.size (off + length ys))) (changes : ChangesSome e) where
     abbrev kept : ℕ → Bool
     kept = is_kept d.kept
 
@@ -97,23 +99,51 @@ module _ (tells : Bool) (k : Bookkeeping) (m : Blocks) (number off : ℕ) (ys : 
         subst (λ n. Grows k x before after (min off n) hi d e) (sym is.0)
         (subst (λ ps. Grows k x ps after (min off o.size) hi d e) (sym before_is) (subst (λ ps. Grows k x o.places ps (min off o.size) hi d e) (sym after_is) (grew_o x is.1)))
 
+    alone : is_dir o.kind ≡ true → All (λ b. is_kept d.kept b ≡ false) o.places
+    alone dir = writes.dir_alone tells k m number off ys o p d f geom opened fits some w told sound free used back dir
+
     -- a directory's new blocks stand behind those that it had
     behind : is_dir o.kind ≡ true → (b : ℕ) → has extra b ≡ true → has (drop (length o.places) p.places) b ≡ true
     behind dir b is =
-        let alone = stores.dir_alone tells k m number off ys o p d f e table geom opened fits some w from upto keeps told sound free used back count tidy at_table few slots dir in
-        ap (λ xs. has (drop (length o.places) xs) b) (its_places ∙ none_placed kept o.places alone (min off o.size) hi extra) ∙ ap (λ xs. has xs b) (drop_behind o.places extra) ∙ is
+        ap (λ xs. has (drop (length o.places) xs) b) (writes.dir_placed tells k m number off ys o p d f geom opened fits some w dir (alone dir)) ∙ ap (λ xs. has xs b) (drop_behind o.places extra) ∙ is
 
-    among_o : ChangesAmong (may_change k.geom kept number o.kind o.places (drop (length o.places) p.places) o.size (min off o.size) hi) d e
-    among_o = kept_known k.geom kept number (min off o.size) hi o p extra (drop (length o.places) p.places) d (writes.its tells k m number off ys o p d f geom opened fits some w).base f e table keeps
+    -- where the bytes begin that were written
+    abbrev start : ℕ
+    start = if is_dir o.kind then off else min off o.size
+
+    start_dir : is_dir o.kind ≡ true → off ≡ start
+    start_dir dir = sym (ap (λ t. if t then off else min off o.size) dir)
+
+    start_file : is_dir o.kind ≡ false → min off o.size ≡ start
+    start_file not_dir = sym (ap (λ t. if t then off else min off o.size) not_dir)
+
+    wrote_from : WritesContent (class_of o.kind) (met start hi p.places) (writes.its tells k m number off ys o p d f geom opened fits some w).base f
+    wrote_from = ⊎_elim (λ dir. subst (λ n. WritesContent (class_of o.kind) (met n hi p.places) (writes.its tells k m number off ys o p d f geom opened fits some w).base f) (start_dir dir)
+        (writes.dir_wrote tells k m number off ys o p d f geom opened fits some w dir (alone dir)))
+        (λ file. subst (λ n. WritesContent (class_of o.kind) (met n hi p.places) (writes.its tells k m number off ys o p d f geom opened fits some w).base f) (start_file file)
+        (writes.all_wrote tells k m number off ys o p d f geom opened fits some w))
+        (cases_Bool (is_dir o.kind))
+
+    stays : (b : ℕ) → has (met start hi p.places) b ≡ true → has extra b ≡ false → (has (met start hi o.places) b ≡ true) × (kept b ≡ false)
+    stays b is out = ⊎_elim (λ dir.
+        let front = met_front start hi o.places extra b (ap (λ xs. has (met start hi xs) b) (sym (writes.dir_placed tells k m number off ys o p d f geom opened fits some w dir (alone dir))) ∙ is) out in
+        (front, each_of (λ c. kept c ≡ false) o.places (alone dir) b (met_in start hi o.places b front)))
+        (λ file. subst (λ n. (has (met n hi o.places) b ≡ true) × (kept b ≡ false)) (start_file file)
+        (met_old kept (min off o.size) hi o.places p.places extra its_places many b (writes.less tells k m number off ys o p d f geom opened fits some w)
+        (ap (λ n. has (met n hi p.places) b) (start_file file) ∙ is) out))
+        (cases_Bool (is_dir o.kind))
+
+    among_o : ChangesAmong (may_change k.geom kept number o.kind o.places (drop (length o.places) p.places) o.size start (min off o.size) hi) d e
+    among_o = kept_known k.geom kept number start (min off o.size) hi o p extra (drop (length o.places) p.places) d (writes.its tells k m number off ys o p d f geom opened fits some w).base f e table keeps
         (ap (λ (q : OpenNode). q.size) (writes.its tells k m number off ys o p d f geom opened fits some w).node) opened.used
-        (writes.all_wrote tells k m number off ys o p d f geom opened fits some w) (writes.its tells k m number off ys o p d f geom opened fits some w).takes
-        (λ b is out. met_old kept (min off o.size) hi o.places p.places extra its_places many b (writes.less tells k m number off ys o p d f geom opened fits some w) is out) behind
+        wrote_from (writes.its tells k m number off ys o p d f geom opened fits some w).takes stays behind
 
-    among : (x : FileNode) → files_of k.geom (drafted d m) number ≡ Some x → ChangesAmong (written_blocks k.geom kept number x before (drop (length before) after) (min off (length x.bytes)) hi) d e
+    among : (x : FileNode) → files_of k.geom (drafted d m) number ≡ Some x → ChangesAmong (written_blocks k.geom kept number x before (drop (length before) after) off hi) d e
     among x at =
         let is = stores.file_size tells k m number off ys o p d f e table geom opened fits some w from upto keeps told sound free used back count tidy at_table few slots x at in
-        let all : may_change k.geom kept number x.kind before (drop (length before) after) (length x.bytes) (min off (length x.bytes)) hi ≡ may_change k.geom kept number o.kind o.places (drop (length o.places) p.places) o.size (min off o.size) hi
-        = (λ i. may_change k.geom kept number (is.1 i) (before_is i) (drop (length (before_is i)) (after_is i)) (is.0 i) (min off (is.0 i)) hi) in
+        let all : may_change k.geom kept number x.kind before (drop (length before) after) (length x.bytes) (written_from x off) (min off (length x.bytes)) hi
+        ≡ may_change k.geom kept number o.kind o.places (drop (length o.places) p.places) o.size start (min off o.size) hi
+        = (λ i. may_change k.geom kept number (is.1 i) (before_is i) (drop (length (before_is i)) (after_is i)) (is.0 i) (if is_dir (is.1 i) then off else min off (is.0 i)) (min off (is.0 i)) hi) in
         subst (λ bs. ChangesAmong bs d e) (sym all) among_o
 
     pub file_written : WritesFile k m number off ys d e
@@ -148,8 +178,8 @@ module _ (tells : Bool) (k : Bookkeeping) (m : Blocks) (number off : ℕ) (ys : 
 module _ (tells : Bool) (s t : State) (g : Geometry) (number off : ℕ) (ys : List ℕ) (o p : OpenNode) (d f e : DraftState) (table : List ℕ) (here : g ≡ s.books.geom) (geom : IsGeometry g) (opened : IsOpen s.books.geom o) (is : IsDraftOf tells s d) (settles : LooksAndSettles tells false false s t) (some : (0 < length ys) ⊎ (o.size < off))
     (w : WritesOpen tells t.books s.map off ys o p d f) (from : 1 ≤ number) (upto : number ≤ s.books.geom.i) (keeps : KeepsSize g number (off + length ys) (taken_by (is_kept d.kept) (min off o.size) (off + length ys) o.places) p table f e)
     (free : (b : ℕ) → IsReusable t.books.geom t.books.reusable b → t.books.marked b ≡ false)
-    (used : IsTrue tells → used_node s.books.geom (drafted d s.map) number ≡ Some (node_of_open o)) (back : (xs : List ℕ) → run_places (runs_of xs) ≡ xs) (count : (xs : List ℕ) → length (runs_of xs) ≡ stretches xs) (tidy : (xs : List ℕ) → AreTidy (runs_of xs))
-    (at_table : IsTrue tells → table ≡ drafted d s.map (node_block s.books.geom number)) (few : off + length ys ≤ 2 ^ 30) (slots : IsTrue tells → o.kind ≡ Dir → max o.size (off + length ys) % 64 ≡ 0) where
+    (used : IsTrue tells → used_node s.books.geom (drafted d s.map) number ≡ Some (node_of_open s.books.geom.layout o)) (back : (xs : List ℕ) → run_places (runs_of xs) ≡ xs) (count : (xs : List ℕ) → length (runs_of xs) ≡ stretches xs) (tidy : (xs : List ℕ) → AreTidy (runs_of xs))
+    (at_table : IsTrue tells → table ≡ drafted d s.map (node_block s.books.geom number)) (few : off + length ys ≤ 2 ^ 30) (slots : IsTrue tells → o.kind ≡ Dir → AreWholeSlots s.books.geom.layout (max o.size (off + length ys))) where
   to : s.books.geom ≡ t.books.geom
   to = sym settles.pipeline.geom
 
@@ -171,11 +201,14 @@ module _ (tells : Bool) (s t : State) (g : Geometry) (number off : ℕ) (ys : Li
   sound_t : IsTrue tells → IsSoundDraft t.books s.map d
   sound_t told = subst (λ (m : Blocks). IsSoundDraft t.books m d) (settles.map told) (moved.sound told)
 
-  used_t : IsTrue tells → used_node t.books.geom (drafted d s.map) number ≡ Some (node_of_open o)
-  used_t told = subst (λ (h : Geometry). used_node h (drafted d s.map) number ≡ Some (node_of_open o)) to (used told)
+  used_t : IsTrue tells → used_node t.books.geom (drafted d s.map) number ≡ Some (node_of_open t.books.geom.layout o)
+  used_t told = subst (λ (h : Geometry). used_node h (drafted d s.map) number ≡ Some (node_of_open h.layout o)) to (used told)
 
   table_t : IsTrue tells → table ≡ drafted d s.map (node_block t.books.geom number)
   table_t told = subst (λ (h : Geometry). table ≡ drafted d s.map (node_block h number)) to (at_table told)
+
+  slots_t : IsTrue tells → o.kind ≡ Dir → AreWholeSlots t.books.geom.layout (max o.size (off + length ys))
+  slots_t told dir = subst (λ (h : Geometry). AreWholeSlots h.layout (max o.size (off + length ys))) to (slots told dir)
 
   loaded_changes : ChangesSome e
   loaded_changes = kept_changes tells t.books s.map number off ys o p d f e table geom_t opened_t moved.fits some w from upto_t keeps_t is.content
@@ -184,7 +217,7 @@ module _ (tells : Bool) (s t : State) (g : Geometry) (number off : ℕ) (ys : Li
   loaded_draft = record {
     fits = stores.kept_fits tells t.books s.map number off ys o p d f e table geom_t opened_t moved.fits some w from upto_t keeps_t;
     sound = λ told. subst (λ (m : Blocks). IsSoundDraft t.books m e) (sym (settles.map told))
-        (stores.kept_sound tells t.books s.map number off ys o p d f e table geom_t opened_t moved.fits some w from upto_t keeps_t told (sound_t told) free (used_t told) back count tidy (table_t told) few (slots told)).0;
+        (stores.kept_sound tells t.books s.map number off ys o p d f e table geom_t opened_t moved.fits some w from upto_t keeps_t told (sound_t told) free (used_t told) back count tidy (table_t told) few (slots_t told)).0;
     content = λ b is. loaded_changes;
   }
 
@@ -192,4 +225,4 @@ module _ (tells : Bool) (s t : State) (g : Geometry) (number off : ℕ) (ys : Li
   loaded_kept = stores.kept_kept tells t.books s.map number off ys o p d f e table geom_t opened_t moved.fits some w from upto_t keeps_t
 
   pub loaded_file : IsTrue tells → WritesFile t.books s.map number off ys d e
-  loaded_file told = file_written tells t.books s.map number off ys o p d f e table geom_t opened_t moved.fits some w from upto_t keeps_t told (sound_t told) free (used_t told) back count tidy (table_t told) few (slots told) loaded_changes
+  loaded_file told = file_written tells t.books s.map number off ys o p d f e table geom_t opened_t moved.fits some w from upto_t keeps_t told (sound_t told) free (used_t told) back count tidy (table_t told) few (slots_t told) loaded_changes

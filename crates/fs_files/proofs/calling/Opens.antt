@@ -20,7 +20,7 @@ use Rattle.fs_files.specs.Growing.{edge_of, placed, taken_by, CopiesEdge, Copies
 use Rattle.fs_files.specs.Nodes.{class_of}
 use Rattle.fs_files.specs.Places.{has_place}
 use Rattle.fs_files.specs.Shared.{is_kept}
-use Rattle.fs_files.specs.Writing.{FillsBytes, FillsGap, HasRoom, WritesOpen}
+use Rattle.fs_files.specs.Writing.{FillsBytes, FillsGap, HasRoom, WritesOpen, gap_end}
 use Rattle.fs_files.proofs.bytes.Pieces.{writes_none}
 use Rattle.fs_files.proofs.calling.Came.{news, none_placed}
 use Rattle.fs_files.proofs.drafts.Lists.{each_of}
@@ -130,7 +130,7 @@ fills_map tells m n off held ys node d f map fills = record {
     none = fills.gap.none;
     writes = fills.gap.writes;
     content = λ told. subst (λ (x : Blocks). HasContent x d node.places → HasContent x fills.filled node.places) (map told) (fills.gap.content told);
-    bytes = λ told. subst (λ (x : Blocks). HasContent x d node.places → node.size < off → joined (drafted fills.filled x) node.places ≡ overwrite node.size (replicate (min off (1024 * held) - node.size) 0) (joined (drafted d x) node.places)) (map told) (fills.gap.bytes told);
+    bytes = λ told. subst (λ (x : Blocks). HasContent x d node.places → node.size < gap_end node off → joined (drafted fills.filled x) node.places ≡ overwrite node.size (replicate (min (gap_end node off) (1024 * held) - node.size) 0) (joined (drafted d x) node.places)) (map told) (fills.gap.bytes told);
   };
   writes = fills.writes;
   some = fills.some;

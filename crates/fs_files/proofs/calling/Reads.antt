@@ -1,17 +1,17 @@
 -- A call on a file that reads its bytes, and one that looks up the rest of it.
-use Rattle.std.proofs.Common.{◌≡◌, ℕ, zero, suc, ◌+◌, ◌-◌, ◌*◌, ◌%◌, ◌<◌, ◌≤◌, ◌&&◌, nat_le, Bool, true, false, min, List, [], ◌∷◌, length, take, drop, All, Option, Some, None, option_map, slice_get, refl, sym, ap, ◌∙◌, arith, subst, drop_of_length-le}
+use Rattle.std.proofs.Common.{◌≡◌, ℕ, zero, suc, ◌+◌, ◌-◌, ◌*◌, ◌<◌, ◌≤◌, ◌&&◌, nat_le, Bool, true, false, min, List, [], ◌∷◌, length, take, drop, All, Option, Some, None, option_map, slice_get, refl, sym, ap, ◌∙◌, arith, subst, drop_of_length-le}
 use Rattle.std.proofs.lemmas.List.{take_all}
 use Rattle.std.proofs.lemmas.Bool.{false≢true, lt-leb}
 use Rattle.std.proofs.lemmas.Bool.Decides.{nat_tests}
 use Rattle.base_types.specs.Seal.{Blocks}
 use Rattle.base_types.specs.Runs.{run_places}
+use Rattle.base_types.specs.declared.layout.Layout.{Layout}
 use Rattle.layout_extent.specs.Runs.{runs_of}
 use Rattle.layout_geometry.specs.Geometry.{Geometry}
 use Rattle.layout_bytes.specs.declared.node.Node.{Node}
-use Rattle.layout_bytes.specs.declared.node.NodeKind.{NodeKind}
 use Rattle.layout_bytes.specs.declared.node.NodeKind.TheVariants.{Dir}
 use Rattle.layout_bytes.specs.Bytes.{when}
-use Rattle.layout_bytes.specs.Node.{kind_fits, node_at}
+use Rattle.layout_bytes.specs.Node.{content_of, node_at}
 use Rattle.engine_blocks.specs.Puts.{IsData}
 use Rattle.engine_blocks.specs.State.{Bookkeeping, State}
 use Rattle.crash_stands.specs.Files.{FileNode, file_of, files_of, used_node, joined}
@@ -20,26 +20,27 @@ use Rattle.fs_files.specs.Bytes.{blocks_for}
 use Rattle.fs_files.specs.Calls.{block_bytes, facts_of, files_in, places_of, places_or_none}
 use Rattle.fs_files.specs.Content.{HasContent}
 use Rattle.fs_files.specs.Drafts.{DraftState, drafted}
-use Rattle.fs_files.specs.Nodes.{node_of_open}
+use Rattle.fs_files.specs.Contents.{content_of_size, whole_content}
+use Rattle.fs_files.specs.Nodes.{node_of_open, AreWholeSlots}
 use Rattle.fs_files.specs.Sound.{AreSoundBy, IsSoundDraft}
 use Rattle.fs_files.proofs.bytes.Contents.{read_part}
 use Rattle.fs_files.proofs.bytes.Joins.{of_place, joined_length, joined_part}
 use Rattle.fs_files.proofs.bytes.Known.{content_known}
 use Rattle.fs_files.proofs.bytes.Sizes.{blocks_hold}
 use Rattle.fs_files.proofs.calling.Nodes.{its_file}
-use Rattle.fs_files.proofs.frames.Places.{file_node, node_file, places_needed, used_fits, used_length, parts_fit}
+use Rattle.fs_files.proofs.frames.Places.{file_node, node_file, places_needed, used_fits, used_length}
 
 -- a node in use is what is looked up of its file
-pub looked_up : (s : State) (d : DraftState) (number : ℕ) (o : OpenNode) → IsSoundDraft s.books s.map d → option_map node_of_open (Some o) ≡ used_node s.books.geom (drafted d s.map) number
+pub looked_up : (s : State) (d : DraftState) (number : ℕ) (o : OpenNode) → IsSoundDraft s.books s.map d → (o.kind ≡ Dir → AreWholeSlots s.books.geom.layout o.size) → option_map (node_of_open s.books.geom.layout) (Some o) ≡ used_node s.books.geom (drafted d s.map) number
     → Some (record { kind = o.kind; links = o.links; size = o.size }) ≡ option_map facts_of (files_in s d number)
-looked_up s d number o sound used =
-    let node : Node = node_of_open o in
-    ap (λ n. Some (record { kind = o.kind; links = o.links; size = n })) (sym (used_length s.books.geom sound.live (drafted d s.map) number node sound.blocks (sym used)))
+looked_up s d number o sound whole used =
+    let node : Node = node_of_open s.books.geom.layout o in
+    ap (λ n. Some (record { kind = o.kind; links = o.links; size = n })) (sym (used_length s.books.geom sound.live (drafted d s.map) number node sound.blocks (sym used) ∙ content_of_size s.books.geom.layout o.kind o.size whole))
     ∙ sym (ap (option_map facts_of) (node_file s.books.geom (drafted d s.map) number node (sym used)))
 
 -- and one out of use is none
 pub none_up : (s : State) (d : DraftState) (number : ℕ) → None ≡ used_node s.books.geom (drafted d s.map) number → None ≡ option_map facts_of (files_in s d number)
-none_up s d number none = ap (λ o. option_map facts_of (option_map (file_of (drafted d s.map)) o)) none
+none_up s d number none = ap (λ o. option_map facts_of (option_map (file_of s.books.geom.layout (drafted d s.map)) o)) none
 
 none_by : (a b : Bool) (o : Option Node) → b ≡ false → when (a && b) o ≡ None
 none_by true true o e = absurd (false≢true (sym e))
@@ -48,30 +49,28 @@ none_by false b o e = refl
 
 -- a number above the table's is that of no node
 pub none_above : (g : Geometry) (m : Blocks) (k : ℕ) → g.i < k → files_of g m k ≡ None
-none_above g m k above = ap (option_map (file_of m)) (none_by (nat_le 1 k) (nat_le k g.i) (node_at g m k) (lt-leb k g.i above))
+none_above g m k above = ap (option_map (file_of g.layout m)) (none_by (nat_le 1 k) (nat_le k g.i) (node_at g m k) (lt-leb k g.i above))
 
 -- a directory's bytes are whole slots
-slots : (node : Node) (kind : NodeKind) → kind_fits node kind ≡ true → kind ≡ Dir → node.size % 64 ≡ 0
-slots node kind e h = grind (arith, nat_tests)
-
-pub file_slots : (g : Geometry) (marks : ℕ → Bool) (m : Blocks) (k : ℕ) (x : FileNode) → AreSoundBy g marks m → files_of g m k ≡ Some x → x.kind ≡ Dir → length x.bytes % 64 ≡ 0
+pub file_slots : (g : Geometry) (marks : ℕ → Bool) (m : Blocks) (k : ℕ) (x : FileNode) → AreSoundBy g marks m → files_of g m k ≡ Some x → x.kind ≡ Dir → AreWholeSlots g.layout (length x.bytes)
 file_slots g marks m k x sound at dir =
     let r = file_node g marks m k x sound at in
-    ap (λ n. n % 64) r.3 ∙ slots r.0 r.0.kind (parts_fit g r.0 (used_fits g m k r.0 r.1)).kind (ap (λ (y : FileNode). y.kind) (sym r.2) ∙ dir)
+    subst (λ n. AreWholeSlots g.layout n) (sym r.3) (whole_content g.layout r.0.kind r.0.size (ap (λ (y : FileNode). y.kind) (sym r.2) ∙ dir))
 
 -- the bytes of its blocks from one place to another are those of the file that were asked for
 pub reads : (k : Bookkeeping) (m w : Blocks) (d : DraftState) (number : ℕ) (o : OpenNode) (x : FileNode) (offset len from end : ℕ) (got : List ℕ)
-    → IsSoundDraft k m d → All (IsData k.geom) o.places → length o.places ≡ blocks_for o.size → run_places (runs_of o.places) ≡ o.places
-    → option_map node_of_open (Some o) ≡ used_node k.geom (drafted d m) number → files_of k.geom (drafted d m) number ≡ Some x
+    → IsSoundDraft k m d → All (IsData k.geom) o.places → length o.places ≡ blocks_for o.size → (o.kind ≡ Dir → AreWholeSlots k.geom.layout o.size) → run_places (runs_of o.places) ≡ o.places
+    → option_map (node_of_open k.geom.layout) (Some o) ≡ used_node k.geom (drafted d m) number → files_of k.geom (drafted d m) number ≡ Some x
     → w ≡ m → from ≡ min offset o.size → end ≡ min o.size (from + len)
     → (HasContent w d o.places → got ≡ take (end - from) (drop from (joined (drafted d w) o.places)))
     → got ≡ take len (drop offset x.bytes)
-reads k m w d number o x offset len from end got sound inside count runs used at same from_is end_is bytes =
-    let node : Node = node_of_open o in
+reads k m w d number o x offset len from end got sound inside count whole runs used at same from_is end_is bytes =
+    let node : Node = node_of_open k.geom.layout o in
     let known : HasContent m d (run_places node.runs) = content_known k m d number node sound (sym used) (subst (All (IsData k.geom)) (sym runs) inside) in
     let has : HasContent m d o.places = subst (HasContent m d) runs known in
     let text : x.bytes ≡ take o.size (joined (drafted d m) o.places) =
-    ap (λ (y : FileNode). y.bytes) (its_file k.geom (drafted d m) number x node used at) ∙ ap (λ ps. take o.size (joined (drafted d m) ps)) runs in
+    ap (λ (y : FileNode). y.bytes) (its_file k.geom (drafted d m) number x node used at)
+    ∙ ap (λ n. take n (joined (drafted d m) (run_places (runs_of o.places)))) (content_of_size k.geom.layout o.kind o.size whole) ∙ ap (λ ps. take o.size (joined (drafted d m) ps)) runs in
     let long : o.size ≤ length (joined (drafted d m) o.places) = omega (arith, joined_length (drafted d m) o.places has.whole, count, (blocks_hold o.size).0) in
     bytes (subst (λ v. HasContent v d o.places) (sym same) has)
     ∙ ap (λ v. take (end - from) (drop from (joined (drafted d v) o.places))) same
@@ -114,8 +113,8 @@ places_whole k m d number node ps sound used same inside =
     subst (All (λ q. length (drafted d m q) ≡ 1024)) (sym same) (content_known k m d number node sound used (subst (All (IsData k.geom)) same inside)).whole
 
 -- and the first of these are the file's
-text_of : (m : Blocks) (node : Node) (ps : List ℕ) (x : FileNode) → x ≡ file_of m node → ps ≡ run_places node.runs → x.bytes ≡ take node.size (joined m ps)
-text_of m node ps x is same = ap (λ (y : FileNode). y.bytes) is ∙ ap (λ qs. take node.size (joined m qs)) (sym same)
+text_of : (l : Layout) (m : Blocks) (node : Node) (ps : List ℕ) (x : FileNode) → x ≡ file_of l m node → ps ≡ run_places node.runs → x.bytes ≡ take (content_of l node.kind node.size) (joined m ps)
+text_of l m node ps x is same = ap (λ (y : FileNode). y.bytes) is ∙ ap (λ qs. take (content_of l node.kind node.size) (joined m qs)) (sym same)
 
 -- a block that was read begins with the bytes that the file has in it
 pub block_begins : (k : Bookkeeping) (m : Blocks) (d : DraftState) (number index : ℕ) (ps block : List ℕ) (x : FileNode) → IsSoundDraft k m d → All (IsData k.geom) ps → files_of k.geom (drafted d m) number ≡ Some x → ps ≡ places_of k.geom (drafted d m) number
@@ -131,8 +130,8 @@ block_begins k m d number index ps block x sound inside at ps_are b place seen =
     ∙ joined_part (drafted d m) ps index b 0 1024 whole place (omega arith)
     ∙ take_all 1024 (drafted d m b) (omega (arith, big))
     ∙ sym (seen big) in
-    subst (λ bs. take (length (take 1024 (drop (1024 * index) bs))) block ≡ take 1024 (drop (1024 * index) bs)) (sym (text_of (drafted d m) r.0 ps x r.2 same))
-    (begins r.0.size (1024 * index) (joined (drafted d m) ps) block here)
+    subst (λ bs. take (length (take 1024 (drop (1024 * index) bs))) block ≡ take 1024 (drop (1024 * index) bs)) (sym (text_of k.geom.layout (drafted d m) r.0 ps x r.2 same))
+    (begins (content_of k.geom.layout r.0.kind r.0.size) (1024 * index) (joined (drafted d m) ps) block here)
 
 -- and behind its blocks a file has no bytes
 pub block_past : (k : Bookkeeping) (m : Blocks) (d : DraftState) (number index : ℕ) (ps block : List ℕ) (x : FileNode) → IsSoundDraft k m d → All (IsData k.geom) ps → files_of k.geom (drafted d m) number ≡ Some x → ps ≡ places_of k.geom (drafted d m) number

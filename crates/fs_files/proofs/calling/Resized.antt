@@ -4,6 +4,7 @@ use Rattle.std.proofs.lemmas.List.{append-nil, drop_all, take_all}
 use Rattle.std.proofs.lemmas.Bool.Decides.{nat_tests}
 use Rattle.base_types.specs.Runs.{run_places}
 use Rattle.layout_extent.specs.Runs.{runs_of}
+use Rattle.layout_bytes.specs.declared.node.NodeKind.TheVariants.{Dir}
 use Rattle.engine_blocks.specs.State.{Bookkeeping, State, reusable_blocks}
 use Rattle.crash_stands.specs.Files.{FileNode, Files, used_node}
 use Rattle.lang_tree.specs.Step.{resized, written}
@@ -16,7 +17,8 @@ use Rattle.fs_files.specs.Drafts.{DraftState, drafted}
 use Rattle.fs_files.specs.Effects.{LooksOnly}
 use Rattle.fs_files.specs.Growing.{placed, places_after, taken_by}
 use Rattle.fs_files.specs.Shared.{is_kept}
-use Rattle.fs_files.specs.Nodes.{IsOpen, node_of_open}
+use Rattle.fs_files.specs.Contents.{content_of_size}
+use Rattle.fs_files.specs.Nodes.{IsOpen, MayEndAt, node_of_open}
 use Rattle.fs_files.specs.Sound.{IsDraftOf}
 use Rattle.fs_files.proofs.calling.Nodes.{its_file}
 use Rattle.fs_files.proofs.frames.Carry.{files_look, places_look}
@@ -37,14 +39,15 @@ pub record IsRead (tells : Bool) (s t : State) (number : ℕ) (o : OpenNode) (x 
   pub looks : LooksOnly tells false s t
   pub draft : IsDraftOf tells s d
   pub fits : IsOpen s.books.geom o
-  pub is : Some (node_of_open o) ≡ used_node s.books.geom (drafted d s.map) number
+  pub is : Some (node_of_open s.books.geom.layout o) ≡ used_node s.books.geom (drafted d s.map) number
   pub at : files_in s d number ≡ Some x
   pub places : (xs : List ℕ) → run_places (runs_of xs) ≡ xs
 
 module _ (tells : Bool) (s t : State) (number size : ℕ) (o : OpenNode) (x : FileNode) (d : DraftState) (r : IsRead tells s t number o x d) where
   pub read_size : length x.bytes ≡ o.size
-  read_size = ap (λ (y : FileNode). length y.bytes) (its_file s.books.geom (drafted d s.map) number x (node_of_open o) r.is r.at)
-      ∙ used_length s.books.geom (r.draft.sound r.known).live (drafted d s.map) number (node_of_open o) (r.draft.sound r.known).blocks (sym r.is)
+  read_size = ap (λ (y : FileNode). length y.bytes) (its_file s.books.geom (drafted d s.map) number x (node_of_open s.books.geom.layout o) r.is r.at)
+      ∙ used_length s.books.geom (r.draft.sound r.known).live (drafted d s.map) number (node_of_open s.books.geom.layout o) (r.draft.sound r.known).blocks (sym r.is)
+      ∙ content_of_size s.books.geom.layout o.kind o.size r.fits.slots
 
   pub read_places : places_in s d number ≡ o.places
   read_places = ap places_or_none (sym r.is) ∙ r.places o.places
@@ -98,15 +101,14 @@ module _ (tells : Bool) (s t : State) (number size : ℕ) (o : OpenNode) (x : Fi
         (subst (λ hi. IsWithPlaces (places_in s d) new number (places_after (is_kept d.kept) (min size (length x.bytes)) hi (places_in s d number) (reusable_blocks k))) {x = size + 0} {y = size} (omega arith) is)
 
     pub longer_resizes : (k : Bookkeeping) (g : Geometry) (e : DraftState) (new_places : List ℕ) → k.geom ≡ g → Grows k x (places_in s d number) new_places (min size (length x.bytes)) (size + 0) d e
-        → ChangesAmong (written_blocks g (is_kept d.kept) number x (places_in s d number) (drop (length (places_in s d number)) new_places) (min size (length x.bytes)) (size + 0)) d e
+        → ChangesAmong (written_blocks g (is_kept d.kept) number x (places_in s d number) (drop (length (places_in s d number)) new_places) size (size + 0)) d e
         → Resizes k number x (places_in s d number) new_places size d e
     longer_resizes k g e new_places geom grows among = record {
       same = λ same. absurd (omega (arith, same, less));
       changes = λ differs. grows.changes;
       grows = λ more. subst (λ lo. Grows k x (places_in s d number) new_places lo size d e) from_end (subst (λ hi. Grows k x (places_in s d number) new_places (min size (length x.bytes)) hi d e) {x = size + 0} {y = size} (omega arith) grows);
-      grows_among = λ more. subst (λ lo. ChangesAmong (written_blocks k.geom (is_kept d.kept) number x (places_in s d number) (drop (length (places_in s d number)) new_places) lo size) d e) from_end
-          (subst (λ hi. ChangesAmong (written_blocks k.geom (is_kept d.kept) number x (places_in s d number) (drop (length (places_in s d number)) new_places) (min size (length x.bytes)) hi) d e) {x = size + 0} {y = size} (omega arith)
-          (subst (λ (h : Geometry). ChangesAmong (written_blocks h (is_kept d.kept) number x (places_in s d number) (drop (length (places_in s d number)) new_places) (min size (length x.bytes)) (size + 0)) d e) (sym geom) among));
+      grows_among = λ more. subst (λ hi. ChangesAmong (written_blocks k.geom (is_kept d.kept) number x (places_in s d number) (drop (length (places_in s d number)) new_places) size hi) d e) {x = size + 0} {y = size} (omega arith)
+          (subst (λ (h : Geometry). ChangesAmong (written_blocks h (is_kept d.kept) number x (places_in s d number) (drop (length (places_in s d number)) new_places) size (size + 0)) d e) (sym geom) among);
       shrinks = λ shorter. absurd (omega (arith, shorter, less));
       shrinks_among = λ shorter. absurd (omega (arith, shorter, less));
     }
@@ -120,3 +122,9 @@ module _ (tells : Bool) (s t : State) (number size : ℕ) (o : OpenNode) (x : Fi
     pub longer_few : (l : List ℕ) → (length x.bytes < size → taken_by (is_kept d.kept) (length x.bytes) size (places_in s d number) ≤ length l) → taken_by (is_kept d.kept) (min size (length x.bytes)) (size + 0) (places_in s d number) ≤ length l
     longer_few l few = subst (λ lo. taken_by (is_kept d.kept) lo (size + 0) (places_in s d number) ≤ length l) (sym from_end)
         (subst (λ hi. taken_by (is_kept d.kept) (length x.bytes) hi (places_in s d number) ≤ length l) {x = size} {y = size + 0} (omega arith) (few less))
+
+-- where a directory may end before its node was read it may after
+pub ends_then : (tells : Bool) (s t : State) (number count : ℕ) (d : DraftState) → LooksOnly tells false s t → IsTrue tells
+    → ((x : FileNode) → files_in s d number ≡ Some x → x.kind ≡ Dir → MayEndAt s.books.geom.layout x.bytes count) → (x : FileNode) → files_in t d number ≡ Some x → x.kind ≡ Dir → MayEndAt t.books.geom.layout x.bytes count
+ends_then tells s t number count d looks told ends x at dir =
+    subst (λ (k : Bookkeeping). MayEndAt k.geom.layout x.bytes count) (sym looks.books) (ends x (sym (files_look tells false s t d looks told number) ∙ at) dir)

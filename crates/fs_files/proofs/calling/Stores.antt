@@ -1,31 +1,32 @@
 -- A write whose node was stored where its size grew: the draft is one of the blocks again, and the file has the bytes.
-use Rattle.std.proofs.Common.{◌≡◌, ◌≢◌, ◌⊎◌, inl, inr, ℕ, ◌+◌, ◌%◌, ◌^◌, ◌<◌, ◌≤◌, Bool, true, false, not, ◌&&◌, ◌||◌, IsTrue, List, length, take, drop, max, min, All, Some, refl, sym, ap, subst, ◌∙◌, arith, ⊎_elim}
+use Rattle.std.proofs.Common.{◌≡◌, ◌≢◌, ◌⊎◌, inl, inr, ℕ, ◌+◌, ◌^◌, ◌<◌, ◌≤◌, Bool, true, false, not, ◌&&◌, ◌||◌, IsTrue, List, length, take, drop, max, min, All, Some, refl, sym, ap, subst, ◌∙◌, arith, ⊎_elim}
 use Rattle.std.specs.List.{AllPairs}
-use Rattle.std.proofs.lemmas.Bool.{cases_lt, false≢true, false_from_ne_true}
+use Rattle.std.proofs.lemmas.Bool.{cases_lt}
 use Rattle.base_types.specs.Seal.{Blocks}
 use Rattle.base_types.specs.Runs.{run_places}
 use Rattle.base_types.specs.declared.words.Class.TheVariants.{Meta}
+use Rattle.base_types.specs.Layouts.{most_runs, node_byte}
 use Rattle.layout_geometry.specs.Geometry.{IsGeometry, table_start, data_start}
 use Rattle.layout_extent.specs.Runs.{AreTidy, runs_of, stretches}
 use Rattle.layout_bytes.specs.declared.node.Node.{Node}
-use Rattle.layout_bytes.specs.declared.node.NodeKind.TheVariants.{Free, Dir, File}
+use Rattle.layout_bytes.specs.declared.node.NodeKind.TheVariants.{Free, Dir}
 use Rattle.layout_bytes.specs.Bytes.{are_zeros}
-use Rattle.layout_bytes.specs.Node.{node_fits, node_spelling, kind_fits, FitsAs}
+use Rattle.layout_bytes.specs.Node.{content_of, size_of, node_fits, node_spelling, kind_fits, FitsAs}
 use Rattle.engine_blocks.specs.Running.{has}
 use Rattle.engine_blocks.specs.Puts.{IsData}
 use Rattle.engine_blocks.specs.State.{Bookkeeping, IsReusable}
 use Rattle.lang_tree.specs.Step.{written}
-use Rattle.crash_stands.specs.Files.{FileNode, joined, file_of, files_of, used_node}
+use Rattle.crash_stands.specs.Files.{FileNode, joined, past_content, file_of, files_of, used_node}
 use Rattle.fs_files.specs.declared.changes.Changed.{Changed}
 use Rattle.fs_files.specs.declared.nodes.OpenNode.{OpenNode}
 use Rattle.fs_files.specs.Bytes.{blocks_for, met, overwrite}
-use Rattle.fs_files.specs.Calls.{IsWithFile, is_dir, with_bytes, places_or_none, places_of}
+use Rattle.fs_files.specs.Calls.{IsWithFile, with_bytes, places_or_none, places_of}
 use Rattle.fs_files.specs.Content.{WritesContent}
+use Rattle.fs_files.specs.Contents.{blocks_of_size, content_of_size}
 use Rattle.fs_files.specs.Drafts.{DraftState, drafted, PutsBlock}
 use Rattle.fs_files.specs.Frames.{used_of, ReadsBack}
 use Rattle.fs_files.specs.Growing.{placed, taken_by}
-use Rattle.fs_files.specs.Nodes.{class_of, node_of_open, node_block, node_byte, IsOpen}
-use Rattle.fs_files.specs.Places.{place_of}
+use Rattle.fs_files.specs.Nodes.{class_of, node_of_open, node_block, AreWholeSlots, IsOpen}
 use Rattle.fs_files.specs.Shared.{is_kept}
 use Rattle.fs_files.specs.Sound.{FitsBooks, IsSoundDraft}
 use Rattle.fs_files.specs.Writing.{WritesOpen, KeepsSize, with_size}
@@ -34,7 +35,7 @@ use Rattle.fs_files.proofs.frames.After.{IsStored, stored_after, stored_renewed,
 use Rattle.fs_files.proofs.frames.Cells.{block_from, block_below}
 use Rattle.fs_files.proofs.frames.Fits.{fits_with}
 use Rattle.fs_files.proofs.frames.Frames.{node_places}
-use Rattle.fs_files.proofs.frames.Places.{all_of, used_length, parts_fit}
+use Rattle.fs_files.proofs.frames.Places.{used_length, parts_fit}
 use Rattle.fs_files.proofs.frames.Puts.{put_fits}
 use Rattle.fs_files.proofs.frames.Spelled.{fits_as, used_some}
 use Rattle.fs_files.proofs.frames.Steps.{file_is, file_bytes, node_kept}
@@ -66,7 +67,7 @@ module _ (tells : Bool) (k : Bookkeeping) (m : Blocks) (number off : ℕ) (ys : 
   high = block_below k.geom number geom.whole_blocks from upto
 
   abbrev put : Changed
-  put = record { class = Meta; bytes = overwrite (node_byte number) (node_spelling (with_size p (max p.size hi))) table }
+  put = record { class = Meta; bytes = overwrite (node_byte k.geom.layout number) (node_spelling k.geom.layout (with_size k.geom.layout p (max p.size hi))) table }
 
   fits_f : FitsBooks k f
   fits_f = writes.wrote_fits tells k m number off ys o p d f geom opened fits some w
@@ -90,13 +91,13 @@ module _ (tells : Bool) (k : Bookkeeping) (m : Blocks) (number off : ℕ) (ys : 
       stored_or ∙ writes.wrote_kept tells k m number off ys o p d f geom opened fits some w
 
   module _ (told : IsTrue tells) (sound : IsSoundDraft k m d) (free : (b : ℕ) → IsReusable k.geom k.reusable b → k.marked b ≡ false)
-      (used : used_node k.geom (drafted d m) number ≡ Some (node_of_open o)) (back : (xs : List ℕ) → run_places (runs_of xs) ≡ xs) (count : (xs : List ℕ) → length (runs_of xs) ≡ stretches xs) (tidy : (xs : List ℕ) → AreTidy (runs_of xs))
-      (at_table : table ≡ drafted d m (node_block k.geom number)) (few : off + length ys ≤ 2 ^ 30) (slots : o.kind ≡ Dir → wide % 64 ≡ 0) where
+      (used : used_node k.geom (drafted d m) number ≡ Some (node_of_open k.geom.layout o)) (back : (xs : List ℕ) → run_places (runs_of xs) ≡ xs) (count : (xs : List ℕ) → length (runs_of xs) ≡ stretches xs) (tidy : (xs : List ℕ) → AreTidy (runs_of xs))
+      (at_table : table ≡ drafted d m (node_block k.geom number)) (few : off + length ys ≤ 2 ^ 30) (slots : o.kind ≡ Dir → AreWholeSlots k.geom.layout wide) where
     abbrev old : Node
-    old = node_of_open o
+    old = node_of_open k.geom.layout o
 
     abbrev new : Node
-    new = with_size p wide
+    new = with_size k.geom.layout p wide
 
     node_is : p ≡ record o { places = placed (is_kept d.kept) (min off o.size) (off + length ys) o.places extra }
     node_is = (writes.its tells k m number off ys o p d f geom opened fits some w).node
@@ -114,19 +115,30 @@ module _ (tells : Bool) (k : Bookkeeping) (m : Blocks) (number off : ℕ) (ys : 
     wide_is = ap (λ n. max n hi) size_is
 
     -- the places fit
-    pub stretched : stretches p.places ≤ 28
+    pub stretched : stretches p.places ≤ most_runs k.geom.layout
     stretched = (writes.its tells k m number off ys o p d f geom opened fits some w).runs opened.runs
 
     counted : length p.places ≡ blocks_for wide
     counted = omega (arith, writes.its_count tells k m number off ys o p d f geom opened fits some w, opened.count)
 
+    slots_now : p.kind ≡ Dir → AreWholeSlots k.geom.layout wide
+    slots_now dir = slots (sym kind_is ∙ dir)
+
+    -- as many bytes as its size tells
+    tells_wide : content_of k.geom.layout p.kind (size_of k.geom.layout p.kind wide) ≡ wide
+    tells_wide = content_of_size k.geom.layout p.kind wide slots_now
+
+    tells_old : content_of k.geom.layout o.kind (size_of k.geom.layout o.kind o.size) ≡ o.size
+    tells_old = content_of_size k.geom.layout o.kind o.size opened.slots
+
     fit : node_fits k.geom new ≡ true
     fit =
         let l = parts_fit k.geom old opened.fits in
         let linked_p : 0 < p.links = omega (arith, links_is, l.links) in
-        fits_with k.geom p.kind p.links wide p.places (back p.places) (count p.places) (tidy p.places) linked_p stretched (writes.all_inside tells k m number off ys o p d f geom opened fits some w) counted
-        (subst (λ (q : OpenNode). kind_fits (record { kind = q.kind; links = q.links; size = wide; runs = runs_of p.places }) q.kind ≡ true) (sym node_is)
-        (sized_kind o.kind o.links o.size wide (runs_of o.places) (runs_of p.places) slots (λ file. omega (arith, opened.file file, few)) l.kind))
+        fits_with k.geom p.kind p.links (size_of k.geom.layout p.kind wide) p.places (back p.places) (count p.places) (tidy p.places) linked_p stretched (writes.all_inside tells k m number off ys o p d f geom opened fits some w)
+        (counted ∙ sym (blocks_of_size k.geom.layout p.kind wide slots_now))
+        (subst (λ (q : OpenNode). kind_fits (record { kind = q.kind; links = q.links; size = size_of k.geom.layout q.kind wide; runs = runs_of p.places }) q.kind ≡ true) (sym node_is)
+        (sized_kind k.geom.layout o.kind o.links (size_of k.geom.layout o.kind o.size) wide (runs_of o.places) (runs_of p.places) (λ file. omega (arith, opened.file file, few)) l.kind))
 
     used_kind : p.kind ≢ Free
     used_kind e = opened.used (sym kind_is ∙ e)
@@ -141,16 +153,14 @@ module _ (tells : Bool) (k : Bookkeeping) (m : Blocks) (number off : ℕ) (ys : 
     whole_f = (writes.content_after tells k m number off ys o p d f geom opened fits some w told sound free used back).whole
 
     -- the bytes past the end of a directory
-    tail_before : o.kind ≡ Dir → IsTrue (are_zeros (drop o.size (joined (drafted d m) o.places)))
-    tail_before dir = subst (λ xs. IsTrue (are_zeros (drop o.size (joined (drafted d m) xs)))) (back o.places) (sound.blocks.tail number old used dir)
-
     tail_after : o.kind ≡ Dir → IsTrue (are_zeros (drop wide (joined (drafted f m) p.places)))
-    tail_after dir = writes.tail_written tells k m number off ys o p d f geom opened fits some w told sound free used back (tail_before dir)
+    tail_after dir = writes.tail_written tells k m number off ys o p d f geom opened fits some w told sound free used back (writes.tail_before tells k m number off ys o p d f geom opened fits some w told sound free used back dir)
 
     bytes_after : (x : FileNode) → files_of k.geom (drafted d m) number ≡ Some x → take wide (joined (drafted f m) p.places) ≡ written off ys x.bytes
     bytes_after x at =
         writes.bytes_written tells k m number off ys o p d f geom opened fits some w told sound free used back
         ∙ ap (λ xs. written off ys (take o.size (joined (drafted d m) xs))) (sym (back o.places))
+        ∙ ap (λ n. written off ys (take n (joined (drafted d m) (run_places (runs_of o.places))))) (sym tells_old)
         ∙ ap (λ (y : FileNode). written off ys y.bytes) (sym (its_file k.geom (drafted d m) number x old (sym used) at))
 
     abbrev Sound : Type 0
@@ -160,16 +170,16 @@ module _ (tells : Bool) (k : Bookkeeping) (m : Blocks) (number off : ℕ) (ys : 
     now b = has p.places b || (sound.live b && not (has o.places b))
 
     module _ (grew : (p.size < hi) ⊎ (0 < need)) where
-      puts : PutsBlock (node_block k.geom number) (record { class = Meta; bytes = overwrite (node_byte number) (node_spelling new) table }) f e
-      puts = subst (λ n. PutsBlock (node_block k.geom number) (record { class = Meta; bytes = overwrite (node_byte number) (node_spelling (with_size p n)) table }) f e) wide_is (keeps.puts grew)
+      puts : PutsBlock (node_block k.geom number) (record { class = Meta; bytes = overwrite (node_byte k.geom.layout number) (node_spelling k.geom.layout new) table }) f e
+      puts = subst (λ n. PutsBlock (node_block k.geom number) (record { class = Meta; bytes = overwrite (node_byte k.geom.layout number) (node_spelling k.geom.layout (with_size k.geom.layout p n)) table }) f e) wide_is (keeps.puts grew)
 
       reads : ReadsBack k.geom new
-      reads = subst (λ n. FitsAs k.geom (with_size p n) p.kind → ReadsBack k.geom (with_size p n)) wide_is (keeps.back grew) (fits_as k.geom new used_kind fit)
+      reads = subst (λ n. FitsAs k.geom (with_size k.geom.layout p n) p.kind → ReadsBack k.geom (with_size k.geom.layout p n)) wide_is (keeps.back grew) (fits_as k.geom new used_kind fit)
 
       stored : IsStored k now m number new d f e
-      stored = stored_after k sound.live now m number new (record { class = Meta; bytes = overwrite (node_byte number) (node_spelling new) table }) d f e geom from upto sound.blocks fits_f
+      stored = stored_after k sound.live now m number new (record { class = Meta; bytes = overwrite (node_byte k.geom.layout number) (node_spelling k.geom.layout new) table }) d f e geom from upto sound.blocks fits_f
           (writes.now_rules tells k m number off ys o p d f geom opened fits some w told sound free used back) (writes.wrote_kept tells k m number off ys o p d f geom opened fits some w) table_same
-          (ap (overwrite (node_byte number) (node_spelling new)) at_table) puts reads
+          (ap (overwrite (node_byte k.geom.layout number) (node_spelling k.geom.layout new)) at_table) puts reads
 
       inside_new : All (IsData k.geom) (run_places (runs_of p.places))
       inside_new = subst (All (IsData k.geom)) (sym (back p.places)) (writes.all_inside tells k m number off ys o p d f geom opened fits some w)
@@ -177,8 +187,9 @@ module _ (tells : Bool) (k : Bookkeeping) (m : Blocks) (number off : ℕ) (ys : 
       whole_new : All (λ b. length (drafted f m b) ≡ 1024) (run_places (runs_of p.places))
       whole_new = subst (All (λ b. length (drafted f m b) ≡ 1024)) (sym (back p.places)) whole_f
 
-      tail_new : p.kind ≡ Dir → IsTrue (are_zeros (drop wide (joined (drafted f m) (run_places (runs_of p.places)))))
-      tail_new dir = subst (λ xs. IsTrue (are_zeros (drop wide (joined (drafted f m) xs)))) (sym (back p.places)) (tail_after (sym kind_is ∙ dir))
+      tail_new : p.kind ≡ Dir → IsTrue (are_zeros (past_content k.geom.layout (drafted f m) new))
+      tail_new dir = subst (λ n. IsTrue (are_zeros (drop n (joined (drafted f m) (run_places (runs_of p.places)))))) (sym tells_wide)
+          (subst (λ xs. IsTrue (are_zeros (drop wide (joined (drafted f m) xs)))) (sym (back p.places)) (tail_after (sym kind_is ∙ dir)))
 
       was_new : (b : ℕ) → has (run_places (runs_of p.places)) b ≡ has p.places b
       was_new b = ap (λ xs. has xs b) (back p.places)
@@ -186,7 +197,7 @@ module _ (tells : Bool) (k : Bookkeeping) (m : Blocks) (number off : ℕ) (ys : 
       was_old : (b : ℕ) → has (run_places (runs_of o.places)) b ≡ has o.places b
       was_old b = ap (λ xs. has xs b) (back o.places)
 
-      all_stored : IsSoundDraft k m e × IsWithFile (files_of k.geom (drafted d m)) (files_of k.geom (drafted e m)) number (Some (file_of (drafted e m) new))
+      all_stored : IsSoundDraft k m e × IsWithFile (files_of k.geom (drafted d m)) (files_of k.geom (drafted e m)) number (Some (file_of k.geom.layout (drafted e m) new))
       all_stored = stored_renewed k m number new old d f e now sound stored kind_is (used_some new used_kind) used inside_new whole_new tail_new
           extra
           (λ b is. ⊎_elim (λ mine. inl (was_old b ∙ mine))
@@ -202,9 +213,10 @@ module _ (tells : Bool) (k : Bookkeeping) (m : Blocks) (number off : ℕ) (ys : 
       sound_more : Sound
       sound_more = (
         all_stored.0,
-        λ x at. file_is (files_of k.geom (drafted d m)) (files_of k.geom (drafted e m)) number (Some (file_of (drafted e m) new)) (Some (with_bytes x (written off ys x.bytes)))
-            (file_bytes (drafted d m) (drafted e m) old new x (written off ys x.bytes) (its_file k.geom (drafted d m) number x old (sym used) at) kind_is links_is
+        λ x at. file_is (files_of k.geom (drafted d m)) (files_of k.geom (drafted e m)) number (Some (file_of k.geom.layout (drafted e m) new)) (Some (with_bytes x (written off ys x.bytes)))
+            (file_bytes k.geom.layout (drafted d m) (drafted e m) old new x (written off ys x.bytes) (its_file k.geom (drafted d m) number x old (sym used) at) kind_is links_is
             (stored_content k m number new old d f e now sound stored kind_is (used_some new used_kind) used inside_new whole_new tail_new
+            ∙ ap (λ n. take n (joined (drafted f m) (run_places (runs_of p.places)))) tells_wide
             ∙ ap (λ xs. take wide (joined (drafted f m) xs)) (back p.places) ∙ bytes_after x at))
             all_stored.1,
       )
@@ -228,17 +240,17 @@ module _ (tells : Bool) (k : Bookkeeping) (m : Blocks) (number off : ℕ) (ys : 
       sound_enough : Sound
       sound_enough =
           let whole : All (λ b. length (drafted f m b) ≡ 1024) (run_places (runs_of o.places)) = subst (All (λ b. length (drafted f m b) ≡ 1024)) old_places whole_f in
-          let tail : o.kind ≡ Dir → IsTrue (are_zeros (drop o.size (joined (drafted f m) (run_places (runs_of o.places))))) =
-          λ dir. subst (λ n. IsTrue (are_zeros (drop n (joined (drafted f m) (run_places (runs_of o.places)))))) wide_old (subst (λ xs. IsTrue (are_zeros (drop wide (joined (drafted f m) xs)))) old_places (tail_after dir)) in
+          let tail : o.kind ≡ Dir → IsTrue (are_zeros (past_content k.geom.layout (drafted f m) old)) =
+          λ dir. subst (λ n. IsTrue (are_zeros (drop n (joined (drafted f m) (run_places (runs_of o.places)))))) (wide_old ∙ sym tells_old) (subst (λ xs. IsTrue (are_zeros (drop wide (joined (drafted f m) xs)))) old_places (tail_after dir)) in
           let all = written_sound k m number old (class_of o.kind) (met (min off o.size) hi p.places) d f geom fits sound used writes_d
           (λ b is. ap (λ xs. has xs b) (sym old_places) ∙ met_in (min off o.size) hi p.places b is)
           (writes.met_alone tells k m number off ys o p d f geom opened fits some w told sound free used back) whole tail in
           subst (λ (y : DraftState). IsSoundDraft k m y × ((x : FileNode) → files_of k.geom (drafted d m) number ≡ Some x → IsWithFile (files_of k.geom (drafted d m)) (files_of k.geom (drafted y m)) number (Some (with_bytes x (written off ys x.bytes)))))
           (sym (keeps.same small none)) (
             all.0,
-            λ x at. file_is (files_of k.geom (drafted d m)) (files_of k.geom (drafted f m)) number (Some (file_of (drafted f m) old)) (Some (with_bytes x (written off ys x.bytes)))
-                (file_bytes (drafted d m) (drafted f m) old old x (written off ys x.bytes) (its_file k.geom (drafted d m) number x old (sym used) at) refl refl
-                (ap (λ n. take n (joined (drafted f m) (run_places (runs_of o.places)))) (sym wide_old) ∙ ap (λ xs. take wide (joined (drafted f m) xs)) (sym old_places) ∙ bytes_after x at))
+            λ x at. file_is (files_of k.geom (drafted d m)) (files_of k.geom (drafted f m)) number (Some (file_of k.geom.layout (drafted f m) old)) (Some (with_bytes x (written off ys x.bytes)))
+                (file_bytes k.geom.layout (drafted d m) (drafted f m) old old x (written off ys x.bytes) (its_file k.geom (drafted d m) number x old (sym used) at) refl refl
+                (ap (λ n. take n (joined (drafted f m) (run_places (runs_of o.places)))) (tells_old ∙ sym wide_old) ∙ ap (λ xs. take wide (joined (drafted f m) xs)) (sym old_places) ∙ bytes_after x at))
                 all.1,
           )
 
@@ -269,13 +281,4 @@ module _ (tells : Bool) (k : Bookkeeping) (m : Blocks) (number off : ℕ) (ys : 
     pub file_size : (x : FileNode) → files_of k.geom (drafted d m) number ≡ Some x → (length x.bytes ≡ o.size) × (x.kind ≡ o.kind)
     file_size x at =
         let is = its_file k.geom (drafted d m) number x old (sym used) at in
-        (ap (λ (y : FileNode). length y.bytes) is ∙ used_length k.geom sound.live (drafted d m) number old sound.blocks used, ap (λ (y : FileNode). y.kind) is)
-
-    -- of a directory's blocks none is kept
-    pub dir_alone : is_dir o.kind ≡ true → All (λ b. is_kept d.kept b ≡ false) o.places
-    dir_alone dir = all_of (λ b. is_kept d.kept b ≡ false) o.places (λ b is. false_from_ne_true (is_kept d.kept b) (λ mine.
-        let r = place_of (run_places (runs_of o.places)) b (ap (λ xs. has xs b) (back o.places) ∙ is) in
-        not_file (sound.shared b number r.0 old mine (record { node = old; is_node = used; place = r.1 }) used)))
-      where
-        not_file : o.kind ≡ File → ⊥
-        not_file file = false≢true (sym (ap is_dir file) ∙ dir)
+        (ap (λ (y : FileNode). length y.bytes) is ∙ used_length k.geom sound.live (drafted d m) number old sound.blocks used ∙ tells_old, ap (λ (y : FileNode). y.kind) is)

@@ -9,6 +9,7 @@ use Rattle.layout_geometry.specs.Geometry.{IsGeometry, table_start, data_start}
 use Rattle.layout_bytes.specs.declared.node.Node.{Node}
 use Rattle.layout_bytes.specs.declared.node.NodeKind.TheVariants.{Dir}
 use Rattle.layout_bytes.specs.Bytes.{are_zeros}
+use Rattle.layout_bytes.specs.Node.{content_of, size_of}
 use Rattle.lang_tree.specs.Step.{written}
 use Rattle.engine_blocks.specs.Puts.{IsData}
 use Rattle.engine_blocks.specs.Running.{has}
@@ -18,6 +19,7 @@ use Rattle.fs_files.specs.declared.nodes.OpenNode.{OpenNode}
 use Rattle.fs_files.specs.Bytes.{met, overwrite, overwritten}
 use Rattle.fs_files.specs.Calls.{IsWithFile, IsWithPlaces, files_in, places_in, with_bytes}
 use Rattle.fs_files.specs.Content.{HasContent, HasNewBytes, WritesContent}
+use Rattle.fs_files.specs.Contents.{content_of_size}
 use Rattle.fs_files.specs.Drafts.{DraftState, ChangesSome, change_of, drafted}
 use Rattle.fs_files.specs.Effects.{LooksOnly}
 use Rattle.fs_files.specs.Frames.{HasNewNode}
@@ -50,7 +52,7 @@ pub record WritesWithin (tells : Bool) (s : State) (number off : ℕ) (ys : List
   pub upto : number ≤ s.books.geom.i
   pub draft : IsDraftOf tells s d
   pub opened : IsOpen s.books.geom o
-  pub used : IsTrue tells → Some (node_of_open o) ≡ used_node s.books.geom (drafted d s.map) number
+  pub used : IsTrue tells → Some (node_of_open s.books.geom.layout o) ≡ used_node s.books.geom (drafted d s.map) number
   pub within : off + length ys ≤ o.size
   pub few : off + length ys ≤ 2 ^ 30
   pub some : 0 < length ys
@@ -83,7 +85,7 @@ module _ (tells : Bool) (s : State) (number off : ℕ) (ys : List ℕ) (o : Open
     m = s.map
 
     abbrev node : Node
-    node = node_of_open o
+    node = node_of_open s.books.geom.layout o
 
     sound : IsSoundDraft s.books m d
     sound = is.draft.sound told
@@ -108,28 +110,34 @@ module _ (tells : Bool) (s : State) (number off : ℕ) (ys : List ℕ) (o : Open
     bytes = ap (λ n. take n (joined (drafted e m) o.places)) (sym size_is) ∙ ap (take (max o.size (off + length ys))) padded
         ∙ written_within o.size off 0 ys (joined (drafted d m) o.places) long (omega (arith, is.within)) (omega (arith, is.within, long))
 
+    tells_old : content_of s.books.geom.layout o.kind (size_of s.books.geom.layout o.kind o.size) ≡ o.size
+    tells_old = content_of_size s.books.geom.layout o.kind o.size is.opened.slots
+
     tail : o.kind ≡ Dir → IsTrue (are_zeros (drop o.size (joined (drafted e m) o.places)))
     tail dir =
-        let zeros : IsTrue (are_zeros (drop o.size (joined (drafted d m) o.places))) = subst (λ xs. IsTrue (are_zeros (drop o.size (joined (drafted d m) xs)))) (is.places o.places) (sound.blocks.tail number node used dir) in
+        let zeros : IsTrue (are_zeros (drop o.size (joined (drafted d m) o.places))) = subst (λ xs. IsTrue (are_zeros (drop o.size (joined (drafted d m) xs)))) (is.places o.places)
+        (subst (λ n. IsTrue (are_zeros (drop n (joined (drafted d m) (run_places (runs_of o.places)))))) tells_old (sound.blocks.tail number node used dir)) in
         subst (λ n. IsTrue (are_zeros (drop n (joined (drafted e m) o.places)))) size_is (subst (λ xs. IsTrue (are_zeros (drop (max o.size (off + length ys)) xs))) (sym padded)
         (past_written o.size off 0 ys (joined (drafted d m) o.places) zeros long (omega (arith, is.within, long))))
 
     its : (b : ℕ) → has bs b ≡ true → has (run_places node.runs) b ≡ true
     its b mine = ap (λ xs. has xs b) (is.places o.places) ∙ met_in off (off + length ys) o.places b mine
 
-    all : IsSoundDraft s.books m e × IsWithFile (files_of s.books.geom (drafted d m)) (files_of s.books.geom (drafted e m)) number (Some (file_of (drafted e m) node))
+    all : IsSoundDraft s.books m e × IsWithFile (files_of s.books.geom (drafted d m)) (files_of s.books.geom (drafted e m)) number (Some (file_of s.books.geom.layout (drafted e m) node))
     all = written_sound s.books m number node (class_of o.kind) bs d e is.geom is.draft.fits sound used is.writes its
         (met_all (λ b. is_kept d.kept b ≡ false) off (off + length ys) o.places (is.apart told))
         (subst (All (λ b. length (drafted e m b) ≡ 1024)) (sym (is.places o.places)) (is.content told known).whole)
-        (λ dir. subst (λ xs. IsTrue (are_zeros (drop o.size (joined (drafted e m) xs)))) (sym (is.places o.places)) (tail dir))
+        (λ dir. subst (λ n. IsTrue (are_zeros (drop n (joined (drafted e m) (run_places (runs_of o.places)))))) (sym tells_old)
+        (subst (λ xs. IsTrue (are_zeros (drop o.size (joined (drafted e m) xs)))) (sym (is.places o.places)) (tail dir)))
 
     file : (x : FileNode) → files_in s d number ≡ Some x → IsWithFile (files_in s d) (files_of s.books.geom (drafted e m)) number (Some (with_bytes x (overwritten off ys x.bytes)))
     file x at =
-        let it : x ≡ file_of (drafted d m) node = its_file s.books.geom (drafted d m) number x node (is.used told) at in
-        file_is (files_of s.books.geom (drafted d m)) (files_of s.books.geom (drafted e m)) number (Some (file_of (drafted e m) node)) (Some (with_bytes x (overwritten off ys x.bytes)))
-        (file_bytes (drafted d m) (drafted e m) node node x (overwritten off ys x.bytes) it refl refl
-        (ap (λ xs. take o.size (joined (drafted e m) xs)) (is.places o.places) ∙ bytes
+        let it : x ≡ file_of s.books.geom.layout (drafted d m) node = its_file s.books.geom (drafted d m) number x node (is.used told) at in
+        file_is (files_of s.books.geom (drafted d m)) (files_of s.books.geom (drafted e m)) number (Some (file_of s.books.geom.layout (drafted e m) node)) (Some (with_bytes x (overwritten off ys x.bytes)))
+        (file_bytes s.books.geom.layout (drafted d m) (drafted e m) node node x (overwritten off ys x.bytes) it refl refl
+        (ap (λ n. take n (joined (drafted e m) (run_places (runs_of o.places)))) tells_old ∙ ap (λ xs. take o.size (joined (drafted e m) xs)) (is.places o.places) ∙ bytes
         ∙ ap (λ xs. written off ys (take o.size (joined (drafted d m) xs))) (sym (is.places o.places))
+        ∙ ap (λ n. written off ys (take n (joined (drafted d m) (run_places (runs_of o.places))))) (sym tells_old)
         ∙ ap (λ (y : FileNode). written off ys y.bytes) (sym it) ∙ sym (overwritten_some off ys x.bytes is.some)))
         all.1
 

@@ -1,5 +1,5 @@
 -- A write into a file, from the states before and after its node was loaded and written.
-use Rattle.std.proofs.Common.{◌≡◌, ℕ, ◌+◌, ◌%◌, ◌<◌, ◌≤◌, ◌==◌, Bool, false, IsTrue, List, [], length, drop, max, min, Some, sym, ap, subst, ◌∙◌, arith}
+use Rattle.std.proofs.Common.{◌≡◌, ℕ, ◌+◌, ◌<◌, ◌≤◌, ◌==◌, Bool, false, IsTrue, List, [], length, drop, max, min, Some, sym, ap, subst, ◌∙◌, arith}
 use Rattle.std.proofs.lemmas.Bool.Decides.{nat_tests}
 use Rattle.base_types.specs.Seal.{Blocks}
 use Rattle.base_types.specs.Runs.{run_places}
@@ -16,7 +16,8 @@ use Rattle.fs_files.specs.Calls.{files_in, places_in, places_of, places_or_none,
 use Rattle.fs_files.specs.Drafts.{DraftState, drafted}
 use Rattle.fs_files.specs.Effects.{LooksOnly}
 use Rattle.fs_files.specs.Growing.{placed, places_after, taken_by}
-use Rattle.fs_files.specs.Nodes.{node_of_open, IsOpen}
+use Rattle.fs_files.specs.Contents.{content_of_size}
+use Rattle.fs_files.specs.Nodes.{node_of_open, AreWholeSlots, IsOpen}
 use Rattle.fs_files.specs.Shared.{is_kept}
 use Rattle.fs_files.specs.Sound.{IsSoundDraft}
 use Rattle.fs_files.specs.Writing.{WritesFile}
@@ -26,19 +27,19 @@ use Rattle.fs_files.proofs.calling.Nodes.{its_file}
 
 -- The node that was loaded, in the state after it.
 module _ (tells : Bool) (s t : State) (number : ℕ) (d : DraftState) (o : OpenNode) (looks : LooksOnly tells false s t) (told : IsTrue tells) (sound : IsSoundDraft s.books s.map d) (opened : IsOpen s.books.geom o)
-    (used : Some (node_of_open o) ≡ used_node s.books.geom (drafted d s.map) number) (back : (xs : List ℕ) → run_places (runs_of xs) ≡ xs) where
+    (used : Some (node_of_open s.books.geom.layout o) ≡ used_node s.books.geom (drafted d s.map) number) (back : (xs : List ℕ) → run_places (runs_of xs) ≡ xs) where
   abbrev file : FileNode
-  file = file_of (drafted d s.map) (node_of_open o)
+  file = file_of s.books.geom.layout (drafted d s.map) (node_of_open s.books.geom.layout o)
 
   at_file : files_in s d number ≡ Some file
-  at_file = node_file s.books.geom (drafted d s.map) number (node_of_open o) (sym used)
+  at_file = node_file s.books.geom (drafted d s.map) number (node_of_open s.books.geom.layout o) (sym used)
 
   file_long : length file.bytes ≡ o.size
-  file_long = used_length s.books.geom sound.live (drafted d s.map) number (node_of_open o) sound.blocks (sym used)
+  file_long = used_length s.books.geom sound.live (drafted d s.map) number (node_of_open s.books.geom.layout o) sound.blocks (sym used) ∙ content_of_size s.books.geom.layout o.kind o.size opened.slots
 
   -- it is the file, and takes as many blocks
   pub is_long : (x : FileNode) → files_in s d number ≡ Some x → length x.bytes ≡ o.size
-  is_long x at = ap (λ (y : FileNode). length y.bytes) (its_file s.books.geom (drafted d s.map) number x (node_of_open o) used at) ∙ file_long
+  is_long x at = ap (λ (y : FileNode). length y.bytes) (its_file s.books.geom (drafted d s.map) number x (node_of_open s.books.geom.layout o) used at) ∙ file_long
 
   pub places_then : o.places ≡ places_in s d number
   places_then = sym (back o.places) ∙ ap places_or_none used
@@ -50,8 +51,8 @@ module _ (tells : Bool) (s t : State) (number : ℕ) (d : DraftState) (o : OpenN
       → 0 < taken_by (is_kept d.kept) (min off o.size) end o.places → d.taken ≡ []
   once_then off end some once more = once file at_file (subst (λ n. min off n < end) (sym file_long) some) (omega (arith, more, takes_same file off end at_file))
 
-  pub slots_then : (end : ℕ) → ((x : FileNode) → files_in s d number ≡ Some x → x.kind ≡ Dir → max (length x.bytes) end % 64 ≡ 0) → o.kind ≡ Dir → max o.size end % 64 ≡ 0
-  slots_then end slots dir = subst (λ n. max n end % 64 ≡ 0) file_long (slots file at_file dir)
+  pub slots_then : (end : ℕ) → ((x : FileNode) → files_in s d number ≡ Some x → x.kind ≡ Dir → AreWholeSlots s.books.geom.layout (max (length x.bytes) end)) → o.kind ≡ Dir → AreWholeSlots t.books.geom.layout (max o.size end)
+  slots_then end slots dir = subst (λ (b : Bookkeeping). AreWholeSlots b.geom.layout (max o.size end)) (sym looks.books) (subst (λ n. AreWholeSlots s.books.geom.layout (max n end)) file_long (slots file at_file dir))
 
   pub refused_then : (off end : ℕ) (x : FileNode) (new : Bookkeeping) (why : FileRefusal) → files_in s d number ≡ Some x
       → GrowthRefused (taken_by (is_kept d.kept) (min off o.size) end o.places) (placed (is_kept d.kept) (min off o.size) end o.places) t.books new why
@@ -84,14 +85,14 @@ module _ (s t u : State) (number off : ℕ) (ys : List ℕ) (d e : DraftState) (
   }
 
   pub among_then : (x : FileNode) → files_in s d number ≡ Some x
-      → ChangesAmong (written_blocks s.books.geom (is_kept d.kept) number x (places_in s d number) (drop (length (places_in s d number)) (places_in u e number)) (min off (length x.bytes)) (off + length ys)) d e
+      → ChangesAmong (written_blocks s.books.geom (is_kept d.kept) number x (places_in s d number) (drop (length (places_in s d number)) (places_in u e number)) off (off + length ys)) d e
   among_then =
       subst (λ (n : Blocks). (x : FileNode) → files_in s d number ≡ Some x
-      → ChangesAmong (written_blocks s.books.geom (is_kept d.kept) number x (places_in s d number) (drop (length (places_in s d number)) (places_of u.books.geom (drafted e n) number)) (min off (length x.bytes)) (off + length ys)) d e) last
+      → ChangesAmong (written_blocks s.books.geom (is_kept d.kept) number x (places_in s d number) (drop (length (places_in s d number)) (places_of u.books.geom (drafted e n) number)) off (off + length ys)) d e) last
       (subst (λ (m : Blocks). (x : FileNode) → files_of s.books.geom (drafted d m) number ≡ Some x
-      → ChangesAmong (written_blocks s.books.geom (is_kept d.kept) number x (places_of s.books.geom (drafted d m) number) (drop (length (places_of s.books.geom (drafted d m) number)) (places_of u.books.geom (drafted e t.map) number)) (min off (length x.bytes)) (off + length ys)) d e) first
+      → ChangesAmong (written_blocks s.books.geom (is_kept d.kept) number x (places_of s.books.geom (drafted d m) number) (drop (length (places_of s.books.geom (drafted d m) number)) (places_of u.books.geom (drafted e t.map) number)) off (off + length ys)) d e) first
       (subst (λ (g : Geometry). (x : FileNode) → files_of g (drafted d t.map) number ≡ Some x
-      → ChangesAmong (written_blocks g (is_kept d.kept) number x (places_of g (drafted d t.map) number) (drop (length (places_of g (drafted d t.map) number)) (places_of u.books.geom (drafted e t.map) number)) (min off (length x.bytes)) (off + length ys)) d e) geom w.among))
+      → ChangesAmong (written_blocks g (is_kept d.kept) number x (places_of g (drafted d t.map) number) (drop (length (places_of g (drafted d t.map) number)) (places_of u.books.geom (drafted e t.map) number)) off (off + length ys)) d e) geom w.among))
 
 -- bytes that are written, as the words of the call have them
 pub bytes_then : (old new : Files) (number off : ℕ) (ys : List ℕ) (x : FileNode) → 0 < length ys → IsWithFile old new number (Some (with_bytes x (written off ys x.bytes))) → IsWithFile old new number (Some (with_bytes x (overwritten off ys x.bytes)))

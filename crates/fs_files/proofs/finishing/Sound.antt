@@ -6,7 +6,7 @@ use Rattle.base_types.specs.Seal.{Blocks}
 use Rattle.layout_geometry.specs.Geometry.{Geometry, IsGeometry, bitmap_start, data_start}
 use Rattle.layout_bytes.specs.Bitmap.{is_set}
 use Rattle.layout_bytes.specs.Bytes.{are_zeros}
-use Rattle.layout_bytes.specs.Node.{node_of}
+use Rattle.layout_bytes.specs.Node.{content_of, node_of}
 use Rattle.engine_blocks.specs.Running.{Spare, is_bare, has, HasNoBare}
 use Rattle.engine_blocks.specs.State.{State, data_blocks}
 use Rattle.engine_blocks.specs.Calls.{IsSound}
@@ -104,7 +104,7 @@ module _ (d : DraftState) (s new : State) (spare : Spare) (geom : IsGeometry s.b
         let bytes = bytes_alike s.books.geom new.map (drafted d s.map) geom alike k from upto in
         bytes ∙ sound.blocks.free k from upto (sym (ap (node_of s.books.geom) bytes) ∙ none);
     tail = λ k node used dir.
-        subst (λ ys. IsTrue (are_zeros (drop node.size ys))) (joined_alike s.books.geom (drafted d s.map) new.map new.map k node back used)
+        subst (λ ys. IsTrue (are_zeros (drop (content_of s.books.geom.layout node.kind node.size) ys))) (joined_alike s.books.geom (drafted d s.map) new.map new.map k node back used)
         (sound.blocks.tail k node (used_alike s.books.geom (drafted d s.map) new.map geom back k ∙ used) dir);
   }
 

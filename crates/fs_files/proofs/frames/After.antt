@@ -6,11 +6,12 @@ use Rattle.std.proofs.lemmas.Option.{same_Some}
 use Rattle.std.proofs.lemmas.Bool.Decides.{nat_tests}
 use Rattle.base_types.specs.Seal.{Blocks}
 use Rattle.base_types.specs.Runs.{run_places}
+use Rattle.base_types.specs.Layouts.{node_byte}
 use Rattle.layout_geometry.specs.Geometry.{IsGeometry, table_start, data_start}
 use Rattle.layout_bytes.specs.declared.node.Node.{Node}
 use Rattle.layout_bytes.specs.declared.node.NodeKind.TheVariants.{Dir}
 use Rattle.layout_bytes.specs.Bytes.{are_zeros}
-use Rattle.layout_bytes.specs.Node.{node_spelling}
+use Rattle.layout_bytes.specs.Node.{content_of, node_spelling}
 use Rattle.engine_blocks.specs.Running.{has}
 use Rattle.engine_blocks.specs.State.{Bookkeeping}
 use Rattle.engine_blocks.specs.Puts.{IsData}
@@ -20,7 +21,7 @@ use Rattle.fs_files.specs.Bytes.{overwrite}
 use Rattle.fs_files.specs.Calls.{IsWithFile}
 use Rattle.fs_files.specs.Drafts.{DraftState, drafted, marks_of, PutsBlock}
 use Rattle.fs_files.specs.Frames.{used_of, ReadsBack, HasNewNode, ChangesNode}
-use Rattle.fs_files.specs.Nodes.{node_block, node_byte}
+use Rattle.fs_files.specs.Nodes.{node_block}
 use Rattle.fs_files.specs.Shared.{is_kept}
 use Rattle.fs_files.specs.Sound.{AreSoundBy, FitsBooks, IsSoundDraft}
 use Rattle.fs_files.proofs.frames.Cells.{block_from, block_below, node_stored}
@@ -42,7 +43,7 @@ pub record IsStored (k : Bookkeeping) (now : ℕ → Bool) (m : Blocks) (number 
 pub stored_after : (k : Bookkeeping) (live now : ℕ → Bool) (m : Blocks) (number : ℕ) (node : Node) (c : Changed) (d f e : DraftState) → IsGeometry k.geom → 1 ≤ number → number ≤ k.geom.i
     → AreSoundBy k.geom live (drafted d m) → FitsBooks k f → HasRules k now f → f.kept ≡ d.kept
     → ((b : ℕ) → table_start k.geom ≤ b → b < data_start k.geom → drafted f m b ≡ drafted d m b)
-    → c.bytes ≡ overwrite (node_byte number) (node_spelling node) (drafted d m (node_block k.geom number)) → PutsBlock (node_block k.geom number) c f e → ReadsBack k.geom node
+    → c.bytes ≡ overwrite (node_byte k.geom.layout number) (node_spelling k.geom.layout node) (drafted d m (node_block k.geom number)) → PutsBlock (node_block k.geom number) c f e → ReadsBack k.geom node
     → IsStored k now m number node d f e
 stored_after k live now m number node c d f e geom from upto sound fits rules kept table bytes puts back =
     let low = block_from k.geom number in
@@ -62,7 +63,7 @@ stored_after k live now m number node c d f e geom from upto sound fits rules ke
 pub stored_sound_files : (k : Bookkeeping) (now : ℕ → Bool) (m : Blocks) (number : ℕ) (node old : Node) (d f e : DraftState) (sound : IsSoundDraft k m d) → IsStored k now m number node d f e
     → ChangesNode k.geom sound.live now (drafted d m) (drafted e m) number (Some old) (Some node) → node.kind ≡ old.kind
     → ((b : ℕ) → has (run_places node.runs) b ≡ true → is_kept d.kept b ≡ true → has (run_places old.runs) b ≡ true)
-    → IsSoundDraft k m e × IsWithFile (files_of k.geom (drafted d m)) (files_of k.geom (drafted e m)) number (Some (file_of (drafted e m) node))
+    → IsSoundDraft k m e × IsWithFile (files_of k.geom (drafted d m)) (files_of k.geom (drafted e m)) number (Some (file_of k.geom.layout (drafted e m) node))
 stored_sound_files k now m number node old d f e sound is ch kind its =
     let all = both k.geom sound.live now (drafted d m) (drafted e m) number (Some old) (Some node) sound.blocks ch in
     let shared : SharesFiles k.geom (is_kept d.kept) (drafted e m) = shared_changed k.geom sound.live now (drafted d m) (drafted e m) number (Some old) (Some node) (is_kept d.kept) sound.blocks ch sound.shared
@@ -73,7 +74,7 @@ stored_sound_files k now m number node old d f e sound is ch kind its =
 
 module _ (k : Bookkeeping) (m : Blocks) (number : ℕ) (node old : Node) (d f e : DraftState) (now : ℕ → Bool) (sound : IsSoundDraft k m d) (is : IsStored k now m number node d f e) (kind : node.kind ≡ old.kind) (used : used_of node ≡ Some node)
     (was : used_node k.geom (drafted d m) number ≡ Some old) (inside : All (IsData k.geom) (run_places node.runs))
-    (whole : All (λ b. length (drafted f m b) ≡ 1024) (run_places node.runs)) (tail : node.kind ≡ Dir → IsTrue (are_zeros (past_content (drafted f m) node))) where
+    (whole : All (λ b. length (drafted f m b) ≡ 1024) (run_places node.runs)) (tail : node.kind ≡ Dir → IsTrue (are_zeros (past_content k.geom.layout (drafted f m) node))) where
   there : HasNewNode k.geom (drafted d m) (drafted e m) number (Some node)
   there = subst (HasNewNode k.geom (drafted d m) (drafted e m) number) used is.node_is
 
@@ -81,21 +82,21 @@ module _ (k : Bookkeeping) (m : Blocks) (number : ℕ) (node old : Node) (d f e 
   pub stored_joined : joined (drafted e m) (run_places node.runs) ≡ joined (drafted f m) (run_places node.runs)
   stored_joined = joined_same (drafted f m) (drafted e m) (run_places node.runs) (λ b mine. is.blocks b (each_of (IsData k.geom) (run_places node.runs) inside b mine).from)
 
-  pub stored_content : content (drafted e m) node ≡ content (drafted f m) node
-  stored_content = ap (take node.size) stored_joined
+  pub stored_content : content k.geom.layout (drafted e m) node ≡ content k.geom.layout (drafted f m) node
+  stored_content = ap (take (content_of k.geom.layout node.kind node.size)) stored_joined
 
   whole_now : All (λ b. length (drafted e m b) ≡ 1024) (run_places node.runs)
   whole_now = grind (arith, nat_tests, all_of, each_of)
 
-  tail_now : node.kind ≡ Dir → IsTrue (are_zeros (past_content (drafted e m) node))
-  tail_now dir = ap (λ xs. are_zeros (drop node.size xs)) stored_joined ∙ tail dir
+  tail_now : node.kind ≡ Dir → IsTrue (are_zeros (past_content k.geom.layout (drafted e m) node))
+  tail_now dir = ap (λ xs. are_zeros (drop (content_of k.geom.layout node.kind node.size) xs)) stored_joined ∙ tail dir
 
   -- the node got new blocks, perhaps none, of those that weren't marked
   pub stored_renewed : (more : List ℕ) → ((b : ℕ) → has (run_places node.runs) b ≡ true → (has (run_places old.runs) b ≡ true) ⊎ (has more b ≡ true)) → ((b : ℕ) → has more b ≡ true → has (run_places node.runs) b ≡ true)
       → AllPairs (λ a b. a ≢ b) (run_places node.runs) → All (IsData k.geom) more → All (λ b. marks_of d k.marked b ≡ false) more
       → ((b : ℕ) → data_start k.geom ≤ b → b < k.geom.n → has (run_places old.runs) b ≡ false → has more b ≡ false → drafted f m b ≡ drafted d m b)
       → ((b : ℕ) → now b ≡ (has (run_places node.runs) b || (sound.live b && not (has (run_places old.runs) b))))
-      → IsSoundDraft k m e × IsWithFile (files_of k.geom (drafted d m)) (files_of k.geom (drafted e m)) number (Some (file_of (drafted e m) node))
+      → IsSoundDraft k m e × IsWithFile (files_of k.geom (drafted d m)) (files_of k.geom (drafted e m)) number (Some (file_of k.geom.layout (drafted e m) node))
   stored_renewed more either came once its_data free others marks =
       stored_sound_files k now m number node old d f e sound is
       (node_renewed k.geom sound.live now (drafted d m) (drafted e m) number old node more sound.blocks was there either came once its_data
@@ -121,7 +122,7 @@ module _ (k : Bookkeeping) (m : Blocks) (number : ℕ) (node old : Node) (d f e 
   pub stored_cut : (stays gone : List ℕ) → run_places old.runs ≡ stays ++ gone → run_places node.runs ≡ stays
       → ((b : ℕ) → data_start k.geom ≤ b → b < k.geom.n → has (run_places old.runs) b ≡ false → drafted f m b ≡ drafted d m b)
       → ((b : ℕ) → now b ≡ (sound.live b && not (has gone b)))
-      → IsSoundDraft k m e × IsWithFile (files_of k.geom (drafted d m)) (files_of k.geom (drafted e m)) number (Some (file_of (drafted e m) node))
+      → IsSoundDraft k m e × IsWithFile (files_of k.geom (drafted d m)) (files_of k.geom (drafted e m)) number (Some (file_of k.geom.layout (drafted e m) node))
   stored_cut stays gone parts places others marks =
       stored_sound_files k now m number node old d f e sound is
       (node_cut k.geom sound.live now (drafted d m) (drafted e m) number old node stays gone sound.blocks was there parts places

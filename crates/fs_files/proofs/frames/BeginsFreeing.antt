@@ -1,16 +1,17 @@
 -- A draft in which blocks were freed that no node has, and nothing else was done.
-use Rattle.std.proofs.Common.{◌≡◌, ◌≢◌, ◌⊎◌, inl, inr, ℕ, ◌-◌, ◌*◌, ◌%◌, ◌<◌, ◌≤◌, Bool, true, false, not, ◌&&◌, ◌||◌, if◌then◌else◌, List, All, length, take, drop, Option, Some, None, is_some, nat_lt, option_map, refl, sym, ap, subst, ◌∙◌, arith}
+use Rattle.std.proofs.Common.{◌≡◌, ◌≢◌, ◌⊎◌, inl, inr, ℕ, ◌%◌, ◌<◌, ◌≤◌, Bool, true, false, not, ◌&&◌, ◌||◌, if◌then◌else◌, List, All, length, take, drop, Option, Some, None, is_some, nat_lt, option_map, refl, sym, ap, subst, ◌∙◌, arith}
 use Rattle.std.specs.List.{AllPairs}
 use Rattle.std.proofs.lemmas.Bool.{false≢true, false_from_ne_true, lt-ltb, or_left, or_right}
 use Rattle.std.proofs.lemmas.Bool.Decides.{nat_tests}
 use Rattle.std.proofs.lemmas.Option.{none-some}
 use Rattle.base_types.specs.Runs.{run_places}
 use Rattle.base_types.specs.Seal.{Blocks}
-use Rattle.layout_geometry.specs.Geometry.{Geometry, data_start, nodes_in_block}
+use Rattle.base_types.specs.Layouts.{node_byte}
+use Rattle.layout_geometry.specs.Geometry.{Geometry, data_start}
 use Rattle.layout_bytes.specs.declared.node.Node.{Node}
 use Rattle.layout_bytes.specs.Bitmap.{is_set}
 use Rattle.layout_bytes.specs.Bytes.{are_zeros}
-use Rattle.layout_bytes.specs.Node.{node_bytes, node_of, node_size}
+use Rattle.layout_bytes.specs.Node.{content_of, node_bytes, node_of, node_size}
 use Rattle.engine_blocks.specs.Crashes.{IsTold}
 use Rattle.engine_blocks.specs.Puts.{IsData}
 use Rattle.engine_blocks.specs.Running.{HasNoBare, has}
@@ -71,7 +72,7 @@ module _ (s : State) (kept bs : List ℕ) (d : DraftState) (whole : s.books.geom
   table_same b low = unfreed b (none_of_table g bs b inside low)
 
   bytes_same : (l : ℕ) → 1 ≤ l → l ≤ g.i → node_bytes g n l ≡ node_bytes g m l
-  bytes_same l from upto = ap (λ xs. take node_size (drop (node_size * ((l - 1) % nodes_in_block)) xs)) (table_same (node_block g l) (block_below g l whole from upto))
+  bytes_same l from upto = ap (λ xs. take (node_size g.layout) (drop (node_byte g.layout l) xs)) (table_same (node_block g l) (block_below g l whole from upto))
 
   pub freeing_node : (l : ℕ) → used_node g n l ≡ used_node g m l
   freeing_node l = same_node g m n l (bytes_same l)
@@ -80,11 +81,11 @@ module _ (s : State) (kept bs : List ℕ) (d : DraftState) (whole : s.books.geom
   joined_now l node used = joined_same m n (run_places node.runs) (λ b is. let at = has_block g m l node used b is in unfreed b (stays l at.0 b at.1))
 
   pub freeing_files : (l : ℕ) → files_of g n l ≡ files_of g m l
-  freeing_files l = ap (option_map (file_of n)) (freeing_node l) ∙ its (used_node g m l) refl
+  freeing_files l = ap (option_map (file_of g.layout n)) (freeing_node l) ∙ its (used_node g m l) refl
     where
-      its : (o : Option Node) → used_node g m l ≡ o → option_map (file_of n) o ≡ option_map (file_of m) o
+      its : (o : Option Node) → used_node g m l ≡ o → option_map (file_of g.layout n) o ≡ option_map (file_of g.layout m) o
       its None used = refl
-      its (Some node) used = ap (λ xs. Some (record { kind = node.kind; links = node.links; bytes = take node.size xs })) (joined_now l node used)
+      its (Some node) used = ap (λ xs. Some (record { kind = node.kind; links = node.links; bytes = take (content_of g.layout node.kind node.size) xs })) (joined_now l node used)
 
   pub freeing_places : (l : ℕ) → places_of g n l ≡ places_of g m l
   freeing_places l = ap places_or_none (freeing_node l)
@@ -107,7 +108,7 @@ module _ (s : State) (kept bs : List ℕ) (d : DraftState) (whole : s.books.geom
       own = λ k l i j b first second. sound.own k l i j b (was k i b first) (was l j b second);
       marked = λ b low high. (λ is. let r = had_has g m b g.i is in (r.0, r.1, is_now r.0 r.1 b r.2), λ r. had_by g m b (r.0, r.1, was r.0 r.1 b r.2));
       free = λ k from upto none. bytes_same k from upto ∙ sound.free k from upto (ap (node_of g) (sym (bytes_same k from upto)) ∙ none);
-      tail = λ k node used dir. let before = sym (freeing_node k) ∙ used in ap (λ xs. are_zeros (drop node.size xs)) (joined_now k node before) ∙ sound.tail k node before dir;
+      tail = λ k node used dir. let before = sym (freeing_node k) ∙ used in ap (λ xs. are_zeros (drop (content_of g.layout node.kind node.size) xs)) (joined_now k node before) ∙ sound.tail k node before dir;
     };
     bits = λ b low high.
         frees_marks s.books bs (begun_beside kept) d frees s.books.marked b

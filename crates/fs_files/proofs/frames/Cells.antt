@@ -1,5 +1,5 @@
 -- Bytes written over a part of a list, and the nodes of a node table in which one node was written.
-use Rattle.std.proofs.Common.{◌≡◌, ◌≢◌, ◌⊎◌, inl, inr, ℕ, ◌+◌, ◌-◌, ◌/◌, ◌%◌, ◌<◌, ◌≤◌, ◌&&◌, Bool, true, List, ◌++◌, length, take, drop, Option, None, nat_le, sym, ap, ◌∙◌, arith}
+use Rattle.std.proofs.Common.{◌≡◌, ◌≢◌, ◌⊎◌, inl, inr, ℕ, ◌+◌, ◌-◌, ◌%◌, ◌<◌, ◌≤◌, ◌&&◌, Bool, true, List, ◌++◌, length, take, drop, Option, None, nat_le, sym, ap, ◌∙◌, arith}
 use Rattle.std.proofs.lemmas.List.{take-append-le, drop-append-le, length-drop, take-take, drop-take, length-take-le, drop-drop}
 use Rattle.std.proofs.Math.Seq.{take-append_seam, drop-append_seam, drop-append-add}
 use Rattle.std.proofs.lemmas.Bool.{cases_eq, cases_lt, and_from, and_parts, le-leb, leb-true}
@@ -7,6 +7,8 @@ use Rattle.std.proofs.lemmas.Bool.Decides.{nat_tests}
 use Rattle.std.proofs.lemmas.Grind.{common_steps}
 use Rattle.fs_files.proofs.bytes.Overwrites.{length-overwrite}
 use Rattle.base_types.specs.Seal.{Blocks}
+use Rattle.base_types.specs.Layouts.{node_size, node_block as block_of, node_byte}
+use Rattle.base_types.specs.LayoutLaws.{node_apart, node_in_table, node_within}
 use Rattle.layout_geometry.specs.Geometry.{Geometry, table_start, data_start}
 use Rattle.layout_bytes.specs.declared.node.Node.{Node}
 use Rattle.layout_bytes.specs.declared.node.NodeKind.{NodeKind}
@@ -16,7 +18,7 @@ use Rattle.layout_bytes.specs.Node.{node_of, node_at, node_bytes, node_spelling}
 use Rattle.crash_stands.specs.Files.{used_node}
 use Rattle.fs_files.specs.Bytes.{overwrite}
 use Rattle.fs_files.specs.Frames.{used_of, used_by, ReadsBack, KeepsTable, HasNewNode}
-use Rattle.fs_files.specs.Nodes.{node_block, node_byte}
+use Rattle.fs_files.specs.Nodes.{node_block}
 
 -- Bytes.
 
@@ -71,42 +73,47 @@ pub block_from : (g : Geometry) (l : ℕ) → table_start g ≤ node_block g l
 block_from g l = omega arith
 
 pub block_below : (g : Geometry) (l : ℕ) → g.i % 4 ≡ 0 → 1 ≤ l → l ≤ g.i → node_block g l < data_start g
-block_below g l whole from upto = grind (arith, nat_tests)
+block_below g l whole from upto = omega (arith, node_in_table g.layout g.i l whole from upto)
 
--- numbers of one block have the same place in it only where they are the same
-places_apart : (k l : ℕ) → 1 ≤ k → 1 ≤ l → (l - 1) / 4 ≡ (k - 1) / 4 → (l - 1) % 4 ≡ (k - 1) % 4 → l ≡ k
-places_apart k l a b quotient rest = omega (arith, a, b, quotient, rest)
+-- what holds of nodes of one block
+of_one_block : (a b : ℕ) (X : Type 0) → (a < b) ⊎ ((a ≡ b) × X) → a ≡ b → X
+of_one_block a b X (inl less) same = absurd (omega (arith, less, same))
+of_one_block a b X (inr both) same = both.1
 
-module _ (g : Geometry) (m n : Blocks) (k : ℕ) (ys : List ℕ) (whole : g.i % 4 ≡ 0) (from : 1 ≤ k) (upto : k ≤ g.i) (size : length ys ≡ 256)
-    (block : n (node_block g k) ≡ overwrite (node_byte k) ys (m (node_block g k))) (rest : KeepsTable g m n (node_block g k))
+module _ (g : Geometry) (m n : Blocks) (k : ℕ) (ys : List ℕ) (whole : g.i % 4 ≡ 0) (from : 1 ≤ k) (upto : k ≤ g.i) (size : length ys ≡ node_size g.layout)
+    (block : n (node_block g k) ≡ overwrite (node_byte g.layout k) ys (m (node_block g k))) (rest : KeepsTable g m n (node_block g k))
     (table : (b : ℕ) → table_start g ≤ b → b < data_start g → length (m b) ≡ 1024) where
   long : length (m (node_block g k)) ≡ 1024
   long = table (node_block g k) (block_from g k) (block_below g k whole from upto)
 
   pub stored_own : node_bytes g n k ≡ ys
   stored_own =
-      ap (λ b. take 256 (drop (node_byte k) b)) block
-      ∙ ap (λ c. take c (drop (node_byte k) (overwrite (node_byte k) ys (m (node_block g k))))) (sym size)
-      ∙ overwrite_own (node_byte k) ys (m (node_block g k)) (omega (arith, long))
+      ap (λ b. take (node_size g.layout) (drop (node_byte g.layout k) b)) block
+      ∙ ap (λ c. take c (drop (node_byte g.layout k) (overwrite (node_byte g.layout k) ys (m (node_block g k))))) (sym size)
+      ∙ overwrite_own (node_byte g.layout k) ys (m (node_block g k)) (omega (arith, long, node_within g.layout k))
 
   pub stored_other : (l : ℕ) → 1 ≤ l → l ≤ g.i → l ≢ k → node_bytes g n l ≡ node_bytes g m l
   stored_other l low high other = by (cases_eq (node_block g l) (node_block g k))
     where
-      part : (cases : ((l - 1) % 4 < (k - 1) % 4) ⊎ ((k - 1) % 4 ≤ (l - 1) % 4)) → (l - 1) / 4 ≡ (k - 1) / 4
-          → take 256 (drop (node_byte l) (overwrite (node_byte k) ys (m (node_block g k)))) ≡ take 256 (drop (node_byte l) (m (node_block g k)))
-      part (inl before) same = overwrite_before (node_byte k) (node_byte l) 256 ys (m (node_block g k)) (omega (arith, long)) (omega (arith, before))
+      fits_there : node_byte g.layout k ≤ length (m (node_block g k))
+      fits_there = omega (arith, long, node_within g.layout k)
+
+      part : (l < k) ⊎ (k ≤ l) → block_of g.layout l ≡ block_of g.layout k
+          → take (node_size g.layout) (drop (node_byte g.layout l) (overwrite (node_byte g.layout k) ys (m (node_block g k)))) ≡ take (node_size g.layout) (drop (node_byte g.layout l) (m (node_block g k)))
+      part (inl before) same = overwrite_before (node_byte g.layout k) (node_byte g.layout l) (node_size g.layout) ys (m (node_block g k)) fits_there
+          (of_one_block (block_of g.layout l) (block_of g.layout k) (node_byte g.layout l + node_size g.layout ≤ node_byte g.layout k) (node_apart g.layout l k low before) same)
       part (inr behind) same =
-          let apart : (l - 1) % 4 ≢ (k - 1) % 4 = λ e. other (places_apart k l from low same e) in
-          overwrite_behind (node_byte k) (node_byte l) 256 ys (m (node_block g k)) (omega (arith, long)) (omega (arith, behind, apart, size))
+          let apart = of_one_block (block_of g.layout k) (block_of g.layout l) (node_byte g.layout k + node_size g.layout ≤ node_byte g.layout l) (node_apart g.layout k l from (omega (arith, behind, other))) (sym same) in
+          overwrite_behind (node_byte g.layout k) (node_byte g.layout l) (node_size g.layout) ys (m (node_block g k)) fits_there (omega (arith, apart, size))
 
       by : (node_block g l ≡ node_block g k) ⊎ (node_block g l ≡ node_block g k → ⊥) → node_bytes g n l ≡ node_bytes g m l
       by (inl e) =
-          let same : (l - 1) / 4 ≡ (k - 1) / 4 = omega (arith, e) in
-          ap (λ b. take 256 (drop (node_byte l) (n b))) e
-          ∙ ap (λ b. take 256 (drop (node_byte l) b)) block
-          ∙ part (cases_lt ((l - 1) % 4) ((k - 1) % 4)) same
-          ∙ ap (λ b. take 256 (drop (node_byte l) (m b))) (sym e)
-      by (inr away) = ap (λ b. take 256 (drop (node_byte l) b)) (rest (node_block g l) (block_from g l) (block_below g l whole low high) away)
+          let same : block_of g.layout l ≡ block_of g.layout k = omega (arith, e) in
+          ap (λ b. take (node_size g.layout) (drop (node_byte g.layout l) (n b))) e
+          ∙ ap (λ b. take (node_size g.layout) (drop (node_byte g.layout l) b)) block
+          ∙ part (cases_lt l k) same
+          ∙ ap (λ b. take (node_size g.layout) (drop (node_byte g.layout l) (m b))) (sym e)
+      by (inr away) = ap (λ b. take (node_size g.layout) (drop (node_byte g.layout l) b)) (rest (node_block g l) (block_from g l) (block_below g l whole low high) away)
 
   stored_long : (b : ℕ) → table_start g ≤ b → b < data_start g → length (n b) ≡ 1024
   stored_long b low high = grind (arith, nat_tests, length-overwrite, long)
@@ -116,13 +123,13 @@ used_none node kind e = grind (arith, nat_tests)
 
 -- a node that was written into its block is there now
 pub node_stored : (g : Geometry) (m n : Blocks) (k : ℕ) (node : Node) → g.i % 4 ≡ 0 → 1 ≤ k → k ≤ g.i → ReadsBack g node
-    → n (node_block g k) ≡ overwrite (node_byte k) (node_spelling node) (m (node_block g k)) → KeepsTable g m n (node_block g k)
+    → n (node_block g k) ≡ overwrite (node_byte g.layout k) (node_spelling g.layout node) (m (node_block g k)) → KeepsTable g m n (node_block g k)
     → ((b : ℕ) → table_start g ≤ b → b < data_start g → length (m b) ≡ 1024) → HasNewNode g m n k (used_of node)
 node_stored g m n k node whole from upto back block rest table =
-    let own = stored_own g m n k (node_spelling node) whole from upto back.size block rest table in
+    let own = stored_own g m n k (node_spelling g.layout node) whole from upto back.size block rest table in
     record {
       own = when_true (nat_le 1 k && nat_le k g.i) (node_at g n k) (is_number g k from upto) ∙ ap (node_of g) own ∙ back.reads;
       free = λ e. own ∙ back.zeros (used_none node node.kind e);
-      others = stored_other g m n k (node_spelling node) whole from upto back.size block rest table;
-      table = stored_long g m n k (node_spelling node) whole from upto back.size block rest table;
+      others = stored_other g m n k (node_spelling g.layout node) whole from upto back.size block rest table;
+      table = stored_long g m n k (node_spelling g.layout node) whole from upto back.size block rest table;
     }

@@ -4,6 +4,7 @@ use Rattle.std.proofs.lemmas.Bool.{false≢true, false_from_ne_true}
 use Rattle.std.proofs.lemmas.Option.{none-some}
 use Rattle.base_types.specs.Seal.{Blocks}
 use Rattle.base_types.specs.Runs.{run_places}
+use Rattle.base_types.specs.Layouts.{node_byte}
 use Rattle.layout_geometry.specs.Geometry.{IsGeometry, table_start, data_start}
 use Rattle.layout_bytes.specs.declared.node.Node.{Node}
 use Rattle.layout_bytes.specs.Node.{node_spelling, free_node}
@@ -17,7 +18,7 @@ use Rattle.fs_files.specs.Calls.{IsWithFile, IsWithPlaces, places_of}
 use Rattle.fs_files.specs.Drafts.{DraftState, drafted, PutsBlock, FreesBlocks}
 use Rattle.fs_files.specs.Frames.{ReadsBack, HasNewNode, ChangesNode}
 use Rattle.fs_files.specs.Growing.{alone}
-use Rattle.fs_files.specs.Nodes.{node_block, node_byte}
+use Rattle.fs_files.specs.Nodes.{node_block}
 use Rattle.fs_files.specs.Shared.{is_kept}
 use Rattle.fs_files.specs.Sound.{AreSoundBy, FitsBooks, IsSoundDraft}
 use Rattle.fs_files.proofs.drafts.Lists.{each_of, in_alone}
@@ -30,7 +31,7 @@ use Rattle.fs_files.proofs.frames.Steps.{both, used_once, node_dropped}
 
 module _ (k : Bookkeeping) (m : Blocks) (number : ℕ) (old : Node) (c : Changed) (d f e : DraftState) (geom : IsGeometry k.geom) (fits : FitsBooks k d) (sound : IsSoundDraft k m d)
     (used : used_node k.geom (drafted d m) number ≡ Some old) (frees : FreesBlocks (alone (is_kept d.kept) (run_places old.runs)) d f)
-    (bytes : c.bytes ≡ overwrite (node_byte number) (node_spelling free_node) (drafted d m (node_block k.geom number))) (puts : PutsBlock (node_block k.geom number) c f e) (back : ReadsBack k.geom free_node) where
+    (bytes : c.bytes ≡ overwrite (node_byte k.geom.layout number) (node_spelling k.geom.layout free_node) (drafted d m (node_block k.geom number))) (puts : PutsBlock (node_block k.geom number) c f e) (back : ReadsBack k.geom free_node) where
   number_in : (1 ≤ number) × (number ≤ k.geom.i)
   number_in = let r = used_within k.geom (drafted d m) number old used in (r.0, r.1)
 

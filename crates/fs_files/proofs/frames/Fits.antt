@@ -1,5 +1,5 @@
 -- When a node with these places fits a disk.
-use Rattle.std.proofs.Common.{◌≡◌, ◌≢◌, ◌⊎◌, inl, inr, ℕ, zero, suc, ◌+◌, ◌-◌, ◌/◌, ◌<◌, ◌≤◌, ◌==◌, ◌||◌, not, nat_lt, nat_le, true, List, [], ◌∷◌, length, All, refl, sym, ap, ◌∙◌, arith}
+use Rattle.std.proofs.Common.{◌≡◌, ◌≢◌, ◌⊎◌, inl, inr, ℕ, zero, suc, ◌+◌, ◌-◌, ◌<◌, ◌≤◌, ◌==◌, ◌||◌, not, nat_lt, nat_le, true, List, [], ◌∷◌, length, All, refl, sym, ap, ◌∙◌, arith}
 use Rattle.std.proofs.lemmas.Bool.{cases_eq, and_from, le-leb, lt-ltb, eq-eqb, ne_eqb, not_from_false, or_left, or_right}
 use Rattle.std.proofs.lemmas.Bool.Decides.{nat_tests}
 use Rattle.base_types.specs.declared.places.Run.{Run}
@@ -7,10 +7,11 @@ use Rattle.base_types.specs.Runs.{blocks_from, run_places}
 use Rattle.layout_extent.specs.Runs.{AreTidy, runs_of, stretches}
 use Rattle.layout_geometry.specs.Geometry.{Geometry, data_start}
 use Rattle.layout_bytes.specs.declared.node.NodeKind.{NodeKind}
-use Rattle.layout_bytes.specs.Node.{node_fits, runs_fit, run_blocks, kind_fits}
+use Rattle.layout_bytes.specs.declared.node.NodeKind.TheVariants.{Free, Dir, File, Snapshot}
+use Rattle.layout_bytes.specs.Node.{most_runs, content_blocks, node_fits, runs_fit, run_blocks, kind_fits}
 use Rattle.engine_blocks.specs.Running.{has}
 use Rattle.engine_blocks.specs.Puts.{IsData}
-use Rattle.fs_files.specs.Bytes.{blocks_for}
+use Rattle.fs_files.specs.Contents.{no_blocks}
 use Rattle.fs_files.proofs.frames.Places.{places_count}
 use Rattle.fs_files.proofs.drafts.Lists.{has_append, each_of}
 
@@ -59,20 +60,29 @@ begins_above g (r ∷ rs) tidy inside =
     let is = inside r.first (has_append (blocks_from r.first r.count) (run_places rs) r.first ∙ or_left (has (blocks_from r.first r.count) r.first) (has (run_places rs) r.first) (in_blocks r.first r.count r.first (omega arith) (omega (arith, some)))) in
     λ e. absurd (omega (arith, e, is.from))
 
--- a node in use with as many data blocks as its bytes need, in at most 28 stretches, fits; the first three are laws of runs
+-- a node in use with as many data blocks as its content needs, in no more stretches than its layout has room for, fits; the first three are laws of runs
 pub fits_with : (g : Geometry) (kind : NodeKind) (links size : ℕ) (places : List ℕ)
     → run_places (runs_of places) ≡ places → length (runs_of places) ≡ stretches places → AreTidy (runs_of places)
-    → 0 < links → stretches places ≤ 28 → All (IsData g) places → length places ≡ blocks_for size
+    → 0 < links → stretches places ≤ most_runs g.layout → All (IsData g) places → length places ≡ content_blocks g.layout kind size
     → kind_fits (record { kind = kind; links = links; size = size; runs = runs_of places }) kind ≡ true
     → node_fits g (record { kind = kind; links = links; size = size; runs = runs_of places }) ≡ true
 fits_with g kind links size places back count tidy linked few inside long by_kind =
     let each : (b : ℕ) → has (run_places (runs_of places)) b ≡ true → IsData g b = λ b is. each_of (IsData g) places inside b (ap (λ xs. has xs b) (sym back) ∙ is) in
-    let blocks : run_blocks (runs_of places) ≡ (size + 1023) / 1024 = sym (places_count (runs_of places)) ∙ ap length back ∙ long in
+    let blocks : run_blocks (runs_of places) ≡ content_blocks g.layout kind size = sym (places_count (runs_of places)) ∙ ap length back ∙ long in
     and_from (nat_lt 0 links) _ (lt-ltb 0 links linked)
-    (and_from (nat_le (length (runs_of places)) 28) _ (le-leb (length (runs_of places)) 28 (omega (arith, count, few)))
+    (and_from (nat_le (length (runs_of places)) (most_runs g.layout)) _ (le-leb (length (runs_of places)) (most_runs g.layout) (omega (arith, count, few)))
     (and_from (runs_fit g 0 (runs_of places)) _ (runs_fit_from g 0 (runs_of places) (begins_above g (runs_of places) tidy each) tidy each)
-    (and_from (run_blocks (runs_of places) == (size + 1023) / 1024) _ (eq-eqb (run_blocks (runs_of places)) ((size + 1023) / 1024) blocks) by_kind)))
+    (and_from (run_blocks (runs_of places) == content_blocks g.layout kind size) _ (eq-eqb (run_blocks (runs_of places)) (content_blocks g.layout kind size) blocks) by_kind)))
+
+new_kind : (kind : NodeKind) → kind_fits (record { kind = kind; links = 1; size = 0; runs = [] }) kind ≡ true
+new_kind Free = refl
+new_kind Dir = refl
+new_kind File = refl
+new_kind Snapshot = refl
 
 -- a new node in use, with one link and no bytes, fits
 pub new_fits : (g : Geometry) (kind : NodeKind) → node_fits g (record { kind = kind; links = 1; size = 0; runs = [] }) ≡ true
-new_fits g kind = grind (arith, nat_tests)
+new_fits g kind =
+    and_from (nat_lt 0 1) _ (lt-ltb 0 1 (omega arith))
+    (and_from (nat_le 0 (most_runs g.layout)) _ (le-leb 0 (most_runs g.layout) (omega arith))
+    (and_from (0 == content_blocks g.layout kind 0) (kind_fits (record { kind = kind; links = 1; size = 0; runs = [] }) kind) (eq-eqb 0 (content_blocks g.layout kind 0) (sym (no_blocks g.layout kind))) (new_kind kind)))

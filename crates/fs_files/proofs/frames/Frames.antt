@@ -8,7 +8,7 @@ use Rattle.layout_geometry.specs.Geometry.{Geometry, data_start}
 use Rattle.layout_bytes.specs.declared.node.Node.{Node}
 use Rattle.layout_bytes.specs.declared.node.NodeKind.TheVariants.{Dir, File}
 use Rattle.layout_bytes.specs.Bytes.{are_zeros}
-use Rattle.layout_bytes.specs.Node.{node_of, node_at, node_bytes}
+use Rattle.layout_bytes.specs.Node.{content_of, node_size, node_of, node_at, node_bytes}
 use Rattle.engine_blocks.specs.Running.{has}
 use Rattle.engine_blocks.specs.Puts.{IsData}
 use Rattle.crash_stands.specs.Files.{joined, past_content, used_node, file_of, files_of}
@@ -122,17 +122,17 @@ module _ (g : Geometry) (marks new_marks : ℕ → Bool) (m n : Blocks) (k : ℕ
 
   -- What carries nothing is zeros.
 
-  free : (l : ℕ) → 1 ≤ l → l ≤ g.i → node_at g n l ≡ None → node_bytes g n l ≡ replicate 256 0
+  free : (l : ℕ) → 1 ≤ l → l ≤ g.i → node_at g n l ≡ None → node_bytes g n l ≡ replicate (node_size g.layout) 0
   free l from upto none = ⊎_elim (λ e. let out : used_node g n k ≡ None = when_true (nat_le 1 k && nat_le k g.i) (node_at g n k) (is_number g k ch.from ch.upto) ∙ ap (node_at g n) (sym e) ∙ none in
       ap (node_bytes g n) e ∙ ch.node.free (sym ch.node.own ∙ out))
       (λ other. let same = ch.node.others l from upto other in
       same ∙ sound.free l from upto (ap (node_of g) (sym same) ∙ none))
       (cases_eq l k)
 
-  tail : (l : ℕ) (node : Node) → used_node g n l ≡ Some node → node.kind ≡ Dir → IsTrue (are_zeros (past_content n node))
+  tail : (l : ℕ) (node : Node) → used_node g n l ≡ Some node → node.kind ≡ Dir → IsTrue (are_zeros (past_content g.layout n node))
   tail l node e dir = ⊎_elim (λ is. ch.tail node (sym ch.node.own ∙ ap (used_node g n) (sym is) ∙ e) dir)
       (λ other. let was : used_node g m l ≡ Some node = sym (other_node l other) ∙ e in
-      ap (λ xs. are_zeros (drop node.size xs)) (other_joined l node other was) ∙ sound.tail l node was dir)
+      ap (λ xs. are_zeros (drop (content_of g.layout node.kind node.size) xs)) (other_joined l node other was) ∙ sound.tail l node was dir)
       (cases_eq l k)
 
   pub node_changed_sound : AreSoundBy g new_marks n
@@ -147,13 +147,13 @@ module _ (g : Geometry) (marks new_marks : ℕ → Bool) (m n : Blocks) (k : ℕ
 
   -- The files.
 
-  map_same : (o : Option Node) → ((node : Node) → o ≡ Some node → file_of n node ≡ file_of m node) → option_map (file_of n) o ≡ option_map (file_of m) o
+  map_same : (o : Option Node) → ((node : Node) → o ≡ Some node → file_of g.layout n node ≡ file_of g.layout m node) → option_map (file_of g.layout n) o ≡ option_map (file_of g.layout m) o
   map_same o e = grind (arith, nat_tests)
 
-  file_with : (node : Node) → joined n (run_places node.runs) ≡ joined m (run_places node.runs) → file_of n node ≡ file_of m node
-  file_with node same = ap (λ xs. record { kind = node.kind; links = node.links; bytes = take node.size xs }) same
+  file_with : (node : Node) → joined n (run_places node.runs) ≡ joined m (run_places node.runs) → file_of g.layout n node ≡ file_of g.layout m node
+  file_with node same = ap (λ xs. record { kind = node.kind; links = node.links; bytes = take (content_of g.layout node.kind node.size) xs }) same
 
-  pub node_changed_files : IsWithFile (files_of g m) (files_of g n) k (option_map (file_of n) new)
+  pub node_changed_files : IsWithFile (files_of g m) (files_of g n) k (option_map (file_of g.layout n) new)
   node_changed_files = search (rules, arith, own, other_node, map_same, file_with, other_joined)
 
 -- A node that has a kept block still is a file, where each kept block of the new one was the old one's, of the same kind.

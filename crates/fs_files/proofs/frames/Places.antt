@@ -1,5 +1,5 @@
 -- The blocks of a node: data blocks, as many as its bytes need, with as many bytes as its size says and more.
-use Rattle.std.proofs.Common.{◌≡◌, ◌≢◌, ◌⊎◌, ℕ, ◌+◌, ◌/◌, ◌<◌, ◌≤◌, ◌==◌, Bool, true, false, List, ◌∷◌, length, get_or, slice_get, slice_index, if◌then◌else◌, Option, Some, None, option_map, refl, sym, ap, subst, ◌∙◌, arith}
+use Rattle.std.proofs.Common.{◌≡◌, ◌≢◌, ℕ, ◌+◌, ◌/◌, ◌<◌, ◌≤◌, ◌==◌, Bool, true, false, List, ◌∷◌, length, get_or, slice_get, slice_index, if◌then◌else◌, Option, Some, None, option_map, refl, sym, ap, subst, ◌∙◌, arith}
 use Rattle.std.specs.List.{All, AllPairs}
 use Rattle.std.proofs.lemmas.List.{length-take-le}
 use Rattle.std.proofs.lemmas.Bool.{cases_order, false≢true}
@@ -8,15 +8,17 @@ use Rattle.std.proofs.lemmas.Bool.Decides.{nat_tests}
 use Rattle.base_types.specs.Seal.{Blocks}
 use Rattle.base_types.specs.declared.places.Run.{Run}
 use Rattle.base_types.specs.Runs.{run_places}
+use Rattle.base_types.specs.declared.layout.Layout.{Layout}
+use Rattle.base_types.specs.Layouts.{most_runs}
 use Rattle.layout_geometry.specs.Geometry.{Geometry, data_start}
 use Rattle.layout_bytes.specs.declared.node.Node.{Node}
 use Rattle.layout_bytes.specs.declared.node.NodeKind.{NodeKind}
 use Rattle.layout_bytes.specs.declared.node.NodeKind.TheVariants.{Free, Dir, File, Snapshot}
 use Rattle.layout_bytes.specs.Bytes.{when}
-use Rattle.layout_bytes.specs.Node.{node_of, node_with, node_at, node_bytes, node_fields, node_fits, spare_zeros, used_kind, runs_fit, run_blocks, kind_fits}
+use Rattle.layout_bytes.specs.Node.{content_of, content_blocks, node_of, node_with, node_at, node_bytes, node_fields, node_fits, spare_zeros, used_kind, runs_fit, run_blocks, kind_fits}
 use Rattle.engine_blocks.specs.Running.{has}
 use Rattle.engine_blocks.specs.Puts.{IsData}
-use Rattle.crash_stands.specs.Files.{FileNode, content, used_node, file_of, files_of}
+use Rattle.crash_stands.specs.Files.{FileNode, joined, content, used_node, file_of, files_of}
 use Rattle.crash_stands.specs.Stands.{HasBlock}
 use Rattle.fs_files.specs.Calls.{places_or_none}
 use Rattle.fs_files.specs.Sound.{AreSoundBy}
@@ -40,7 +42,7 @@ one_place xs once i j b at_i at_j = grind (arith, nat_tests, cases_order, get_or
 with_fits : (g : Geometry) (b : List ℕ) (o : Option NodeKind) (node : Node) → node_with g b o ≡ Some node → (kind : NodeKind) × (o ≡ Some kind) × (node_fits g node ≡ true) × (node.kind ≡ kind)
 with_fits g b None node e = absurd (none-some node e)
 with_fits g b (Some kind) node e =
-    let spare = when_some (spare_zeros b) (when (node_fits g (node_fields kind b)) (Some (node_fields kind b))) node e in
+    let spare = when_some (spare_zeros g.layout b) (when (node_fits g (node_fields kind b)) (Some (node_fields kind b))) node e in
     let fits = when_some (node_fits g (node_fields kind b)) (Some (node_fields kind b)) node spare.1 in
     let same : node_fields kind b ≡ node = same_Some (node_fields kind b) node fits.1 in
     (kind, refl, subst (λ (m : Node). node_fits g m ≡ true) same fits.0, sym (ap (λ (m : Node). m.kind) same))
@@ -77,9 +79,9 @@ first_fits g end r rs e = grind (arith, nat_tests)
 -- what the test of a node says of its parts
 pub record PartsFit (g : Geometry) (node : Node) : Type 0 where
   pub links : 0 < node.links
-  pub few : length node.runs ≤ 28
+  pub few : length node.runs ≤ most_runs g.layout
   pub runs : runs_fit g 0 node.runs ≡ true
-  pub blocks : run_blocks node.runs ≡ (node.size + 1023) / 1024
+  pub blocks : run_blocks node.runs ≡ content_blocks g.layout node.kind node.size
   pub kind : kind_fits node node.kind ≡ true
 
 pub parts_fit : (g : Geometry) (node : Node) → node_fits g node ≡ true → PartsFit g node
@@ -110,28 +112,29 @@ used_marked g marks m k node sound e b is = grind (arith, nat_tests, used_data, 
 pub used_whole : (g : Geometry) (marks : ℕ → Bool) (m : Blocks) (k : ℕ) (node : Node) → AreSoundBy g marks m → used_node g m k ≡ Some node → (b : ℕ) → has (run_places node.runs) b ≡ true → length (m b) ≡ 1024
 used_whole g marks m k node sound e b is = grind (arith, nat_tests, used_data, used_marked)
 
--- the content of a node that fits has as many bytes as its size says
-pub content_length : (g : Geometry) (m : Blocks) (node : Node) → node_fits g node ≡ true → ((b : ℕ) → has (run_places node.runs) b ≡ true → length (m b) ≡ 1024) → length (content m node) ≡ node.size
-content_length g m node fits whole = grind (arith, nat_tests, parts_fit, places_count, joined_length, length-take-le)
+-- the content of a node that fits has as many bytes as its size tells
+pub content_length : (g : Geometry) (m : Blocks) (node : Node) → node_fits g node ≡ true → ((b : ℕ) → has (run_places node.runs) b ≡ true → length (m b) ≡ 1024) → length (content g.layout m node) ≡ content_of g.layout node.kind node.size
+content_length g m node fits whole =
+    length-take-le (content_of g.layout node.kind node.size) (joined m (run_places node.runs)) (omega (arith, joined_length m (run_places node.runs) whole, places_count node.runs, (parts_fit g node fits).blocks))
 
 -- the blocks of a node that fits are as many as its bytes need
-pub places_needed : (g : Geometry) (node : Node) → node_fits g node ≡ true → length (run_places node.runs) ≡ (node.size + 1023) / 1024
+pub places_needed : (g : Geometry) (node : Node) → node_fits g node ≡ true → length (run_places node.runs) ≡ content_blocks g.layout node.kind node.size
 places_needed g node fits = places_count node.runs ∙ (parts_fit g node fits).blocks
 
-pub used_length : (g : Geometry) (marks : ℕ → Bool) (m : Blocks) (k : ℕ) (node : Node) → AreSoundBy g marks m → used_node g m k ≡ Some node → length (content m node) ≡ node.size
+pub used_length : (g : Geometry) (marks : ℕ → Bool) (m : Blocks) (k : ℕ) (node : Node) → AreSoundBy g marks m → used_node g m k ≡ Some node → length (content g.layout m node) ≡ content_of g.layout node.kind node.size
 used_length g marks m k node sound e = content_length g m node (used_fits g m k node e) (used_whole g marks m k node sound e)
 
-map_some : (m : Blocks) (o : Option Node) (x : FileNode) → option_map (file_of m) o ≡ Some x → (node : Node) × (o ≡ Some node) × (x ≡ file_of m node)
-map_some m o x e = grind (arith, nat_tests)
+map_some : (l : Layout) (m : Blocks) (o : Option Node) (x : FileNode) → option_map (file_of l m) o ≡ Some x → (node : Node) × (o ≡ Some node) × (x ≡ file_of l m node)
+map_some l m o x e = grind (arith, nat_tests)
 
--- a file is a node in use with its content, of as many bytes as its size says
+-- a file is a node in use with its content, of as many bytes as its size tells
 pub file_node : (g : Geometry) (marks : ℕ → Bool) (m : Blocks) (k : ℕ) (x : FileNode) → AreSoundBy g marks m → files_of g m k ≡ Some x
-    → (node : Node) × (used_node g m k ≡ Some node) × (x ≡ file_of m node) × (length x.bytes ≡ node.size)
+    → (node : Node) × (used_node g m k ≡ Some node) × (x ≡ file_of g.layout m node) × (length x.bytes ≡ content_of g.layout node.kind node.size)
 file_node g marks m k x sound e = grind (arith, nat_tests, map_some, used_length)
 
 -- and a node in use is a file
-pub node_file : (g : Geometry) (m : Blocks) (k : ℕ) (node : Node) → used_node g m k ≡ Some node → files_of g m k ≡ Some (file_of m node)
-node_file g m k node e = ap (option_map (file_of m)) e
+pub node_file : (g : Geometry) (m : Blocks) (k : ℕ) (node : Node) → used_node g m k ≡ Some node → files_of g m k ≡ Some (file_of g.layout m node)
+node_file g m k node e = ap (option_map (file_of g.layout m)) e
 
 -- a file has as many blocks as its bytes need
 pub file_places : (g : Geometry) (marks : ℕ → Bool) (m : Blocks) (k : ℕ) (x : FileNode) → AreSoundBy g marks m → files_of g m k ≡ Some x

@@ -4,6 +4,7 @@ use Rattle.std.specs.List.{AllPairs}
 use Rattle.std.proofs.lemmas.Bool.{cases_Bool, cases_eq, eq-eqb, ne_eqb, or_left, or_right, false≢true, false_from_ne_true}
 use Rattle.std.proofs.lemmas.Bool.Decides.{nat_tests}
 use Rattle.base_types.specs.Seal.{Blocks}
+use Rattle.base_types.specs.Layouts.{node_byte}
 use Rattle.layout_geometry.specs.Geometry.{Geometry, IsGeometry, table_start, data_start}
 use Rattle.layout_bytes.specs.declared.node.Node.{Node}
 use Rattle.layout_bytes.specs.Node.{node_spelling}
@@ -14,7 +15,7 @@ use Rattle.fs_files.specs.declared.changes.Changed.{Changed}
 use Rattle.fs_files.specs.Bytes.{overwrite}
 use Rattle.fs_files.specs.Drafts.{DraftState, ChangesSome, change_of, bytes_or, drafted, marks_of, PutsBlock}
 use Rattle.fs_files.specs.Frames.{used_of, ReadsBack, HasNewNode}
-use Rattle.fs_files.specs.Nodes.{node_block, node_byte}
+use Rattle.fs_files.specs.Nodes.{node_block}
 use Rattle.fs_files.specs.Shared.{is_kept}
 use Rattle.fs_files.specs.Sound.{AreSoundBy, FitsBooks, IsSoundDraft, is_filled}
 use Rattle.fs_files.proofs.frames.Cells.{block_from, block_below, node_stored}
@@ -122,7 +123,7 @@ put_changes k g number c d e same geom from upto fits puts = (at, by (cases_Bool
 
 -- A node that was put into a draft in its block is there, and the other nodes are as before.
 pub node_put : (k : Bookkeeping) (m : Blocks) (marks : ℕ → Bool) (d e : DraftState) (number : ℕ) (node : Node) (c : Changed) → IsGeometry k.geom → 1 ≤ number → number ≤ k.geom.i → FitsBooks k d
-    → AreSoundBy k.geom marks (drafted d m) → c.bytes ≡ overwrite (node_byte number) (node_spelling node) (drafted d m (node_block k.geom number)) → PutsBlock (node_block k.geom number) c d e → ReadsBack k.geom node
+    → AreSoundBy k.geom marks (drafted d m) → c.bytes ≡ overwrite (node_byte k.geom.layout number) (node_spelling k.geom.layout node) (drafted d m (node_block k.geom number)) → PutsBlock (node_block k.geom number) c d e → ReadsBack k.geom node
     → HasNewNode k.geom (drafted d m) (drafted e m) number (used_of node)
 node_put k m marks d e number node c geom from upto fits sound bytes puts back =
     let low = block_from k.geom number in

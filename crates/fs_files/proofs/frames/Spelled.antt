@@ -4,6 +4,8 @@ use Rattle.std.proofs.lemmas.Bool.{false≢true}
 use Rattle.std.specs.Int.{byte_at, bytes_low_first}
 use Rattle.std.proofs.lemmas.Bool.Decides.{nat_tests}
 use Rattle.base_types.specs.declared.places.Run.{Run}
+use Rattle.base_types.specs.declared.layout.Layout.{Layout}
+use Rattle.base_types.specs.Layouts.{node_size}
 use Rattle.layout_geometry.specs.Geometry.{Geometry}
 use Rattle.layout_bytes.specs.declared.node.Node.{Node}
 use Rattle.layout_bytes.specs.declared.node.NodeKind.{NodeKind}
@@ -53,10 +55,10 @@ parts_bytes kind count links size spare runs zeros k c l s p r z =
     (one_more 0 (count ++ (links ++ (size ++ (spare ++ (runs ++ zeros))))) (omega arith)
     (both_are count (links ++ (size ++ (spare ++ (runs ++ zeros)))) c (both_are links (size ++ (spare ++ (runs ++ zeros))) l (both_are size (spare ++ (runs ++ zeros)) s (both_are spare (runs ++ zeros) p (both_are runs zeros r z))))))
 
-spelling_bytes : (node : Node) → AreBytes (node_spelling node)
-spelling_bytes node =
-    parts_bytes (kind_byte node.kind) (bytes_low_first 0 2 (length node.runs)) (bytes_low_first 0 4 node.links) (bytes_low_first 0 8 node.size) (replicate 16 0) (run_bytes node.runs) (replicate (256 - 32 - 8 * length node.runs) 0)
-    (kind_below node.kind) (number_bytes 0 2 (length node.runs)) (number_bytes 0 4 node.links) (number_bytes 0 8 node.size) (zero_bytes 16) (runs_bytes node.runs) (zero_bytes (256 - 32 - 8 * length node.runs))
+spelling_bytes : (l : Layout) (node : Node) → AreBytes (node_spelling l node)
+spelling_bytes l node =
+    parts_bytes (kind_byte node.kind) (bytes_low_first 0 2 (length node.runs)) (bytes_low_first 0 4 node.links) (bytes_low_first 0 8 node.size) (replicate 16 0) (run_bytes node.runs) (replicate (node_size l - 32 - 8 * length node.runs) 0)
+    (kind_below node.kind) (number_bytes 0 2 (length node.runs)) (number_bytes 0 4 node.links) (number_bytes 0 8 node.size) (zero_bytes 16) (runs_bytes node.runs) (zero_bytes (node_size l - 32 - 8 * length node.runs))
 
 -- What it reads as.
 
@@ -76,22 +78,22 @@ snapshot_used : Snapshot ≡ Free → ⊥
 snapshot_used e = false≢true (ap is_free e)
 
 pub reads_back : (g : Geometry) (node : Node)
-    → ((b : List ℕ) (n : Node) → length b ≡ 256 → ((i : ℕ) → slice_index b i < 256) → (node_of g b ≡ Some n) ↔ (IsNode g b n × (n.kind ≡ Free → ⊥)))
-    → ((b : List ℕ) (n : Node) → length b ≡ 256 → ((i : ℕ) → slice_index b i < 256) → IsNode g b n → n.kind ≡ Free → node_of g b ≡ None)
-    → ((b : List ℕ) (n : Node) → IsNode g b n → length b ≡ 256)
-    → ((b : List ℕ) (n : Node) → IsNode g b n → n.kind ≡ Free → b ≡ replicate 256 0)
-    → IsNode g (node_spelling node) node → ReadsBack g node
+    → ((b : List ℕ) (n : Node) → length b ≡ node_size g.layout → ((i : ℕ) → slice_index b i < 256) → (node_of g b ≡ Some n) ↔ (IsNode g b n × (n.kind ≡ Free → ⊥)))
+    → ((b : List ℕ) (n : Node) → length b ≡ node_size g.layout → ((i : ℕ) → slice_index b i < 256) → IsNode g b n → n.kind ≡ Free → node_of g b ≡ None)
+    → ((b : List ℕ) (n : Node) → IsNode g b n → length b ≡ node_size g.layout)
+    → ((b : List ℕ) (n : Node) → IsNode g b n → n.kind ≡ Free → b ≡ replicate (node_size g.layout) 0)
+    → IsNode g (node_spelling g.layout node) node → ReadsBack g node
 reads_back g node read free size zeros is = record {
-  size = size (node_spelling node) node is;
+  size = size (node_spelling g.layout node) node is;
   reads = by node.kind refl;
-  zeros = zeros (node_spelling node) node is;
+  zeros = zeros (node_spelling g.layout node) node is;
 }
   where
-    used : (node.kind ≡ Free → ⊥) → node_of g (node_spelling node) ≡ Some node
-    used isnt = (read (node_spelling node) node (size (node_spelling node) node is) (spelling_bytes node)).1 (is, isnt)
+    used : (node.kind ≡ Free → ⊥) → node_of g (node_spelling g.layout node) ≡ Some node
+    used isnt = (read (node_spelling g.layout node) node (size (node_spelling g.layout node) node is) (spelling_bytes g.layout node)).1 (is, isnt)
 
-    by : (kind : NodeKind) → node.kind ≡ kind → node_of g (node_spelling node) ≡ used_by node kind
-    by Free e = free (node_spelling node) node (size (node_spelling node) node is) (spelling_bytes node) is e
+    by : (kind : NodeKind) → node.kind ≡ kind → node_of g (node_spelling g.layout node) ≡ used_by node kind
+    by Free e = free (node_spelling g.layout node) node (size (node_spelling g.layout node) node is) (spelling_bytes g.layout node) is e
     by Dir e = used (λ free. dir_used (sym e ∙ free))
     by File e = used (λ free. file_used (sym e ∙ free))
     by Snapshot e = used (λ free. snapshot_used (sym e ∙ free))

@@ -7,10 +7,12 @@ use Rattle.std.proofs.lemmas.List.{length-append, get_or-append_right, get_or_ap
 use Rattle.std.proofs.lemmas.Bool.Decides.{nat_tests}
 use Rattle.base_types.specs.Seal.{Blocks}
 use Rattle.base_types.specs.Runs.{run_places}
+use Rattle.base_types.specs.declared.layout.Layout.{Layout}
 use Rattle.layout_geometry.specs.Geometry.{Geometry, table_start, data_start}
 use Rattle.layout_bytes.specs.declared.node.Node.{Node}
 use Rattle.layout_bytes.specs.declared.node.NodeKind.TheVariants.{Dir}
 use Rattle.layout_bytes.specs.Bytes.{are_zeros}
+use Rattle.layout_bytes.specs.Node.{content_of}
 use Rattle.engine_blocks.specs.Running.{has}
 use Rattle.engine_blocks.specs.Puts.{IsData}
 use Rattle.crash_stands.specs.Files.{FileNode, Files, joined, content, past_content, used_node, file_of, files_of}
@@ -25,16 +27,16 @@ use Rattle.fs_files.proofs.drafts.Lists.{has_append, each_of}
 -- What follows of a node that changed.
 
 pub both : (g : Geometry) (marks new_marks : ℕ → Bool) (m n : Blocks) (k : ℕ) (old new : Option Node) → AreSoundBy g marks m → ChangesNode g marks new_marks m n k old new
-    → AreSoundBy g new_marks n × IsWithFile (files_of g m) (files_of g n) k (option_map (file_of n) new)
+    → AreSoundBy g new_marks n × IsWithFile (files_of g m) (files_of g n) k (option_map (file_of g.layout n) new)
 both g marks new_marks m n k old new sound ch = (node_changed_sound g marks new_marks m n k old new sound ch, node_changed_files g marks new_marks m n k old new sound ch)
 
 pub file_is : (old new : Files) (k : ℕ) (x y : Option FileNode) → x ≡ y → IsWithFile old new k x → IsWithFile old new k y
 file_is old new k x y e is = record { own = is.own ∙ e; others = is.others }
 
 -- a node whose kind and links are as before, with other bytes
-pub file_bytes : (m n : Blocks) (old new : Node) (x : FileNode) (bytes : List ℕ) → x ≡ file_of m old → new.kind ≡ old.kind → new.links ≡ old.links → content n new ≡ bytes
-    → ◌≡◌ {A = Option FileNode} (Some (file_of n new)) (Some (with_bytes x bytes))
-file_bytes m n old new x bytes is kind links same = grind (arith, nat_tests)
+pub file_bytes : (l : Layout) (m n : Blocks) (old new : Node) (x : FileNode) (bytes : List ℕ) → x ≡ file_of l m old → new.kind ≡ old.kind → new.links ≡ old.links → content l n new ≡ bytes
+    → ◌≡◌ {A = Option FileNode} (Some (file_of l n new)) (Some (with_bytes x bytes))
+file_bytes l m n old new x bytes is kind links same = grind (arith, nat_tests)
 
 -- Lists of places.
 
@@ -82,7 +84,7 @@ pub content_changes : (g : Geometry) (marks new_marks : ℕ → Bool) (m n : Blo
     → ((b : ℕ) → data_start g ≤ b → b < g.n → has (run_places node.runs) b ≡ false → n b ≡ m b)
     → ((b : ℕ) → data_start g ≤ b → b < g.n → new_marks b ≡ marks b)
     → All (λ b. length (n b) ≡ 1024) (run_places node.runs)
-    → (node.kind ≡ Dir → IsTrue (are_zeros (past_content n node)))
+    → (node.kind ≡ Dir → IsTrue (are_zeros (past_content g.layout n node)))
     → ChangesNode g marks new_marks m n k (Some node) (Some node)
 content_changes g marks new_marks m n k node even sound is table elsewhere same whole tail =
     let at = used_within g m k node is in
@@ -99,7 +101,7 @@ content_changes g marks new_marks m n k node even sound is table elsewhere same 
       inside = all_of (IsData g) (run_places node.runs) (used_data g m k node is);
       whole = whole;
       tail = λ now e dir. let back : node ≡ now = same_Some node now e in
-          subst (λ (x : Node). IsTrue (are_zeros (past_content n x))) back (tail (ap (λ (x : Node). x.kind) back ∙ dir));
+          subst (λ (x : Node). IsTrue (are_zeros (past_content g.layout n x))) back (tail (ap (λ (x : Node). x.kind) back ∙ dir));
     }
   where
     self : (was its : Bool) → (its ≡ true → was ≡ true) → was ≡ (its || (was && not its))
@@ -114,7 +116,7 @@ pub node_renewed : (g : Geometry) (live now : ℕ → Bool) (m n : Blocks) (k : 
     → ((b : ℕ) → data_start g ≤ b → b < g.n → has (run_places old.runs) b ≡ false → has more b ≡ false → n b ≡ m b)
     → ((b : ℕ) → data_start g ≤ b → b < g.n → now b ≡ (has (run_places new.runs) b || (live b && not (has (run_places old.runs) b))))
     → All (λ b. length (n b) ≡ 1024) (run_places new.runs)
-    → (new.kind ≡ Dir → IsTrue (are_zeros (past_content n new)))
+    → (new.kind ≡ Dir → IsTrue (are_zeros (past_content g.layout n new)))
     → ChangesNode g live now m n k (Some old) (Some new)
 node_renewed g live now m n k old new more sound is there either came once inside unmarked elsewhere marked whole tail =
     let at = used_within g m k old is in
@@ -130,7 +132,7 @@ node_renewed g live now m n k old new more sound is there either came once insid
       inside = all_of (IsData g) (run_places new.runs) (λ b mine. data_of b (either b mine));
       whole = whole;
       tail = λ x e dir. let back : new ≡ x = same_Some new x e in
-          subst (λ (y : Node). IsTrue (are_zeros (past_content n y))) back (tail (ap (λ (y : Node). y.kind) back ∙ dir));
+          subst (λ (y : Node). IsTrue (are_zeros (past_content g.layout n y))) back (tail (ap (λ (y : Node). y.kind) back ∙ dir));
     }
   where
     in_more : (b : ℕ) → has (run_places old.runs) b ≡ false → (has (run_places old.runs) b ≡ true) ⊎ (has more b ≡ true) → has more b ≡ true
@@ -147,7 +149,7 @@ pub node_cut : (g : Geometry) (marks new_marks : ℕ → Bool) (m n : Blocks) (k
     → ((b : ℕ) → data_start g ≤ b → b < g.n → has (run_places old.runs) b ≡ false → n b ≡ m b)
     → ((b : ℕ) → data_start g ≤ b → b < g.n → new_marks b ≡ (marks b && not (has gone b)))
     → All (λ b. length (n b) ≡ 1024) (run_places new.runs)
-    → (new.kind ≡ Dir → IsTrue (are_zeros (past_content n new)))
+    → (new.kind ≡ Dir → IsTrue (are_zeros (past_content g.layout n new)))
     → ChangesNode g marks new_marks m n k (Some old) (Some new)
 node_cut g marks new_marks m n k old new kept gone sound is now parts places elsewhere marked whole tail =
     let at = used_within g m k old is in
@@ -168,7 +170,7 @@ node_cut g marks new_marks m n k old new kept gone sound is now parts places els
       inside = all_of (IsData g) (run_places new.runs) (λ b mine. used_data g m k old is b (has_old b ∙ or_left (has kept b) (has gone b) (sym (has_new b) ∙ mine)));
       whole = whole;
       tail = λ x e dir. let back : new ≡ x = same_Some new x e in
-          subst (λ (y : Node). IsTrue (are_zeros (past_content n y))) back (tail (ap (λ (y : Node). y.kind) back ∙ dir));
+          subst (λ (y : Node). IsTrue (are_zeros (past_content g.layout n y))) back (tail (ap (λ (y : Node). y.kind) back ∙ dir));
     }
   where
     has_old : (b : ℕ) → has (run_places old.runs) b ≡ (has kept b || has gone b)
@@ -203,7 +205,7 @@ pub node_same_places : (g : Geometry) (marks new_marks : ℕ → Bool) (m n : Bl
     → run_places new.runs ≡ run_places old.runs
     → ((b : ℕ) → data_start g ≤ b → b < g.n → n b ≡ m b)
     → ((b : ℕ) → data_start g ≤ b → b < g.n → new_marks b ≡ marks b)
-    → (new.kind ≡ Dir → IsTrue (are_zeros (past_content n new)))
+    → (new.kind ≡ Dir → IsTrue (are_zeros (past_content g.layout n new)))
     → ChangesNode g marks new_marks m n k (Some old) (Some new)
 node_same_places g marks new_marks m n k old new sound is now places same marked tail =
     node_cut g marks new_marks m n k old new (run_places old.runs) [] sound is now (sym (append-nil (run_places old.runs))) places
@@ -227,12 +229,12 @@ pub links_change : (g : Geometry) (marks new_marks : ℕ → Bool) (m n : Blocks
     → ChangesNode g marks new_marks m n k (Some node) (Some (record node { links = links }))
 links_change g marks new_marks m n k node links sound is now same marked =
     node_same_places g marks new_marks m n k node (record node { links = links }) sound is now refl same marked
-    (λ dir. ap (λ xs. are_zeros (drop node.size xs)) (joined_same m n (run_places node.runs) (λ b mine. let at = used_data g m k node is b mine in same b at.from at.below)) ∙ sound.tail k node is dir)
+    (λ dir. ap (λ xs. are_zeros (drop (content_of g.layout node.kind node.size) xs)) (joined_same m n (run_places node.runs) (λ b mine. let at = used_data g m k node is b mine in same b at.from at.below)) ∙ sound.tail k node is dir)
 
 -- so its file has these links, and the bytes that it had
-pub links_file : (g : Geometry) (m n : Blocks) (k : ℕ) (node : Node) (links : ℕ) (x : FileNode) → used_node g m k ≡ Some node → x ≡ file_of m node
+pub links_file : (g : Geometry) (m n : Blocks) (k : ℕ) (node : Node) (links : ℕ) (x : FileNode) → used_node g m k ≡ Some node → x ≡ file_of g.layout m node
     → ((b : ℕ) → data_start g ≤ b → b < g.n → n b ≡ m b)
-    → ◌≡◌ {A = Option FileNode} (Some (file_of n (record node { links = links }))) (Some (with_links x links))
+    → ◌≡◌ {A = Option FileNode} (Some (file_of g.layout n (record node { links = links }))) (Some (with_links x links))
 links_file g m n k node links x is file same = grind (arith, nat_tests, joined_same, used_data)
 
 -- A node that wasn't in use is, without blocks.
@@ -243,8 +245,8 @@ pub node_made : (g : Geometry) (marks new_marks : ℕ → Bool) (m n : Blocks) (
 node_made g marks new_marks m n k new from upto out now none same marked = grind (arith, nat_tests, drop_all)
 
 -- its file has no bytes
-pub made_file : (n : Blocks) (new : Node) → new.runs ≡ [] → ◌≡◌ {A = Option FileNode} (Some (file_of n new)) (Some (record { kind = new.kind; links = new.links; bytes = [] }))
-made_file n new none = ap (λ xs. Some (record { kind = new.kind; links = new.links; bytes = xs })) (ap (λ rs. take new.size (joined n (run_places rs))) none ∙ take_all new.size [] (omega arith))
+pub made_file : (l : Layout) (n : Blocks) (new : Node) → new.runs ≡ [] → ◌≡◌ {A = Option FileNode} (Some (file_of l n new)) (Some (record { kind = new.kind; links = new.links; bytes = [] }))
+made_file l n new none = ap (λ xs. Some (record { kind = new.kind; links = new.links; bytes = xs })) (ap (λ rs. take (content_of l new.kind new.size) (joined n (run_places rs))) none ∙ take_all (content_of l new.kind new.size) [] (omega arith))
 
 -- A node isn't in use any more, and its blocks aren't marked.
 pub node_dropped : (g : Geometry) (marks new_marks : ℕ → Bool) (m n : Blocks) (k : ℕ) (old : Node) → used_node g m k ≡ Some old → HasNewNode g m n k None

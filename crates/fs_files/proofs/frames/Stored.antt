@@ -5,6 +5,7 @@ use Rattle.std.proofs.lemmas.Option.{same_Some}
 use Rattle.std.proofs.lemmas.Bool.Decides.{nat_tests}
 use Rattle.base_types.specs.Runs.{run_places}
 use Rattle.base_types.specs.Seal.{Blocks}
+use Rattle.base_types.specs.Layouts.{node_byte}
 use Rattle.layout_geometry.specs.Geometry.{IsGeometry, table_start, data_start}
 use Rattle.layout_bytes.specs.declared.node.Node.{Node}
 use Rattle.layout_bytes.specs.declared.node.NodeKind.TheVariants.{Free}
@@ -18,7 +19,7 @@ use Rattle.fs_files.specs.Calls.{IsWithFile, IsWithPlaces, with_links, places_of
 use Rattle.fs_files.specs.Drafts.{DraftState, drafted, PutsBlock}
 use Rattle.fs_files.specs.Shared.{is_kept}
 use Rattle.fs_files.specs.Frames.{used_of, ReadsBack, HasNewNode}
-use Rattle.fs_files.specs.Nodes.{node_block, node_byte}
+use Rattle.fs_files.specs.Nodes.{node_block}
 use Rattle.fs_files.specs.Sound.{AreSoundBy, FitsBooks, IsSoundDraft}
 use Rattle.fs_files.proofs.frames.Cells.{block_from, block_below}
 use Rattle.fs_files.proofs.frames.Frames.{SharesFiles, node_places, shared_changed}
@@ -34,7 +35,7 @@ pub record PutsNode (k : Bookkeeping) (m : Blocks) (number : ℕ) (node : Node) 
   pub upto : number ≤ k.geom.i
   pub fits : FitsBooks k d
   pub sound : IsSoundDraft k m d
-  pub bytes : c.bytes ≡ overwrite (node_byte number) (node_spelling node) (drafted d m (node_block k.geom number))
+  pub bytes : c.bytes ≡ overwrite (node_byte k.geom.layout number) (node_spelling k.geom.layout node) (drafted d m (node_block k.geom number))
   pub puts : PutsBlock (node_block k.geom number) c d e
   pub back : ReadsBack k.geom node
 
@@ -61,7 +62,7 @@ places_now k m number d e new ps now same = grind (arith, nat_tests, node_places
 
 -- the links of a node in use were set
 pub links_stored : (k : Bookkeeping) (m : Blocks) (number links : ℕ) (node : Node) (x : FileNode) (c : Changed) (d e : DraftState) → PutsNode k m number (record node { links = links }) c d e
-    → used_node k.geom (drafted d m) number ≡ Some node → x ≡ file_of (drafted d m) node
+    → used_node k.geom (drafted d m) number ≡ Some node → x ≡ file_of k.geom.layout (drafted d m) node
     → IsSoundDraft k m e × IsWithFile (files_of k.geom (drafted d m)) (files_of k.geom (drafted e m)) number (Some (with_links x links)) × IsWithPlaces (places_of k.geom (drafted d m)) (places_of k.geom (drafted e m)) number (places_of k.geom (drafted d m) number)
 links_stored k m number links node x c d e is used file =
     let there = stored_node k m number (record node { links = links }) c d e is in
@@ -74,7 +75,7 @@ links_stored k m number links node x c d e is used file =
     shared_changed k.geom is.sound.live is.sound.live (drafted d m) (drafted e m) number (Some node) (Some (record node { links = links })) (is_kept d.kept) is.sound.blocks ch is.sound.shared
     (λ new b eq mine keep. let back : record node { links = links } ≡ new = same_Some (record node { links = links }) new eq in (node, refl, ap (λ (x : Node). has (run_places x.runs) b) back ∙ mine, ap (λ (x : Node). x.kind) back)) in (
       stored_sound k m number (record node { links = links }) c d e is all.0 shared,
-      file_is (files_of k.geom (drafted d m)) (files_of k.geom (drafted e m)) number (option_map (file_of (drafted e m)) (Some (record node { links = links }))) (Some (with_links x links))
+      file_is (files_of k.geom (drafted d m)) (files_of k.geom (drafted e m)) number (option_map (file_of k.geom.layout (drafted e m)) (Some (record node { links = links }))) (Some (with_links x links))
           (links_file k.geom (drafted d m) (drafted e m) number node links x used file same) all.1,
       places_now k m number d e (Some (record node { links = links })) (places_of k.geom (drafted d m) number) now (sym (ap places_or_none used)),
     )
@@ -94,7 +95,7 @@ new_stored k m number node c d e is used empty out =
     shared_changed k.geom is.sound.live is.sound.live (drafted d m) (drafted e m) number None (Some node) (is_kept d.kept) is.sound.blocks ch is.sound.shared
     (λ new b eq mine keep. absurd (false≢true (sym (ap (λ rs. has (run_places rs) b) empty) ∙ ap (λ (x : Node). has (run_places x.runs) b) (same_Some node new eq) ∙ mine))) in (
       stored_sound k m number node c d e is all.0 shared,
-      file_is (files_of k.geom (drafted d m)) (files_of k.geom (drafted e m)) number (option_map (file_of (drafted e m)) (Some node)) (Some (record { kind = node.kind; links = node.links; bytes = [] }))
-          (made_file (drafted e m) node empty) all.1,
+      file_is (files_of k.geom (drafted d m)) (files_of k.geom (drafted e m)) number (option_map (file_of k.geom.layout (drafted e m)) (Some node)) (Some (record { kind = node.kind; links = node.links; bytes = [] }))
+          (made_file k.geom.layout (drafted e m) node empty) all.1,
       places_now k m number d e (Some node) [] now (ap run_places empty),
     )

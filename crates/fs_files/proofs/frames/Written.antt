@@ -33,8 +33,8 @@ module _ (k : Bookkeeping) (m : Blocks) (number : ℕ) (node : Node) (class : Cl
   pub written_table : (b : ℕ) → b < data_start k.geom → drafted e m b ≡ drafted d m b
   written_table b below = written_others b (false_from_ne_true (has (run_places node.runs) b) (λ is. omega (arith, (used_data k.geom (drafted d m) number node used b is).from, below)))
 
-  pub written_sound : All (λ b. length (drafted e m b) ≡ 1024) (run_places node.runs) → (node.kind ≡ Dir → IsTrue (are_zeros (past_content (drafted e m) node)))
-      → IsSoundDraft k m e × IsWithFile (files_of k.geom (drafted d m)) (files_of k.geom (drafted e m)) number (Some (file_of (drafted e m) node))
+  pub written_sound : All (λ b. length (drafted e m b) ≡ 1024) (run_places node.runs) → (node.kind ≡ Dir → IsTrue (are_zeros (past_content k.geom.layout (drafted e m) node)))
+      → IsSoundDraft k m e × IsWithFile (files_of k.geom (drafted d m)) (files_of k.geom (drafted e m)) number (Some (file_of k.geom.layout (drafted e m) node))
   written_sound whole tail =
       let ch = content_changes k.geom sound.live sound.live (drafted d m) (drafted e m) number node geom.whole_blocks sound.blocks used
       (λ b from below. written_table b below)

@@ -1,9 +1,10 @@
 -- What a copied edge leaves: the block that got bytes has those of the kept one, and the others are as before.
-use Rattle.std.proofs.Common.{◌≡◌, ◌≢◌, ◌⊎◌, inl, inr, ℕ, ◌/◌, ◌%◌, ◌==◌, Bool, true, false, ◌||◌, if◌then◌else◌, IsTrue, List, [], ◌∷◌, length, slice_get, Option, None, Some, is_some, refl, sym, ap, subst, ◌∙◌, arith, rules}
+use Rattle.std.proofs.Common.{◌≡◌, ◌≢◌, ◌⊎◌, inl, inr, ℕ, ◌/◌, ◌%◌, ◌==◌, Bool, true, false, ◌||◌, if◌then◌else◌, IsTrue, List, [], ◌∷◌, length, slice_get, Option, None, Some, is_some, All, refl, sym, ap, subst, ◌∙◌, arith, rules}
 use Rattle.std.specs.Prelude.{option_and_then}
 use Rattle.std.proofs.lemmas.Bool.{cases_eq, false≢true, eqb-true, or_left, or_right, or_cases, false_from_ne_true}
 use Rattle.std.proofs.lemmas.Option.{none-some, same_Some}
 use Rattle.std.proofs.lemmas.Bool.Decides.{nat_tests}
+use Rattle.fs_files.proofs.bytes.Joins.{of_place}
 use Rattle.base_types.specs.Seal.{Blocks}
 use Rattle.base_types.specs.declared.words.Class.{Class}
 use Rattle.engine_blocks.specs.Running.{has}
@@ -118,6 +119,14 @@ edge_by false kept (Some c) b e = by (kept c) refl e
 
 pub edge_is : (kept : ℕ → Bool) (at : ℕ) (ps : List ℕ) (b : ℕ) → edge_of kept at ps ≡ Some b → (slice_get ps (at / 1024) ≡ Some b) × (kept b ≡ true)
 edge_is kept at ps b e = edge_by (at % 1024 == 0) kept (slice_get ps (at / 1024)) b e
+
+-- where none is kept there is none
+pub edge_none : (kept : ℕ → Bool) (at : ℕ) (ps : List ℕ) → All (λ b. kept b ≡ false) ps → edge_of kept at ps ≡ None
+edge_none kept at ps none = by (edge_of kept at ps) (edge_is kept at ps)
+  where
+    by : (o : Option ℕ) → ((b : ℕ) → o ≡ Some b → (slice_get ps (at / 1024) ≡ Some b) × (kept b ≡ true)) → o ≡ None
+    by None is = refl
+    by (Some b) is = absurd (false≢true (sym (of_place (λ c. kept c ≡ false) ps (at / 1024) b none (is b refl).0) ∙ (is b refl).1))
 
 pub edge_there : (kept : ℕ → Bool) (at : ℕ) (ps : List ℕ) (b : ℕ) → at % 1024 ≢ 0 → slice_get ps (at / 1024) ≡ Some b → kept b ≡ true → edge_of kept at ps ≡ Some b
 edge_there kept at ps b part is mine =

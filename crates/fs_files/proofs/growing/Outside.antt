@@ -19,6 +19,10 @@ pub over_past : (size off room : ℕ) (ys xs js : List ℕ) → length xs ≡ ro
     → take (max size (off + length ys)) (overwrite off ys (overwrite size (replicate (min off room - size) 0) js)) ≡ written off ys (take size xs)
 over_past size off room ys xs js is fits past ends more front zeros = same_lists _ _ (search (rules, places)) (λ k d h. grind (arith, places, front k d, zeros k d))
 
+-- zeros over zeros are none
+pub over_zeros : (size n : ℕ) (js : List ℕ) → size + n ≤ length js → ((i z : ℕ) → size ≤ i → i < size + n → get_or js i z ≡ 0) → overwrite size (replicate n 0) js ≡ js
+over_zeros size n js fits zeros = same_lists _ _ (search (rules, places)) (λ k d h. grind (arith, places, zeros k d))
+
 -- What is past the end is zeros, if it was.
 
 zero_then : (size from room : ℕ) (xs js : List ℕ) → IsTrue (are_zeros (drop size xs)) → length xs ≡ room → size ≤ from

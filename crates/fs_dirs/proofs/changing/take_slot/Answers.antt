@@ -1,10 +1,11 @@
-use Rattle.std.proofs.Common.{◌≡◌, ◌+◌, ◌-◌, ◌<◌, false, IsTrue, List, [], length, set, slice_get, Some, refl, sym, subst, ap, ◌∙◌, arith, length-set, Err}
+use Rattle.std.proofs.Common.{◌≡◌, ◌+◌, ◌-◌, ◌<◌, ◌≤◌, false, IsTrue, List, [], length, take, set, slice_get, Some, refl, sym, subst, ap, ap₂, ◌∙◌, arith, length-set, Err}
 use Rattle.std.proofs.lemmas.Option.{none-some, same_Some, slice_get-get_or}
 use Rattle.std.proofs.lemmas.Result.{err_from_is_err_and}
 use Rattle.layout_bytes.specs.declared.slot.Slot.{Slot}
-use Rattle.lang_tree.specs.Figures.{directory_blocks, release}
+use Rattle.base_types.specs.Layouts.{directory_blocks, longest_name}
+use Rattle.lang_tree.specs.Figures.{release}
 use Rattle.crash_stands.specs.Files.{Files}
-use Rattle.crash_stands.specs.Inodes.{ADir}
+use Rattle.crash_stands.specs.Inodes.{ADir, inodes_of}
 use Rattle.engine_blocks.specs.State.{Bookkeeping, State}
 use Rattle.fs_files.specs.Calls.{files_in, places_in}
 use Rattle.fs_files.specs.Effects.{LooksOnly}
@@ -12,7 +13,7 @@ use Rattle.fs_files.specs.NodeMaps.{nodes_in}
 use Rattle.fs_dirs.specs.Changing.{Alters, IsWithSlots, TakesSlot}
 use Rattle.fs_dirs.specs.Directories.{inodes_in}
 use Rattle.fs_dirs.specs.Reading.{IsOpened}
-use Rattle.fs_dirs.proofs.reading.Looks.{draft_stays, looks_more, of_found, of_none, same_files, same_inodes, same_places}
+use Rattle.fs_dirs.proofs.reading.Looks.{draft_stays, looks_more, of_found, of_none, same_files, same_inodes, same_layout, same_places}
 use Rattle.fs_dirs.proofs.writing.Alterings.{alters_both}
 use Rattle.fs_dirs.proofs.writing.Nodes.{place_of_slots}
 use Rattle.fs_dirs.proofs.writing.Taking.{out_is, slots_twice, places_twice}
@@ -84,6 +85,9 @@ slot_at-requires-clause-draft g c = draft_stays g.S.Blocks.tells false _ _ c.arg
 pub slot_at-requires-clause-opened : goal.slot_at-requires-clause-opened
 slot_at-requires-clause-opened g c = (of_found _ _ _ c.in-Some.is c.in_ok-directory.ensures.opened).1
 
+pub set_slot-requires-clause-short : goal.set_slot-requires-clause-short
+set_slot-requires-clause-short g c = subst (λ k. length c.in-Some-2.moved.name ≤ longest_name k) (sym (same_layout g.S.Blocks.tells false _ _ c.in_ok-moved.ensures.looks)) (of_found _ _ _ c.in-Some-2.is c.in_ok-moved.ensures.short)
+
 -- and its bytes are a slot's
 pub returns-in_default-2 : goal.returns-in_default-2
 returns-in_default-2 g c =
@@ -135,16 +139,25 @@ module _ (g : _) (c : In_ok-set_slot g) where
       ∙ c.in-Some-2.is
 
   -- its slots then
-  set_is : IsTrue g.S.Blocks.tells → (slots : List Slot) → inodes_in start c.args.draft.now c.args.dir ≡ Some (ADir slots) → IsWithSlots (files_in start c.args.draft.now) (files_in put c.set_slot.new.draft) c.args.dir (set slots c.args.place c.in-Some-2.moved)
+  set_is : IsTrue g.S.Blocks.tells → (slots : List Slot) → inodes_in start c.args.draft.now c.args.dir ≡ Some (ADir slots) → IsWithSlots start.books.geom.layout (files_in start c.args.draft.now) (files_in put c.set_slot.new.draft) c.args.dir (set slots c.args.place c.in-Some-2.moved)
   set_is told slots is =
-      subst (λ (f : Files). IsWithSlots f (files_in put c.set_slot.new.draft) c.args.dir (set slots c.args.place c.in-Some-2.moved)) (same_files g.S.Blocks.tells false start read c.args.draft.now looks told)
-      (c.in_ok-set_slot.ensures.slots told slots (ap (λ m. m c.args.dir) (same_inodes g.S.Blocks.tells false start read c.args.draft.now looks told) ∙ is))
+      subst (λ (f : Files). IsWithSlots start.books.geom.layout f (files_in put c.set_slot.new.draft) c.args.dir (set slots c.args.place c.in-Some-2.moved)) (same_files g.S.Blocks.tells false start read c.args.draft.now looks told)
+      (subst (λ k. IsWithSlots k (files_in read c.args.draft.now) (files_in put c.set_slot.new.draft) c.args.dir (set slots c.args.place c.in-Some-2.moved)) (same_layout g.S.Blocks.tells false start read looks)
+      (c.in_ok-set_slot.ensures.slots told slots (ap (λ m. m c.args.dir) (same_inodes g.S.Blocks.tells false start read c.args.draft.now looks told) ∙ is)))
+
+  -- they are read by the same layout
+  put_layout : put.books.geom.layout ≡ start.books.geom.layout
+  put_layout = same_layout g.S.Blocks.tells false start put put_looks
+
+  -- as the directory has them now
+  now_is : IsTrue g.S.Blocks.tells → (slots : List Slot) → inodes_in start c.args.draft.now c.args.dir ≡ Some (ADir slots) → inodes_in put c.set_slot.new.draft c.args.dir ≡ Some (ADir (set slots c.args.place c.in-Some-2.moved))
+  now_is told slots is = ap (λ k. inodes_of k (files_in put c.set_slot.new.draft) c.args.dir) put_layout ∙ (set_is told slots is).inodes.here
 
 pub cut_slots-requires-clause-there : goal.cut_slots-requires-clause-there
 cut_slots-requires-clause-there g c = λ told.
     let b = (goal.at.cut_slots-requires-clause-there g c).In_ok-set_slot in
     let there = c.requires.there told in
-    (set there.0 c.args.place c.in-Some-2.moved, (set_is g b told there.0 there.1).inodes.here, omega (arith, its_last g b told there.0 there.1, there.2, length-set there.0 c.args.place c.in-Some-2.moved))
+    (set there.0 c.args.place c.in-Some-2.moved, now_is g b told there.0 there.1, omega (arith, its_last g b told there.0 there.1, there.2, length-set there.0 c.args.place c.in-Some-2.moved))
 
 pub returns : goal.returns
 returns g c =
@@ -153,21 +166,22 @@ returns g c =
       slots = λ told slots is.
           let mine = set_is g b told slots is in
           let new = files_in (g.S.Blocks.state c.cut_slots.new.blocks) c.cut_slots.new.draft in
-          subst (λ xs. IsWithSlots (files_in (start g b) c.args.draft.now) new c.args.dir xs) (out_is slots c.args.place c.in-Some-last_place.last c.in-Some-2.moved (its_last g b told slots is) (moved_is g b told slots is))
-          (slots_twice (files_in (start g b) c.args.draft.now) (files_in (put g b) c.set_slot.new.draft) new c.args.dir (set slots c.args.place c.in-Some-2.moved) _ mine (c.in_ok-cut_slots.ensures.slots told (set slots c.args.place c.in-Some-2.moved) mine.inodes.here));
+          subst (λ xs. IsWithSlots (start g b).books.geom.layout (files_in (start g b) c.args.draft.now) new c.args.dir xs) (out_is slots c.args.place c.in-Some-last_place.last c.in-Some-2.moved (its_last g b told slots is) (moved_is g b told slots is))
+          (slots_twice (start g b).books.geom.layout (files_in (start g b) c.args.draft.now) (files_in (put g b) c.set_slot.new.draft) new c.args.dir (set slots c.args.place c.in-Some-2.moved) _ mine
+          (subst (λ k. IsWithSlots k (files_in (put g b) c.set_slot.new.draft) new c.args.dir (take c.in-Some-last_place.last (set slots c.args.place c.in-Some-2.moved))) (put_layout g b) (c.in_ok-cut_slots.ensures.slots told (set slots c.args.place c.in-Some-2.moved) (now_is g b told slots is))));
       places = λ told slots is.
           places_twice (places_in (read g b) c.args.draft.now) (places_in (start g b) c.args.draft.now) (places_in (put g b) c.set_slot.new.draft) (places_in (g.S.Blocks.state c.cut_slots.new.blocks) c.cut_slots.new.draft) c.args.dir _ _
-          (λ l. same_places g.S.Blocks.tells false (start g b) (read g b) c.args.draft.now (looks g b) l told) (ap directory_blocks (its_last g b told slots is))
+          (λ l. same_places g.S.Blocks.tells false (start g b) (read g b) c.args.draft.now (looks g b) l told) (ap₂ directory_blocks (put_layout g b) (its_last g b told slots is))
           (c.in_ok-set_slot.ensures.places told) (c.in_ok-cut_slots.ensures.places told);
       draft = c.in_ok-cut_slots.ensures.draft;
       kept = c.in_ok-cut_slots.ensures.kept ∙ c.in_ok-set_slot.ensures.kept;
       alters = λ told slots is.
-          let mine = set_is g b told slots is in
           let long = length-set slots c.args.place c.in-Some-2.moved in
           let last = its_last g b told slots is in
-          let fewer : 0 + (directory_blocks (length (set slots c.args.place c.in-Some-2.moved)) - directory_blocks c.in-Some-last_place.last) ≡ release (length slots) = omega (arith, long, last) in
+          let fewer : 0 + (directory_blocks (put g b).books.geom.layout (length (set slots c.args.place c.in-Some-2.moved)) - directory_blocks (put g b).books.geom.layout c.in-Some-last_place.last) ≡ release (start g b).books.geom.layout (length slots) =
+          omega (arith, ap₂ directory_blocks (put_layout g b) long, ap₂ directory_blocks (put_layout g b) last) in
           subst (λ n. Alters 3 [] n c.args.draft.now c.cut_slots.new.draft) fewer
-          (alters_both 1 2 0 _ [] [] c.args.draft.now c.set_slot.new.draft c.cut_slots.new.draft (c.in_ok-set_slot.ensures.alters told) (c.in_ok-cut_slots.ensures.alters told (set slots c.args.place c.in-Some-2.moved) mine.inodes.here));
+          (alters_both 1 2 0 _ [] [] c.args.draft.now c.set_slot.new.draft c.cut_slots.new.draft (c.in_ok-set_slot.ensures.alters told) (c.in_ok-cut_slots.ensures.alters told (set slots c.args.place c.in-Some-2.moved) (now_is g b told slots is)));
       refused = tt;
       looks = looks_more g.S.Blocks.tells false (start g b) (put g b) (g.S.Blocks.state c.cut_slots.new.blocks) (put_looks g b) c.in_ok-cut_slots.ensures.looks;
     }

@@ -23,6 +23,6 @@ pub returns-clause-all : goal.returns-clause-all
 returns-clause-all g c = λ told slots is.
     let mid = g.S.Blocks.state c.open_directory.new.blocks in
     let r = of_found _ _ _ c.in-Some.is c.in_ok-directory.ensures.opened in
-    let at = ap (inodes_of (g.N.Nodes.nodes mid c.args.files.now).files) r.0 ∙ ap (λ m. m c.args.dir) (same_read _ _ (c.laws.ensures.same false c.args.blocks.now c.open_directory.new.blocks c.in_ok-directory.ensures.looks told)) ∙ is in
+    let at = ap (inodes_of mid.books.geom.layout (g.N.Nodes.nodes mid c.args.files.now).files) r.0 ∙ ap (λ m. m c.args.dir) (same_read g.S.Blocks.tells false (g.S.Blocks.state c.args.blocks.now) mid c.in_ok-directory.ensures.looks _ _ (c.laws.ensures.same false c.args.blocks.now c.open_directory.new.blocks c.in_ok-directory.ensures.looks told)) ∙ is in
     let listed = c.in_ok-push_slots.ensures.slots told slots (record { dir = c.in-Some.directory.number; is = at; blocks = r.1.blocks told }) (sym (same_Some _ _ (r.1.count told (ADir slots) at))) in
     search rules

@@ -15,7 +15,7 @@ returns g c =
       found = λ told t slots map is.
           let finds = c.in_ok-found.ensures.found told slots (record { dir = c.args.dir.now.number; is = is; blocks = c.requires.opened.blocks told }) (sym (same_Some _ _ (c.requires.opened.count told (ADir slots) is))) in
           subst (λ r. Finds slots c.args.name.now r)
-          (sym (c.in_table.ensures.same (number_found c.a_name_stands_at_its_place.ensures.found c.i-limit.result s.books.geom.i c.args.dir.now.number (inodes_of (g.N.Nodes.nodes s c.args.files.now).files) t slots c.args.name.now
+          (sym (c.in_table.ensures.same (number_found c.a_name_stands_at_its_place.ensures.found c.i-limit.result s.books.geom.i c.args.dir.now.number (inodes_of s.books.geom.layout (g.N.Nodes.nodes s c.args.files.now).files) t slots c.args.name.now
           c.in_ok-found.found limit map (c.slots_name_nodes_in_use.ensures.used _ _ t map) is finds)))
           finds;
       place = c.in_table.ensures.place c.in_ok-found.ensures.place;

@@ -23,24 +23,24 @@ pub returns-in-Err-clause-end : goal.returns-in-Err-clause-end
 returns-in-Err-clause-end g c =
     let start = g.S.Blocks.state c.args.blocks.now in
     let now = g.S.Blocks.state c.loop-name.blocks in
-    let m = inodes_of (g.N.Nodes.nodes start c.args.files.now).files in
-    let n = inodes_of (g.N.Nodes.nodes now c.args.files.now).files in
+    let m = inodes_of start.books.geom.layout (g.N.Nodes.nodes start c.args.files.now).files in
+    let n = inodes_of now.books.geom.layout (g.N.Nodes.nodes now c.args.files.now).files in
     let rest = drop (c.loop-name.name-index + 1) c.args.names.now in
     walk_refused g.S.Blocks.tells start now now m n c.args.names.now c.name-item.result rest c.loop-name.number
     (subst (λ l. HasWalked g.S.Blocks.tells start now m c.args.names.now l c.loop-name.number) (next_name c.args.names.now c.loop-name.name-index c.name-item.result c.loop-name-test.true c.name-item.is) c.loop-name.invariant)
-    (λ told. same_read _ _ (c.laws.ensures.same false c.args.blocks.now c.loop-name.blocks c.loop-name.invariant.looks told)) c.in-Err.why
+    (λ told. same_read g.S.Blocks.tells false start now c.loop-name.invariant.looks _ _ (c.laws.ensures.same false c.args.blocks.now c.loop-name.blocks c.loop-name.invariant.looks told)) c.in-Err.why
     (λ told t x map is. subst (λ r. EntersOn n c.loop-name.number c.name-item.result r) c.in-Err.is (c.in_ok-next.ensures.step told t x map is))
 
 pub loop-name-preserved : goal.loop-name-preserved
 loop-name-preserved g c =
     let start = g.S.Blocks.state c.args.blocks.now in
     let now = g.S.Blocks.state c.loop-name.blocks in
-    let m = inodes_of (g.N.Nodes.nodes start c.args.files.now).files in
-    let n = inodes_of (g.N.Nodes.nodes now c.args.files.now).files in
+    let m = inodes_of start.books.geom.layout (g.N.Nodes.nodes start c.args.files.now).files in
+    let n = inodes_of now.books.geom.layout (g.N.Nodes.nodes now c.args.files.now).files in
     let rest = drop (c.loop-name.name-index + 1) c.args.names.now in
     walked_more g.S.Blocks.tells start now (g.S.Blocks.state c.enter.new.blocks) m n c.args.names.now c.name-item.result rest c.loop-name.number
     (subst (λ l. HasWalked g.S.Blocks.tells start now m c.args.names.now l c.loop-name.number) (next_name c.args.names.now c.loop-name.name-index c.name-item.result c.loop-name-test.true c.name-item.is) c.loop-name.invariant)
-    (λ told. same_read _ _ (c.laws.ensures.same false c.args.blocks.now c.loop-name.blocks c.loop-name.invariant.looks told)) c.in-Ok.next
+    (λ told. same_read g.S.Blocks.tells false start now c.loop-name.invariant.looks _ _ (c.laws.ensures.same false c.args.blocks.now c.loop-name.blocks c.loop-name.invariant.looks told)) c.in-Ok.next
     c.in_ok-next.ensures.looks (subst (λ r. IfOk r (IsNumber now.books.geom.i)) c.in-Ok.is c.in_ok-next.ensures.number)
     (λ told t x map is. subst (λ r. EntersOn n c.loop-name.number c.name-item.result r) c.in-Ok.is (c.in_ok-next.ensures.step told t x map is))
 

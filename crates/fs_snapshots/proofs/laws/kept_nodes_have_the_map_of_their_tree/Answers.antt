@@ -5,4 +5,4 @@ use Rattle.fs_snapshots.proofs.laws.kept_nodes_have_the_map_of_their_tree.Goals 
 
 pub returns : goal.returns
 returns c = λ g m places k keeps.
-    c.a_map_is_of_one_tree.ensures.alike g.i keeps.inodes (inodes_of (kept_files g m places)) (kept_tree k) (c.files_have_one_map.ensures.one (kept_files g m places) keeps.inodes keeps.read) keeps.map
+    c.a_map_is_of_one_tree.ensures.alike g.i keeps.inodes (inodes_of g.layout (kept_files g m places)) (kept_tree k) (c.files_have_one_map.ensures.one g.layout (kept_files g m places) keeps.inodes keeps.read) keeps.map

@@ -8,7 +8,7 @@ use Rattle.fs_files.specs.Nodes.{IsOpen, node_of_open}
 use Rattle.fs_files.specs.Places.{looks_more}
 use Rattle.fs_files.proofs.frames.Carry.{draft_looks, places_look}
 use Rattle.fs_files.proofs.calling.Nodes.{has_table}
-use Rattle.fs_files.proofs.calling.Resized.{IsRead, read_at, read_size, since_read, cut_read}
+use Rattle.fs_files.proofs.calling.Resized.{IsRead, read_at, read_size, since_read, cut_read, ends_then}
 use Rattle.fs_files.proofs.draft.Draft.cut_to.Goals as goal
 use Rattle.fs_files.proofs.draft.Draft.cut_to.Goals.{In-Some}
 
@@ -26,11 +26,16 @@ module _ (g : _) (c : In-Some g) where
     looks = c.in_ok-node.ensures.looks;
     draft = c.requires.look.may;
     fits = subst (λ f. IfSome f (IsOpen s.books.geom)) c.in-Some.is c.in_ok-node.ensures.open;
-    is = ap (option_map node_of_open) (sym c.in-Some.is)
+    is = ap (option_map (node_of_open s.books.geom.layout)) (sym c.in-Some.is)
         ∙ c.in_ok-node.ensures.node known (has_table s c.args.self.now c.args.number (subst IsGeometry c.geom.ensures c.lawful.ensures.limits) c.requires.look.from c.requires.look.upto (c.requires.look.may.sound known));
     at = at;
     places = c.a_list_has_its_runs.ensures.places;
   }
+
+pub cut-requires-clause-slots : goal.cut-requires-clause-slots
+cut-requires-clause-slots g c = λ told.
+    let b = (goal.at.cut-requires-clause-slots g c).In-Some in
+    ends_then g.S.Blocks.tells (s g b) (t g b) c.args.number c.args.size c.args.self.now c.in_ok-node.ensures.looks told (c.requires.cuts.slots told)
 
 pub returns-then-node-size : goal.returns-then-node-size
 returns-then-node-size g c =

@@ -43,7 +43,7 @@ module _ (g : _) (c : goal.In_ok-store g) where
       let there = has_table s c.args.self.now c.args.number (subst IsGeometry c.geom-geom.ensures c.lawful.ensures.limits) c.requires.look.from c.requires.look.upto sound in
       drops k s.map c.geom-geom.result c.args.number c.in-Some.node c.free_node.result c.load.new.table c.args.self.now c.shrink.new.draft c.store.new.draft
       c.geom-geom.ensures c.lawful.ensures.limits c.requires.look.from c.requires.look.upto c.requires.look.may.fits sound opened.«data» (c.a_list_has_its_runs.ensures.places c.in-Some.node.places)
-      (ap (option_map node_of_open) (sym c.in-Some.is) ∙ c.in_ok-node.ensures.node tells there) (c.in_ok-node.ensures.table tells there)
+      (ap (option_map (node_of_open s.books.geom.layout)) (sym c.in-Some.is) ∙ c.in_ok-node.ensures.node tells there) (c.in_ok-node.ensures.table tells there)
       c.in_ok-shrink.ensures.frees c.free_node.ensures c.in_ok-store.ensures.ok c.in_ok-store.ensures.back
 
 pub returns : goal.returns

@@ -34,9 +34,9 @@ module _ (g : _) (c : In-Some g) where
   opened : IsOpen s.books.geom c.in-Some.node
   opened = search (rules, c.in_ok-node.ensures.open)
 
-  used : IsTrue g.S.Blocks.tells → Some (node_of_open c.in-Some.node) ≡ used_node s.books.geom (drafted c.args.self.now s.map) c.args.number
+  used : IsTrue g.S.Blocks.tells → Some (node_of_open s.books.geom.layout c.in-Some.node) ≡ used_node s.books.geom (drafted c.args.self.now s.map) c.args.number
   used told =
-      ap (option_map node_of_open) (sym c.in-Some.is)
+      ap (option_map (node_of_open s.books.geom.layout)) (sym c.in-Some.is)
       ∙ c.in_ok-node.ensures.node told (has_table s c.args.self.now c.args.number (subst IsGeometry c.geom.ensures c.lawful.ensures.limits) c.requires.look.from c.requires.look.upto (c.requires.look.may.sound told))
 
 pub returns-then-node-offset : goal.returns-then-node-offset
@@ -76,13 +76,13 @@ module _ (g : _) (c : goal.In_ok-write_content g) where
     upto = c.requires.look.upto;
     draft = c.requires.look.may;
     opened = subst (λ f. IfSome f (IsOpen old.books.geom)) c.in-Some.is c.in_ok-node.ensures.open;
-    used = λ told. ap (option_map node_of_open) (sym c.in-Some.is)
+    used = λ told. ap (option_map (node_of_open old.books.geom.layout)) (sym c.in-Some.is)
         ∙ c.in_ok-node.ensures.node told (has_table old c.args.self.now c.args.number (subst IsGeometry c.geom.ensures c.lawful.ensures.limits) c.requires.look.from c.requires.look.upto (c.requires.look.may.sound told));
     within = omega (arith, c.if-node-offset.false);
     few = c.requires.size;
     some = omega (arith, eqb-false (length c.args.bytes.now) 0 ((sym c.is_empty.ensures ∙ c.if-is_empty.false)));
     apart = λ told. subst (All (λ b. is_kept c.args.self.now.kept b ≡ false))
-        (sym (ap places_or_none (ap (option_map node_of_open) (sym c.in-Some.is)
+        (sym (ap places_or_none (ap (option_map (node_of_open old.books.geom.layout)) (sym c.in-Some.is)
         ∙ c.in_ok-node.ensures.node told (has_table old c.args.self.now c.args.number (subst IsGeometry c.geom.ensures c.lawful.ensures.limits) c.requires.look.from c.requires.look.upto (c.requires.look.may.sound told))))
         ∙ c.a_list_has_its_runs.ensures.places c.in-Some.node.places)
         (c.requires.apart told);

@@ -13,6 +13,6 @@ returns-clause-bytes g c = λ tells x at.
     let opened : IsOpen s.books.geom c.in-Some.node = search rules in
     c.from_vec-2.ensures
     ∙ reads s.books s.map (g.S.Blocks.state c.load.new.blocks).map c.args.self.now c.args.number c.in-Some.node x c.args.offset c.args.len c.min-from.result c.min-end.result c.read_content.new.into.items
-    (c.requires.look.may.sound tells) opened.«data» opened.count (c.a_list_has_its_runs.ensures.places c.in-Some.node.places)
-    (ap (option_map node_of_open) (sym c.in-Some.is) ∙ c.in_ok-node.ensures.node tells there) at
+    (c.requires.look.may.sound tells) opened.«data» opened.count opened.slots (c.a_list_has_its_runs.ensures.places c.in-Some.node.places)
+    (ap (option_map (node_of_open s.books.geom.layout)) (sym c.in-Some.is) ∙ c.in_ok-node.ensures.node tells there) at
     (c.load.ensures.looks.map tells) (search rules) (search rules) (search rules)

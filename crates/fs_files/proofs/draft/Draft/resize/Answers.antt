@@ -1,4 +1,4 @@
-use Rattle.std.proofs.Common.{◌≡◌, inr, ◌+◌, ◌%◌, ◌<◌, true, false, IsTrue, [], length, max, min, option_map, Some, refl, sym, ap, subst, ◌∙◌, arith, rules}
+use Rattle.std.proofs.Common.{◌≡◌, inr, ◌+◌, ◌<◌, true, false, IsTrue, [], length, max, min, option_map, Some, refl, sym, ap, subst, ◌∙◌, arith, rules}
 use Rattle.std.specs.Prelude.{IfSome}
 use Rattle.std.proofs.lemmas.Result.{on_ok_weaker}
 use Rattle.layout_geometry.specs.Geometry.{IsGeometry}
@@ -11,12 +11,12 @@ use Rattle.fs_files.specs.Content.{fails_reading}
 use Rattle.fs_files.specs.Effects.{LooksAndSettles}
 use Rattle.fs_files.specs.Drafts.{drafted}
 use Rattle.fs_files.specs.Growing.{taken_by}
-use Rattle.fs_files.specs.Nodes.{IsOpen, node_of_open}
+use Rattle.fs_files.specs.Nodes.{AreWholeSlots, IsOpen, node_of_open}
 use Rattle.fs_files.specs.Shared.{is_kept}
 use Rattle.fs_files.specs.Places.{looks_more}
 use Rattle.fs_files.proofs.frames.Carry.{draft_looks}
 use Rattle.fs_files.proofs.calling.Nodes.{has_table, none_found}
-use Rattle.fs_files.proofs.calling.Resized.{IsRead, read_at, read_size, since_read, same_file, kept_places, cut_read, same_resizes, cut_resizes, longer_few, longer_file, longer_places, longer_refused, longer_resizes}
+use Rattle.fs_files.proofs.calling.Resized.{IsRead, read_at, read_size, since_read, same_file, kept_places, cut_read, ends_then, same_resizes, cut_resizes, longer_few, longer_file, longer_places, longer_refused, longer_resizes}
 use Rattle.fs_files.proofs.calling.WriteAt.{among_then, few_then, file_then, grows_then, has_then, once_then, refused_then, slots_then}
 use Rattle.fs_files.proofs.drafts.Refused.{ok_both, err_maps, same_error}
 use Rattle.fs_files.proofs.calling.WriteLooks.{looked, looks_then, settles_none}
@@ -34,8 +34,8 @@ module _ (g : _) (c : goal.In-Some g) where
   fits : IsOpen s.books.geom c.in-Some.node
   fits = subst (λ f. IfSome f (IsOpen s.books.geom)) c.in-Some.is c.in_ok-node.ensures.open
 
-  is : IsTrue g.S.Blocks.tells → Some (node_of_open c.in-Some.node) ≡ used_node s.books.geom (drafted c.args.self.now s.map) c.args.number
-  is known = ap (option_map node_of_open) (sym c.in-Some.is)
+  is : IsTrue g.S.Blocks.tells → Some (node_of_open s.books.geom.layout c.in-Some.node) ≡ used_node s.books.geom (drafted c.args.self.now s.map) c.args.number
+  is known = ap (option_map (node_of_open s.books.geom.layout)) (sym c.in-Some.is)
       ∙ c.in_ok-node.ensures.node known (has_table s c.args.self.now c.args.number (subst IsGeometry c.geom.ensures c.lawful.ensures.limits) c.requires.look.from c.requires.look.upto (c.requires.look.may.sound known))
 
   read : (x : FileNode) → IsTrue g.S.Blocks.tells → files_in s c.args.self.now c.args.number ≡ Some x → IsRead g.S.Blocks.tells s t c.args.number c.in-Some.node x c.args.self.now
@@ -65,9 +65,14 @@ pub write_loaded-requires-clause-slots : goal.write_loaded-requires-clause-slots
 write_loaded-requires-clause-slots g c = λ known dir.
     let b = (goal.at.write_loaded-requires-clause-slots g c).In-Some in
     let more : c.in-Some.node.size < c.args.size = omega (arith, c.if-size-node.false, c.if-size-node-2.false) in
-    subst (λ hi. max c.in-Some.node.size hi % 64 ≡ 0) {x = c.args.size} {y = c.args.size + 0} (omega arith)
+    subst (λ hi. AreWholeSlots (t g b).books.geom.layout (max c.in-Some.node.size hi)) {x = c.args.size} {y = c.args.size + 0} (omega arith)
     (slots_then g.S.Blocks.tells (s g b) (t g b) c.args.number c.args.self.now c.in-Some.node c.in_ok-node.ensures.looks known (c.requires.look.may.sound known) (fits g b) (is g b known) c.a_list_has_its_runs.ensures.places c.args.size
-    (λ x at directory. subst (λ n. n % 64 ≡ 0) {x = c.args.size} {y = max (length x.bytes) c.args.size} (omega (arith, more, read_size g.S.Blocks.tells (s g b) (t g b) c.args.number c.args.size c.in-Some.node x c.args.self.now (read g b x known at))) (c.requires.slots known x at directory)) dir)
+    (λ x at directory. subst (λ n. AreWholeSlots (s g b).books.geom.layout n) {x = c.args.size} {y = max (length x.bytes) c.args.size} (omega (arith, more, read_size g.S.Blocks.tells (s g b) (t g b) c.args.number c.args.size c.in-Some.node x c.args.self.now (read g b x known at))) (c.requires.slots known x at directory).whole) dir)
+
+pub cut-requires-clause-slots : goal.cut-requires-clause-slots
+cut-requires-clause-slots g c = λ told.
+    let b = (goal.at.cut-requires-clause-slots g c).In-Some in
+    ends_then g.S.Blocks.tells (s g b) (t g b) c.args.number c.args.size c.args.self.now c.in_ok-node.ensures.looks told (c.requires.slots told)
 
 pub returns : goal.returns
 returns g c =

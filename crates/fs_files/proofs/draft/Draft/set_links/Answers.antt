@@ -1,4 +1,5 @@
 use Rattle.std.proofs.Common.{◌≡◌, false, rules, IsTrue, Some, refl, sym, subst, ap, ◌∙◌, option_map}
+use Rattle.base_types.specs.declared.layout.Layout.{Layout}
 use Rattle.layout_geometry.specs.Geometry.{IsGeometry}
 use Rattle.engine_blocks.specs.State.{Bookkeeping, State}
 use Rattle.crash_stands.specs.Files.{FileNode, files_of}
@@ -33,9 +34,9 @@ module _ (g : _) (c : goal.In_ok-store g) where
       let sound = c.requires.look.may.sound tells in
       let there = has_table s c.args.self.now c.args.number (subst IsGeometry c.geom-geom.ensures c.lawful.ensures.limits) c.requires.look.from c.requires.look.upto sound in
       let opened : IsOpen k.geom c.in-Some.node = search rules in
-      links_set k s.map c.geom-geom.result c.args.number c.args.links c.in-Some.node c.to_node.result x c.load.new.table c.args.self.now c.store.new.draft
+      links_set k s.map c.geom-geom.result c.args.number c.args.links c.in-Some.node c.to_node-node.result x c.load.new.table c.args.self.now c.store.new.draft
       c.geom-geom.ensures c.lawful.ensures.limits c.requires.look.from c.requires.look.upto c.requires.look.may.fits sound opened c.requires.some c.requires.most
-      (ap (option_map node_of_open) (sym c.in-Some.is) ∙ c.in_ok-node.ensures.node tells there) (c.in_ok-node.ensures.table tells there) c.to_node.ensures
+      (ap (option_map (node_of_open s.books.geom.layout)) (sym c.in-Some.is) ∙ c.in_ok-node.ensures.node tells there) (c.in_ok-node.ensures.table tells there) (c.to_node-node.ensures ∙ ap (λ (l : Layout). record (node_of_open l c.in-Some.node) { links = c.args.links }) c.layout.ensures)
       c.in_ok-store.ensures.ok c.in_ok-store.ensures.back at
 
 pub returns-in_default : goal.returns-in_default

@@ -33,7 +33,7 @@ module _ (g : _) (c : In-Some g) where
   opened : IsOpen s.books.geom c.in-Some.node
   opened = search (rules, c.in_ok-node.ensures.open)
 
-  used : IsTrue g.S.Blocks.tells → Some (node_of_open c.in-Some.node) ≡ used_node s.books.geom (drafted c.args.self.now s.map) c.args.number
+  used : IsTrue g.S.Blocks.tells → Some (node_of_open s.books.geom.layout c.in-Some.node) ≡ used_node s.books.geom (drafted c.args.self.now s.map) c.args.number
   used told =
       let there = c.in_ok-node.ensures.node told (has_table s c.args.self.now c.args.number (subst IsGeometry c.geom-geom.ensures c.lawful.ensures.limits) c.requires.look.from c.requires.look.upto (c.requires.look.may.sound told)) in
       search (rules, there)

@@ -1,5 +1,6 @@
-use Rattle.std.proofs.Common.{◌≡◌, Option, Some, IfSome, sym, ap, subst, ◌∙◌, option_map}
+use Rattle.std.proofs.Common.{◌≡◌, false, Option, Some, IfSome, sym, ap, subst, ◌∙◌, option_map}
 use Rattle.fs_files.specs.declared.node_blocks.OpenFile.{OpenFile}
+use Rattle.fs_files.specs.Places.{looks_more}
 use Rattle.fs_snapshots.proofs.KeptOpens.{bytes_told}
 use Rattle.fs_snapshots.proofs.reading.KeptNodesNodes.read_at.Goals as goal
 
@@ -15,3 +16,7 @@ returns-clause-bytes g c = λ tells x at.
     (ap (option_map (λ (f : OpenFile). f.facts)) (sym c.in-Some.is) ∙ c.in_ok-file.ensures.facts tells)
     (of_some _ c.in-Some.file _ c.in-Some.is (c.in_ok-file.ensures.places tells))
     (c.in_ok-bytes.ensures.bytes tells)
+
+pub returns-clause-looks : goal.returns-clause-looks
+returns-clause-looks g c =
+    looks_more g.S.Blocks.tells false (g.S.Blocks.state c.args.blocks.now) (g.S.Blocks.state c.open.new.blocks) (g.S.Blocks.state c.read_bytes.new.blocks) c.in_ok-file.ensures.looks c.in_ok-bytes.ensures.looks
