@@ -1,10 +1,13 @@
 -- The first look at the nodes, one node more, and all of them.
-use Rattle.std.proofs.Common.{◌≡◌, ◌≢◌, ℕ, zero, suc, ◌+◌, ◌/◌, ◌<◌, ◌≤◌, List, [], ◌∷◌, ◌++◌, length, Option, None, Some, option_map, refl, sym, ap, ◌∙◌, arith, subst, ⊎_elim}
+use Rattle.std.proofs.Common.{◌≡◌, ◌≢◌, ℕ, zero, suc, ◌+◌, ◌<◌, ◌≤◌, List, [], ◌∷◌, ◌++◌, length, Option, None, Some, option_map, refl, sym, ap, ◌∙◌, arith, subst, ⊎_elim}
 use Rattle.std.proofs.lemmas.Bool.{cases_lt, ne_eqb}
 use Rattle.std.proofs.lemmas.List.{get_or_append_left, get_or_push, get_or_past}
+use Rattle.base_types.specs.declared.layout.Layout.{Layout}
+use Rattle.base_types.specs.Layouts.{slots_held}
 use Rattle.layout_bytes.specs.declared.node.NodeKind.{NodeKind}
 use Rattle.layout_bytes.specs.declared.node.NodeKind.TheVariants as kind
 use Rattle.layout_bytes.specs.Bytes.{when}
+use Rattle.lang_tree.specs.Tree.{Bounds}
 use Rattle.crash_stands.specs.Files.{FileNode, Files}
 use Rattle.crash_stands.specs.Inodes.{ADir, inode_by, inode_of}
 use Rattle.layout_bytes.specs.Slot.{slots_in}
@@ -52,12 +55,12 @@ all_seen limit files none nodes n len most before k = ⊎_elim (λ less. before 
     (λ more. subst (λ o. IsSeen o (seen nodes k)) (sym (none k (omega (arith, most, more)))) (get_or_past nodes k Unused (omega (arith, len, more))))
     (cases_lt k n)
 
-wrong_inode : (x : FileNode) → x.kind ≡ kind.Dir → x.links ≢ 1 → inode_of x ≡ None
-wrong_inode x is link =
-    ap (λ k. inode_by k x.links x.bytes) is ∙ ap (λ b. when b (option_map ADir (slots_in (length x.bytes / 64) x.bytes))) (ne_eqb x.links 1 link)
+wrong_inode : (layout : Layout) (x : FileNode) → x.kind ≡ kind.Dir → x.links ≢ 1 → inode_of layout x ≡ None
+wrong_inode layout x is link =
+    ap (λ k. inode_by layout k x.links x.bytes) is ∙ ap (λ b. when b (option_map ADir (slots_in layout (slots_held layout (length x.bytes)) x.bytes))) (ne_eqb x.links 1 link)
 
 -- a directory with another number of links than one is broken
-pub link_broken : (limit node : ℕ) (files : Files) (found : Option FileFacts) (why : TreeDamage) → found ≡ option_map facts_of (files node) → HasWrongLink node found why → IsBroken limit files why
+pub link_broken : (limit : Bounds) (node : ℕ) (files : Files) (found : Option FileFacts) (why : TreeDamage) → found ≡ option_map facts_of (files node) → HasWrongLink node found why → IsBroken limit files why
 link_broken limit node files found why e h =
     let x = facts_are (files node) h.facts (sym h.there ∙ e) in
     subst (IsBroken limit files) (sym h.is)
@@ -65,5 +68,5 @@ link_broken limit node files found why e h =
       file = x.0;
       used = x.1;
       plain = dir_plain x.0 (ap (λ (f : FileFacts). f.kind) (sym x.2) ∙ h.is_dir);
-      unread = wrong_inode x.0 (ap (λ (f : FileFacts). f.kind) (sym x.2) ∙ h.is_dir) (λ l. h.link (ap (λ (f : FileFacts). f.links) x.2 ∙ l));
+      unread = wrong_inode limit.layout x.0 (ap (λ (f : FileFacts). f.kind) (sym x.2) ∙ h.is_dir) (λ l. h.link (ap (λ (f : FileFacts). f.links) x.2 ∙ l));
     })

@@ -2,6 +2,7 @@
 use Rattle.std.proofs.Common.{◌≡◌, ℕ, ◌+◌, ◌-◌, ◌<◌, ◌≤◌, List, [], length, get_or, refl, sym, ap, ◌∙◌, arith, subst, ◌⊎◌, inl, inr, ⊎_elim}
 use Rattle.std.proofs.lemmas.Bool.{cases_lt}
 use Rattle.std.proofs.lemmas.List.{get_or_past}
+use Rattle.base_types.specs.declared.layout.Layout.{Layout}
 use Rattle.layout_bytes.specs.declared.slot.Slot.{Slot}
 use Rattle.crash_stands.specs.Files.{Files}
 use Rattle.crash_stands.specs.Inodes.{Inodes, inodes_of}
@@ -35,30 +36,30 @@ count_none : (m : Inodes) (n k : ℕ) → 1 ≤ k → slots_of (m k) ≡ [] → 
 count_none m n k low is = omega (arith, count_on m n k [] low is)
 
 -- one number more
-pub went_more : (files : Files) (nodes : List Looked) (k : ℕ) (named new : List ℕ) → AreSeen files nodes → 1 ≤ k → length new ≡ length named → WentUpTo nodes (inodes_of files) k named → WentBy nodes (inodes_of files) k (seen nodes k) named new
-    → WentUpTo nodes (inodes_of files) (k + 1) new
-went_more files nodes k named new seen_all low same went by = record {
+pub went_more : (layout : Layout) (files : Files) (nodes : List Looked) (k : ℕ) (named new : List ℕ) → AreSeen files nodes → 1 ≤ k → length new ≡ length named → WentUpTo nodes (inodes_of layout files) k named → WentBy nodes (inodes_of layout files) k (seen nodes k) named new
+    → WentUpTo nodes (inodes_of layout files) (k + 1) new
+went_more layout files nodes k named new seen_all low same went by = record {
   count = same ∙ went.count;
   dirs = λ d less. dirs d less (cases_lt d k);
   counted = λ n less. counts n less (seen nodes k) refl by;
 }
   where
-    dirs : (d : ℕ) → d < k + 1 → (d < k) ⊎ (k ≤ d) → IsGoodDir nodes (inodes_of files) d (seen nodes d)
+    dirs : (d : ℕ) → d < k + 1 → (d < k) ⊎ (k ≤ d) → IsGoodDir nodes (inodes_of layout files) d (seen nodes d)
     dirs d less (inl before) = went.dirs d before
     dirs d less (inr here) =
         let e : k ≡ d = omega (arith, less, here) in
-        subst (λ j. IsGoodDir nodes (inodes_of files) j (seen nodes j)) e (good_by nodes (inodes_of files) k (seen nodes k) named new by)
+        subst (λ j. IsGoodDir nodes (inodes_of layout files) j (seen nodes j)) e (good_by nodes (inodes_of layout files) k (seen nodes k) named new by)
 
-    counts : (n : ℕ) → n < length nodes → (look : Looked) → seen nodes k ≡ look → WentBy nodes (inodes_of files) k look named new → get_or new n 0 ≡ capped (naming_from (inodes_of files) n 1 (k + 1 - 1))
+    counts : (n : ℕ) → n < length nodes → (look : Looked) → seen nodes k ≡ look → WentBy nodes (inodes_of layout files) k look named new → get_or new n 0 ≡ capped (naming_from (inodes_of layout files) n 1 (k + 1 - 1))
     counts n less Unused is h =
-        ap (λ xs. get_or xs n 0) h ∙ went.counted n less ∙ ap capped (count_none (inodes_of files) n k low (ap slots_of (inode_none files nodes k seen_all is)))
+        ap (λ xs. get_or xs n 0) h ∙ went.counted n less ∙ ap capped (count_none (inodes_of layout files) n k low (ap slots_of (inode_none layout files nodes k seen_all is)))
     counts n less (Links l) is h =
-        ap (λ xs. get_or xs n 0) h ∙ went.counted n less ∙ ap capped (count_none (inodes_of files) n k low (ap slots_of (inode_file files nodes k l seen_all is).1))
+        ap (λ xs. get_or xs n 0) h ∙ went.counted n less ∙ ap capped (count_none (inodes_of layout files) n k low (ap slots_of (inode_file layout files nodes k l seen_all is).1))
     counts n less (Directory size) is h =
         h.counted n (omega (arith, less, went.count))
         ∙ ap (λ c. capped (c + naming n h.slots)) (went.counted n less)
-        ∙ capped_sum (naming_from (inodes_of files) n 1 (k - 1)) (naming n h.slots)
-        ∙ ap capped (sym (count_on (inodes_of files) n k h.slots low (ap slots_of h.is_dir)))
+        ∙ capped_sum (naming_from (inodes_of layout files) n 1 (k - 1)) (naming n h.slots)
+        ∙ ap capped (sym (count_on (inodes_of layout files) n k h.slots low (ap slots_of h.is_dir)))
 
 -- each directory is good once all numbers were gone through
 pub good_all : (nodes : List Looked) (m : Inodes) (named : List ℕ) → WentUpTo nodes m (length nodes) named → (d : ℕ) → IsGoodDir nodes m d (seen nodes d)

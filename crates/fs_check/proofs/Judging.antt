@@ -3,6 +3,7 @@ use Rattle.std.proofs.Common.{◌≡◌, sym, subst}
 use Rattle.base_types.specs.Seal.{Blocks}
 use Rattle.layout_geometry.specs.Geometry.{Geometry}
 use Rattle.lang_tree.specs.Tree.{Tree}
+use Rattle.crash_stands.specs.Bounds.{bounds_of}
 use Rattle.crash_stands.specs.Files.{files_of}
 use Rattle.crash_stands.specs.Stands.{IsTreeOf}
 use Rattle.engine_blocks.specs.State.{Bookkeeping, State}
@@ -29,7 +30,7 @@ pub held_after : (P : Geometry → Blocks → Type 0) (s t : State) → t.books 
 held_after P s t books map p = held_before P t s (sym books) (sym map) p
 
 -- a damage of the tree is one of the whole
-pub tree_damage : (g : Geometry) (m : Blocks) (why : TreeRefusal) → IfDamaged why (IsBrokenTree g.i (files_of g m)) → OnDamage (of_tree why) (IsDamaged g m)
+pub tree_damage : (g : Geometry) (m : Blocks) (why : TreeRefusal) → IfDamaged why (IsBrokenTree (bounds_of g) (files_of g m)) → OnDamage (of_tree why) (IsDamaged g m)
 tree_damage g m (tree.Damaged what) h = h
 tree_damage g m tree.ReadFault h = tt
 tree_damage g m tree.NoMemory h = tt
@@ -38,7 +39,7 @@ tree_damage g m tree.NoMemory h = tt
 pub none_stands : (g : Geometry) (m : Blocks) (why : CheckRefusal)
     → ((what : BlockDamage) (t : Tree) → IsBrokenBlock g m what → IsTreeOf g m t → ⊥)
     → ((what : SnapshotDamage) (t : Tree) → IsBrokenSnapshot g m what → IsTreeOf g m t → ⊥)
-    → ((what : TreeDamage) (t : Tree) → IsBrokenTree g.i (files_of g m) what → IsTreeOf g m t → ⊥)
+    → ((what : TreeDamage) (t : Tree) → IsBrokenTree (bounds_of g) (files_of g m) what → IsTreeOf g m t → ⊥)
     → OnDamage why (IsDamaged g m) → OnDamage why (λ _. (t : Tree) → IsTreeOf g m t → ⊥)
 none_stands g m (check.Damaged (damage.Blocks what)) blocks snapshots tree h = λ t stands. blocks what t h stands
 none_stands g m (check.Damaged (damage.Snapshot what)) blocks snapshots tree h = λ t stands. snapshots what t h stands

@@ -2,9 +2,11 @@
 use Rattle.std.proofs.Common.{◌≡◌, ◌≢◌, ℕ, Option, None, Some, slice_get, sym, ◌∙◌, arith, subst}
 use Rattle.std.proofs.lemmas.Option.{none-some}
 use Rattle.base_types.specs.Seal.{Blocks}
+use Rattle.base_types.specs.declared.layout.Layout.{Layout}
 use Rattle.layout_geometry.specs.Geometry.{Geometry}
 use Rattle.layout_bytes.specs.declared.node.NodeKind.TheVariants.{Snapshot}
-use Rattle.lang_tree.specs.Tree.{Tree}
+use Rattle.lang_tree.specs.Tree.{Bounds, Tree}
+use Rattle.crash_stands.specs.Bounds.{bounds_of}
 use Rattle.crash_stands.specs.Files.{FileNode, Files, files_of}
 use Rattle.crash_stands.specs.Inodes.{Inode, Inodes, AreInodesOf, IsInodeOf, inode_of, inodes_of}
 use Rattle.crash_stands.specs.Maps.{IsMapOf}
@@ -17,10 +19,10 @@ use Rattle.fs_check.specs.Damage.{IsBroken, RepeatsName}
 use Rattle.fs_check.specs.Rules.{AreTreeFiles}
 
 -- a node that reads as none and is no snapshot isn't among inodes that were read
-unread : (o : Option FileNode) (x : FileNode) (i : Option Inode) → o ≡ Some x → x.kind ≢ Snapshot → inode_of x ≡ None → IsInodeOf o i → ⊥
-unread o x i at plain none is = by i (subst (λ p. IsInodeOf p i) at is)
+unread : (layout : Layout) (o : Option FileNode) (x : FileNode) (i : Option Inode) → o ≡ Some x → x.kind ≢ Snapshot → inode_of layout x ≡ None → IsInodeOf layout o i → ⊥
+unread layout o x i at plain none is = by i (subst (λ p. IsInodeOf layout p i) at is)
   where
-    by : (j : Option Inode) → IsInodeOf (Some x) j → ⊥
+    by : (j : Option Inode) → IsInodeOf layout (Some x) j → ⊥
     by None r = plain r
     by (Some y) r = none-some y (sym none ∙ r)
 
@@ -32,20 +34,20 @@ repeated limit m dir place rules r =
     omega (arith, e, r.before)
 
 -- inodes that follow the rules are broken nowhere
-pub none_broken : (limit : ℕ) (files : Files) (what : TreeDamage) → FollowsRules limit (inodes_of files) → AreInodesOf files (inodes_of files) → IsBroken limit files what → ⊥
+pub none_broken : (limit : Bounds) (files : Files) (what : TreeDamage) → FollowsRules limit.nodes (inodes_of limit.layout files) → AreInodesOf limit.layout files (inodes_of limit.layout files) → IsBroken limit files what → ⊥
 none_broken limit files damage.NoRoot rules read b = b rules.root.0 rules.root.1
-none_broken limit files (damage.Unreadable node) rules read b = unread (files node) b.file (inodes_of files node) b.used b.plain b.unread (read node)
+none_broken limit files (damage.Unreadable node) rules read b = unread limit.layout (files node) b.file (inodes_of limit.layout files node) b.used b.plain b.unread (read node)
 none_broken limit files (damage.NamesRoot dir place) rules read b = (rules.named dir place b.has.slots b.slot b.has.is_dir b.has.at).0 b.root
 none_broken limit files (damage.NamesUnused dir place) rules read b =
     let x = (rules.named dir place b.has.slots b.slot b.has.is_dir b.has.at).1 in none-some x.0 (sym b.unused ∙ x.1)
-none_broken limit files (damage.RepeatsName dir place) rules read b = repeated limit (inodes_of files) dir place rules b
+none_broken limit files (damage.RepeatsName dir place) rules read b = repeated limit.nodes (inodes_of limit.layout files) dir place rules b
 none_broken limit files (damage.NotNamedOnce node) rules read b = b.count (rules.dirs node b.slots b.is_dir b.other)
 none_broken limit files (damage.WrongLinks node) rules read b = b.count (rules.links node b.links b.bytes b.is_file)
 none_broken limit files (damage.Unreached node) rules read b = let p = rules.reached node b.inode b.used in b.unreached p.0 p.1
 
 -- The laws that are used.
 abbrev pub OneMap : Type 0
-OneMap = (files : Files) (m : Inodes) → AreInodesOf files m → (k : ℕ) → m k ≡ inodes_of files k
+OneMap = (layout : Layout) (files : Files) (m : Inodes) → AreInodesOf layout files m → (k : ℕ) → m k ≡ inodes_of layout files k
 
 abbrev pub Alike : Type 0
 Alike = (limit : ℕ) (m w : Inodes) (t : Tree) → ((k : ℕ) → m k ≡ w k) → IsMapOf limit m t → IsMapOf limit w t
@@ -54,29 +56,31 @@ abbrev pub HasRules : Type 0
 HasRules = (limit : ℕ) (m : Inodes) (t : Tree) → IsMapOf limit m t → FollowsRules limit m
 
 -- files that read as the inode map of a tree are broken nowhere
-pub none_in_tree : OneMap → Alike → HasRules → (limit : ℕ) (files : Files) (inodes : Inodes) (t : Tree) (what : TreeDamage) → AreInodesOf files inodes → IsMapOf limit inodes t → IsBroken limit files what → ⊥
+pub none_in_tree : OneMap → Alike → HasRules → (limit : Bounds) (files : Files) (inodes : Inodes) (t : Tree) (what : TreeDamage) → AreInodesOf limit.layout files inodes → IsMapOf limit.nodes inodes t → IsBroken limit files what → ⊥
 none_in_tree one alike has limit files inodes t what read map b =
-    let same = one files inodes read in
-    none_broken limit files what (has limit (inodes_of files) t (alike limit inodes (inodes_of files) t same map)) (λ k. subst (IsInodeOf (files k)) (same k) (read k)) b
+    let same = one limit.layout files inodes read in
+    none_broken limit files what (has limit.nodes (inodes_of limit.layout files) t (alike limit.nodes inodes (inodes_of limit.layout files) t same map))
+    (λ k. subst (IsInodeOf limit.layout (files k)) (same k) (read k)) b
 
 -- no tree stands where something is broken
-pub no_tree : OneMap → Alike → HasRules → (g : Geometry) (m : Blocks) (what : TreeDamage) (t : Tree) → IsBroken g.i (files_of g m) what → IsTreeOf g m t → ⊥
-no_tree one alike has g m what t b stands = none_in_tree one alike has g.i (files_of g m) stands.inodes t what stands.read stands.map b
+pub no_tree : OneMap → Alike → HasRules → (g : Geometry) (m : Blocks) (what : TreeDamage) (t : Tree) → IsBroken (bounds_of g) (files_of g m) what → IsTreeOf g m t → ⊥
+no_tree one alike has g m what t b stands = none_in_tree one alike has (bounds_of g) (files_of g m) stands.inodes t what stands.read stands.map b
 
 abbrev pub Reads : Type 0
-Reads = (files : Files) → ((k : ℕ) (file : FileNode) → files k ≡ Some file → file.kind ≢ Snapshot → (x : Inode) × (inode_of file ≡ Some x)) → AreInodesOf files (inodes_of files)
+Reads = (layout : Layout) (files : Files) → ((k : ℕ) (file : FileNode) → files k ≡ Some file → file.kind ≢ Snapshot → (x : Inode) × (inode_of layout file ≡ Some x))
+    → AreInodesOf layout files (inodes_of layout files)
 
 abbrev pub MakesTree : Type 0
 MakesTree = (limit : ℕ) (m : Inodes) → FollowsRules limit m → (t : Tree) × IsMapOf limit m t
 
 -- what stands where files are those of a tree, its snapshots aside
-pub record ReadsAsTree (limit : ℕ) (files : Files) : Type 0 where
+pub record ReadsAsTree (limit : Bounds) (files : Files) : Type 0 where
   pub tree : Tree
-  pub read : AreInodesOf files (inodes_of files)
-  pub map : IsMapOf limit (inodes_of files) tree
+  pub read : AreInodesOf limit.layout files (inodes_of limit.layout files)
+  pub map : IsMapOf limit.nodes (inodes_of limit.layout files) tree
 
-pub tree_read : Reads → MakesTree → (limit : ℕ) (files : Files) → AreTreeFiles limit files → ReadsAsTree limit files
-tree_read reads makes limit files h = let made = makes limit (inodes_of files) h.rules in record { tree = made.0; read = reads files h.read; map = made.1 }
+pub tree_read : Reads → MakesTree → (limit : Bounds) (files : Files) → AreTreeFiles limit files → ReadsAsTree limit files
+tree_read reads makes limit files h = let made = makes limit.nodes (inodes_of limit.layout files) h.rules in record { tree = made.0; read = reads limit.layout files h.read; map = made.1 }
 
 -- files that are the same at each number are the same
 pub same_function : (files others : Files) → ((k : ℕ) → files k ≡ others k) → files ≡ others

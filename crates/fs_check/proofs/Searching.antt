@@ -3,6 +3,7 @@ use Rattle.std.proofs.Common.{◌≡◌, ◌≢◌, ℕ, zero, suc, ◌+◌, ◌
 use Rattle.std.proofs.lemmas.Bool.{cases_lt, both_ways}
 use Rattle.std.proofs.lemmas.List.{get_or-replicate, length-replicate, get_or_past}
 use Rattle.std.proofs.lemmas.Option.{none-some, same_Some, slice_get_within}
+use Rattle.base_types.specs.declared.layout.Layout.{Layout}
 use Rattle.layout_bytes.specs.declared.slot.Slot.{Slot}
 use Rattle.crash_stands.specs.Files.{Files}
 use Rattle.crash_stands.specs.Inodes.{Inode, Inodes, ADir, AFile, AreDistinct, inodes_of}
@@ -157,31 +158,32 @@ searches_more walks finds nodes m marks new queue next at dir slots s q here is 
 
 -- The end.
 
--- what a marked node has under a name has a mark
-mark_under : (files : Files) (nodes : List Looked) (marks : List Bool) (queue : List ℕ) (at n j : ℕ) (name : List ℕ) (x : Option Inode) → AreSeen files nodes → Searches nodes (inodes_of files) marks queue at → length queue ≤ at → has_mark marks n ≡ true
-    → inodes_of files n ≡ x → entry_in x name ≡ Some j → has_mark marks j ≡ true
-mark_under files nodes marks queue at n j name None h s all e is under = absurd (none-some j under)
-mark_under files nodes marks queue at n j name (Some (AFile l bytes)) h s all e is under = absurd (none-some j under)
-mark_under files nodes marks queue at n j name (Some (ADir slots)) h s all e is under =
-    let p = s.queued n e (was_dir files nodes n slots h is) in
-    s.done p.place n slots (omega (arith, all, slice_get_within queue p.place n p.at)) p.at is j (named slots name j under)
+module _ (layout : Layout) where
+  -- what a marked node has under a name has a mark
+  mark_under : (files : Files) (nodes : List Looked) (marks : List Bool) (queue : List ℕ) (at n j : ℕ) (name : List ℕ) (x : Option Inode) → AreSeen files nodes → Searches nodes (inodes_of layout files) marks queue at → length queue ≤ at → has_mark marks n ≡ true
+      → inodes_of layout files n ≡ x → entry_in x name ≡ Some j → has_mark marks j ≡ true
+  mark_under files nodes marks queue at n j name None h s all e is under = absurd (none-some j under)
+  mark_under files nodes marks queue at n j name (Some (AFile l bytes)) h s all e is under = absurd (none-some j under)
+  mark_under files nodes marks queue at n j name (Some (ADir slots)) h s all e is under =
+      let p = s.queued n e (was_dir layout files nodes n slots h is) in
+      s.done p.place n slots (omega (arith, all, slice_get_within queue p.place n p.at)) p.at is j (named slots name j under)
 
-closed : (files : Files) (nodes : List Looked) (marks : List Bool) (queue : List ℕ) (at : ℕ) → AreSeen files nodes → Searches nodes (inodes_of files) marks queue at → length queue ≤ at
-    → (path : List (List ℕ)) (n k : ℕ) → has_mark marks n ≡ true → walk (entries_of (inodes_of files)) n path ≡ Some k → has_mark marks k ≡ true
-closed files nodes marks queue at h s all [] n k e w = subst (λ j. has_mark marks j ≡ true) (same_Some n k w) e
-closed files nodes marks queue at h s all (name ∷ path) n k e w = on (entries_of (inodes_of files) n name) refl w (closed files nodes marks queue at h s all path)
-  where
-    on : (o : Option ℕ) → entries_of (inodes_of files) n name ≡ o → option_and_then (λ j. walk (entries_of (inodes_of files)) j path) o ≡ Some k
-        → ((i l : ℕ) → has_mark marks i ≡ true → walk (entries_of (inodes_of files)) i path ≡ Some l → has_mark marks l ≡ true) → has_mark marks k ≡ true
-    on None is v go = absurd (none-some k v)
-    on (Some j) is v go = go j k (mark_under files nodes marks queue at n j name (inodes_of files n) h s all e refl is) v
+  closed : (files : Files) (nodes : List Looked) (marks : List Bool) (queue : List ℕ) (at : ℕ) → AreSeen files nodes → Searches nodes (inodes_of layout files) marks queue at → length queue ≤ at
+      → (path : List (List ℕ)) (n k : ℕ) → has_mark marks n ≡ true → walk (entries_of (inodes_of layout files)) n path ≡ Some k → has_mark marks k ≡ true
+  closed files nodes marks queue at h s all [] n k e w = subst (λ j. has_mark marks j ≡ true) (same_Some n k w) e
+  closed files nodes marks queue at h s all (name ∷ path) n k e w = on (entries_of (inodes_of layout files) n name) refl w (closed files nodes marks queue at h s all path)
+    where
+      on : (o : Option ℕ) → entries_of (inodes_of layout files) n name ≡ o → option_and_then (λ j. walk (entries_of (inodes_of layout files)) j path) o ≡ Some k
+          → ((i l : ℕ) → has_mark marks i ≡ true → walk (entries_of (inodes_of layout files)) i path ≡ Some l → has_mark marks l ≡ true) → has_mark marks k ≡ true
+      on None is v go = absurd (none-some k v)
+      on (Some j) is v go = go j k (mark_under files nodes marks queue at n j name (inodes_of layout files n) h s all e refl is) v
 
--- all that is reached has a mark, and nothing else
-pub all_reached : (files : Files) (nodes : List Looked) (marks : List Bool) (queue : List ℕ) (at : ℕ) → AreSeen files nodes → Searches nodes (inodes_of files) marks queue at → length queue ≤ at → AreReached (inodes_of files) marks
-all_reached files nodes marks queue at h s all = record {
-  paths = s.paths;
-  others = λ path k leads. closed files nodes marks queue at h s all path 1 k s.root leads;
-}
+  -- all that is reached has a mark, and nothing else
+  pub all_reached : (files : Files) (nodes : List Looked) (marks : List Bool) (queue : List ℕ) (at : ℕ) → AreSeen files nodes → Searches nodes (inodes_of layout files) marks queue at → length queue ≤ at → AreReached (inodes_of layout files) marks
+  all_reached files nodes marks queue at h s all = record {
+    paths = s.paths;
+    others = λ path k leads. closed files nodes marks queue at h s all path 1 k s.root leads;
+  }
 
 -- A directory that was gone through, as the search needs it.
 

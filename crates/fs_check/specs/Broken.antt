@@ -23,7 +23,7 @@ pub record IsBadNode (g : Geometry) (m : Blocks) (k : ℕ) : Type 0 where
   pub from : 1 ≤ k
   pub upto : k ≤ g.i
   pub unread : node_at g m k ≡ None
-  pub carries : node_bytes g m k ≡ replicate node_size 0 → ⊥
+  pub carries : node_bytes g m k ≡ replicate (node_size g.layout) 0 → ⊥
 
 -- node k has block b, whose bit is clear
 pub record HasUnmarked (g : Geometry) (m : Blocks) (k b : ℕ) : Type 0 where
@@ -49,7 +49,7 @@ pub record HasTail (g : Geometry) (m : Blocks) (k : ℕ) : Type 0 where
   pub node : Node
   pub is_node : used_node g m k ≡ Some node
   pub is_dir : node.kind ≡ Dir
-  pub carries : are_zeros (past_content m node) ≡ false
+  pub carries : are_zeros (past_content g.layout m node) ≡ false
 
 -- the bit of data block b is set, no node has the block, and no snapshot keeps it
 pub record IsLost (g : Geometry) (m : Blocks) (b : ℕ) : Type 0 where

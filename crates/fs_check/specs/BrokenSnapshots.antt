@@ -3,13 +3,14 @@ use Rattle.std.specs.Prelude.{◌≡◌, ◌≢◌, ◌⊎◌, ℕ, ◌*◌, ◌
 use Rattle.base_types.specs.Name.{is_name}
 use Rattle.base_types.specs.Runs.{run_places}
 use Rattle.base_types.specs.Seal.{Blocks}
-use Rattle.layout_geometry.specs.Geometry.{Geometry, node_size}
+use Rattle.layout_geometry.specs.Geometry.{Geometry}
 use Rattle.layout_bytes.specs.declared.node.Node.{Node}
 use Rattle.layout_bytes.specs.declared.node.NodeKind.TheVariants.{Dir, File, Snapshot}
 use Rattle.layout_bytes.specs.Bitmap.{is_set}
 use Rattle.layout_bytes.specs.Bytes.{are_zeros}
-use Rattle.layout_bytes.specs.Node.{node_bytes}
+use Rattle.layout_bytes.specs.Node.{node_size, content_of, node_bytes}
 use Rattle.layout_bytes.specs.SnapshotName.{name_block}
+use Rattle.crash_stands.specs.Bounds.{bounds_of}
 use Rattle.crash_stands.specs.Files.{joined, used_node}
 use Rattle.crash_stands.specs.Places.{kept_table}
 use Rattle.crash_stands.specs.Kept.{kept_files, kept_nodes, kept_places}
@@ -53,7 +54,7 @@ pub record HasSameName (g : Geometry) (m : Blocks) (k l : ℕ) : Type 0 where
 abbrev pub KeepsBadNode : Geometry → Blocks → List ℕ → ℕ → Type 0
 KeepsBadNode g m places l =
     ((node : Node) × (kept_nodes g m places l ≡ Some node) × (node.kind ≡ Snapshot))
-    ⊎ ((kept_nodes g m places l ≡ None) × (node_bytes g (kept_table m places g) l ≢ replicate node_size 0))
+    ⊎ ((kept_nodes g m places l ≡ None) × (node_bytes g (kept_table m places g) l ≢ replicate (node_size g.layout) 0))
 
 pub record HasBadNode (g : Geometry) (m : Blocks) (k l : ℕ) : Type 0 where
   pub is : IsSnapshot g m k
@@ -67,7 +68,7 @@ pub record HasKeptTail (g : Geometry) (m : Blocks) (k l : ℕ) : Type 0 where
   pub node : Node
   pub is_node : kept_nodes g m (places_of is.node) l ≡ Some node
   pub is_dir : node.kind ≡ Dir
-  pub carries : are_zeros (drop node.size (joined m (kept_places g m (places_of is.node) l node))) ≡ false
+  pub carries : are_zeros (drop (content_of g.layout node.kind node.size) (joined m (kept_places g m (places_of is.node) l node))) ≡ false
 
 -- snapshot k keeps block b as one of a file, at a place of its list
 pub record KeepsAt (g : Geometry) (m : Blocks) (k b : ℕ) : Type 0 where
@@ -104,7 +105,7 @@ pub record HasKeptElsewhere (g : Geometry) (m : Blocks) (k b : ℕ) : Type 0 whe
 -- among the files that snapshot k keeps this is broken
 pub record HasBrokenTree (g : Geometry) (m : Blocks) (k : ℕ) (what : TreeDamage) : Type 0 where
   pub is : IsSnapshot g m k
-  pub broken : IsBrokenTree g.i (kept_files g m (places_of is.node)) what
+  pub broken : IsBrokenTree (bounds_of g) (kept_files g m (places_of is.node)) what
 
 -- this is broken in a snapshot, and there
 abbrev pub IsBroken : Geometry → Blocks → SnapshotDamage → Type 0

@@ -2,6 +2,8 @@
 use Rattle.std.specs.Prelude.{◌≡◌, ◌≢◌, ℕ, ◌<◌, List, slice_get, None, Some}
 use Rattle.layout_bytes.specs.declared.node.NodeKind.TheVariants.{Snapshot}
 use Rattle.layout_bytes.specs.declared.slot.Slot.{Slot}
+use Rattle.base_types.specs.declared.layout.Layout.{Layout}
+use Rattle.lang_tree.specs.Tree.{Bounds}
 use Rattle.crash_stands.specs.Files.{FileNode, Files}
 use Rattle.crash_stands.specs.Inodes.{Inode, Inodes, ADir, AFile, inode_of, inodes_of}
 use Rattle.crash_stands.specs.Walks.{LeadsTo}
@@ -10,11 +12,11 @@ use Rattle.fs_check.specs.declared.damage.TreeDamage.{TreeDamage}
 use Rattle.fs_check.specs.declared.damage.TreeDamage.TheVariants as damage
 
 -- A node in use that is no snapshot reads as no inode: it is a directory with another number of links than one, or with bytes that are no slot's.
-pub record IsUnreadable (files : Files) (node : ℕ) : Type 0 where
+pub record IsUnreadable (l : Layout) (files : Files) (node : ℕ) : Type 0 where
   pub file : FileNode
   pub used : files node ≡ Some file
   pub plain : file.kind ≢ Snapshot
-  pub unread : inode_of file ≡ None
+  pub unread : inode_of l file ≡ None
 
 -- this slot is at a place of a directory
 pub record HasSlot (m : Inodes) (dir place : ℕ) (s : Slot) : Type 0 where
@@ -64,13 +66,13 @@ pub record IsUnreached (m : Inodes) (node : ℕ) : Type 0 where
   pub used : m node ≡ Some inode
   pub unreached : (path : List (List ℕ)) → LeadsTo m path node → ⊥
 
--- the damage is there, among nodes of so many numbers
-abbrev pub IsBroken : ℕ → Files → TreeDamage → Type 0
-IsBroken limit files damage.NoRoot = (slots : List Slot) → inodes_of files 1 ≢ Some (ADir slots)
-IsBroken limit files (damage.Unreadable node) = IsUnreadable files node
-IsBroken limit files (damage.NamesRoot dir place) = NamesRoot (inodes_of files) dir place
-IsBroken limit files (damage.NamesUnused dir place) = NamesUnused (inodes_of files) dir place
-IsBroken limit files (damage.RepeatsName dir place) = RepeatsName (inodes_of files) dir place
-IsBroken limit files (damage.NotNamedOnce node) = IsNotNamedOnce limit (inodes_of files) node
-IsBroken limit files (damage.WrongLinks node) = HasWrongLinks limit (inodes_of files) node
-IsBroken limit files (damage.Unreached node) = IsUnreached (inodes_of files) node
+-- the damage is there, among nodes of so many numbers on a disk of this layout
+abbrev pub IsBroken : Bounds → Files → TreeDamage → Type 0
+IsBroken limit files damage.NoRoot = (slots : List Slot) → inodes_of limit.layout files 1 ≢ Some (ADir slots)
+IsBroken limit files (damage.Unreadable node) = IsUnreadable limit.layout files node
+IsBroken limit files (damage.NamesRoot dir place) = NamesRoot (inodes_of limit.layout files) dir place
+IsBroken limit files (damage.NamesUnused dir place) = NamesUnused (inodes_of limit.layout files) dir place
+IsBroken limit files (damage.RepeatsName dir place) = RepeatsName (inodes_of limit.layout files) dir place
+IsBroken limit files (damage.NotNamedOnce node) = IsNotNamedOnce limit.nodes (inodes_of limit.layout files) node
+IsBroken limit files (damage.WrongLinks node) = HasWrongLinks limit.nodes (inodes_of limit.layout files) node
+IsBroken limit files (damage.Unreached node) = IsUnreached (inodes_of limit.layout files) node

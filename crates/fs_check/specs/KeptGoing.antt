@@ -20,7 +20,7 @@ pub record MayGo (g : Geometry) (s : State) (maps : Maps) (tally : Tally) (place
   pub room : HasRoomToCount g (blocks_of tally.met.items) tally.counts
   pub «data» : All (IsData g) places
   pub table : 1 + table_blocks g ≤ length places
-  pub most : length places ≤ 29360128
+  pub most : length places ≤ 62914560
 
 -- The node is a snapshot with these blocks, all of its parts are there, each block of it is a whole one, and the nodes below k that it keeps were gone through.
 pub record IsKeptTo (g : Geometry) (m : Blocks) (maps : Maps) (tally : Tally) (snapshot : SnapshotIn) (k : ℕ) : Type 0 where

@@ -1,12 +1,12 @@
 -- What a check knows once it went through some of the nodes that one snapshot keeps. It is described in docs/FSCK.md.
 use Rattle.std.specs.Prelude.{◌≡◌, ◌≢◌, ◌↔◌, ℕ, ◌+◌, ◌-◌, ◌<◌, ◌≤◌, true, false, IsTrue, if◌then◌else◌, List, length, drop, replicate, None, Some}
 use Rattle.base_types.specs.Seal.{Blocks}
-use Rattle.layout_geometry.specs.Geometry.{Geometry, bitmap_blocks, node_size}
+use Rattle.layout_geometry.specs.Geometry.{Geometry, bitmap_blocks}
 use Rattle.layout_bytes.specs.declared.node.Node.{Node}
 use Rattle.layout_bytes.specs.declared.node.NodeKind.TheVariants.{Dir, Snapshot}
 use Rattle.layout_bytes.specs.Bitmap.{bit_in, is_set}
 use Rattle.layout_bytes.specs.Bytes.{are_zeros}
-use Rattle.layout_bytes.specs.Node.{node_bytes}
+use Rattle.layout_bytes.specs.Node.{node_size, content_of, node_bytes}
 use Rattle.engine_blocks.specs.Running.{HasNoBare}
 use Rattle.engine_blocks.specs.State.{State}
 use Rattle.crash_stands.specs.Files.{joined}
@@ -52,9 +52,10 @@ pub record HasMetKept (g : Geometry) (m : Blocks) (places : List ℕ) (k i : ℕ
 pub record IsKeptSoundBelow (g : Geometry) (m : Blocks) (places : List ℕ) (k dirs : ℕ) (met : Blocks) : Type 0 where
   pub blocks : HasMetKept g m places k 0 met
   pub plain : (l : ℕ) (node : Node) → l < k → kept_nodes g m places l ≡ Some node → node.kind ≢ Snapshot
-  pub free : (l : ℕ) → 1 ≤ l → l < k → kept_nodes g m places l ≡ None → node_bytes g (kept_table m places g) l ≡ replicate node_size 0
-  pub tail : (l : ℕ) (node : Node) → l < k → kept_nodes g m places l ≡ Some node → node.kind ≡ Dir → IsTrue (are_zeros (drop node.size (joined m (kept_places g m places l node))))
-  pub behind : dirs ≡ dirs_from (kept_nodes g m places) 1 (k - 1)
+  pub free : (l : ℕ) → 1 ≤ l → l < k → kept_nodes g m places l ≡ None → node_bytes g (kept_table m places g) l ≡ replicate (node_size g.layout) 0
+  pub tail : (l : ℕ) (node : Node) → l < k → kept_nodes g m places l ≡ Some node → node.kind ≡ Dir
+      → IsTrue (are_zeros (drop (content_of g.layout node.kind node.size) (joined m (kept_places g m places l node))))
+  pub behind : dirs ≡ dirs_from g.layout (kept_nodes g m places) 1 (k - 1)
 
 -- One snapshot more keeps just the blocks that were met.
 abbrev pub CountsMet : Blocks → List ℕ → List ℕ → Type 0

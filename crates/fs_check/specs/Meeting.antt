@@ -37,8 +37,8 @@ pub record HasMet (g : Geometry) (m : Blocks) (k i : ℕ) (met : Blocks) : Type 
 -- The nodes below k were gone through, and nothing was broken there.
 pub record AreSoundBelow (g : Geometry) (m : Blocks) (k : ℕ) (met : Blocks) : Type 0 where
   pub blocks : HasMet g m k 0 met
-  pub free : (l : ℕ) → 1 ≤ l → l < k → node_at g m l ≡ None → node_bytes g m l ≡ replicate node_size 0
-  pub tail : (l : ℕ) (node : Node) → l < k → used_node g m l ≡ Some node → node.kind ≡ Dir → IsTrue (are_zeros (past_content m node))
+  pub free : (l : ℕ) → 1 ≤ l → l < k → node_at g m l ≡ None → node_bytes g m l ≡ replicate (node_size g.layout) 0
+  pub tail : (l : ℕ) (node : Node) → l < k → used_node g m l ≡ Some node → node.kind ≡ Dir → IsTrue (are_zeros (past_content g.layout m node))
 
 -- node k has these blocks, in order
 pub record HasPlaces (g : Geometry) (m : Blocks) (k : ℕ) (list : List ℕ) : Type 0 where

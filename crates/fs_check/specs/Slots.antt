@@ -1,6 +1,10 @@
 -- What the check finds of the slots of one directory, and of all that it went through.
-use Rattle.std.specs.Prelude.{◌≡◌, ◌≢◌, ⊤, ℕ, ◌+◌, ◌-◌, ◌^◌, ◌<◌, min, Bool, true, false, List, ◌++◌, get_or, length, slice_get, Option, None, Some, option_map}
+use Rattle.std.specs.Prelude.{◌≡◌, ◌≢◌, ⊤, ℕ, ◌+◌, ◌-◌, ◌^◌, ◌<◌, min, Bool, true, false, List, ◌++◌, get_or, length, take, drop, slice_get, Option, None, Some, option_map}
+use Rattle.base_types.specs.declared.layout.Layout.{Layout}
+use Rattle.base_types.specs.Layouts.{slot_place, slot_size}
 use Rattle.layout_bytes.specs.declared.slot.Slot.{Slot}
+use Rattle.layout_bytes.specs.Bytes.{has_zeros, when}
+use Rattle.layout_bytes.specs.Slot.{slot_of}
 use Rattle.crash_stands.specs.Inodes.{Inodes, ADir, AreDistinct}
 use Rattle.fs_inodes.specs.Links.{naming, naming_from}
 use Rattle.fs_check.specs.declared.damage.TreeDamage.{TreeDamage}
@@ -80,6 +84,11 @@ pub record WentUpTo (nodes : List Looked) (m : Inodes) (k : ℕ) (named : List �
   pub count : length named ≡ length nodes
   pub dirs : (d : ℕ) → d < k → IsGoodDir nodes m d (seen nodes d)
   pub counted : (n : ℕ) → n < length nodes → get_or named n 0 ≡ capped (naming_from m n 1 (k - 1))
+
+-- the slot at a place of these bytes, where there are zeros behind it up to the next place
+abbrev pub slot_with_gap : Layout → List ℕ → ℕ → Option Slot
+slot_with_gap l bytes place =
+    when (has_zeros bytes (slot_place l place + slot_size l) (slot_place l (place + 1))) (slot_of l (take (slot_size l) (drop (slot_place l place) bytes)))
 
 -- The slots that were found come behind the others; else none were found.
 abbrev pub AppendsSlots : Bool → Option (List Slot) → List Slot → List Slot → Type 0

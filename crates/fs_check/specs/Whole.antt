@@ -2,6 +2,7 @@
 use Rattle.std.specs.Prelude.{⊤, Bool, true, false, Result, Ok, Err}
 use Rattle.base_types.specs.Seal.{Blocks}
 use Rattle.layout_geometry.specs.Geometry.{Geometry}
+use Rattle.crash_stands.specs.Bounds.{bounds_of}
 use Rattle.crash_stands.specs.Files.{files_of}
 use Rattle.fs_check.specs.declared.block_damage.BlocksRefusal.{BlocksRefusal}
 use Rattle.fs_check.specs.declared.block_damage.BlocksRefusal.TheVariants as blocks
@@ -19,7 +20,7 @@ use Rattle.fs_check.specs.Damage.{IsBroken as IsBrokenTree}
 abbrev pub IsDamaged : Geometry → Blocks → Damage → Type 0
 IsDamaged g m (damage.Blocks what) = IsBrokenBlock g m what
 IsDamaged g m (damage.Snapshot what) = IsBrokenSnapshot g m what
-IsDamaged g m (damage.Tree what) = IsBrokenTree g.i (files_of g m) what
+IsDamaged g m (damage.Tree what) = IsBrokenTree (bounds_of g) (files_of g m) what
 
 -- what must hold of the damage, where there is one
 abbrev pub OnDamage : CheckRefusal → (Damage → Type 0) → Type 0

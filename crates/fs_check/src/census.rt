@@ -1,6 +1,7 @@
 //! The first look at each node of the node table.
 
 ghost use Rattle.std.specs.Prelude.{◌≡◌, ◌≢◌, ◌++◌, ◌∷◌, [], IsTrue, IfOk, IfErr, IfSome, OnOk};
+ghost use Rattle.crash_stands.specs.Bounds.{bounds_of};
 ghost use Rattle.fs_files.specs.Asks.{MayRead};
 ghost use Rattle.fs_files.specs.Effects.{LooksOnly};
 ghost use Rattle.layout_bytes.specs.declared.node.NodeKind.TheVariants.{Free};
@@ -30,7 +31,7 @@ pub(crate) fn look_at_nodes<N: Nodes, S: Blocks>(
     ensures places { IfOk result (λ nodes. HasPlaces (S.state blocks.old).books.geom.i nodes.items) }
     ensures seen { IsTrue S.tells → IfOk result (λ nodes. AreSeen (N.nodes (S.state blocks.old) files.now).files nodes.items) }
     ensures broken { IsTrue S.tells → IfErr result
-        (λ why. IfDamaged why (IsBroken (S.state blocks.old).books.geom.i (N.nodes (S.state blocks.old) files.now).files)) }
+        (λ why. IfDamaged why (IsBroken (bounds_of (S.state blocks.old).books.geom) (N.nodes (S.state blocks.old) files.now).files)) }
     ensures looks { LooksOnly S.tells (fails_reading result) (S.state blocks.old) (S.state blocks.new) }
 {
     files.laws(blocks);

@@ -2,6 +2,7 @@
 //! node in use that isn't the root.
 
 ghost use Rattle.std.specs.Prelude.{◌≡◌, ℕ, IsTrue, length, IfOk, IfErr, OnOk};
+ghost use Rattle.crash_stands.specs.Bounds.{bounds_of};
 ghost use Rattle.crash_stands.specs.Inodes.{inodes_of};
 ghost use Rattle.fs_files.specs.Asks.{MayRead};
 ghost use Rattle.fs_files.specs.Effects.{LooksOnly};
@@ -36,9 +37,10 @@ pub(crate) fn check_directories<N: Nodes, S: Blocks>(
     requires seen { IsTrue S.tells → AreSeen (N.nodes (S.state blocks.old) files.now).files nodes.now }
     ensures count { IfOk result (λ named. length named.items ≡ length nodes.now) }
     ensures went { IsTrue S.tells → IfOk result
-        (λ named. WentUpTo nodes.now (inodes_of (N.nodes (S.state blocks.old) files.now).files) (length nodes.now) named.items) }
+        (λ named. WentUpTo nodes.now (inodes_of (S.state blocks.old).books.geom.layout (N.nodes (S.state blocks.old) files.now).files)
+        (length nodes.now) named.items) }
     ensures broken { IsTrue S.tells → IfErr result
-        (λ why. IfDamaged why (IsBroken (S.state blocks.old).books.geom.i (N.nodes (S.state blocks.old) files.now).files)) }
+        (λ why. IfDamaged why (IsBroken (bounds_of (S.state blocks.old).books.geom) (N.nodes (S.state blocks.old) files.now).files)) }
     ensures looks { LooksOnly S.tells (fails_reading result) (S.state blocks.old) (S.state blocks.new) }
 {
     files.laws(blocks);
@@ -66,9 +68,10 @@ fn check_node<N: Nodes, S: Blocks>(
     requires seen { IsTrue S.tells → AreSeen (N.nodes (S.state blocks.old) files.now).files nodes.now }
     requires same { length named.old ≡ length nodes.now }
     ensures went { IsTrue S.tells → OnOk result
-        (WentBy nodes.now (inodes_of (N.nodes (S.state blocks.old) files.now).files) node (seen nodes.now node) named.old named.new) }
+        (WentBy nodes.now (inodes_of (S.state blocks.old).books.geom.layout (N.nodes (S.state blocks.old) files.now).files)
+        node (seen nodes.now node) named.old named.new) }
     ensures broken { IsTrue S.tells → IfErr result
-        (λ why. IfDamaged why (IsBroken (S.state blocks.old).books.geom.i (N.nodes (S.state blocks.old) files.now).files)) }
+        (λ why. IfDamaged why (IsBroken (bounds_of (S.state blocks.old).books.geom) (N.nodes (S.state blocks.old) files.now).files)) }
     ensures looks { LooksOnly S.tells (fails_reading result) (S.state blocks.old) (S.state blocks.new) }
 {
     match seen(nodes, node) {
@@ -99,9 +102,11 @@ fn check_directory<N: Nodes, S: Blocks>(
     requires seen { IsTrue S.tells → AreSeen (N.nodes (S.state blocks.old) files.now).files nodes.now }
     requires dir { seen nodes.now dir ≡ Directory size }
     requires same { length named.old ≡ length nodes.now }
-    ensures went { IsTrue S.tells → OnOk result (WentThrough nodes.now (inodes_of (N.nodes (S.state blocks.old) files.now).files) dir named.old named.new) }
+    ensures went { IsTrue S.tells → OnOk result
+        (WentThrough nodes.now (inodes_of (S.state blocks.old).books.geom.layout (N.nodes (S.state blocks.old) files.now).files)
+        dir named.old named.new) }
     ensures broken { IsTrue S.tells → IfErr result
-        (λ why. IfDamaged why (IsBroken (S.state blocks.old).books.geom.i (N.nodes (S.state blocks.old) files.now).files)) }
+        (λ why. IfDamaged why (IsBroken (bounds_of (S.state blocks.old).books.geom) (N.nodes (S.state blocks.old) files.now).files)) }
     ensures looks { LooksOnly S.tells (fails_reading result) (S.state blocks.old) (S.state blocks.new) }
 {
     let Some(slots) = read_slots(files, alloc, blocks, dir, size)? else {

@@ -1,25 +1,26 @@
 //! The blocks that directories and snapshots have as their own, as a bitmap: those that no snapshot may keep as a
 //! file's. The node table is gone through once, where there is a snapshot at all.
 
-ghost use Rattle.std.specs.Prelude.{◌≡◌, ◌+◌, ◌*◌, ◌<◌, ◌≤◌, ℕ, false, IsTrue, OnOk, is_err, length};
+ghost use Rattle.std.specs.Prelude.{◌≡◌, ◌+◌, ◌<◌, ◌≤◌, ℕ, false, IsTrue, OnOk, is_err, length};
 ghost use Rattle.base_types.specs.Seal.{Blocks, blocks_of};
 ghost use Rattle.engine_blocks.specs.Running.{HasNoBare};
 ghost use Rattle.layout_bytes.specs.Bitmap.{bit_in};
 ghost use Rattle.layout_bytes.specs.Node.{node_bytes};
-ghost use Rattle.layout_geometry.specs.Geometry.{bitmap_blocks, node_size, table_start};
+ghost use Rattle.base_types.specs.Layouts.{node_size, nodes_before, table_blocks};
+ghost use Rattle.layout_geometry.specs.Geometry.{bitmap_blocks, table_start};
 ghost use Rattle.fs_files.specs.Effects.{LooksOnly};
 ghost use Rattle.std.specs.List.{All};
 ghost use Rattle.engine_blocks.specs.Puts.{IsData};
 ghost use Rattle.fs_check.specs.Firm.{AreFirmBelow, SetsBits};
 ghost use Rattle.fs_check.specs.Snapshots.{AreFirm};
 
-use crate::table::{NODES_IN_BLOCK, read_table_block};
+use crate::table::read_table_block;
 use base_types::limits::BLOCK_LENGTH;
 use base_types::{Block, ReadFault};
 use engine_blocks::Blocks;
 use fs_files::{NodeBlocks, node_in};
 use layout_bitmap::set;
-use layout_geometry::{Geom, NODE_LENGTH};
+use layout_geometry::Geom;
 use layout_node::NodeKind;
 
 /// Sets the bits of the blocks that directories and snapshots have, where none is set.
@@ -41,7 +42,7 @@ pub(crate) fn set_firm<S: Blocks>(
     ensures looks { LooksOnly S.tells (is_err result) (S.state blocks.old) (S.state blocks.new) }
 {
     geom.lawful();
-    for t in 0..geom.i() / NODES_IN_BLOCK {
+    for t in 0..geom.layout().table_blocks(geom.i()) {
         let mut table = [0u8; BLOCK_LENGTH];
         read_table_block(blocks, geom, t, &mut table)?;
         set_nodes(geom, firm, t, &table);
@@ -51,21 +52,19 @@ pub(crate) fn set_firm<S: Blocks>(
 
 /// Sets the bits of the nodes in block `t` of the table, whose bytes these are.
 fn set_nodes(geom: &Geom, firm: &mut [Block], t: u32, table: &Block)
-    requires in_table { 4 * t < geom.now.i }
+    requires in_table { t < table_blocks geom.now.layout geom.now.i }
     requires room { length firm.old ≡ bitmap_blocks geom.now }
     ensures size { length firm.new ≡ length firm.old }
-    ensures firm { (m : Blocks) → table.now ≡ m (table_start geom.now + t) → AreFirmBelow geom.now m (4 * t + 1) (blocks_of firm.old)
-        → AreFirmBelow geom.now m (4 * t + 5) (blocks_of firm.new) }
+    ensures firm { (m : Blocks) → table.now ≡ m (table_start geom.now + t) → AreFirmBelow geom.now m (nodes_before geom.now.layout t + 1) (blocks_of firm.old)
+        → AreFirmBelow geom.now m (nodes_before geom.now.layout (t + 1) + 1) (blocks_of firm.new) }
 {
     geom.lawful();
-    for place in 0..NODES_IN_BLOCK {
-        let at = NODE_LENGTH * place as usize;
-        set_node(
-            geom,
-            firm,
-            NODES_IN_BLOCK * t + place + 1,
-            &table[at..at + NODE_LENGTH],
-        );
+    let layout = geom.layout();
+    for place in 0..layout.nodes_in_block() {
+        let at = layout.rank_byte(place);
+        let end = at + layout.node_length();
+        let number = layout.nodes_before(t) + place + 1;
+        set_node(geom, firm, number, &table[at..end]);
     }
 }
 
@@ -73,7 +72,7 @@ fn set_nodes(geom: &Geom, firm: &mut [Block], t: u32, table: &Block)
 fn set_node(geom: &Geom, firm: &mut [Block], number: u32, bytes: &[u8])
     requires above_zero { 1 ≤ number }
     requires in_table { number ≤ geom.now.i }
-    requires bytes { length bytes.now ≡ node_size }
+    requires bytes { length bytes.now ≡ node_size geom.now.layout }
     requires room { length firm.old ≡ bitmap_blocks geom.now }
     ensures size { length firm.new ≡ length firm.old }
     ensures firm { (m : Blocks) → bytes.now ≡ node_bytes geom.now m number → AreFirmBelow geom.now m number (blocks_of firm.old)

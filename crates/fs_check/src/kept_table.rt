@@ -1,11 +1,12 @@
 //! The node table that a snapshot keeps, node by node: its bytes, the blocks of a file, and what a directory's last
 //! block carries past the last slot. Names, slots and links aren't looked at.
 
-ghost use Rattle.std.specs.Prelude.{◌≡◌, ◌+◌, ◌*◌, ◌/◌, ◌<◌, ◌≤◌, ℕ, List, true, false, IsTrue, IfErr, IfOk, OnOk, Some, is_err, length, take, drop, min};
+ghost use Rattle.std.specs.Prelude.{◌≡◌, ◌+◌, ◌/◌, ◌<◌, ◌≤◌, ℕ, List, true, false, IsTrue, IfErr, IfOk, OnOk, Some, is_err, length, take, drop, min};
 ghost use Rattle.std.specs.List.{All};
 ghost use Rattle.base_types.specs.Seal.{blocks_of};
 ghost use Rattle.layout_extent.specs.Runs.{AreTidy, LieBelow, most_blocks};
-ghost use Rattle.layout_geometry.specs.Geometry.{node_size, table_start};
+ghost use Rattle.base_types.specs.Layouts.{node_size, nodes_before, table_blocks as blocks_of_table};
+ghost use Rattle.layout_geometry.specs.Geometry.{table_start};
 ghost use Rattle.layout_bytes.specs.Bytes.{are_zeros};
 ghost use Rattle.layout_bytes.specs.Node.{node_bytes, node_fits};
 ghost use Rattle.crash_stands.specs.Files.{joined};
@@ -23,7 +24,6 @@ ghost use Rattle.fs_check.specs.declared.snapshot_damage.SnapshotDamage.TheVaria
 use crate::checking::CheckRefusal;
 use crate::kept_meeting::{Maps, Tally, keep_places};
 use crate::node::node_in;
-use crate::table::NODES_IN_BLOCK;
 use crate::{Damage, SnapshotDamage};
 use base_types::limits::BLOCK_LENGTH;
 use base_types::{Block, ReadFault};
@@ -31,7 +31,7 @@ use engine_blocks::Blocks;
 use fs_files::{NodeBlocks, read_block_at};
 use layout_bytes::are_zeros;
 use layout_extent::Runs;
-use layout_geometry::{Geom, NODE_LENGTH};
+use layout_geometry::Geom;
 use layout_node::{Node, NodeKind};
 
 /// A snapshot: the number of its node, and its blocks.
@@ -63,7 +63,7 @@ pub(crate) fn check_kept_table<S: Blocks>(
     ensures looks { LooksOnly S.tells (fails_reading result) (S.state blocks.old) (S.state blocks.new) }
 {
     geom.lawful();
-    for t in 0..geom.i() / NODES_IN_BLOCK {
+    for t in 0..geom.layout().table_blocks(geom.i()) {
         let mut table = [0u8; BLOCK_LENGTH];
         read_block_at(blocks, &snapshot.places, 1 + t, &mut table)?;
         check_kept_nodes(blocks, geom, maps, snapshot, t, &table, tally)?;
@@ -85,23 +85,25 @@ fn check_kept_nodes<S: Blocks>(
     tally: &mut Tally,
 ) -> Result<(), CheckRefusal>
     requires may { MayGo geom.now (S.state blocks.old) maps.now tally.old snapshot.now.places }
-    requires in_table { 4 * t < geom.now.i }
+    requires in_table { t < blocks_of_table geom.now.layout geom.now.i }
     ensures may { OnOk result (MayGo geom.now (S.state blocks.new) maps.now tally.new snapshot.now.places) }
     ensures counts { (before : List ℕ) → CountsMet (blocks_of tally.old.met.items) before tally.old.counts
         → CountsMet (blocks_of tally.new.met.items) before tally.new.counts }
     ensures sound { IsTrue S.tells → table.now ≡ kept_table (S.state blocks.old).map snapshot.now.places geom.now (table_start geom.now + t)
-        → IsKeptTo geom.now (S.state blocks.old).map maps.now tally.old snapshot.now (4 * t + 1)
-        → OnOk result (IsKeptTo geom.now (S.state blocks.old).map maps.now tally.new snapshot.now (4 * t + 5)) }
+        → IsKeptTo geom.now (S.state blocks.old).map maps.now tally.old snapshot.now (nodes_before geom.now.layout t + 1)
+        → OnOk result (IsKeptTo geom.now (S.state blocks.old).map maps.now tally.new snapshot.now (nodes_before geom.now.layout (t + 1) + 1)) }
     ensures damage { IsTrue S.tells → table.now ≡ kept_table (S.state blocks.old).map snapshot.now.places geom.now (table_start geom.now + t)
-        → IsKeptTo geom.now (S.state blocks.old).map maps.now tally.old snapshot.now (4 * t + 1)
+        → IsKeptTo geom.now (S.state blocks.old).map maps.now tally.old snapshot.now (nodes_before geom.now.layout t + 1)
         → IfErr result (λ why. OnDamage why (IsDamaged geom.now (S.state blocks.old).map)) }
     ensures looks { LooksOnly S.tells (fails_reading result) (S.state blocks.old) (S.state blocks.new) }
 {
     geom.lawful();
-    for place in 0..NODES_IN_BLOCK {
-        let at = NODE_LENGTH * place as usize;
-        let number = NODES_IN_BLOCK * t + place + 1;
-        let bytes = &table[at..at + NODE_LENGTH];
+    let layout = geom.layout();
+    for place in 0..layout.nodes_in_block() {
+        let at = layout.rank_byte(place);
+        let end = at + layout.node_length();
+        let number = layout.nodes_before(t) + place + 1;
+        let bytes = &table[at..end];
         check_kept_node(blocks, geom, maps, snapshot, number, bytes, tally)?;
     }
     Ok(())
@@ -124,7 +126,7 @@ fn check_kept_node<S: Blocks>(
     requires may { MayGo geom.now (S.state blocks.old) maps.now tally.old snapshot.now.places }
     requires above_zero { 1 ≤ number }
     requires in_table { number ≤ geom.now.i }
-    requires bytes { length bytes.now ≡ node_size }
+    requires bytes { length bytes.now ≡ node_size geom.now.layout }
     ensures may { OnOk result (MayGo geom.now (S.state blocks.new) maps.now tally.new snapshot.now.places) }
     ensures counts { (before : List ℕ) → CountsMet (blocks_of tally.old.met.items) before tally.old.counts
         → CountsMet (blocks_of tally.new.met.items) before tally.new.counts }
@@ -184,8 +186,9 @@ fn check_kept_used<S: Blocks>(
         → IfErr result (λ why. OnDamage why (IsDamaged geom.now (S.state blocks.old).map)) }
     ensures looks { LooksOnly S.tells (fails_reading result) (S.state blocks.old) (S.state blocks.new) }
 {
-    let size = node.size;
+    geom.lawful();
     let kind = node.kind;
+    let size = kind.content(node.size, geom.layout());
     let places = Runs::of(node.runs);
     match kind {
         NodeKind::Free => Ok(()),
@@ -213,7 +216,7 @@ fn directory_places(geom: &Geom, snapshot: &SnapshotIn, dirs: u32, count: u32) -
     snapshot.places.part(first, count)
 }
 
-/// Checks that a directory of this size that a snapshot keeps in these blocks has zeros past its last slot.
+/// Checks that a directory of so many bytes that a snapshot keeps in these blocks has zeros past its last slot.
 ///
 /// # Errors
 /// It has other bytes; or a read of the disk failed, which the disk has counted.

@@ -8,7 +8,7 @@ ghost use Rattle.layout_bytes.specs.SnapshotName.{name_block};
 ghost use Rattle.engine_blocks.specs.Puts.{IsData};
 ghost use Rattle.fs_files.specs.Effects.{LooksOnly};
 
-use base_types::limits::{BLOCK_LENGTH, LONGEST_NAME};
+use base_types::limits::BLOCK_LENGTH;
 use base_types::{Block, Name, ReadFault};
 use engine_blocks::Blocks;
 use fs_files::{NodeBlocks, read_block_at};
@@ -46,9 +46,6 @@ fn name_in(block: &Block) -> Option<Name>
 {
     fields_tell_their_bytes();
     let count = block[0] as usize;
-    if count > LONGEST_NAME {
-        return None;
-    }
     let name = Name::new(&block[1..1 + count])?;
     if !are_zeros(&block[1 + count..]) {
         return None;

@@ -12,7 +12,7 @@ ghost use Rattle.fs_check.specs.Broken.{IsBroken};
 ghost use Rattle.fs_check.specs.Calls.{IfDamaged, fails_reading};
 ghost use Rattle.fs_files.specs.Effects.{LooksOnly};
 ghost use Rattle.fs_check.specs.Meeting.{IsCheckedTo, IsTailOf, MayCheck};
-ghost use Rattle.layout_geometry.specs.Geometry.{node_size};
+ghost use Rattle.base_types.specs.Layouts.{node_size};
 ghost use Rattle.layout_bytes.specs.Bitmap.{is_set};
 ghost use Rattle.layout_bytes.specs.declared.node.NodeKind.TheVariants.{Dir, Snapshot};
 ghost use Rattle.layout_bytes.specs.Bytes.{are_zeros};
@@ -49,7 +49,7 @@ pub(crate) fn check_node<S: Blocks>(
     requires may { MayCheck geom.now (S.state blocks.old) bits.now met.old }
     requires above_zero { 1 ≤ number }
     requires in_table { number ≤ geom.now.i }
-    requires bytes { length bytes.now ≡ node_size }
+    requires bytes { length bytes.now ≡ node_size geom.now.layout }
     ensures size { length met.new ≡ length met.old }
     ensures sound { IsTrue S.tells → bytes.now ≡ node_bytes geom.now (S.state blocks.old).map number
         → IsCheckedTo geom.now (S.state blocks.old).map bits.now met.old found.old number
@@ -74,11 +74,11 @@ pub(crate) fn check_node<S: Blocks>(
 /// # Errors
 /// They are neither.
 pub(crate) fn node_in(bytes: &[u8], geom: &Geom) -> Result<Option<Node>, BadNode>
-    requires { length bytes.now ≡ node_size }
+    requires { length bytes.now ≡ node_size geom.now.layout }
     ensures found { IfOk result (λ found. found ≡ node_of geom.now bytes.now) }
-    ensures free { IfOk result (λ found. IfNone found (bytes.now ≡ replicate node_size 0)) }
+    ensures free { IfOk result (λ found. IfNone found (bytes.now ≡ replicate (node_size geom.now.layout) 0)) }
     ensures unread { OnErr result (node_of geom.now bytes.now ≡ None) }
-    ensures carries { OnErr result (bytes.now ≡ replicate node_size 0 → ⊥) }
+    ensures carries { OnErr result (bytes.now ≡ replicate (node_size geom.now.layout) 0 → ⊥) }
     ensures tidy { IfOk result (λ found. IfSome found (λ node. AreTidy node.runs)) }
     ensures below { IfOk result (λ found. IfSome found (λ node. LieBelow most_blocks node.runs)) }
     ensures fits { IfOk result (λ found. IfSome found (λ node. node_fits geom.now node ≡ true)) }
@@ -127,8 +127,9 @@ fn check_used<S: Blocks>(
         → IfDamaged result (IsBroken geom.now (S.state blocks.old).map) }
     ensures looks { LooksOnly S.tells (fails_reading result) (S.state blocks.old) (S.state blocks.new) }
 {
+    geom.lawful();
     let kind = node.kind;
-    let size = node.size;
+    let size = kind.content(node.size, geom.layout());
     let places = Runs::of(node.runs);
     meet_places(bits, met, geom, number, &places)?;
     check_tail(blocks, geom, kind, number, size, &places)?;
@@ -149,7 +150,7 @@ fn note(kind: NodeKind, found: &mut bool)
     }
 }
 
-/// Checks that a directory of this size has zeros past its last slot. Nothing is asked of a file or a snapshot.
+/// Checks that a directory of so many bytes has zeros past its last slot. Nothing is asked of a file or a snapshot.
 ///
 /// # Errors
 /// It has other bytes; or a read of the disk failed, which the disk has counted.

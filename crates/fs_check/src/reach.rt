@@ -2,6 +2,7 @@
 
 ghost use Rattle.std.specs.Prelude.{◌≡◌, ℕ, ◌≤◌, ◌<◌, ◌+◌, ◌^◌, ◌∷◌, [], true, IsTrue, length, slice_get, IfOk, IfErr, OnOk};
 ghost use Rattle.layout_bytes.specs.declared.slot.Slot.{Slot as SlotValue};
+ghost use Rattle.crash_stands.specs.Bounds.{bounds_of};
 ghost use Rattle.crash_stands.specs.Inodes.{inodes_of};
 ghost use Rattle.fs_files.specs.Asks.{MayRead};
 ghost use Rattle.fs_files.specs.Effects.{LooksOnly};
@@ -37,11 +38,13 @@ pub(crate) fn reach<N: Nodes, S: Blocks>(
     requires places { HasPlaces (S.state blocks.old).books.geom.i nodes.now }
     requires root { WasDir nodes.now 1 }
     requires seen { IsTrue S.tells → AreSeen (N.nodes (S.state blocks.old) files.now).files nodes.now }
-    requires good { IsTrue S.tells → (d : ℕ) → IsGoodDir nodes.now (inodes_of (N.nodes (S.state blocks.old) files.now).files) d (seen nodes.now d) }
+    requires good { IsTrue S.tells → (d : ℕ)
+        → IsGoodDir nodes.now (inodes_of (S.state blocks.old).books.geom.layout (N.nodes (S.state blocks.old) files.now).files) d (seen nodes.now d) }
     ensures count { IfOk result (λ marks. length marks.items ≡ length nodes.now) }
-    ensures reached { IsTrue S.tells → IfOk result (λ marks. AreReached (inodes_of (N.nodes (S.state blocks.old) files.now).files) marks.items) }
+    ensures reached { IsTrue S.tells → IfOk result (λ marks.
+        AreReached (inodes_of (S.state blocks.old).books.geom.layout (N.nodes (S.state blocks.old) files.now).files) marks.items) }
     ensures broken { IsTrue S.tells → IfErr result
-        (λ why. IfDamaged why (IsBroken (S.state blocks.old).books.geom.i (N.nodes (S.state blocks.old) files.now).files)) }
+        (λ why. IfDamaged why (IsBroken (bounds_of (S.state blocks.old).books.geom) (N.nodes (S.state blocks.old) files.now).files)) }
     ensures looks { LooksOnly S.tells (fails_reading result) (S.state blocks.old) (S.state blocks.new) }
 {
     files.laws(blocks);
@@ -76,10 +79,11 @@ fn mark_directory<N: Nodes, S: Blocks>(
     requires places { HasPlaces (S.state blocks.old).books.geom.i nodes.now }
     requires dir { WasDir nodes.now dir }
     requires seen { IsTrue S.tells → AreSeen (N.nodes (S.state blocks.old) files.now).files nodes.now }
-    ensures marks { OnOk result (MarksDir S.tells nodes.now (inodes_of (N.nodes (S.state blocks.old) files.now).files) dir marks.old marks.new
+    ensures marks { OnOk result
+        (MarksDir S.tells nodes.now (inodes_of (S.state blocks.old).books.geom.layout (N.nodes (S.state blocks.old) files.now).files) dir marks.old marks.new
         queue.old.items queue.new.items) }
     ensures broken { IsTrue S.tells → IfErr result
-        (λ why. IfDamaged why (IsBroken (S.state blocks.old).books.geom.i (N.nodes (S.state blocks.old) files.now).files)) }
+        (λ why. IfDamaged why (IsBroken (bounds_of (S.state blocks.old).books.geom) (N.nodes (S.state blocks.old) files.now).files)) }
     ensures looks { LooksOnly S.tells (fails_reading result) (S.state blocks.old) (S.state blocks.new) }
 {
     let Looked::Directory(size) = seen(nodes, dir) else {

@@ -4,6 +4,7 @@ ghost use Rattle.std.specs.Prelude.{◌≡◌, ◌+◌, ◌*◌, ◌<◌, ◌≤
 ghost use Rattle.std.specs.FinMap.{get, insert};
 ghost use Rattle.std.specs.List.{All};
 ghost use Rattle.layout_bytes.specs.declared.node.NodeKind.TheVariants.{Snapshot as IsSnapshotKind};
+ghost use Rattle.crash_stands.specs.Bounds.{bounds_of};
 ghost use Rattle.crash_stands.specs.Files.{used_node};
 ghost use Rattle.crash_stands.specs.Kept.{kept_files};
 ghost use Rattle.engine_blocks.specs.Puts.{IsData};
@@ -63,7 +64,7 @@ pub(crate) fn check_snapshot<S: Blocks>(
     requires data { All (IsData geom.now) file.blocks }
     requires kind { file.facts.kind ≡ IsSnapshotKind }
     requires counts { HoldsCounts geom.now found.old number }
-    requires node { IsTrue S.tells → used_node geom.now (S.state blocks.old).map number ≡ Some (node_of_file file) }
+    requires node { IsTrue S.tells → used_node geom.now (S.state blocks.old).map number ≡ Some (node_of_file geom.now.layout file) }
     requires known { IsTrue S.tells → IsKnownBelow geom.now (S.state blocks.old).map maps.now number found.old }
     ensures counts { OnOk result (HoldsCounts geom.now found.new (number + 1)) }
     ensures known { IsTrue S.tells → OnOk result (IsKnownBelow geom.now (S.state blocks.old).map maps.now (number + 1) found.new) }
@@ -107,10 +108,10 @@ fn open_snapshot<S: Blocks>(
     requires geom { (S.state blocks.old).books.geom ≡ geom.now }
     requires data { All (IsData geom.now) file.now.blocks }
     requires whole { IsTrue S.tells → All (λ b. length ((S.state blocks.old).map b) ≡ 1024) file.now.blocks }
-    requires node { IsTrue S.tells → used_node geom.now (S.state blocks.old).map number ≡ Some (node_of_file file.now) }
+    requires node { IsTrue S.tells → used_node geom.now (S.state blocks.old).map number ≡ Some (node_of_file geom.now.layout file.now) }
     requires kind { file.now.facts.kind ≡ IsSnapshotKind }
     ensures places { IfOk result (λ kept. kept.places ≡ file.now.blocks) }
-    ensures most { length file.now.blocks ≤ 29360128 }
+    ensures most { length file.now.blocks ≤ 62914560 }
     ensures links { OnOk result (file.now.facts.links ≡ 1) }
     ensures size { OnOk result (file.now.facts.size ≡ 1024 * length file.now.blocks) }
     ensures gone { IfOk result (λ kept. IsGoneThrough S.tells (S.state blocks.old) kept) }
@@ -146,7 +147,7 @@ fn check_kept<S: Blocks>(
     requires room { length tally.old.counts ≡ geom.now.n }
     requires few { (b : ℕ) → keepers tally.old.counts b < 65535 }
     requires data { All (IsData geom.now) snapshot.now.places }
-    requires most { length snapshot.now.places ≤ 29360128 }
+    requires most { length snapshot.now.places ≤ 62914560 }
     requires gone { IsGoneThrough S.tells (S.state blocks.old) kept.now }
     requires places { kept.now.places ≡ snapshot.now.places }
     requires whole { IsTrue S.tells → All (λ b. length ((S.state blocks.old).map b) ≡ 1024) snapshot.now.places }
@@ -154,7 +155,8 @@ fn check_kept<S: Blocks>(
     ensures room { OnOk result (length tally.new.counts ≡ geom.now.n) }
     ensures counts { OnOk result (CountsMet (blocks_of tally.new.met.items) tally.old.counts tally.new.counts) }
     ensures sound { IsTrue S.tells → OnOk result (IsKeptTo geom.now (S.state blocks.old).map maps.now tally.new snapshot.now (geom.now.i + 1)) }
-    ensures rules { IsTrue S.tells → OnOk result (AreTreeFiles geom.now.i (kept_files geom.now (S.state blocks.old).map snapshot.now.places)) }
+    ensures rules { IsTrue S.tells → OnOk result (AreTreeFiles (bounds_of geom.now)
+        (kept_files geom.now (S.state blocks.old).map snapshot.now.places)) }
     ensures damage { IsTrue S.tells → IfErr result (λ why. OnDamage why (IsDamaged geom.now (S.state blocks.old).map)) }
     ensures looks { LooksOnly S.tells (fails_reading result) (S.state blocks.old) (S.state blocks.new) }
 {
@@ -261,7 +263,7 @@ fn check_kept_tree<S: Blocks>(
     kept: &KeptNodes,
 ) -> Result<(), CheckRefusal>
     requires read { MayRead (MayReadKept S.tells (S.state blocks.old) kept.now) (S.state blocks.old) }
-    ensures rules { IsTrue S.tells → OnOk result (AreTreeFiles (S.state blocks.old).books.geom.i
+    ensures rules { IsTrue S.tells → OnOk result (AreTreeFiles (bounds_of (S.state blocks.old).books.geom)
         (kept_files (S.state blocks.old).books.geom (S.state blocks.old).map kept.now.places)) }
     ensures damage { IsTrue S.tells → (is : IsSnapshot (S.state blocks.old).books.geom (S.state blocks.old).map snapshot) → places_of is.node ≡ kept.now.places
         → IfErr result (λ why. OnDamage why (IsDamaged (S.state blocks.old).books.geom (S.state blocks.old).map)) }

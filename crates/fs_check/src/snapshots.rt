@@ -1,8 +1,9 @@
 //! The check of all snapshots: which there are, under which names, and how many of them keep each block. Nodes and
 //! their own blocks were checked before; the live tree is checked behind.
 
-ghost use Rattle.std.specs.Prelude.{◌≡◌, ◌⊎◌, ◌+◌, ◌*◌, ◌<◌, ◌≤◌, ℕ, [], false, IsTrue, IfErr, IfOk, OnOk, length};
-ghost use Rattle.layout_geometry.specs.Geometry.{bitmap_blocks, node_size, table_start};
+ghost use Rattle.std.specs.Prelude.{◌≡◌, ◌⊎◌, ◌+◌, ◌<◌, ◌≤◌, ℕ, [], false, IsTrue, IfErr, IfOk, OnOk, length};
+ghost use Rattle.base_types.specs.Layouts.{node_size, nodes_before, table_blocks};
+ghost use Rattle.layout_geometry.specs.Geometry.{bitmap_blocks, table_start};
 ghost use Rattle.layout_bytes.specs.Node.{node_bytes};
 ghost use Rattle.crash_stands.specs.Stands.{HasNoSnapshots};
 ghost use Rattle.engine_blocks.specs.Running.{HasNoBare};
@@ -20,13 +21,13 @@ use crate::checking::{CheckRefusal, Damage};
 use crate::firm::set_firm;
 use crate::kept_meeting::{Maps, Tally};
 use crate::snapshot::check_snapshot;
-use crate::table::{NODES_IN_BLOCK, read_table_block};
+use crate::table::read_table_block;
 use base_types::limits::BLOCK_LENGTH;
 use base_types::{Block, Name, NoMemory};
 use engine_blocks::Blocks;
 use fs_files::{Shared, node_in};
 use fs_snapshots::what_is_known_of_snapshots_is_so;
-use layout_geometry::{Geom, NODE_LENGTH};
+use layout_geometry::Geom;
 use layout_node::NodeKind;
 use std::alloc::Global;
 use std::collections::BTreeMap;
@@ -140,7 +141,7 @@ fn check_snapshots<S: Blocks>(
     ensures looks { LooksOnly S.tells (fails_reading result) (S.state blocks.old) (S.state blocks.new) }
 {
     geom.lawful();
-    for t in 0..geom.i() / NODES_IN_BLOCK {
+    for t in 0..geom.layout().table_blocks(geom.i()) {
         let mut table = [0u8; BLOCK_LENGTH];
         read_table_block(blocks, geom, t, &mut table)?;
         check_block(alloc, blocks, geom, maps, t, &table, found)?;
@@ -162,20 +163,23 @@ fn check_block<S: Blocks>(
     found: &mut Found,
 ) -> Result<(), CheckRefusal>
     requires may { MayCheckKept geom.now (S.state blocks.old) maps.now.marked.items maps.now.firm.items }
-    requires in_table { 4 * t < geom.now.i }
-    requires counts { HoldsCounts geom.now found.old (4 * t + 1) }
+    requires in_table { t < table_blocks geom.now.layout geom.now.i }
+    requires counts { HoldsCounts geom.now found.old (nodes_before geom.now.layout t + 1) }
     requires table { IsTrue S.tells → table.now ≡ (S.state blocks.old).map (table_start geom.now + t) }
-    requires known { IsTrue S.tells → IsKnownBelow geom.now (S.state blocks.old).map maps.now (4 * t + 1) found.old }
-    ensures counts { OnOk result (HoldsCounts geom.now found.new (4 * t + 5)) }
-    ensures known { IsTrue S.tells → OnOk result (IsKnownBelow geom.now (S.state blocks.old).map maps.now (4 * t + 5) found.new) }
+    requires known { IsTrue S.tells → IsKnownBelow geom.now (S.state blocks.old).map maps.now (nodes_before geom.now.layout t + 1) found.old }
+    ensures counts { OnOk result (HoldsCounts geom.now found.new (nodes_before geom.now.layout (t + 1) + 1)) }
+    ensures known { IsTrue S.tells
+        → OnOk result (IsKnownBelow geom.now (S.state blocks.old).map maps.now (nodes_before geom.now.layout (t + 1) + 1) found.new) }
     ensures damage { IsTrue S.tells → IfErr result (λ why. OnDamage why (IsDamaged geom.now (S.state blocks.old).map)) }
     ensures looks { LooksOnly S.tells (fails_reading result) (S.state blocks.old) (S.state blocks.new) }
 {
     geom.lawful();
-    for place in 0..NODES_IN_BLOCK {
-        let at = NODE_LENGTH * place as usize;
-        let number = NODES_IN_BLOCK * t + place + 1;
-        let bytes = &table[at..at + NODE_LENGTH];
+    let layout = geom.layout();
+    for place in 0..layout.nodes_in_block() {
+        let at = layout.rank_byte(place);
+        let end = at + layout.node_length();
+        let number = layout.nodes_before(t) + place + 1;
+        let bytes = &table[at..end];
         check_node(alloc, blocks, geom, maps, number, bytes, found)?;
     }
     Ok(())
@@ -198,7 +202,7 @@ fn check_node<S: Blocks>(
     requires may { MayCheckKept geom.now (S.state blocks.old) maps.now.marked.items maps.now.firm.items }
     requires above_zero { 1 ≤ number }
     requires in_table { number ≤ geom.now.i }
-    requires bytes { length bytes.now ≡ node_size }
+    requires bytes { length bytes.now ≡ node_size geom.now.layout }
     requires counts { HoldsCounts geom.now found.old number }
     requires there { IsTrue S.tells → bytes.now ≡ node_bytes geom.now (S.state blocks.old).map number }
     requires known { IsTrue S.tells → IsKnownBelow geom.now (S.state blocks.old).map maps.now number found.old }

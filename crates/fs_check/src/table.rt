@@ -1,6 +1,7 @@
 //! The node table, block by block: each of its blocks is read once, and its nodes are checked in order.
 
-ghost use Rattle.std.specs.Prelude.{◌≡◌, ◌+◌, ◌*◌, ◌<◌, false, IsTrue, OnOk, is_err, length};
+ghost use Rattle.std.specs.Prelude.{◌≡◌, ◌+◌, ◌<◌, false, IsTrue, OnOk, is_err, length};
+ghost use Rattle.base_types.specs.Layouts.{nodes_before, table_blocks};
 ghost use Rattle.fs_check.specs.Broken.{IsBroken};
 ghost use Rattle.fs_check.specs.Calls.{IfDamaged, fails_reading};
 ghost use Rattle.fs_files.specs.Effects.{LooksOnly};
@@ -12,10 +13,7 @@ use crate::node::check_node;
 use base_types::limits::BLOCK_LENGTH;
 use base_types::{Block, ReadFault};
 use engine_blocks::Blocks;
-use layout_geometry::{Geom, NODE_LENGTH};
-
-/// How many nodes a block of the table has.
-pub(crate) const NODES_IN_BLOCK: u32 = (BLOCK_LENGTH / NODE_LENGTH) as u32;
+use layout_geometry::Geom;
 
 /// Checks all nodes of the table, where none was checked before. Where one of them is a snapshot `found` is set.
 ///
@@ -37,7 +35,7 @@ pub(crate) fn check_table<S: Blocks>(
     ensures looks { LooksOnly S.tells (fails_reading result) (S.state blocks.old) (S.state blocks.new) }
 {
     geom.lawful();
-    for t in 0..geom.i() / NODES_IN_BLOCK {
+    for t in 0..geom.layout().table_blocks(geom.i()) {
         check_block(blocks, geom, bits, met, t, found)?;
     }
     Ok(())
@@ -56,11 +54,11 @@ fn check_block<S: Blocks>(
     found: &mut bool,
 ) -> Result<(), BlocksRefusal>
     requires may { MayCheck geom.now (S.state blocks.old) bits.now met.old }
-    requires in_table { 4 * t < geom.now.i }
+    requires in_table { t < table_blocks geom.now.layout geom.now.i }
     ensures size { length met.new ≡ length met.old }
-    ensures sound { IsTrue S.tells → IsCheckedTo geom.now (S.state blocks.old).map bits.now met.old found.old (4 * t + 1)
-        → OnOk result (IsCheckedTo geom.now (S.state blocks.old).map bits.now met.new found.new (4 * t + 5)) }
-    ensures damage { IsTrue S.tells → IsCheckedTo geom.now (S.state blocks.old).map bits.now met.old found.old (4 * t + 1)
+    ensures sound { IsTrue S.tells → IsCheckedTo geom.now (S.state blocks.old).map bits.now met.old found.old (nodes_before geom.now.layout t + 1)
+        → OnOk result (IsCheckedTo geom.now (S.state blocks.old).map bits.now met.new found.new (nodes_before geom.now.layout (t + 1) + 1)) }
+    ensures damage { IsTrue S.tells → IsCheckedTo geom.now (S.state blocks.old).map bits.now met.old found.old (nodes_before geom.now.layout t + 1)
         → IfDamaged result (IsBroken geom.now (S.state blocks.old).map) }
     ensures looks { LooksOnly S.tells (fails_reading result) (S.state blocks.old) (S.state blocks.new) }
 {
@@ -85,29 +83,23 @@ fn check_nodes<S: Blocks>(
     found: &mut bool,
 ) -> Result<(), BlocksRefusal>
     requires may { MayCheck geom.now (S.state blocks.old) bits.now met.old }
-    requires in_table { 4 * t < geom.now.i }
+    requires in_table { t < table_blocks geom.now.layout geom.now.i }
     ensures size { length met.new ≡ length met.old }
     ensures sound { IsTrue S.tells → table.now ≡ (S.state blocks.old).map (table_start geom.now + t)
-        → IsCheckedTo geom.now (S.state blocks.old).map bits.now met.old found.old (4 * t + 1)
-        → OnOk result (IsCheckedTo geom.now (S.state blocks.old).map bits.now met.new found.new (4 * t + 5)) }
+        → IsCheckedTo geom.now (S.state blocks.old).map bits.now met.old found.old (nodes_before geom.now.layout t + 1)
+        → OnOk result (IsCheckedTo geom.now (S.state blocks.old).map bits.now met.new found.new (nodes_before geom.now.layout (t + 1) + 1)) }
     ensures damage { IsTrue S.tells → table.now ≡ (S.state blocks.old).map (table_start geom.now + t)
-        → IsCheckedTo geom.now (S.state blocks.old).map bits.now met.old found.old (4 * t + 1)
+        → IsCheckedTo geom.now (S.state blocks.old).map bits.now met.old found.old (nodes_before geom.now.layout t + 1)
         → IfDamaged result (IsBroken geom.now (S.state blocks.old).map) }
     ensures looks { LooksOnly S.tells (fails_reading result) (S.state blocks.old) (S.state blocks.new) }
 {
     geom.lawful();
-    for place in 0..NODES_IN_BLOCK {
-        let at = NODE_LENGTH * place as usize;
-        let number = NODES_IN_BLOCK * t + place + 1;
-        check_node(
-            blocks,
-            geom,
-            bits,
-            met,
-            number,
-            &table[at..at + NODE_LENGTH],
-            found,
-        )?;
+    let layout = geom.layout();
+    for place in 0..layout.nodes_in_block() {
+        let at = layout.rank_byte(place);
+        let end = at + layout.node_length();
+        let number = layout.nodes_before(t) + place + 1;
+        check_node(blocks, geom, bits, met, number, &table[at..end], found)?;
     }
     Ok(())
 }
@@ -124,7 +116,7 @@ pub(crate) fn read_table_block<S: Blocks>(
 ) -> Result<(), ReadFault>
     requires going { (S.state blocks.old).books.stopped ≡ false }
     requires geom { (S.state blocks.old).books.geom ≡ geom.now }
-    requires in_table { 4 * t < geom.now.i }
+    requires in_table { t < table_blocks geom.now.layout geom.now.i }
     ensures bytes { IsTrue S.tells → OnOk result (into.new ≡ (S.state blocks.old).map (table_start geom.now + t)) }
     ensures looks { LooksOnly S.tells (is_err result) (S.state blocks.old) (S.state blocks.new) }
 {

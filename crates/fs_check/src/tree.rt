@@ -5,6 +5,7 @@ ghost use Rattle.std.specs.Prelude.{◌≡◌, ℕ, false, IsTrue, IfErr, OnOk};
 ghost use Rattle.base_types.specs.Seal.{Blocks as BlockMap};
 ghost use Rattle.layout_geometry.specs.Geometry.{Geometry};
 ghost use Rattle.lang_tree.specs.Tree.{Tree};
+ghost use Rattle.crash_stands.specs.Bounds.{bounds_of};
 ghost use Rattle.crash_stands.specs.Files.{files_of};
 ghost use Rattle.crash_stands.specs.Stands.{AreSound, IsTreeOf};
 ghost use Rattle.engine_blocks.specs.Running.{HasNoBare};
@@ -47,9 +48,9 @@ pub(crate) fn check_tree<S: Blocks>(
     requires sound { IsTrue S.tells → AreSound (S.state blocks.old).books.geom (S.state blocks.old).map }
     requires kept { IsTrue S.tells → TellsKept (S.state blocks.old).books.geom (is_kept shared.now) (S.state blocks.old).map }
     ensures rules { IsTrue S.tells → OnOk result
-        (AreTreeFiles (S.state blocks.old).books.geom.i (files_of (S.state blocks.old).books.geom (S.state blocks.old).map)) }
+        (AreTreeFiles (bounds_of (S.state blocks.old).books.geom) (files_of (S.state blocks.old).books.geom (S.state blocks.old).map)) }
     ensures broken { IsTrue S.tells → IfErr result
-        (λ why. IfDamaged why (IsBroken (S.state blocks.old).books.geom.i (files_of (S.state blocks.old).books.geom (S.state blocks.old).map))) }
+        (λ why. IfDamaged why (IsBroken (bounds_of (S.state blocks.old).books.geom) (files_of (S.state blocks.old).books.geom (S.state blocks.old).map))) }
     ensures looks { LooksOnly S.tells (fails_reading result) (S.state blocks.old) (S.state blocks.new) }
 {
     a_draft_begins(blocks);
@@ -61,7 +62,7 @@ pub(crate) fn check_tree<S: Blocks>(
 
 /// No tree stands in blocks among whose nodes something is broken.
 pub fn no_tree_stands_where_it_is_broken()
-    ensures { (g : Geometry) (m : BlockMap) (what : DamageValue) (t : Tree) → IsBroken g.i (files_of g m) what → IsTreeOf g m t → ⊥ }
+    ensures { (g : Geometry) (m : BlockMap) (what : DamageValue) (t : Tree) → IsBroken (bounds_of g) (files_of g m) what → IsTreeOf g m t → ⊥ }
 {
     the_rules_make_a_tree();
     a_map_is_of_one_tree();
@@ -78,9 +79,9 @@ pub(crate) fn find_tree<N: Nodes, S: Blocks>(
     blocks: &mut S,
 ) -> Result<(), TreeRefusal>
     requires read { MayRead (N.may_read S.tells (S.state blocks.old) files.now) (S.state blocks.old) }
-    ensures rules { IsTrue S.tells → OnOk result (AreTreeFiles (S.state blocks.old).books.geom.i (N.nodes (S.state blocks.old) files.now).files) }
+    ensures rules { IsTrue S.tells → OnOk result (AreTreeFiles (bounds_of (S.state blocks.old).books.geom) (N.nodes (S.state blocks.old) files.now).files) }
     ensures broken { IsTrue S.tells → IfErr result
-        (λ why. IfDamaged why (IsBroken (S.state blocks.old).books.geom.i (N.nodes (S.state blocks.old) files.now).files)) }
+        (λ why. IfDamaged why (IsBroken (bounds_of (S.state blocks.old).books.geom) (N.nodes (S.state blocks.old) files.now).files)) }
     ensures looks { LooksOnly S.tells (fails_reading result) (S.state blocks.old) (S.state blocks.new) }
 {
     files.laws(blocks);
@@ -107,9 +108,9 @@ fn judge_nodes<N: Nodes, S: Blocks>(
     requires places { HasPlaces (S.state blocks.old).books.geom.i nodes.now }
     requires root { WasDir nodes.now 1 }
     requires seen { IsTrue S.tells → AreSeen (N.nodes (S.state blocks.old) files.now).files nodes.now }
-    ensures rules { IsTrue S.tells → OnOk result (AreTreeFiles (S.state blocks.old).books.geom.i (N.nodes (S.state blocks.old) files.now).files) }
+    ensures rules { IsTrue S.tells → OnOk result (AreTreeFiles (bounds_of (S.state blocks.old).books.geom) (N.nodes (S.state blocks.old) files.now).files) }
     ensures broken { IsTrue S.tells → IfErr result
-        (λ why. IfDamaged why (IsBroken (S.state blocks.old).books.geom.i (N.nodes (S.state blocks.old) files.now).files)) }
+        (λ why. IfDamaged why (IsBroken (bounds_of (S.state blocks.old).books.geom) (N.nodes (S.state blocks.old) files.now).files)) }
     ensures looks { LooksOnly S.tells (fails_reading result) (S.state blocks.old) (S.state blocks.new) }
 {
     files.laws(blocks);

@@ -1,5 +1,6 @@
 -- What laws say that proofs take as arguments.
 use Rattle.std.proofs.Common.{◌≡◌, ℕ, ◌+◌, ◌-◌, ◌*◌, ◌/◌, ◌≤◌, min, max, Bool, false, IsTrue, sym, subst, List, [], ◌++◌, length, slice_get, Some, Ok}
+use Rattle.base_types.specs.declared.layout.Layout.{Layout}
 use Rattle.base_types.specs.Seal.{Blocks}
 use Rattle.layout_geometry.specs.Geometry.{Geometry, bitmap_blocks}
 use Rattle.layout_bytes.specs.declared.node.NodeKind.TheVariants.{File}
@@ -10,7 +11,7 @@ use Rattle.lang_tree.specs.Conditions.{least_unused, refusal}
 use Rattle.lang_tree.specs.Figures.{blocks_for, blocks_met}
 use Rattle.lang_tree.specs.Points.{answers_point}
 use Rattle.lang_tree.specs.Step.{Session, step}
-use Rattle.lang_tree.specs.Tree.{Tree}
+use Rattle.lang_tree.specs.Tree.{Tree, Bounds}
 use Rattle.crash_stands.specs.Files.{FileNode, Files, files_of}
 use Rattle.crash_stands.specs.Inodes.{AreInodesOf, Inodes, inodes_of}
 use Rattle.crash_stands.specs.Maps.{IsMapOf}
@@ -37,16 +38,16 @@ use Rattle.fs_session.specs.Commands.{places_of, shared_on}
 
 -- the tree refuses a command for the reason that its inode map gives
 abbrev pub RefusalLaw : Type 0
-RefusalLaw = (limit : ℕ) (m : Inodes) (t : Tree) (cmd : Cmd) → IsMapOf limit m t → refusal limit t cmd ≡ reason (least_unused limit t) t.snapshots m cmd
+RefusalLaw = (limit : Bounds) (m : Inodes) (t : Tree) (cmd : Cmd) → IsMapOf limit.nodes m t → refusal limit t cmd ≡ reason limit.layout (least_unused limit.nodes t) t.snapshots m cmd
 
 -- a command takes what its inode map says, with what is shared
 abbrev pub FiguresLaw : Type 0
-FiguresLaw = (bitmap : ℕ) (shared : SharedNodes) (alone : BlocksAlone) (s : Session) (m : Inodes) (cmd : Cmd) → IsMapOf s.limit m s.tree
-    → figures_over bitmap shared alone s cmd ≡ cost_over bitmap shared alone s.limit (least_unused s.limit s.tree) s.tree.snapshots m cmd
+FiguresLaw = (bitmap : ℕ) (shared : SharedNodes) (alone : BlocksAlone) (s : Session) (m : Inodes) (cmd : Cmd) → IsMapOf s.limit.nodes m s.tree
+    → figures_over bitmap shared alone s cmd ≡ cost_over bitmap shared alone s.limit (least_unused s.limit.nodes s.tree) s.tree.snapshots m cmd
 
 -- and is answered as it says
 abbrev pub ReplyLaw : Type 0
-ReplyLaw = (s : Session) (m : Inodes) (cmd : Cmd) → IsMapOf s.limit m s.tree → answers_point cmd ≡ false → (step s cmd).1 ≡ reply_of (least_unused s.limit s.tree) s.tree.snapshots m cmd
+ReplyLaw = (s : Session) (m : Inodes) (cmd : Cmd) → IsMapOf s.limit.nodes m s.tree → answers_point cmd ≡ false → (step s cmd).1 ≡ reply_of s.limit.layout (least_unused s.limit.nodes s.tree) s.tree.snapshots m cmd
 
 -- a walk along a path ends where the path leads
 abbrev pub EndsLaw : Type 0
@@ -58,7 +59,7 @@ PlaceLaw = (slots : List Slot) (name : List ℕ) (place : ℕ) → place_of name
 
 -- where a directory has other slots, each node in use reads as an inode still
 abbrev pub SlotsReadLaw : Type 0
-SlotsReadLaw = (old new : Files) (k : ℕ) (slots : List Slot) → IsWithSlots old new k slots → AreInodesOf old (inodes_of old) → AreInodesOf new (inodes_of new)
+SlotsReadLaw = (l : Layout) (old new : Files) (k : ℕ) (slots : List Slot) → IsWithSlots l old new k slots → AreInodesOf l old (inodes_of l old) → AreInodesOf l new (inodes_of l new)
 
 -- a node in use has a link, and a file few
 abbrev pub LinksLaw : Type 0
@@ -93,11 +94,11 @@ SharedLaw s f counts = (k i : ℕ) → shared_on s f k i ≡ is_kept_at counts (
 
 -- a map of blocks where a tree stands has the tree's inode map
 abbrev pub MapLaw : Type 0
-MapLaw = (g : Geometry) (m : Blocks) (t : Tree) → IsTreeOf g m t → IsMapOf g.i (inodes_of (files_of g m)) t
+MapLaw = (g : Geometry) (m : Blocks) (t : Tree) → IsTreeOf g m t → IsMapOf g.i (inodes_of g.layout (files_of g m)) t
 
 -- so its session has it
-pub session_map : MapLaw → (s : State) (f : Session) → IsSession s f → IsMapOf f.limit (inodes s) f.tree
-session_map law s f h = subst (λ n. IsMapOf n (inodes s) f.tree) (sym h.limit) (law s.books.geom s.map f.tree h.tree)
+pub session_map : MapLaw → (s : State) (f : Session) → IsSession s f → IsMapOf f.limit.nodes (inodes s) f.tree
+session_map law s f h = subst (λ (b : Bounds). IsMapOf b.nodes (inodes s) f.tree) (sym h.limit) (law s.books.geom s.map f.tree h.tree)
 
 -- time goes on over calls that issue nothing and make no point
 abbrev pub Rests : {S : Type 0} → Bool → (S → State) → Type 0

@@ -1,5 +1,6 @@
 -- A command that was accepted and has room is weighed.
 use Rattle.std.proofs.Common.{◌≡◌, None, sym, subst, ap, ◌∙◌, ℕ}
+use Rattle.base_types.specs.declared.layout.Layout.{Layout}
 use Rattle.lang_tree.specs.declared.command.Cmd.{Cmd}
 use Rattle.lang_tree.specs.Conditions.{refusal}
 use Rattle.lang_tree.specs.Figures.{Figures}
@@ -23,5 +24,5 @@ is_weighed s f cmd n accepted are room = record {
 }
 
 -- figures that are those of the command are those that it is weighed by
-pub figures_as : (s : State) (f : Session) (cmd : Cmd) (bitmap : ℕ) (m : Inodes) (n : Figures) → bitmap ≡ bitmap_blocks s.books.geom → AreFiguresOf bitmap (shared_on s f) m cmd n → IsMapOf f.limit m f.tree → refusal f.limit f.tree cmd ≡ None → figures_on s f cmd ≡ n
-figures_as s f cmd bitmap m n is are map accepted = ap (λ b. figures_over b (shared_on s f) (alone_on s f) f cmd) (sym is) ∙ are (alone_on s f) f map accepted
+pub figures_as : (s : State) (f : Session) (cmd : Cmd) (bitmap : ℕ) (m : Inodes) (n : Figures) (l : Layout) → f.limit.layout ≡ l → bitmap ≡ bitmap_blocks s.books.geom → AreFiguresOf l bitmap (shared_on s f) m cmd n → IsMapOf f.limit.nodes m f.tree → refusal f.limit f.tree cmd ≡ None → figures_on s f cmd ≡ n
+figures_as s f cmd bitmap m n l same is are map accepted = ap (λ b. figures_over b (shared_on s f) (alone_on s f) f cmd) (sym is) ∙ are (alone_on s f) f same map accepted

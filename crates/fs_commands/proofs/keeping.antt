@@ -1,3 +1,4 @@
+pub mod Laid
 pub mod Begun
 pub mod Leaves
 pub mod Looked

@@ -1,5 +1,6 @@
 -- When figures are those of a command, and what of a file's blocks snapshots keep. The figures are defined in lang_tree, and described in docs/TREE.md.
 use Rattle.std.specs.Prelude.{◌≡◌, ℕ, ◌-◌, ◌<◌, ◌==◌, if◌then◌else◌, List, length, slice_get, None, Some}
+use Rattle.base_types.specs.declared.layout.Layout.{Layout}
 use Rattle.lang_tree.specs.declared.command.Cmd.{Cmd}
 use Rattle.lang_tree.specs.Conditions.{refusal}
 use Rattle.lang_tree.specs.Figures.{Figures, blocks_for}
@@ -16,9 +17,10 @@ use Rattle.fs_files.specs.Shared.{is_kept_at}
 use Rattle.fs_commands.specs.declared.paths.NodeFound.{NodeFound}
 use Rattle.fs_session.specs.Commands.{places_of}
 
--- The command has these figures where these blocks of nodes are shared, whichever tree has this inode map and doesn't refuse it, and whatever a snapshot alone has.
-abbrev pub AreFiguresOf : ℕ → SharedNodes → Inodes → Cmd → Figures → Type 0
-AreFiguresOf bitmap shared m cmd f = (alone : BlocksAlone) (s : Session) → IsMapOf s.limit m s.tree → refusal s.limit s.tree cmd ≡ None → figures_over bitmap shared alone s cmd ≡ f
+-- The command has these figures in a layout, where these blocks of nodes are shared, whichever tree has this inode map and doesn't refuse it, and whatever a snapshot alone has.
+abbrev pub AreFiguresOf : Layout → ℕ → SharedNodes → Inodes → Cmd → Figures → Type 0
+AreFiguresOf l bitmap shared m cmd f =
+    (alone : BlocksAlone) (s : Session) → s.limit.layout ≡ l → IsMapOf s.limit.nodes m s.tree → refusal s.limit s.tree cmd ≡ None → figures_over bitmap shared alone s cmd ≡ f
 
 -- a path has so many links, and so many bytes are there
 abbrev pub HasFacts : Inodes → List (List ℕ) → ℕ → ℕ → Type 0

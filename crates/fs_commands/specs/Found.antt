@@ -10,7 +10,7 @@ use Rattle.fs_commands.specs.declared.paths.NodeFound.{NodeFound}
 
 -- The inode map is that of the session's tree, the path leads to the node, which is no directory, and has so many bytes there as were found. These are at most 2^30.
 pub record IsKnownFile (m : Inodes) (f : Session) (path : List (List ℕ)) (found : NodeFound) : Type 0 where
-  pub map : IsMapOf f.limit m f.tree
+  pub map : IsMapOf f.limit.nodes m f.tree
   pub walk : walk_on m 1 path ≡ Ok found.number
   pub leads : LeadsTo m path found.number
   pub file : is_dir_inode (inode_at m path) ≡ false

@@ -1,10 +1,12 @@
 -- Which blocks of nodes are gathered where a snapshot is made or goes. They are described in docs/FILE-SYSTEM.md.
-use Rattle.std.specs.Prelude.{ℕ, ◌+◌, ◌*◌, List, ◌++◌, length, take, drop}
-use Rattle.std.specs.List.{flat_map}
+use Rattle.std.specs.Prelude.{ℕ, ◌+◌, List, length, take, drop}
+use Rattle.std.specs.List.{flat_map, range_with_len}
+use Rattle.base_types.specs.declared.layout.Layout.{Layout}
+use Rattle.base_types.specs.Layouts.{node_size, nodes_in_block, rank_byte}
 use Rattle.base_types.specs.Seal.{Blocks}
-use Rattle.layout_geometry.specs.Geometry.{Geometry, node_size}
+use Rattle.layout_geometry.specs.Geometry.{Geometry}
 use Rattle.layout_bytes.specs.SnapshotName.{name_block}
-use Rattle.crash_stands.specs.Files.{used_node}
+use Rattle.crash_stands.specs.Files.{joined, used_node}
 use Rattle.crash_stands.specs.Places.{table_blocks}
 use Rattle.crash_snapshots.specs.Kept.{kept_bytes}
 use Rattle.crash_snapshots.specs.Making.{kept_blocks, snapshot_of}
@@ -19,12 +21,13 @@ files_in_table g table = node_blocks (λ k. file_blocks (used_node g table k)) g
 abbrev pub live_dirs : Geometry → Blocks → List ℕ
 live_dirs g m = all_dirs (used_node g m) 1 g.i
 
--- a block of the node table as a snapshot keeps it: zeros in the stead of each snapshot's node
-abbrev pub kept_quarter : List ℕ → ℕ → List ℕ
-kept_quarter table r = kept_bytes (take node_size (drop (node_size * r) table))
+-- the node at a place of a block of the node table as a snapshot keeps it: zeros in the stead of a snapshot's
+abbrev pub kept_at_rank : Layout → List ℕ → ℕ → List ℕ
+kept_at_rank l table rank = kept_bytes l (take (node_size l) (drop (rank_byte l rank) table))
 
-abbrev pub kept_table_block : List ℕ → List ℕ
-kept_table_block table = kept_quarter table 0 ++ (kept_quarter table 1 ++ (kept_quarter table 2 ++ kept_quarter table 3))
+-- such a block as a snapshot keeps it
+abbrev pub kept_table_block : Layout → List ℕ → List ℕ
+kept_table_block l table = joined (kept_at_rank l table) (range_with_len 0 (nodes_in_block l))
 
 -- the node table as a snapshot keeps it
 abbrev pub table_to_keep : Geometry → Blocks → List ℕ

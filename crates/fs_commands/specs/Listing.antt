@@ -89,7 +89,7 @@ pub record Lists {T : Type 0} (tells : Bool) (result : Result T ListRefusal) (ol
 
 -- m is what the nodes in use read as, and it is the map of the tree.
 pub record IsMapIn (s : State) (v : NodeMap) (m : Inodes) (t : Tree) : Type 0 where
-  pub same : m ≡ inodes_of v.files
+  pub same : m ≡ inodes_of s.books.geom.layout v.files
   pub map : IsMapOf s.books.geom.i m t
 
 -- the lines of snapshots, the names ascending

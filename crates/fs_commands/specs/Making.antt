@@ -1,5 +1,6 @@
 -- What commands by which a name comes to be look up first, and what they draft. They are described in docs/FILE-SYSTEM.md.
 use Rattle.std.specs.Prelude.{◌≡◌, ◌≤◌, ℕ, false, List, [], ◌∷◌, ◌++◌, length, is_some, Option, None, Some, Result, Ok, Err}
+use Rattle.base_types.specs.declared.layout.Layout.{Layout}
 use Rattle.layout_bytes.specs.declared.slot.Slot.{Slot}
 use Rattle.layout_bytes.specs.declared.node.NodeKind.{NodeKind}
 use Rattle.layout_bytes.specs.declared.node.NodeKind.TheVariants.{Dir as DirNode, File as FileNode}
@@ -53,19 +54,19 @@ abbrev pub name_reason : Inodes → List (List ℕ) → Option Refusal
 name_reason m path = first_reason (parent_reason m path ∷ when (is_some (number_at m path)) Exists ∷ [])
 
 -- Where a name may come to be: in a directory in which there is none yet, and it is the path's last one; or why none can.
-abbrev pub MayAppear : Files → List (List ℕ) → Result Vacancy Refusal → Type 0
-MayAppear files path (Ok v) = ComesTo files path (Ok (Inside v.dir v.count None)) × ((up : List (List ℕ)) × (path ≡ up ++ v.name ∷ []))
-MayAppear files path (Err why) = name_reason (inodes_of files) path ≡ Some why
+abbrev pub MayAppear : Layout → Files → List (List ℕ) → Result Vacancy Refusal → Type 0
+MayAppear l files path (Ok v) = ComesTo l files path (Ok (Inside v.dir v.count None)) × ((up : List (List ℕ)) × (path ≡ up ++ v.name ∷ []))
+MayAppear l files path (Err why) = name_reason (inodes_of l files) path ≡ Some why
 
 -- A name was drafted: directory `dir`, which had these slots, has one more for `node`, which became x. Each node in use reads as an inode, and the draft is within the cost of a name more.
 -- The directory grows as its slots do, with the least blocks that may be taken now, and its blocks lie in few runs. The pipeline settled only where there were fewer before.
 pub record AddsName (old now : State) (d : DraftState) (dir node : ℕ) (name : List ℕ) (x : Inode) (slots : List Slot) : Type 0 where
   pub adds : AddsSlot (inodes old) (inodes_in now d) dir node name x
-  pub reads : AreInodesOf (files_in now d) (inodes_in now d)
-  pub within : IsWithinCost now.books.geom d (adding (growth (length slots))).cost
-  pub runs : GrowsInRuns none_shared old now.books dir (growth (length slots))
-  pub uses : Uses (growth (length slots)) 0 (reusable_blocks now.books) none_renewed (places_of old) (places_in now d) d
-  pub rests : growth (length slots) ≤ length (reusable_blocks old.books) → now.books ≡ old.books
+  pub reads : AreInodesOf now.books.geom.layout (files_in now d) (inodes_in now d)
+  pub within : IsWithinCost now.books.geom d (adding (growth old.books.geom.layout (length slots))).cost
+  pub runs : GrowsInRuns none_shared old now.books dir (growth old.books.geom.layout (length slots))
+  pub uses : Uses (growth old.books.geom.layout (length slots)) 0 (reusable_blocks now.books) none_renewed (places_of old) (places_in now d) d
+  pub rests : growth old.books.geom.layout (length slots) ≤ length (reusable_blocks old.books) → now.books ≡ old.books
 
 -- The tree accepts the command and answers that it is done, and directory `dir`, which has so many slots, gets a name more by it. It renews no place, and leaves the snapshots as they are.
 pub record AcceptsName (old : State) (f : Session) (cmd : Cmd) (dir many : ℕ) : Type 0 where
@@ -74,7 +75,7 @@ pub record AcceptsName (old : State) (f : Session) (cmd : Cmd) (dir many : ℕ) 
   pub grows : grown_on old cmd ≡ Some dir
   pub renews : renewed_on old f cmd ≡ none_renewed
   pub keeps : changes_snapshots cmd ≡ false
-  pub figures : figures_on old f cmd ≡ adding (growth many)
+  pub figures : figures_on old f cmd ≡ adding (growth old.books.geom.layout many)
   pub slots : List Slot
   pub is_dir : inodes old dir ≡ Some (ADir slots)
   pub count : many ≡ length slots
@@ -85,4 +86,4 @@ pub record MayLink (old : State) (f : Session) (cmd : Cmd) (dir many : ℕ) (s :
   pub before : ℕ
   pub bytes : List ℕ
   pub file : inodes old s.node ≡ Some (AFile before bytes)
-  pub map : (new : Inodes) → AddsSlot (inodes old) new dir s.node s.name (AFile links bytes) → IsMapOf f.limit new (step f cmd).0.tree
+  pub map : (new : Inodes) → AddsSlot (inodes old) new dir s.node s.name (AFile links bytes) → IsMapOf f.limit.nodes new (step f cmd).0.tree

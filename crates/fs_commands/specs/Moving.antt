@@ -1,5 +1,6 @@
 -- What a rename looks up before it drafts, and what its drafts make. It is described in docs/FILE-SYSTEM.md.
 use Rattle.std.specs.Prelude.{◌≡◌, ◌≢◌, ℕ, List, [], ◌∷◌, ◌++◌, length, slice_get, false, Option, None, Some, is_some, IfSome, Ok}
+use Rattle.base_types.specs.declared.layout.Layout.{Layout}
 use Rattle.layout_bytes.specs.declared.slot.Slot.{Slot}
 use Rattle.layout_directory.specs.Directory.{place_of}
 use Rattle.crash_stands.specs.Files.{Files}
@@ -56,7 +57,7 @@ pub record MayMoveOnto (s : State) (source target : Named) (name other : List �
 -- The name moved in a draft, from one directory into another one or the same; each node in use reads as an inode; so many blocks are altered, taken and freed; each node has the first of its own blocks, or all and behind them those taken; and nodes are used so.
 pub record MovesName (old now : State) (d : DraftState) (from into node : ℕ) (name other : List ℕ) (most : ℕ) (takes : List ℕ) (frees : ℕ) (nodes : NodeUse) : Type 0 where
   pub moves : MovesSlot (inodes old) (inodes_in now d) from into node name other
-  pub reads : AreInodesOf (files_in now d) (inodes_in now d)
+  pub reads : AreInodesOf now.books.geom.layout (files_in now d) (inodes_in now d)
   pub alters : Alters most takes frees nothing_drafted d
   pub placed : ArePlaced none_renewed (places_of old) (places_in now d) takes
   pub used : KeepsUsed nodes (files_in old nothing_drafted) (files_in now d)
@@ -73,12 +74,12 @@ pub record MayMoveAway (s : State) (source : Named) (target count : ℕ) (name o
   pub apart : source.dir ≢ target
 
 -- A rename that the tree accepts, of a name that was found, to this name in directory `into` of so many slots, under which is this: the two paths lead to two nodes.
-pub record IsMove (files : Files) (from to : List (List ℕ)) (source : Named) (into count : ℕ) (found : Option Entry) (other : List ℕ) : Type 0 where
-  pub source_comes : ComesTo files from (Ok (Inside source.dir source.count (Some source.entry)))
-  pub target_comes : ComesTo files to (Ok (Inside into count found))
+pub record IsMove (l : Layout) (files : Files) (from to : List (List ℕ)) (source : Named) (into count : ℕ) (found : Option Entry) (other : List ℕ) : Type 0 where
+  pub source_comes : ComesTo l files from (Ok (Inside source.dir source.count (Some source.entry)))
+  pub target_comes : ComesTo l files to (Ok (Inside into count found))
   pub last : (up : List (List ℕ)) × (to ≡ up ++ other ∷ [])
   pub apart : IfSome found (λ e. e.node.number ≢ source.entry.node.number)
-  pub accepted : rename_reason (inodes_of files) from to ≡ None
+  pub accepted : rename_reason l (inodes_of l files) from to ≡ None
 
 -- What is known of such a rename: the two names, the paths above them and where these lead.
 pub record KnowsPaths (m : Inodes) (from to : List (List ℕ)) (source into : ℕ) (name other : List ℕ) : Type 0 where
@@ -90,12 +91,12 @@ pub record KnowsPaths (m : Inodes) (from to : List (List ℕ)) (source into : �
   pub into_leads : LeadsTo m above into
 
 -- The same with the name that moves.
-pub record KnowsMove (files : Files) (from to : List (List ℕ)) (source : Named) (into count : ℕ) (found : Option Entry) (other : List ℕ) : Type 0 where
+pub record KnowsMove (l : Layout) (files : Files) (from to : List (List ℕ)) (source : Named) (into count : ℕ) (found : Option Entry) (other : List ℕ) : Type 0 where
   pub name : List ℕ
-  pub paths : KnowsPaths (inodes_of files) from to source.dir into name other
-  pub named : HasNamed (inodes_of files) name source
-  pub entry : HasEntry files into count other found
-  pub slots : source.count ≡ slots_above (inodes_of files) from
-  pub more : count ≡ slots_above (inodes_of files) to
-  pub apart : are_same (number_at (inodes_of files) from) (number_at (inodes_of files) to) ≡ false
-  pub there : is_some (number_at (inodes_of files) to) ≡ is_some found
+  pub paths : KnowsPaths (inodes_of l files) from to source.dir into name other
+  pub named : HasNamed (inodes_of l files) name source
+  pub entry : HasEntry l files into count other found
+  pub slots : source.count ≡ slots_above (inodes_of l files) from
+  pub more : count ≡ slots_above (inodes_of l files) to
+  pub apart : are_same (number_at (inodes_of l files) from) (number_at (inodes_of l files) to) ≡ false
+  pub there : is_some (number_at (inodes_of l files) to) ≡ is_some found

@@ -1,5 +1,6 @@
 -- What a command that takes a name away looks up first, and what it drafts. It is described in docs/FILE-SYSTEM.md.
 use Rattle.std.specs.Prelude.{◌≡◌, ◌≢◌, ℕ, ◌+◌, ◌≤◌, ◌==◌, Bool, false, if◌then◌else◌, List, [], ◌∷◌, ◌++◌, length, slice_get, Option, None, Some, option_and_then, Result, Ok, Err}
+use Rattle.base_types.specs.declared.layout.Layout.{Layout}
 use Rattle.layout_bytes.specs.declared.slot.Slot.{Slot}
 use Rattle.lang_tree.specs.declared.command.Cmd.{Cmd}
 use Rattle.lang_tree.specs.declared.command.Cmd.TheVariants.{Unlink, Rmdir}
@@ -63,43 +64,43 @@ pub record IsFound (files : Files) (node : NodeFound) : Type 0 where
   pub facts : node.facts ≡ facts_of file
 
 -- Node k has one link less, or is gone with its last one, and no other node changed.
-pub record LosesLink (old new : Files) (k : ℕ) : Type 0 where
-  pub own : IsInodeOf (new k) (option_and_then one_link_less (inodes_of old k))
-  pub others : (l : ℕ) → l ≢ k → new l ≡ old l
+pub record LosesLink (l : Layout) (old new : Files) (k : ℕ) : Type 0 where
+  pub own : IsInodeOf l (new k) (option_and_then one_link_less (inodes_of l old k))
+  pub others : (n : ℕ) → n ≢ k → new n ≡ old n
 
 -- The slot at the entry's place names the entry's node, under this name, in a directory of so many slots. The node reads as an inode, which has no slots.
-pub record IsNamed (files : Files) (name : List ℕ) (n : Named) : Type 0 where
+pub record IsNamed (l : Layout) (files : Files) (name : List ℕ) (n : Named) : Type 0 where
   pub slots : List Slot
-  pub dir : inodes_of files n.dir ≡ Some (ADir slots)
+  pub dir : inodes_of l files n.dir ≡ Some (ADir slots)
   pub count : n.count ≡ length slots
   pub slot : slice_get slots n.entry.place ≡ Some (slot_of n.entry.node.number name)
   pub node : IsFound files n.entry.node
   pub inode : Inode
-  pub shown : inodes_of files n.entry.node.number ≡ Some inode
-  pub bare : has_slots (inodes_of files n.entry.node.number) ≡ false
+  pub shown : inodes_of l files n.entry.node.number ≡ Some inode
+  pub bare : has_slots (inodes_of l files n.entry.node.number) ≡ false
 
 -- The name was taken away in a draft: its slot went, and its node has one link less. Each node in use reads as an inode and has the first of its own blocks, so much is altered, and the other nodes in use stay so.
 pub record LosesName (old now : State) (d : DraftState) (name : List ℕ) (n : Named) : Type 0 where
   pub takes : TakesSlot (inodes old) (inodes_in now d) n.dir n.entry.node.number name
-  pub reads : AreInodesOf (files_in now d) (inodes_in now d)
-  pub alters : Alters 4 [] (release n.count + blocks_gone (is_kept d.kept) n.entry.node.facts (places_of old n.entry.node.number)) nothing_drafted d
+  pub reads : AreInodesOf now.books.geom.layout (files_in now d) (inodes_in now d)
+  pub alters : Alters 4 [] (release old.books.geom.layout n.count + blocks_gone (is_kept d.kept) n.entry.node.facts (places_of old n.entry.node.number)) nothing_drafted d
   pub placed : ArePlaced none_renewed (places_of old) (places_in now d) []
   pub used : KeepsUsed (use_after n.entry.node) (files_in old nothing_drafted) (files_in now d)
 
 -- The path leads to what stands under the name, and the tree accepts that the path goes.
-pub record IsLoss (kind : Kind) (files : Files) (path : List (List ℕ)) (n : Named) : Type 0 where
-  pub comes : ComesTo files path (Ok (Inside n.dir n.count (Some n.entry)))
-  pub accepted : lose_reason kind (inodes_of files) path ≡ None
+pub record IsLoss (kind : Kind) (l : Layout) (files : Files) (path : List (List ℕ)) (n : Named) : Type 0 where
+  pub comes : ComesTo l files path (Ok (Inside n.dir n.count (Some n.entry)))
+  pub accepted : lose_reason kind (inodes_of l files) path ≡ None
 
 -- What is known of what goes: the directory above the path, the slot there that names its node, how many slots there are, where the path leads, and the links and bytes there, which are few.
-pub record KnowsLoss (kind : Kind) (files : Files) (path : List (List ℕ)) (n : Named) : Type 0 where
+pub record KnowsLoss (kind : Kind) (l : Layout) (files : Files) (path : List (List ℕ)) (n : Named) : Type 0 where
   pub up : List (List ℕ)
   pub name : List ℕ
   pub is : path ≡ up ++ name ∷ []
-  pub leads : LeadsTo (inodes_of files) up n.dir
-  pub named : IsNamed files name n
-  pub above : n.count ≡ slots_above (inodes_of files) path
-  pub to_node : LeadsTo (inodes_of files) path n.entry.node.number
-  pub facts : HasFacts (inodes_of files) path n.entry.node.facts.links n.entry.node.facts.size
+  pub leads : LeadsTo (inodes_of l files) up n.dir
+  pub named : IsNamed l files name n
+  pub above : n.count ≡ slots_above (inodes_of l files) path
+  pub to_node : LeadsTo (inodes_of l files) path n.entry.node.number
+  pub facts : HasFacts (inodes_of l files) path n.entry.node.facts.links n.entry.node.facts.size
   pub small : n.entry.node.facts.size ≤ 1073741824
-  pub accepted : lose_reason kind (inodes_of files) path ≡ None
+  pub accepted : lose_reason kind (inodes_of l files) path ≡ None

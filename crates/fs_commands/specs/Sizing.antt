@@ -13,6 +13,6 @@ use Rattle.fs_commands.specs.Writing.{IsWeighed}
 
 -- A truncate may be drafted: the path leads to the node, whose size is another, and the command is weighed in each session of these blocks.
 pub record MayResize (tells : Bool) (s : State) (number : ℕ) (path : List (List ℕ)) (size cost : ℕ) : Type 0 where
-  pub walk : IsTrue tells → walk_on (inodes_of (files_in s nothing_drafted)) 1 path ≡ Ok number
+  pub walk : IsTrue tells → walk_on (inodes_of s.books.geom.layout (files_in s nothing_drafted)) 1 path ≡ Ok number
   pub other : IsTrue tells → (x : FileNode) → files_in s nothing_drafted number ≡ Some x → size ≢ length x.bytes
   pub weighed : IsTrue tells → (f : Session) → IsSession s f → IsWeighed s f (Truncate path size) cost

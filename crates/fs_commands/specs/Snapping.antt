@@ -1,6 +1,7 @@
 -- What snap and unsnap find before they begin, and what their drafts make. They are described in docs/FILE-SYSTEM.md.
 use Rattle.std.specs.Prelude.{◌≡◌, ℕ, ◌+◌, ◌≤◌, Bool, IsTrue, List, [], ◌∷◌, ◌++◌, length, take, None, Some}
 use Rattle.std.specs.List.{All}
+use Rattle.base_types.specs.Layouts.{most_runs}
 use Rattle.base_types.specs.Seal.{Blocks}
 use Rattle.layout_geometry.specs.Geometry.{Geometry, bitmap_blocks}
 use Rattle.layout_bytes.specs.declared.node.Node.{Node}
@@ -54,7 +55,7 @@ pub record DraftsSnapshot (old new : State) (number : ℕ) (name : List ℕ) (d 
   pub file : IsWithFile (files_in old nothing_drafted) (files_in new d) number (Some (record { kind = Snapshot; links = 1; bytes = snapshot_bytes old.books.geom old.map name }))
   pub places : IsWithPlaces (places_of old) (places_in new d) number (take (snapshot_count old.books.geom old.map) (reusable_blocks new.books))
   pub enough : snapshot_count old.books.geom old.map ≤ length (reusable_blocks new.books)
-  pub runs : stretches (take (snapshot_count old.books.geom old.map) (reusable_blocks new.books)) ≤ 28
+  pub runs : stretches (take (snapshot_count old.books.geom old.map) (reusable_blocks new.books)) ≤ most_runs old.books.geom.layout
   pub taken : d.taken ≡ take (snapshot_count old.books.geom old.map) (reusable_blocks new.books)
   pub freed : d.freed ≡ []
   pub fresh : length d.fresh ≤ snapshot_count old.books.geom old.map

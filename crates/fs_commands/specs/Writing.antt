@@ -33,5 +33,5 @@ pub record IsWeighed (s : State) (f : Session) (cmd : Cmd) (cost : ℕ) : Type 0
 -- Bytes that a command puts may be drafted: the path leads to the node, and the command is weighed in each session of these blocks.
 pub record MayPut (tells : Bool) (s : State) (number : ℕ) (cmd : Cmd) (path : List (List ℕ)) (offset : ℕ) (bytes : List ℕ) (cost : ℕ) : Type 0 where
   pub puts : PutsBytes cmd path offset bytes
-  pub walk : IsTrue tells → walk_on (inodes_of (files_in s nothing_drafted)) 1 path ≡ Ok number
+  pub walk : IsTrue tells → walk_on (inodes_of s.books.geom.layout (files_in s nothing_drafted)) 1 path ≡ Ok number
   pub weighed : IsTrue tells → (f : Session) → IsSession s f → IsWeighed s f cmd cost

@@ -59,7 +59,7 @@ pub(crate) fn find_file<S: Blocks>(
 ) -> Result<Result<NodeFound, Refusal>, FileRefusal>
     requires begin { MayBegin S.tells (S.state blocks.old) shared.now }
     ensures file { IsTrue S.tells → IfOk result (λ found. (t : Tree) → IsTreeOf (S.state blocks.old).books.geom (S.state blocks.old).map t
-        → LeadsToFile (files_in (S.state blocks.old) nothing_drafted) path.now found) }
+        → LeadsToFile (S.state blocks.old).books.geom.layout (files_in (S.state blocks.old) nothing_drafted) path.now found) }
     ensures number { IfOk result (λ found. IfOk found (λ f. IsNumber (S.state blocks.old).books.geom.i f.number)) }
     ensures refused { IfErr result LookRefused }
     ensures looks { LooksOnly S.tells (fails_reading result) (S.state blocks.old) (S.state blocks.new) }
@@ -123,7 +123,7 @@ fn write_found<'a, S: Blocks>(
     requires number { IsNumber (S.state blocks.old).books.geom.i found.now.number }
     requires file { IsTrue S.tells → IsFile (files_in (S.state blocks.old) nothing_drafted) found.now }
     ensures plans { (path : List (List ℕ)) → (IsTrue S.tells
-        → walk_on (inodes_of (files_in (S.state blocks.old) nothing_drafted)) 1 path ≡ Fine found.now.number)
+        → walk_on (inodes_of (S.state blocks.old).books.geom.layout (files_in (S.state blocks.old) nothing_drafted)) 1 path ≡ Fine found.now.number)
         → Plans S.tells (Write path offset bytes.now) result (S.state blocks.old) (S.state blocks.new) }
     ensures made { OnChange result (λ draft cost nodes. MayBeMade S.tells draft cost nodes (S.state blocks.new)) }
 {
@@ -166,7 +166,7 @@ fn write_over<'a, S: Blocks>(
         (offset + length bytes.now) met }
     requires few { met ≤ 1048576 }
     ensures plans { (path : List (List ℕ)) → (IsTrue S.tells
-        → walk_on (inodes_of (files_in (S.state blocks.old) nothing_drafted)) 1 path ≡ Fine found.now.number)
+        → walk_on (inodes_of (S.state blocks.old).books.geom.layout (files_in (S.state blocks.old) nothing_drafted)) 1 path ≡ Fine found.now.number)
         → Plans S.tells (Write path offset bytes.now) result (S.state blocks.old) (S.state blocks.new) }
     ensures made { OnChange result (λ draft cost nodes. MayBeMade S.tells draft cost nodes (S.state blocks.new)) }
 {

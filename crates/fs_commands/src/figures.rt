@@ -2,6 +2,7 @@
 //! blocks are shared. Nothing is looked up here. The rules are described in docs/TREE.md.
 
 ghost use Rattle.std.specs.Prelude.{◌≡◌, ◌+◌, ◌-◌, ◌<◌, ◌≤◌, min, ℕ, List, length};
+ghost use Rattle.base_types.specs.declared.layout.Layout.{Layout as LayoutValue};
 ghost use Rattle.lang_tree.specs.declared.command.Cmd.{Cmd};
 ghost use Rattle.lang_tree.specs.declared.command.Cmd.TheVariants.{Mkdir, Create, Write, Fill, Truncate, Link, Unlink, Rmdir};
 ghost use Rattle.lang_tree.specs.Figures as spec;
@@ -9,12 +10,13 @@ ghost use Rattle.lang_tree.specs.Figures.{Figures as FiguresValue};
 ghost use Rattle.lang_tree.specs.Values.{value_of};
 ghost use Rattle.lang_tree.specs.Sharing as over;
 ghost use Rattle.lang_tree.specs.Sharing.{BlocksAlone, SharedNodes, SharedPlaces, alone_from, shared_at, shared_met, unsnapping};
-ghost use Rattle.lang_tree.specs.Tree.{Snapshots};
+ghost use Rattle.lang_tree.specs.Tree.{Bounds, Snapshots};
 ghost use Rattle.crash_stands.specs.Inodes.{Inodes};
 ghost use Rattle.fs_inodes.specs.Lookups.{bytes_of, inode_at, number_at};
 ghost use Rattle.fs_inodes.specs.Figures.{accepted_cost_over, blocks_lost, slots_above};
 ghost use Rattle.fs_commands.specs.Figures.{AreFiguresOf, MeetsShared};
 
+use base_types::Layout;
 use base_types::limits::BLOCK_LENGTH;
 use fs_inodes::{the_map_gives_the_figures, the_map_gives_the_refusal};
 use lang_tree::{
@@ -29,36 +31,36 @@ const PAYLOAD: u32 = 25;
 const BLOCK: u32 = BLOCK_LENGTH as u32;
 
 /// The figures of a new name in a directory of so many slots: of mkdir, create and link.
-pub(crate) fn new_name_figures(slots: u64) -> Figures
-    ensures value { value_of result ≡ spec.adding (spec.growth slots) }
+pub(crate) fn new_name_figures(slots: u64, layout: Layout) -> Figures
+    ensures value { value_of result ≡ spec.adding (spec.growth layout slots) }
     ensures mkdir { (bitmap : ℕ) (shared : SharedNodes) (m : Inodes) (path : List (List ℕ)) → slots ≡ slots_above m path
-        → AreFiguresOf bitmap shared m (Mkdir path) (value_of result) }
+        → AreFiguresOf layout bitmap shared m (Mkdir path) (value_of result) }
     ensures create { (bitmap : ℕ) (shared : SharedNodes) (m : Inodes) (path : List (List ℕ)) → slots ≡ slots_above m path
-        → AreFiguresOf bitmap shared m (Create path) (value_of result) }
+        → AreFiguresOf layout bitmap shared m (Create path) (value_of result) }
     ensures link { (bitmap : ℕ) (shared : SharedNodes) (m : Inodes) (path other : List (List ℕ)) → slots ≡ slots_above m other
-        → AreFiguresOf bitmap shared m (Link path other) (value_of result) }
+        → AreFiguresOf layout bitmap shared m (Link path other) (value_of result) }
 {
     figures_come_from_inodes();
-    adding(growth(slots))
+    adding(growth(slots, layout))
 }
 
 /// The figures of an unlink, in a directory of so many slots, with which so many blocks of the file go.
-pub(crate) fn unlink_figures(bitmap: u32, slots: u64, gone: u32) -> Figures
+pub(crate) fn unlink_figures(bitmap: u32, slots: u64, gone: u32, layout: Layout) -> Figures
     requires { gone ≤ 1048576 }
     ensures { (shared : SharedNodes) (m : Inodes) (path : List (List ℕ)) → slots ≡ slots_above m path → gone ≡ blocks_lost shared m path
-        → AreFiguresOf bitmap shared m (Unlink path) (value_of result) }
+        → AreFiguresOf layout bitmap shared m (Unlink path) (value_of result) }
 {
     figures_come_from_inodes();
-    removing(bitmap, release(slots) + gone)
+    removing(bitmap, release(slots, layout) + gone)
 }
 
 /// The figures of an rmdir in a directory of so many slots.
-pub(crate) fn rmdir_figures(bitmap: u32, slots: u64) -> Figures
+pub(crate) fn rmdir_figures(bitmap: u32, slots: u64, layout: Layout) -> Figures
     ensures { (shared : SharedNodes) (m : Inodes) (path : List (List ℕ)) → slots ≡ slots_above m path
-        → AreFiguresOf bitmap shared m (Rmdir path) (value_of result) }
+        → AreFiguresOf layout bitmap shared m (Rmdir path) (value_of result) }
 {
     figures_come_from_inodes();
-    removing(bitmap, release(slots))
+    removing(bitmap, release(slots, layout))
 }
 
 /// The figures of a write or fill of so many bytes from `offset` on, in a file of so many, where so many of the blocks
@@ -74,12 +76,12 @@ pub(crate) fn overwrite_figures(
     requires end { offset + count ≤ 1073741824 }
     requires some { 0 < count }
     requires met { met ≤ 1048576 }
-    ensures write { (shared : SharedNodes) (m : Inodes) (path : List (List ℕ)) (bytes : List ℕ) → size ≡ length (bytes_of (inode_at m path))
+    ensures write { (l : LayoutValue) (shared : SharedNodes) (m : Inodes) (path : List (List ℕ)) (bytes : List ℕ) → size ≡ length (bytes_of (inode_at m path))
         → count ≡ length bytes → MeetsShared shared m path (min offset size) (offset + count) met
-        → AreFiguresOf bitmap shared m (Write path offset bytes) (value_of result) }
-    ensures fill { (shared : SharedNodes) (m : Inodes) (path : List (List ℕ)) (byte : ℕ) → size ≡ length (bytes_of (inode_at m path))
+        → AreFiguresOf l bitmap shared m (Write path offset bytes) (value_of result) }
+    ensures fill { (l : LayoutValue) (shared : SharedNodes) (m : Inodes) (path : List (List ℕ)) (byte : ℕ) → size ≡ length (bytes_of (inode_at m path))
         → MeetsShared shared m path (min offset size) (offset + count) met
-        → AreFiguresOf bitmap shared m (Fill path offset count byte) (value_of result) }
+        → AreFiguresOf l bitmap shared m (Fill path offset count byte) (value_of result) }
 {
     figures_come_from_inodes();
     writing_over(bitmap, size, offset.min(size), offset + count, met)
@@ -91,11 +93,11 @@ pub(crate) fn resize_figures(bitmap: u32, old: u32, new: u32, kept: u32) -> Figu
     requires old { old ≤ 1073741824 }
     requires new { new ≤ 1073741824 }
     requires kept { kept ≤ 1048576 }
-    ensures { (shared : SharedNodes) (m : Inodes) (path : List (List ℕ)) → old ≡ length (bytes_of (inode_at m path))
+    ensures { (l : LayoutValue) (shared : SharedNodes) (m : Inodes) (path : List (List ℕ)) → old ≡ length (bytes_of (inode_at m path))
         → (old < new → MeetsShared shared m path old new kept)
         → (new < old → spec.blocks_for old - spec.blocks_for new - kept
         ≡ alone_from (shared_at shared (number_at m path)) (spec.blocks_for new) (spec.blocks_for old - spec.blocks_for new))
-        → AreFiguresOf bitmap shared m (Truncate path new) (value_of result) }
+        → AreFiguresOf l bitmap shared m (Truncate path new) (value_of result) }
 {
     figures_come_from_inodes();
     if old < new {
@@ -155,7 +157,7 @@ pub(crate) fn snap_figures(bitmap: u32, count: u32) -> Figures
 
 /// The figures of a snapshot of so many blocks that goes, with so many blocks of its files that nothing else has.
 pub(crate) fn unsnap_figures(bitmap: u32, count: u32, alone: u32) -> Figures
-    requires count { count ≤ 29360128 }
+    requires count { count ≤ 62914560 }
     requires alone { alone ≤ 1048576 }
     ensures { value_of result ≡ unsnapping bitmap count alone }
 {
@@ -169,9 +171,9 @@ pub(crate) fn unsnap_figures(bitmap: u32, count: u32, alone: u32) -> Figures
 
 /// The figures of a command come from inodes and from what is shared, where no tree with these refuses it.
 fn figures_come_from_inodes()
-    ensures { (bitmap : ℕ) (shared : SharedNodes) (m : Inodes) (cmd : Cmd) (f : FiguresValue)
-        → ((alone : BlocksAlone) (limit : ℕ) (kept : Snapshots) → f ≡ accepted_cost_over bitmap shared alone limit kept m cmd)
-        → AreFiguresOf bitmap shared m cmd f }
+    ensures { (l : LayoutValue) (bitmap : ℕ) (shared : SharedNodes) (m : Inodes) (cmd : Cmd) (f : FiguresValue)
+        → ((alone : BlocksAlone) (limit : Bounds) (kept : Snapshots) → limit.layout ≡ l → f ≡ accepted_cost_over bitmap shared alone limit kept m cmd)
+        → AreFiguresOf l bitmap shared m cmd f }
 {
     the_map_gives_the_figures();
     the_map_gives_the_refusal();

@@ -71,7 +71,7 @@ fn fill_found<'a, S: Blocks>(
     requires number { IsNumber (S.state blocks.old).books.geom.i found.now.number }
     requires file { IsTrue S.tells → IsFile (files_in (S.state blocks.old) nothing_drafted) found.now }
     ensures plans { (path : List (List ℕ)) → (IsTrue S.tells
-        → walk_on (inodes_of (files_in (S.state blocks.old) nothing_drafted)) 1 path ≡ Fine found.now.number)
+        → walk_on (inodes_of (S.state blocks.old).books.geom.layout (files_in (S.state blocks.old) nothing_drafted)) 1 path ≡ Fine found.now.number)
         → Plans S.tells (Fill path offset count byte) result (S.state blocks.old) (S.state blocks.new) }
     ensures made { OnChange result (λ draft cost nodes. MayBeMade S.tells draft cost nodes (S.state blocks.new)) }
 {
@@ -115,7 +115,7 @@ fn fill_over<'a, S: Blocks>(
         (min offset (min found.now.facts.size 1073741824)) (offset + count) met }
     requires few { met ≤ 1048576 }
     ensures plans { (path : List (List ℕ)) → (IsTrue S.tells
-        → walk_on (inodes_of (files_in (S.state blocks.old) nothing_drafted)) 1 path ≡ Fine found.now.number)
+        → walk_on (inodes_of (S.state blocks.old).books.geom.layout (files_in (S.state blocks.old) nothing_drafted)) 1 path ≡ Fine found.now.number)
         → Plans S.tells (Fill path offset count byte) result (S.state blocks.old) (S.state blocks.new) }
     ensures made { OnChange result (λ draft cost nodes. MayBeMade S.tells draft cost nodes (S.state blocks.new)) }
 {

@@ -9,6 +9,7 @@ ghost use Rattle.engine_blocks.specs.Crashes.{IsBegun};
 ghost use Rattle.lang_tree.specs.Tree.{Tree};
 ghost use Rattle.lang_tree.specs.Listing.{listing as listing_of};
 ghost use Rattle.lang_tree.specs.Step.{Session, session_on};
+ghost use Rattle.crash_stands.specs.Bounds.{bounds_of};
 ghost use Rattle.crash_stands.specs.Stands.{IsTreeOf};
 ghost use Rattle.fs_files.specs.Effects.{LooksOnly};
 ghost use Rattle.fs_check.specs.Whole.{IsDamaged, OnDamage, fails_by};
@@ -53,7 +54,8 @@ impl<S: Blocks> Fs<S> {
     /// memory. The blocks are handed back.
     pub fn open(alloc: Global, mut blocks: S) -> Result<Fs<S>, (S, CheckRefusal)>
         requires begun { IsBegun (S.state blocks) }
-        ensures session { IsTrue S.tells → IfOk result (λ fs. (t : Tree) × IsSession (S.state (blocks_in fs)) (session_on (S.state blocks).books.geom.i t)) }
+        ensures session { IsTrue S.tells
+            → IfOk result (λ fs. (t : Tree) × IsSession (S.state (blocks_in fs)) (session_on (bounds_of (S.state blocks).books.geom) t)) }
         ensures ready { IfOk result (λ fs. IsReady S.tells S.state fs) }
         ensures stands { IsTrue S.tells → IfOk result (λ fs. Stands (S.state (blocks_in fs))) }
         ensures damage { IsTrue S.tells → IfErr result (λ e. OnDamage e.1 (IsDamaged (S.state blocks).books.geom (S.state blocks).map)) }

@@ -3,7 +3,7 @@
 
 ghost use Rattle.std.specs.Prelude.{◌≡◌, ◌+◌, ◌++◌, ◌≤◌, IsTrue, IfOk, IfErr, OnOk, false, length};
 ghost use Rattle.std.specs.List.{All};
-ghost use Rattle.layout_geometry.specs.Geometry.{node_size};
+ghost use Rattle.base_types.specs.Layouts.{node_size, nodes_in_block};
 ghost use Rattle.layout_bytes.specs.Node.{node_of};
 ghost use Rattle.crash_stands.specs.Places.{kept_table, table_blocks};
 ghost use Rattle.crash_snapshots.specs.Places.{places_of_dir};
@@ -21,11 +21,8 @@ use engine_blocks::Blocks;
 use fs_files::{FileRefusal, NodeBlocks, node_in, read_block_at};
 use layout_bytes::NodeKind;
 use layout_extent::a_list_has_its_runs;
-use layout_geometry::{Geom, NODE_LENGTH};
+use layout_geometry::Geom;
 use std::alloc::Global;
-
-/// How many nodes a block of the node table has.
-const NODES_IN_BLOCK: usize = 4;
 
 /// The blocks of files and of directories, each in the order of the nodes' numbers.
 #[derive(Drop)]
@@ -106,17 +103,19 @@ fn nothing_gathered(alloc: Global) -> Gathered
 /// Out of memory.
 fn gather_block(found: &mut Gathered, geom: &Geom, table: &Block) -> Result<(), FileRefusal>
     ensures files { OnOk result (found.new.files.items ≡ found.old.files.items
-        ++ node_blocks (λ r. file_blocks (nodes_in geom.now table.now r)) 4) }
+        ++ node_blocks (λ r. file_blocks (nodes_in geom.now table.now r)) (nodes_in_block geom.now.layout)) }
     ensures dirs { OnOk result (found.new.dirs.items ≡ found.old.dirs.items
-        ++ node_blocks (λ r. places_of_dir (nodes_in geom.now table.now r)) 4) }
+        ++ node_blocks (λ r. places_of_dir (nodes_in geom.now table.now r)) (nodes_in_block geom.now.layout)) }
     ensures data { OnOk result (All (IsData geom.now) found.old.files.items → All (IsData geom.now) found.new.files.items) }
     ensures dirs_data { OnOk result (All (IsData geom.now) found.old.dirs.items → All (IsData geom.now) found.new.dirs.items) }
     ensures refused { IfErr result LookRefused }
     ensures memory { fails_reading result ≡ false }
 {
-    for r in 0..NODES_IN_BLOCK {
-        let at = NODE_LENGTH * r;
-        gather_node(found, geom, &table[at..at + NODE_LENGTH])?;
+    let layout = geom.layout();
+    for r in 0..layout.nodes_in_block() {
+        let at = layout.rank_byte(r);
+        let end = at + layout.node_length();
+        gather_node(found, geom, &table[at..end])?;
     }
     Ok(())
 }
@@ -126,7 +125,7 @@ fn gather_block(found: &mut Gathered, geom: &Geom, table: &Block) -> Result<(), 
 /// # Errors
 /// Out of memory.
 fn gather_node(found: &mut Gathered, geom: &Geom, bytes: &[u8]) -> Result<(), FileRefusal>
-    requires { length bytes.now ≡ node_size }
+    requires { length bytes.now ≡ node_size geom.now.layout }
     ensures files { OnOk result (found.new.files.items ≡ found.old.files.items ++ file_blocks (node_of geom.now bytes.now)) }
     ensures dirs { OnOk result (found.new.dirs.items ≡ found.old.dirs.items ++ places_of_dir (node_of geom.now bytes.now)) }
     ensures data { OnOk result (All (IsData geom.now) found.old.files.items → All (IsData geom.now) found.new.files.items) }

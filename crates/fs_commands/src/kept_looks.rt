@@ -5,6 +5,7 @@ ghost use Rattle.std.specs.Prelude.{◌≡◌, IsTrue, Some, IfOk, IfErr, IfSome
 ghost use Rattle.lang_tree.specs.declared.command.Cmd.TheVariants.{At, Snaps};
 ghost use Rattle.lang_tree.specs.Step.{Session, look_command, session_on, step};
 ghost use Rattle.lang_tree.specs.Tree.{Kept, kept_tree};
+ghost use Rattle.crash_stands.specs.Bounds.{bounds_of};
 ghost use Rattle.crash_stands.specs.Inodes.{inodes_of};
 ghost use Rattle.fs_files.specs.Asks.{MayRead};
 ghost use Rattle.fs_files.specs.Calls.{LookRefused};
@@ -109,7 +110,7 @@ fn look_at_kept<S: Blocks>(
     requires holds { Holds S.tells (S.state blocks.old) held.old }
     ensures answer { IsTrue S.tells → IfOk result (λ reply. (k : Kept) (f : Session)
         → KeepsTree (S.state blocks.old).books.geom (S.state blocks.old).map (places_of (S.state blocks.old) number) k
-        → f ≡ session_on (S.state blocks.old).books.geom.i (kept_tree k) → reply ≡ (step f (look_command look.now)).1) }
+        → f ≡ session_on (bounds_of (S.state blocks.old).books.geom) (kept_tree k) → reply ≡ (step f (look_command look.now)).1) }
     ensures refused { IfErr result LookRefused }
     ensures looks { LooksOnly S.tells (fails_reading result) (S.state blocks.old) (S.state blocks.new) }
     ensures holds { Holds S.tells (S.state blocks.new) held.new }
@@ -177,7 +178,8 @@ fn look_in<N: Nodes, S: Blocks>(
 ) -> Result<Reply, FileRefusal>
     requires read { MayRead (N.may_read S.tells (S.state blocks.old) files.now) (S.state blocks.old) }
     ensures answer { IsTrue S.tells → IfOk result (λ reply. (f : Session)
-        → IsMapOfSession (S.state blocks.old).books.geom.i (inodes_of (N.nodes (S.state blocks.old) files.now).files) f
+        → IsMapOfSession (bounds_of (S.state blocks.old).books.geom) (inodes_of (S.state blocks.old).books.geom.layout (N.nodes
+        (S.state blocks.old) files.now).files) f
         → reply ≡ (step f (look_command look.now)).1) }
     ensures refused { IfErr result LookRefused }
     ensures looks { LooksOnly S.tells (fails_reading result) (S.state blocks.old) (S.state blocks.new) }

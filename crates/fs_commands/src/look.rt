@@ -1,9 +1,10 @@
 //! The commands that only look: what is at a path, the bytes of a file, and the names in a directory. Each
 //! returns the reply of the tree, and nothing is changed.
 
-ghost use Rattle.std.specs.Prelude.{◌≡◌, IsTrue, IfOk, IfErr};
+ghost use Rattle.std.specs.Prelude.{◌≡◌, ◌≤◌, ◌^◌, IsTrue, IfOk, IfErr};
 ghost use Rattle.lang_tree.specs.declared.command.Cmd.TheVariants.{Read, Stat as StatCmd, List as ListNames};
 ghost use Rattle.lang_tree.specs.Step.{Session, step};
+ghost use Rattle.crash_stands.specs.Bounds.{bounds_of};
 ghost use Rattle.crash_stands.specs.Inodes.{inodes_of};
 ghost use Rattle.fs_files.specs.Asks.{MayRead};
 ghost use Rattle.fs_files.specs.Calls.{LookRefused, is_dir};
@@ -16,6 +17,7 @@ ghost use Rattle.fs_session.specs.Sessions.{IsSession, MayBegin, MayPlan};
 use crate::begins::a_draft_may_begin;
 use crate::paths::{NodeFound, find_in};
 use crate::refusals::refusal_of;
+use base_types::Layout;
 use engine_blocks::{Blocks, calls_compose};
 use fs_dirs::names;
 use fs_files::{Draft, FileRefusal, Nodes, Shared};
@@ -59,7 +61,8 @@ pub(crate) fn stat_in<N: Nodes, S: Blocks>(
 ) -> Result<Reply, FileRefusal>
     requires read { MayRead (N.may_read S.tells (S.state blocks.old) files.now) (S.state blocks.old) }
     ensures answer { IsTrue S.tells → IfOk result (λ reply. (f : Session)
-        → IsMapOfSession (S.state blocks.old).books.geom.i (inodes_of (N.nodes (S.state blocks.old) files.now).files) f
+        → IsMapOfSession (bounds_of (S.state blocks.old).books.geom) (inodes_of (S.state blocks.old).books.geom.layout (N.nodes
+        (S.state blocks.old) files.now).files) f
         → reply ≡ (step f (StatCmd path.now)).1) }
     ensures refused { IfErr result LookRefused }
     ensures looks { LooksOnly S.tells (fails_reading result) (S.state blocks.old) (S.state blocks.new) }
@@ -69,14 +72,18 @@ pub(crate) fn stat_in<N: Nodes, S: Blocks>(
     the_map_gives_the_reply();
     walks_are_the_same();
     match find_in(files, blocks, path)? {
-        Ok(found) => Ok(stat_reply(&found)),
+        Ok(found) => Ok(stat_reply(&found, blocks.geom().layout())),
         Err(why) => Ok(Reply::Refused(why)),
     }
 }
 
+/// The most bytes that a node may be said to have, which no node on a disk has.
+const MOST_BYTES: u64 = 1 << 38;
+
 /// What is told of a node.
-fn stat_reply(found: &NodeFound) -> Reply
-    ensures { result ≡ stat_of_kind found.now.facts.kind found.now.number found.now.facts.links found.now.facts.size }
+fn stat_reply(found: &NodeFound, layout: Layout) -> Reply
+    ensures { found.now.facts.size ≤ 2 ^ 38
+        → result ≡ stat_of_kind layout found.now.facts.kind found.now.number found.now.facts.links found.now.facts.size }
 {
     let (kind, links) = match found.facts.kind {
         NodeKind::Free => return Reply::Refused(Refusal::NotFound),
@@ -87,7 +94,10 @@ fn stat_reply(found: &NodeFound) -> Reply
     Reply::Stat(Stat {
         kind,
         number: found.number,
-        size: found.facts.size,
+        size: found
+            .facts
+            .kind
+            .size(found.facts.size.min(MOST_BYTES), layout),
         links,
     })
 }
@@ -129,7 +139,8 @@ pub(crate) fn read_in<N: Nodes, S: Blocks>(
 ) -> Result<Reply, FileRefusal>
     requires read { MayRead (N.may_read S.tells (S.state blocks.old) files.now) (S.state blocks.old) }
     ensures answer { IsTrue S.tells → IfOk result (λ reply. (f : Session)
-        → IsMapOfSession (S.state blocks.old).books.geom.i (inodes_of (N.nodes (S.state blocks.old) files.now).files) f
+        → IsMapOfSession (bounds_of (S.state blocks.old).books.geom) (inodes_of (S.state blocks.old).books.geom.layout (N.nodes
+        (S.state blocks.old) files.now).files) f
         → reply ≡ (step f (Read path.now offset len)).1) }
     ensures refused { IfErr result LookRefused }
     ensures looks { LooksOnly S.tells (fails_reading result) (S.state blocks.old) (S.state blocks.new) }
@@ -184,7 +195,8 @@ pub(crate) fn list_in<N: Nodes, S: Blocks>(
 ) -> Result<Reply, FileRefusal>
     requires read { MayRead (N.may_read S.tells (S.state blocks.old) files.now) (S.state blocks.old) }
     ensures answer { IsTrue S.tells → IfOk result (λ reply. (f : Session)
-        → IsMapOfSession (S.state blocks.old).books.geom.i (inodes_of (N.nodes (S.state blocks.old) files.now).files) f
+        → IsMapOfSession (bounds_of (S.state blocks.old).books.geom) (inodes_of (S.state blocks.old).books.geom.layout (N.nodes
+        (S.state blocks.old) files.now).files) f
         → reply ≡ (step f (ListNames path.now)).1) }
     ensures refused { IfErr result LookRefused }
     ensures looks { LooksOnly S.tells (fails_reading result) (S.state blocks.old) (S.state blocks.new) }

@@ -3,14 +3,17 @@
 
 ghost use Rattle.std.specs.Prelude.{◌≡◌, ◌≢◌, ◌<◌, ◌≤◌, ◌+◌, ◌^◌, ◌++◌, ◌∷◌, [], ℕ, IsTrue, true, false, List, length, None, Some, Ok as Fine};
 ghost use Rattle.std.specs.Prelude.{Err as Failed, IfOk, IfErr, IfSome};
+ghost use Rattle.base_types.specs.declared.layout.Layout.{Layout as LayoutValue};
+ghost use Rattle.base_types.specs.Layouts.{longest_name};
 ghost use Rattle.layout_bytes.specs.declared.node.NodeKind.TheVariants.{Free};
 ghost use Rattle.layout_bytes.specs.declared.slot.Slot.{Slot as SlotValue};
 ghost use Rattle.lang_tree.specs.declared.command.Cmd.{Cmd};
 ghost use Rattle.lang_tree.specs.declared.command.Cmd.TheVariants.{Link};
 ghost use Rattle.lang_tree.specs.declared.command.Kind.{Kind as KindValue};
 ghost use Rattle.lang_tree.specs.declared.command.Refusal.{Refusal as RefusalValue};
-ghost use Rattle.lang_tree.specs.declared.command.Refusal.TheVariants.{IsDir, NoNode, TooManyLinks};
+ghost use Rattle.lang_tree.specs.declared.command.Refusal.TheVariants.{IsDir, NameTooLong, NoNode, TooManyLinks};
 ghost use Rattle.lang_tree.specs.Conditions.{refusal};
+ghost use Rattle.lang_tree.specs.Paths.{is_long};
 ghost use Rattle.lang_tree.specs.Step.{Session, step};
 ghost use Rattle.lang_tree.specs.Figures.{growth};
 ghost use Rattle.lang_tree.specs.Tree.{Tree};
@@ -43,8 +46,8 @@ use crate::figures::new_name_figures;
 use crate::look::is_dir;
 use crate::paths::{NodeFound, Spot, find_node, look_up};
 use crate::refusals::refusal_of;
-use base_types::Name;
 use base_types::limits::MOST_LINKS;
+use base_types::{Layout, Name};
 use crash_stands::{blocks_have_a_map, files_have_one_map};
 use engine_blocks::{Blocks, calls_compose};
 use fs_dirs::{add_slot, alterations_add_up};
@@ -57,7 +60,7 @@ use fs_session::{
     NodeUse, Plan, a_draft_that_leaves_snapshots_makes_its_tree, blocks_have_the_map_of_their_tree,
     counts_tell_what_is_shared, has_room,
 };
-use lang_tree::{Kind, Path, Refusal, Reply};
+use lang_tree::{Kind, Path, Refusal, Reply, layouts_differ_in_long_names_alone};
 use layout_bytes::{NodeKind, Slot};
 use std::alloc::Global;
 
@@ -107,14 +110,21 @@ fn make_in<'a, S: Blocks>(
     requires dir { IsNumber (S.state blocks.old).books.geom.i vacancy.now.dir }
     requires few { vacancy.now.count < 2 ^ 24 }
     requires there { IsTrue S.tells → HasCount (S.state blocks.old) nothing_drafted vacancy.now.dir vacancy.now.count }
-    ensures plans { (path : List (List ℕ)) → (IsTrue S.tells → MayAppear (files_in (S.state blocks.old) nothing_drafted) path (Fine vacancy.now))
+    ensures plans { (path : List (List ℕ)) → (IsTrue S.tells
+        → MayAppear (S.state blocks.old).books.geom.layout (files_in (S.state blocks.old) nothing_drafted) path (Fine vacancy.now))
         → Plans S.tells (make_cmd kind path) result (S.state blocks.old) (S.state blocks.new) }
     ensures made { OnChange result (λ draft cost nodes. MayBeMade S.tells draft cost nodes (S.state blocks.new)) }
 {
     calls_compose::<S>();
     the_tree_makes_nodes::<S>();
+    let layout = blocks.geom().layout();
     match least_unused(alloc, blocks, first_unused, shared) {
-        Ok(Some(node)) => make_node(alloc, blocks, kind, vacancy, node, shared),
+        Ok(Some(node)) => {
+            if is_long(&vacancy.name, layout) {
+                return Ok(Plan::Answer(Reply::Refused(Refusal::NameTooLong)));
+            }
+            make_node(alloc, blocks, kind, vacancy, node, shared)
+        }
         Ok(None) => Ok(Plan::Answer(Reply::Refused(Refusal::NoNode))),
         Err(why) => Err(refusal_of(why)),
     }
@@ -137,8 +147,10 @@ fn make_node<'a, S: Blocks>(
     requires dir { IsNumber (S.state blocks.old).books.geom.i vacancy.now.dir }
     requires few { vacancy.now.count < 2 ^ 24 }
     requires there { IsTrue S.tells → HasCount (S.state blocks.old) nothing_drafted vacancy.now.dir vacancy.now.count }
+    requires short { length vacancy.now.name ≤ longest_name (S.state blocks.old).books.geom.layout }
     requires node { IsNumber (S.state blocks.old).books.geom.i node }
-    ensures plans { (path : List (List ℕ)) → (IsTrue S.tells → MayAppear (files_in (S.state blocks.old) nothing_drafted) path (Fine vacancy.now))
+    ensures plans { (path : List (List ℕ)) → (IsTrue S.tells
+        → MayAppear (S.state blocks.old).books.geom.layout (files_in (S.state blocks.old) nothing_drafted) path (Fine vacancy.now))
         → (IsTrue S.tells → least_number (S.state blocks.old) ≡ Some node)
         → Plans S.tells (make_cmd kind path) result (S.state blocks.old) (S.state blocks.new) }
     ensures made { OnChange result (λ draft cost nodes. MayBeMade S.tells draft cost nodes (S.state blocks.new)) }
@@ -146,7 +158,7 @@ fn make_node<'a, S: Blocks>(
     a_disk_is_small(blocks);
     calls_compose::<S>();
     the_tree_makes_nodes::<S>();
-    let figures = new_name_figures(u64::from(vacancy.count));
+    let figures = new_name_figures(u64::from(vacancy.count), blocks.geom().layout());
     match has_room(blocks, &figures) {
         Ok(()) => {}
         Err(why) => return Err(why),
@@ -217,7 +229,8 @@ fn link_to<'a, S: Blocks>(
     requires number { IsNumber (S.state blocks.old).books.geom.i found.now.number }
     requires used { IsTrue S.tells → IsUsed (files_in (S.state blocks.old) nothing_drafted) found.now.number }
     requires plain { IsTrue S.tells → IsNoSnapshot (files_in (S.state blocks.old) nothing_drafted found.now.number) }
-    ensures plans { (path : List (List ℕ)) → (IsTrue S.tells → LeadsToFound (files_in (S.state blocks.old) nothing_drafted) path (Fine found.now))
+    ensures plans { (path : List (List ℕ)) → (IsTrue S.tells
+        → LeadsToFound (S.state blocks.old).books.geom.layout (files_in (S.state blocks.old) nothing_drafted) path (Fine found.now))
         → Plans S.tells (Link path other.now) result (S.state blocks.old) (S.state blocks.new) }
     ensures made { OnChange result (λ draft cost nodes. MayBeMade S.tells draft cost nodes (S.state blocks.new)) }
 {
@@ -248,8 +261,9 @@ fn link_in<'a, S: Blocks>(
     requires number { IsNumber (S.state blocks.old).books.geom.i found.now.number }
     requires used { IsTrue S.tells → IsUsed (files_in (S.state blocks.old) nothing_drafted) found.now.number }
     requires plain { IsTrue S.tells → IsNoSnapshot (files_in (S.state blocks.old) nothing_drafted found.now.number) }
-    ensures plans { (path other : List (List ℕ)) → (IsTrue S.tells → LeadsToFound (files_in (S.state blocks.old) nothing_drafted) path (Fine found.now))
-        → (IsTrue S.tells → MayAppear (files_in (S.state blocks.old) nothing_drafted) other (Fine vacancy.now))
+    ensures plans { (path other : List (List ℕ)) → (IsTrue S.tells
+        → LeadsToFound (S.state blocks.old).books.geom.layout (files_in (S.state blocks.old) nothing_drafted) path (Fine found.now))
+        → (IsTrue S.tells → MayAppear (S.state blocks.old).books.geom.layout (files_in (S.state blocks.old) nothing_drafted) other (Fine vacancy.now))
         → Plans S.tells (Link path other) result (S.state blocks.old) (S.state blocks.new) }
     ensures made { OnChange result (λ draft cost nodes. MayBeMade S.tells draft cost nodes (S.state blocks.new)) }
 {
@@ -260,6 +274,9 @@ fn link_in<'a, S: Blocks>(
     }
     if MOST_LINKS <= found.facts.links {
         return Ok(Plan::Answer(Reply::Refused(Refusal::TooManyLinks)));
+    }
+    if is_long(&vacancy.name, blocks.geom().layout()) {
+        return Ok(Plan::Answer(Reply::Refused(Refusal::NameTooLong)));
     }
     let slot = Slot {
         node: found.number,
@@ -285,6 +302,7 @@ fn link_file<'a, S: Blocks>(
     requires dir { IsNumber (S.state blocks.old).books.geom.i vacancy.now.dir }
     requires few { vacancy.now.count < 2 ^ 24 }
     requires there { IsTrue S.tells → HasCount (S.state blocks.old) nothing_drafted vacancy.now.dir vacancy.now.count }
+    requires short { length slot.now.name ≤ longest_name (S.state blocks.old).books.geom.layout }
     requires node { IsNumber (S.state blocks.old).books.geom.i slot.now.node }
     requires used { IsTrue S.tells → IsUsed (files_in (S.state blocks.old) nothing_drafted) slot.now.node }
     requires plain { IsTrue S.tells → IsNoSnapshot (files_in (S.state blocks.old) nothing_drafted slot.now.node) }
@@ -297,7 +315,7 @@ fn link_file<'a, S: Blocks>(
 {
     a_disk_is_small(blocks);
     calls_compose::<S>();
-    let figures = new_name_figures(u64::from(vacancy.count));
+    let figures = new_name_figures(u64::from(vacancy.count), blocks.geom().layout());
     match has_room(blocks, &figures) {
         Ok(()) => {}
         Err(why) => return Err(why),
@@ -323,22 +341,28 @@ fn link_file<'a, S: Blocks>(
     }
 }
 
-/// What the tree makes of a mkdir or create, from what was looked up first. It is refused for this reason, or
-/// for want of a number; or it is accepted, and a slot for the new node makes its tree.
+/// What the tree makes of a mkdir or create, from what was looked up first. It is refused for this reason, for
+/// want of a number, or for a name that is too long; or it is accepted, and a slot for the new node makes its tree.
 fn the_tree_makes_nodes<S: Blocks>()
     ensures refused { (old : S) (f : Session) (kind : KindValue) (path : List (List ℕ)) (why : RefusalValue) → IsSession (S.state old) f
-        → MayAppear (files_in (S.state old) nothing_drafted) path (Failed why) → refusal f.limit f.tree (make_cmd kind path) ≡ Some why }
+        → MayAppear (S.state old).books.geom.layout (files_in (S.state old) nothing_drafted) path (Failed why)
+        → refusal f.limit f.tree (make_cmd kind path) ≡ Some why }
     ensures no_node { (old : S) (f : Session) (kind : KindValue) (path : List (List ℕ)) (v : VacancyValue) → IsSession (S.state old) f
-        → MayAppear (files_in (S.state old) nothing_drafted) path (Fine v) → least_number (S.state old) ≡ None
+        → MayAppear (S.state old).books.geom.layout (files_in (S.state old) nothing_drafted) path (Fine v) → least_number (S.state old) ≡ None
         → refusal f.limit f.tree (make_cmd kind path) ≡ Some NoNode }
+    ensures long { (old : S) (f : Session) (kind : KindValue) (path : List (List ℕ)) (v : VacancyValue) (node : ℕ) → IsSession (S.state old) f
+        → MayAppear (S.state old).books.geom.layout (files_in (S.state old) nothing_drafted) path (Fine v) → least_number (S.state old) ≡ Some node
+        → longest_name (S.state old).books.geom.layout < length v.name → refusal f.limit f.tree (make_cmd kind path) ≡ Some NameTooLong }
     ensures accepted { (old : S) (f : Session) (kind : KindValue) (path : List (List ℕ)) (v : VacancyValue) (node : ℕ) → IsSession (S.state old) f
-        → MayAppear (files_in (S.state old) nothing_drafted) path (Fine v) → least_number (S.state old) ≡ Some node
-        → AcceptsName (S.state old) f (make_cmd kind path) v.dir v.count }
+        → MayAppear (S.state old).books.geom.layout (files_in (S.state old) nothing_drafted) path (Fine v) → least_number (S.state old) ≡ Some node
+        → length v.name ≤ longest_name (S.state old).books.geom.layout → AcceptsName (S.state old) f (make_cmd kind path) v.dir v.count }
     ensures map { (old : S) (new : Inodes) (f : Session) (kind : KindValue) (path : List (List ℕ)) (v : VacancyValue) (node : ℕ)
-        → IsSession (S.state old) f → MayAppear (files_in (S.state old) nothing_drafted) path (Fine v)
-        → least_number (S.state old) ≡ Some node
-        → AddsSlot (inodes (S.state old)) new v.dir node v.name (new_inode (first_thing kind)) → IsMapOf f.limit new (step f (make_cmd kind path)).0.tree }
+        → IsSession (S.state old) f → MayAppear (S.state old).books.geom.layout (files_in (S.state old) nothing_drafted) path (Fine v)
+        → least_number (S.state old) ≡ Some node → length v.name ≤ longest_name (S.state old).books.geom.layout
+        → AddsSlot (inodes (S.state old)) new v.dir node v.name (new_inode (first_thing kind))
+        → IsMapOf f.limit.nodes new (step f (make_cmd kind path)).0.tree }
 {
+    layouts_differ_in_long_names_alone();
     a_new_node_is_mapped();
     blocks_have_the_map_of_their_tree();
     counts_tell_what_is_shared::<S>();
@@ -349,26 +373,38 @@ fn the_tree_makes_nodes<S: Blocks>()
 }
 
 /// What the tree makes of a link, from what was looked up first. It is refused for this reason, or since the
-/// node is a directory or has too many links; or it is accepted, and a slot for the file makes its tree.
+/// node is a directory or has too many links, or the name is too long; or it is accepted, and a slot for the file
+/// makes its tree.
 fn the_tree_links_files<S: Blocks>()
     ensures nowhere { (old : S) (f : Session) (path other : List (List ℕ)) (why : RefusalValue) → IsSession (S.state old) f
-        → LeadsToFound (files_in (S.state old) nothing_drafted) path (Failed why) → refusal f.limit f.tree (Link path other) ≡ Some why }
+        → LeadsToFound (S.state old).books.geom.layout (files_in (S.state old) nothing_drafted) path (Failed why)
+        → refusal f.limit f.tree (Link path other) ≡ Some why }
     ensures refused { (old : S) (f : Session) (path other : List (List ℕ)) (found : FoundValue) (why : RefusalValue) → IsSession (S.state old) f
-        → LeadsToFound (files_in (S.state old) nothing_drafted) path (Fine found)
-        → MayAppear (files_in (S.state old) nothing_drafted) other (Failed why) → refusal f.limit f.tree (Link path other) ≡ Some why }
+        → LeadsToFound (S.state old).books.geom.layout (files_in (S.state old) nothing_drafted) path (Fine found)
+        → MayAppear (S.state old).books.geom.layout (files_in (S.state old) nothing_drafted) other (Failed why)
+        → refusal f.limit f.tree (Link path other) ≡ Some why }
     ensures directory { (old : S) (f : Session) (path other : List (List ℕ)) (found : FoundValue) (v : VacancyValue) → IsSession (S.state old) f
-        → LeadsToFound (files_in (S.state old) nothing_drafted) path (Fine found)
-        → MayAppear (files_in (S.state old) nothing_drafted) other (Fine v) → is_dir found.facts.kind ≡ true
+        → LeadsToFound (S.state old).books.geom.layout (files_in (S.state old) nothing_drafted) path (Fine found)
+        → MayAppear (S.state old).books.geom.layout (files_in (S.state old) nothing_drafted) other (Fine v) → is_dir found.facts.kind ≡ true
         → refusal f.limit f.tree (Link path other) ≡ Some IsDir }
     ensures many { (old : S) (f : Session) (path other : List (List ℕ)) (found : FoundValue) (v : VacancyValue) → IsSession (S.state old) f
-        → LeadsToFound (files_in (S.state old) nothing_drafted) path (Fine found)
-        → MayAppear (files_in (S.state old) nothing_drafted) other (Fine v) → is_dir found.facts.kind ≡ false → 65535 ≤ found.facts.links
+        → LeadsToFound (S.state old).books.geom.layout (files_in (S.state old) nothing_drafted) path (Fine found)
+        → MayAppear (S.state old).books.geom.layout (files_in (S.state old) nothing_drafted) other (Fine v) → is_dir found.facts.kind ≡ false
+        → 65535 ≤ found.facts.links
         → refusal f.limit f.tree (Link path other) ≡ Some TooManyLinks }
+    ensures long { (old : S) (f : Session) (path other : List (List ℕ)) (found : FoundValue) (v : VacancyValue) → IsSession (S.state old) f
+        → LeadsToFound (S.state old).books.geom.layout (files_in (S.state old) nothing_drafted) path (Fine found)
+        → MayAppear (S.state old).books.geom.layout (files_in (S.state old) nothing_drafted) other (Fine v) → is_dir found.facts.kind ≡ false
+        → found.facts.links < 65535 → longest_name (S.state old).books.geom.layout < length v.name
+        → refusal f.limit f.tree (Link path other) ≡ Some NameTooLong }
     ensures accepted { (old : S) (f : Session) (path other : List (List ℕ)) (found : FoundValue) (v : VacancyValue) → IsSession (S.state old) f
-        → LeadsToFound (files_in (S.state old) nothing_drafted) path (Fine found)
-        → MayAppear (files_in (S.state old) nothing_drafted) other (Fine v) → is_dir found.facts.kind ≡ false → found.facts.links < 65535
+        → LeadsToFound (S.state old).books.geom.layout (files_in (S.state old) nothing_drafted) path (Fine found)
+        → MayAppear (S.state old).books.geom.layout (files_in (S.state old) nothing_drafted) other (Fine v) → is_dir found.facts.kind ≡ false
+        → found.facts.links < 65535
+        → length v.name ≤ longest_name (S.state old).books.geom.layout
         → MayLink (S.state old) f (Link path other) v.dir v.count (slot_of found.number v.name) (found.facts.links + 1) }
 {
+    layouts_differ_in_long_names_alone();
     a_new_path_is_mapped();
     blocks_have_the_map_of_their_tree();
     the_map_gives_the_figures();
@@ -413,7 +449,7 @@ pub(crate) fn find_vacancy<S: Blocks>(
 ) -> Result<Result<Vacancy, Refusal>, FileRefusal>
     requires begin { MayBegin S.tells (S.state blocks.old) shared.now }
     ensures vacancy { IsTrue S.tells → IfOk result (λ vacancy. (t : Tree) → IsTreeOf (S.state blocks.old).books.geom (S.state blocks.old).map t
-        → MayAppear (files_in (S.state blocks.old) nothing_drafted) path.now vacancy) }
+        → MayAppear (S.state blocks.old).books.geom.layout (files_in (S.state blocks.old) nothing_drafted) path.now vacancy) }
     ensures dir { IfOk result (λ vacancy. IfOk vacancy (λ v. IsNumber (S.state blocks.old).books.geom.i v.dir)) }
     ensures few { IfOk result (λ vacancy. IfOk vacancy (λ v. v.count < 2 ^ 24)) }
     ensures refused { IfErr result LookRefused }
@@ -432,8 +468,8 @@ pub(crate) fn find_vacancy<S: Blocks>(
 
 /// The place for this name where a path comes to this, if nothing is there.
 fn vacancy_in(spot: &Spot, name: &Name) -> Result<Vacancy, Refusal>
-    ensures appears { (files : Files) (path up : List (List ℕ)) → ComesTo files path (Fine spot.now) → path ≡ up ++ name.now ∷ []
-        → MayAppear files path result }
+    ensures appears { (l : LayoutValue) (files : Files) (path up : List (List ℕ)) → ComesTo l files path (Fine spot.now) → path ≡ up ++ name.now ∷ []
+        → MayAppear l files path result }
     ensures dir { (limit : ℕ) → IsWithin limit spot.now → IfOk result (λ v. IsNumber limit v.dir) }
     ensures few { (limit : ℕ) → IsWithin limit spot.now → IfOk result (λ v. v.count < 2 ^ 24) }
 {
@@ -449,6 +485,13 @@ fn vacancy_in(spot: &Spot, name: &Name) -> Result<Vacancy, Refusal>
             }),
         },
     }
+}
+
+/// Whether a name has more bytes than one in a directory of the layout may have.
+pub(crate) fn is_long(name: &Name, layout: Layout) -> bool
+    ensures { result ≡ is_long layout (Some name.now) }
+{
+    name.as_bytes().len() > layout.longest_name()
 }
 
 /// The least number that no node has. All below `first_unused` are in use. `None` where all numbers of the
@@ -522,6 +565,7 @@ fn draft_node<'a, S: Blocks>(
     requires dir { IsNumber (S.state blocks.old).books.geom.i dir }
     requires few { count < 2 ^ 24 }
     requires there { IsTrue S.tells → HasCount (S.state blocks.old) nothing_drafted dir count }
+    requires short { length slot.now.name ≤ longest_name (S.state blocks.old).books.geom.layout }
     requires node { IsNumber (S.state blocks.old).books.geom.i slot.now.node }
     ensures draft { IfOk result (λ draft. IsDraftOf S.tells (S.state blocks.new) draft) }
     ensures kept { IfOk result (λ draft. draft.kept ≡ shared.now) }
@@ -534,10 +578,11 @@ fn draft_node<'a, S: Blocks>(
         → inodes (S.state blocks.old) dir ≡ Some (ADir slots)
         → AddsName (S.state blocks.old) (S.state blocks.new) draft dir slot.now.node slot.now.name (new_inode (first_thing kind)) slots) }
     ensures refused { IsTrue S.tells → IfErr result (λ why. (slots : List SlotValue) → inodes (S.state blocks.old) dir ≡ Some (ADir slots)
-        → GrowthRefused (growth (length slots)) (λ more. places_of (S.state blocks.old) dir ++ more) (S.state blocks.old).books
+        → GrowthRefused (growth (S.state blocks.old).books.geom.layout (length slots)) (λ more. places_of (S.state blocks.old) dir ++ more)
+        (S.state blocks.old).books
         (S.state blocks.new).books why) }
     ensures quiet { IsTrue S.tells → (slots : List SlotValue) → inodes (S.state blocks.old) dir ≡ Some (ADir slots)
-        → IsCalm (growth (length slots)) (S.state blocks.old) (S.state blocks.new) }
+        → IsCalm (growth (S.state blocks.old).books.geom.layout (length slots)) (S.state blocks.old) (S.state blocks.new) }
     ensures settles { LooksAndSettles S.tells (fails_reading result) (fails_settling result) (S.state blocks.old) (S.state blocks.new) }
 {
     a_draft_may_begin(blocks);
@@ -586,6 +631,7 @@ fn draft_link<'a, S: Blocks>(
     requires dir { IsNumber (S.state blocks.old).books.geom.i dir }
     requires few { count < 2 ^ 24 }
     requires there { IsTrue S.tells → HasCount (S.state blocks.old) nothing_drafted dir count }
+    requires short { length slot.now.name ≤ longest_name (S.state blocks.old).books.geom.layout }
     requires node { IsNumber (S.state blocks.old).books.geom.i slot.now.node }
     requires used { IsTrue S.tells → IsUsed (files_in (S.state blocks.old) nothing_drafted) slot.now.node }
     requires some { 1 ≤ links }
@@ -602,10 +648,11 @@ fn draft_link<'a, S: Blocks>(
         → inodes (S.state blocks.old) dir ≡ Some (ADir slots)
         → AddsName (S.state blocks.old) (S.state blocks.new) draft dir slot.now.node slot.now.name (AFile links bytes) slots) }
     ensures refused { IsTrue S.tells → IfErr result (λ why. (slots : List SlotValue) → inodes (S.state blocks.old) dir ≡ Some (ADir slots)
-        → GrowthRefused (growth (length slots)) (λ more. places_of (S.state blocks.old) dir ++ more) (S.state blocks.old).books
+        → GrowthRefused (growth (S.state blocks.old).books.geom.layout (length slots)) (λ more. places_of (S.state blocks.old) dir ++ more)
+        (S.state blocks.old).books
         (S.state blocks.new).books why) }
     ensures quiet { IsTrue S.tells → (slots : List SlotValue) → inodes (S.state blocks.old) dir ≡ Some (ADir slots)
-        → IsCalm (growth (length slots)) (S.state blocks.old) (S.state blocks.new) }
+        → IsCalm (growth (S.state blocks.old).books.geom.layout (length slots)) (S.state blocks.old) (S.state blocks.new) }
     ensures settles { LooksAndSettles S.tells (fails_reading result) (fails_settling result) (S.state blocks.old) (S.state blocks.new) }
 {
     a_draft_may_begin(blocks);

@@ -2,6 +2,7 @@
 //! `fs_session`.
 
 ghost use Rattle.std.specs.Prelude.{◌≡◌, true, IfOk};
+ghost use Rattle.crash_stands.specs.Bounds.{bounds_of};
 ghost use Rattle.engine_blocks.specs.PlainOf.{state_of};
 ghost use Rattle.lang_tree.specs.Step.{start};
 ghost use Rattle.fs_session.specs.Memory.{room_of};
@@ -28,7 +29,7 @@ use std::alloc::Global;
 /// Out of memory.
 pub fn formatted_in_memory(alloc: Global, geom: &Geom) -> Result<Fs<PlainBlocks>, NoMemory>
     ensures geom { IfOk result (λ fs. (state_of (blocks_in fs)).books.geom ≡ geom.now) }
-    ensures session { IfOk result (λ fs. IsSession (state_of (blocks_in fs)) (start geom.now.i)) }
+    ensures session { IfOk result (λ fs. IsSession (state_of (blocks_in fs)) (start (bounds_of geom.now))) }
     ensures room { IfOk result (λ fs. IsFirstRoom geom.now (room_of (state_of (blocks_in fs)))) }
     ensures follows { IfOk result (λ fs. MayFollow true state_of fs) }
 {

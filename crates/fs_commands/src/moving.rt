@@ -2,6 +2,7 @@
 //! what it needs, and plans a draft. Nothing of that is made here.
 
 ghost use Rattle.std.specs.Prelude.{◌≡◌, ◌≢◌, ◌<◌, ◌≤◌, ◌+◌, ◌++◌, ◌^◌, [], ℕ, IsTrue, List, length, take, Option, None, Some, IfSome, IfOk, IfErr};
+ghost use Rattle.base_types.specs.Layouts.{longest_name};
 ghost use Rattle.lang_tree.specs.declared.command.Cmd.TheVariants.{Rename};
 ghost use Rattle.lang_tree.specs.Figures.{growth, release};
 ghost use Rattle.lang_tree.specs.Sharing.{none_shared};
@@ -82,13 +83,15 @@ fn draft_onto<'a, S: Blocks>(
     requires onto_dir { IsNumber (S.state blocks.old).books.geom.i target.now.dir }
     requires onto_entry { MayBeEntry (S.state blocks.old).books.geom.i target.now.entry }
     requires moves { IsTrue S.tells → (name : List ℕ) × MayMoveOnto (S.state blocks.old) source.now target.now name other.now }
+    requires short { length other.now ≤ longest_name (S.state blocks.old).books.geom.layout }
     ensures draft { IfOk result (λ draft. IsDraftOf S.tells (S.state blocks.new) draft) }
     ensures kept { IfOk result (λ draft. draft.kept ≡ shared.now) }
     ensures leaves { IsTrue S.tells → IfOk result (λ draft. LeavesSnapshots (files_in (S.state blocks.old) nothing_drafted)
         (files_in (S.state blocks.new) draft) (places_of (S.state blocks.old)) (places_in (S.state blocks.new) draft)) }
     ensures moves { IsTrue S.tells → IfOk result (λ draft. (name : List ℕ) → MayMoveOnto (S.state blocks.old) source.now target.now name other.now
         → MovesName (S.state blocks.old) (S.state blocks.new) draft source.now.dir target.now.dir source.now.entry.node.number name other.now 5 []
-        (release source.now.count + blocks_gone (is_kept shared.now) target.now.entry.node.facts (places_of (S.state blocks.old) target.now.entry.node.number))
+        (release (S.state blocks.old).books.geom.layout source.now.count + blocks_gone (is_kept shared.now) target.now.entry.node.facts (places_of
+        (S.state blocks.old) target.now.entry.node.number))
         (use_after target.now.entry.node)) }
     ensures refused { IfErr result LookRefused }
     ensures looks { LooksOnly S.tells (fails_reading result) (S.state blocks.old) (S.state blocks.new) }
@@ -140,6 +143,7 @@ fn draft_within<'a, S: Blocks>(
     requires dir { IsNumber (S.state blocks.old).books.geom.i source.now.dir }
     requires entry { MayBeEntry (S.state blocks.old).books.geom.i source.now.entry }
     requires moves { IsTrue S.tells → (name : List ℕ) × MayRename (S.state blocks.old) source.now name other.now }
+    requires short { length other.now ≤ longest_name (S.state blocks.old).books.geom.layout }
     ensures draft { IfOk result (λ draft. IsDraftOf S.tells (S.state blocks.new) draft) }
     ensures kept { IfOk result (λ draft. draft.kept ≡ shared.now) }
     ensures leaves { IsTrue S.tells → IfOk result (λ draft. LeavesSnapshots (files_in (S.state blocks.old) nothing_drafted)
@@ -177,7 +181,7 @@ fn draft_within<'a, S: Blocks>(
 /// there, and the source's went.
 ///
 /// # Errors
-/// Where the directory grows by a block: none may be taken; its blocks would lie in more than 28 runs; or the
+/// Where the directory grows by a block: none may be taken; its blocks would lie in more runs than it has room for; or the
 /// disk failed as it settled. Else as `draft_onto`.
 fn draft_across<'a, S: Blocks>(
     alloc: Global,
@@ -196,22 +200,26 @@ fn draft_across<'a, S: Blocks>(
     requires into { IsNumber (S.state blocks.old).books.geom.i into }
     requires few { count < 2 ^ 24 }
     requires moves { IsTrue S.tells → (name : List ℕ) × MayMoveAway (S.state blocks.old) source.now into count name other.now }
+    requires short { length other.now ≤ longest_name (S.state blocks.old).books.geom.layout }
     ensures draft { IfOk result (λ draft. IsDraftOf S.tells (S.state blocks.new) draft) }
     ensures kept { IfOk result (λ draft. draft.kept ≡ shared.now) }
     ensures leaves { IsTrue S.tells → IfOk result (λ draft. LeavesSnapshots (files_in (S.state blocks.old) nothing_drafted)
         (files_in (S.state blocks.new) draft) (places_of (S.state blocks.old)) (places_in (S.state blocks.new) draft)) }
     ensures moves { IsTrue S.tells → IfOk result (λ draft. (name : List ℕ) → MayMoveAway (S.state blocks.old) source.now into count name other.now
         → MovesName (S.state blocks.old) (S.state blocks.new) draft source.now.dir into source.now.entry.node.number name other.now 5
-        (take (growth count) (reusable_blocks (S.state blocks.new).books)) (release source.now.count) Stays) }
+        (take (growth (S.state blocks.old).books.geom.layout count) (reusable_blocks (S.state blocks.new).books)) (release
+        (S.state blocks.old).books.geom.layout source.now.count) Stays) }
     ensures rests { IsTrue S.tells → IfOk result (λ draft. (name : List ℕ) → MayMoveAway (S.state blocks.old) source.now into count name other.now
-        → growth count ≤ length (reusable_blocks (S.state blocks.old).books) → (S.state blocks.new).books ≡ (S.state blocks.old).books) }
+        → growth (S.state blocks.old).books.geom.layout count ≤ length (reusable_blocks (S.state blocks.old).books)
+        → (S.state blocks.new).books ≡ (S.state blocks.old).books) }
     ensures grows { IsTrue S.tells → IfOk result (λ draft. (name : List ℕ)
         → MayMoveAway (S.state blocks.old) source.now into count name other.now
-        → GrowsInRuns none_shared (S.state blocks.old) (S.state blocks.new).books into (growth count)) }
+        → GrowsInRuns none_shared (S.state blocks.old) (S.state blocks.new).books into (growth (S.state blocks.old).books.geom.layout count)) }
     ensures refused { IsTrue S.tells → IfErr result (λ why. (name : List ℕ) → MayMoveAway (S.state blocks.old) source.now into count name other.now
-        → GrowthRefused (growth count) (λ more. places_of (S.state blocks.old) into ++ more) (S.state blocks.old).books (S.state blocks.new).books why) }
+        → GrowthRefused (growth (S.state blocks.old).books.geom.layout count) (λ more. places_of (S.state blocks.old) into ++ more)
+        (S.state blocks.old).books (S.state blocks.new).books why) }
     ensures quiet { IsTrue S.tells → (name : List ℕ) → MayMoveAway (S.state blocks.old) source.now into count name other.now
-        → IsCalm (growth count) (S.state blocks.old) (S.state blocks.new) }
+        → IsCalm (growth (S.state blocks.old).books.geom.layout count) (S.state blocks.old) (S.state blocks.new) }
     ensures settles { LooksAndSettles S.tells (fails_reading result) (fails_settling result) (S.state blocks.old) (S.state blocks.new) }
 {
     a_draft_may_begin(blocks);
@@ -256,9 +264,13 @@ pub(crate) fn plan_move<'a, S: Blocks>(
     requires few { spot.now.count < 2 ^ 24 }
     requires found { IfSome spot.now.found (MayBeEntry (S.state blocks.old).books.geom.i) }
     requires known { IsTrue S.tells → (from : List (List ℕ)) × (to : List (List ℕ))
-        × IsMove (files_in (S.state blocks.old) nothing_drafted) from to source.now spot.now.dir spot.now.count spot.now.found other.now }
+        × IsMove (S.state blocks.old).books.geom.layout (files_in
+        (S.state blocks.old) nothing_drafted) from to source.now spot.now.dir spot.now.count spot.now.found other.now }
+    requires short { length other.now ≤ longest_name (S.state blocks.old).books.geom.layout }
     ensures plans { (from to : List (List ℕ))
-        → (IsTrue S.tells → IsMove (files_in (S.state blocks.old) nothing_drafted) from to source.now spot.now.dir spot.now.count spot.now.found
+        → (IsTrue S.tells
+        → IsMove (S.state blocks.old).books.geom.layout (files_in
+        (S.state blocks.old) nothing_drafted) from to source.now spot.now.dir spot.now.count spot.now.found
         other.now) → Plans S.tells (Rename from to) result (S.state blocks.old) (S.state blocks.new) }
     ensures made { OnChange result (λ draft cost nodes. MayBeMade S.tells draft cost nodes (S.state blocks.new)) }
 {
@@ -298,10 +310,13 @@ fn plan_onto<'a, S: Blocks>(
     requires onto_dir { IsNumber (S.state blocks.old).books.geom.i target.now.dir }
     requires onto_entry { MayBeEntry (S.state blocks.old).books.geom.i target.now.entry }
     requires known { IsTrue S.tells → (from : List (List ℕ)) × (to : List (List ℕ))
-        × IsMove (files_in (S.state blocks.old) nothing_drafted) from to source.now target.now.dir target.now.count (Some target.now.entry)
+        × IsMove (S.state blocks.old).books.geom.layout (files_in (S.state blocks.old) nothing_drafted) from to source.now target.now.dir target.now.count
+        (Some target.now.entry)
         other.now }
+    requires short { length other.now ≤ longest_name (S.state blocks.old).books.geom.layout }
     ensures plans { (from to : List (List ℕ))
-        → (IsTrue S.tells → IsMove (files_in (S.state blocks.old) nothing_drafted) from to source.now target.now.dir target.now.count
+        → (IsTrue S.tells
+        → IsMove (S.state blocks.old).books.geom.layout (files_in (S.state blocks.old) nothing_drafted) from to source.now target.now.dir target.now.count
         (Some target.now.entry) other.now) → Plans S.tells (Rename from to) result (S.state blocks.old) (S.state blocks.new) }
     ensures made { OnChange result (λ draft cost nodes. MayBeMade S.tells draft cost nodes (S.state blocks.new)) }
 {
@@ -332,12 +347,15 @@ fn plan_onto_lost<'a, S: Blocks>(
     requires onto_dir { IsNumber (S.state blocks.old).books.geom.i target.now.dir }
     requires onto_entry { MayBeEntry (S.state blocks.old).books.geom.i target.now.entry }
     requires known { IsTrue S.tells → (from : List (List ℕ)) × (to : List (List ℕ))
-        × IsMove (files_in (S.state blocks.old) nothing_drafted) from to source.now target.now.dir target.now.count (Some target.now.entry)
+        × IsMove (S.state blocks.old).books.geom.layout (files_in (S.state blocks.old) nothing_drafted) from to source.now target.now.dir target.now.count
+        (Some target.now.entry)
         other.now }
     requires gone { IsTrue S.tells → LosesBlocks (S.state blocks.old) shared.now target.now.entry.node gone }
     requires few { gone ≤ 1048576 }
+    requires short { length other.now ≤ longest_name (S.state blocks.old).books.geom.layout }
     ensures plans { (from to : List (List ℕ))
-        → (IsTrue S.tells → IsMove (files_in (S.state blocks.old) nothing_drafted) from to source.now target.now.dir target.now.count
+        → (IsTrue S.tells
+        → IsMove (S.state blocks.old).books.geom.layout (files_in (S.state blocks.old) nothing_drafted) from to source.now target.now.dir target.now.count
         (Some target.now.entry) other.now) → Plans S.tells (Rename from to) result (S.state blocks.old) (S.state blocks.new) }
     ensures made { OnChange result (λ draft cost nodes. MayBeMade S.tells draft cost nodes (S.state blocks.new)) }
 {
@@ -352,8 +370,13 @@ fn plan_onto_lost<'a, S: Blocks>(
     the_map_gives_the_figures();
     the_map_gives_the_refusal();
     the_map_gives_the_reply();
-    let bitmap = blocks.geom().bitmap_blocks();
-    let figures = moving(bitmap, 0, release(u64::from(source.count)) + gone);
+    let geom = blocks.geom();
+    let bitmap = geom.bitmap_blocks();
+    let figures = moving(
+        bitmap,
+        0,
+        release(u64::from(source.count), geom.layout()) + gone,
+    );
     match has_room(blocks, &figures) {
         Ok(()) => {}
         Err(why) => return Err(why),
@@ -386,9 +409,13 @@ fn plan_within<'a, S: Blocks>(
     requires dir { IsNumber (S.state blocks.old).books.geom.i source.now.dir }
     requires entry { MayBeEntry (S.state blocks.old).books.geom.i source.now.entry }
     requires known { IsTrue S.tells → (from : List (List ℕ)) × (to : List (List ℕ))
-        × IsMove (files_in (S.state blocks.old) nothing_drafted) from to source.now source.now.dir source.now.count None other.now }
+        × IsMove (S.state blocks.old).books.geom.layout (files_in
+        (S.state blocks.old) nothing_drafted) from to source.now source.now.dir source.now.count None other.now }
+    requires short { length other.now ≤ longest_name (S.state blocks.old).books.geom.layout }
     ensures plans { (from to : List (List ℕ))
-        → (IsTrue S.tells → IsMove (files_in (S.state blocks.old) nothing_drafted) from to source.now source.now.dir source.now.count None other.now)
+        → (IsTrue S.tells
+        → IsMove (S.state blocks.old).books.geom.layout (files_in
+        (S.state blocks.old) nothing_drafted) from to source.now source.now.dir source.now.count None other.now)
         → Plans S.tells (Rename from to) result (S.state blocks.old) (S.state blocks.new) }
     ensures made { OnChange result (λ draft cost nodes. MayBeMade S.tells draft cost nodes (S.state blocks.new)) }
 {
@@ -440,9 +467,11 @@ fn plan_across<'a, S: Blocks>(
     requires few { count < 2 ^ 24 }
     requires apart { source.now.dir ≢ into }
     requires known { IsTrue S.tells → (from : List (List ℕ)) × (to : List (List ℕ))
-        × IsMove (files_in (S.state blocks.old) nothing_drafted) from to source.now into count None other.now }
+        × IsMove (S.state blocks.old).books.geom.layout (files_in (S.state blocks.old) nothing_drafted) from to source.now into count None other.now }
+    requires short { length other.now ≤ longest_name (S.state blocks.old).books.geom.layout }
     ensures plans { (from to : List (List ℕ))
-        → (IsTrue S.tells → IsMove (files_in (S.state blocks.old) nothing_drafted) from to source.now into count None other.now)
+        → (IsTrue S.tells
+        → IsMove (S.state blocks.old).books.geom.layout (files_in (S.state blocks.old) nothing_drafted) from to source.now into count None other.now)
         → Plans S.tells (Rename from to) result (S.state blocks.old) (S.state blocks.new) }
     ensures made { OnChange result (λ draft cost nodes. MayBeMade S.tells draft cost nodes (S.state blocks.new)) }
 {
@@ -456,11 +485,11 @@ fn plan_across<'a, S: Blocks>(
     the_map_gives_the_figures();
     the_map_gives_the_refusal();
     the_map_gives_the_reply();
-    let bitmap = blocks.geom().bitmap_blocks();
+    let geom = blocks.geom();
     let figures = moving(
-        bitmap,
-        growth(u64::from(count)),
-        release(u64::from(source.count)),
+        geom.bitmap_blocks(),
+        growth(u64::from(count), geom.layout()),
+        release(u64::from(source.count), geom.layout()),
     );
     match has_room(blocks, &figures) {
         Ok(()) => {}
@@ -483,12 +512,14 @@ fn plan_across<'a, S: Blocks>(
 fn a_move_is_known<S: Blocks>(blocks: &S, shared: &Shared)
     requires begin { MayBegin S.tells (S.state blocks.now) shared.now }
     ensures knows { IsTrue S.tells → (from to : List (List ℕ)) (source : Named) (into count : ℕ) (found : Option Entry) (other : List ℕ)
-        → IsMove (files_in (S.state blocks.now) nothing_drafted) from to source into count found other
-        → KnowsMove (files_in (S.state blocks.now) nothing_drafted) from to source into count found other }
+        → IsMove (S.state blocks.now).books.geom.layout (files_in (S.state blocks.now) nothing_drafted) from to source into count found other
+        → KnowsMove (S.state blocks.now).books.geom.layout (files_in (S.state blocks.now) nothing_drafted) from to source into count found other }
     ensures onto { IsTrue S.tells → (t : Tree) (from to : List (List ℕ)) (source target : Named) (other : List ℕ)
         → IsTreeOf (S.state blocks.now).books.geom (S.state blocks.now).map t
-        → IsMove (files_in (S.state blocks.now) nothing_drafted) from to source target.dir target.count (Some target.entry) other
-        → (k : KnowsMove (files_in (S.state blocks.now) nothing_drafted) from to source target.dir target.count (Some target.entry) other)
+        → IsMove (S.state blocks.now).books.geom.layout (files_in (S.state blocks.now) nothing_drafted) from to source target.dir target.count
+        (Some target.entry) other
+        → (k : KnowsMove (S.state blocks.now).books.geom.layout (files_in (S.state blocks.now) nothing_drafted) from to source target.dir target.count
+        (Some target.entry) other)
         → MayMoveOnto (S.state blocks.now) source target k.name other
         × HasFacts (inodes (S.state blocks.now)) to target.entry.node.facts.links target.entry.node.facts.size
         × (target.entry.node.facts.size ≤ 1073741824)

@@ -74,7 +74,7 @@ pub(crate) fn find_node<S: Blocks>(
 ) -> Result<Result<NodeFound, Refusal>, FileRefusal>
     requires begin { MayBegin S.tells (S.state blocks.old) shared.now }
     ensures found { IsTrue S.tells → IfOk result (λ found. (t : Tree) → IsTreeOf (S.state blocks.old).books.geom (S.state blocks.old).map t
-        → LeadsToFound (files_in (S.state blocks.old) nothing_drafted) path.now found) }
+        → LeadsToFound (S.state blocks.old).books.geom.layout (files_in (S.state blocks.old) nothing_drafted) path.now found) }
     ensures there { IsTrue S.tells → IfOk result
         (λ found. IfOk found (λ f. (x : FileNode) × (files_in (S.state blocks.old) nothing_drafted f.number ≡ Some x) × (f.facts ≡ facts_of x))) }
     ensures number { IfOk result (λ found. IfOk found (λ f. IsNumber (S.state blocks.old).books.geom.i f.number)) }
@@ -99,8 +99,8 @@ pub(crate) fn find_in<N: Nodes, S: Blocks>(
 ) -> Result<Result<NodeFound, Refusal>, FileRefusal>
     requires read { MayRead (N.may_read S.tells (S.state blocks.old) files.now) (S.state blocks.old) }
     ensures found { IsTrue S.tells → IfOk result (λ found. (t : Tree)
-        → IsMapOf (S.state blocks.old).books.geom.i (inodes_of (N.nodes (S.state blocks.old) files.now).files) t
-        → LeadsToFound (N.nodes (S.state blocks.old) files.now).files path.now found) }
+        → IsMapOf (S.state blocks.old).books.geom.i (inodes_of (S.state blocks.old).books.geom.layout (N.nodes (S.state blocks.old) files.now).files) t
+        → LeadsToFound (S.state blocks.old).books.geom.layout (N.nodes (S.state blocks.old) files.now).files path.now found) }
     ensures there { IsTrue S.tells → IfOk result
         (λ found. IfOk found (λ f. (x : FileNode) × ((N.nodes (S.state blocks.old) files.now).files f.number ≡ Some x) × (f.facts ≡ facts_of x))) }
     ensures number { IfOk result (λ found. IfOk found (λ f. IsNumber (S.state blocks.old).books.geom.i f.number)) }
@@ -133,7 +133,7 @@ pub(crate) fn look_up<S: Blocks>(
 ) -> Result<Result<Spot, Refusal>, FileRefusal>
     requires begin { MayBegin S.tells (S.state blocks.old) shared.now }
     ensures comes { IsTrue S.tells → IfOk result (λ spot. (t : Tree) → IsTreeOf (S.state blocks.old).books.geom (S.state blocks.old).map t
-        → ComesTo (files_in (S.state blocks.old) nothing_drafted) path.now spot) }
+        → ComesTo (S.state blocks.old).books.geom.layout (files_in (S.state blocks.old) nothing_drafted) path.now spot) }
     ensures within { IfOk result (λ spot. IfOk spot (IsWithin (S.state blocks.old).books.geom.i)) }
     ensures refused { IfErr result LookRefused }
     ensures looks { LooksOnly S.tells (fails_reading result) (S.state blocks.old) (S.state blocks.new) }
@@ -175,7 +175,7 @@ fn find_entry<S: Blocks>(
     ensures entry { IsTrue S.tells → IfOk result (λ entry. (t : Tree) (slots : List Slot)
         → IsMapOf (S.state blocks.old).books.geom.i (inodes_in (S.state blocks.old) draft.now) t
         → inodes_in (S.state blocks.old) draft.now dir.now.number ≡ Some (ADir slots)
-        → HasEntry (files_in (S.state blocks.old) draft.now) dir.now.number (length slots) name.now entry) }
+        → HasEntry (S.state blocks.old).books.geom.layout (files_in (S.state blocks.old) draft.now) dir.now.number (length slots) name.now entry) }
     ensures within { IfOk result (λ entry. IfSome entry (MayBeEntry (S.state blocks.old).books.geom.i)) }
     ensures refused { IfErr result LookRefused }
     ensures looks { LooksOnly S.tells (fails_reading result) (S.state blocks.old) (S.state blocks.new) }

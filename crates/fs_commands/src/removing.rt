@@ -39,6 +39,7 @@ use crate::paths::{Entry, NodeFound, Spot, look_up};
 use crate::prices::small_drafts_are_within_the_cost;
 use crate::refusals::refusal_of;
 use crate::sharing::blocks_gone;
+use base_types::Layout;
 use base_types::limits::{MOST_LINKS, ROOT};
 use crash_stands::{blocks_have_a_map, files_have_one_map};
 use engine_blocks::{Blocks, calls_compose};
@@ -142,7 +143,7 @@ fn plan_loss_at<'a, S: Blocks>(
     shared: &'a Shared,
 ) -> Result<Plan<'a>, Refusal>
     requires may { MayPlan S.tells (S.state blocks.old) shared.now }
-    requires comes { IsTrue S.tells → ComesTo (files_in (S.state blocks.old) nothing_drafted) path.now (Fine spot.now) }
+    requires comes { IsTrue S.tells → ComesTo (S.state blocks.old).books.geom.layout (files_in (S.state blocks.old) nothing_drafted) path.now (Fine spot.now) }
     requires within { IsWithin (S.state blocks.old).books.geom.i spot.now }
     ensures plans { Plans S.tells (lose_cmd kind path.now) result (S.state blocks.old) (S.state blocks.new) }
     ensures made { OnChange result (λ draft cost nodes. MayBeMade S.tells draft cost nodes (S.state blocks.new)) }
@@ -205,7 +206,8 @@ pub(crate) fn lose_link<S: Blocks>(
     requires draft { IsDraftOf S.tells (S.state blocks.old) draft.old }
     requires found { IsTrue S.tells → IsFound (files_in (S.state blocks.old) draft.old) node.now }
     ensures link { IsTrue S.tells → OnOk result ((x : Inode) → inodes_in (S.state blocks.old) draft.old node.now.number ≡ Some x
-        → LosesLink (files_in (S.state blocks.old) draft.old) (files_in (S.state blocks.new) draft.new) node.now.number) }
+        → LosesLink (S.state blocks.old).books.geom.layout (files_in (S.state blocks.old) draft.old) (files_in
+        (S.state blocks.new) draft.new) node.now.number) }
     ensures placed { IsTrue S.tells
         → OnOk result (ArePlaced none_renewed (places_in (S.state blocks.old) draft.old) (places_in (S.state blocks.new) draft.new) []) }
     ensures draft { OnOk result (IsDraftOf S.tells (S.state blocks.new) draft.new) }
@@ -329,12 +331,14 @@ fn draft_loss<'a, S: Blocks>(
     requires stands { IsTrue S.tells → Stands (S.state blocks.old) }
     requires dir { IsNumber (S.state blocks.old).books.geom.i named.now.dir }
     requires entry { MayBeEntry (S.state blocks.old).books.geom.i named.now.entry }
-    requires named { IsTrue S.tells → (name : List ℕ) × IsNamed (files_in (S.state blocks.old) nothing_drafted) name named.now }
+    requires named { IsTrue S.tells
+        → (name : List ℕ) × IsNamed (S.state blocks.old).books.geom.layout (files_in (S.state blocks.old) nothing_drafted) name named.now }
     ensures draft { IfOk result (λ draft. IsDraftOf S.tells (S.state blocks.new) draft) }
     ensures kept { IfOk result (λ draft. draft.kept ≡ shared.now) }
     ensures leaves { IsTrue S.tells → IfOk result (λ draft. LeavesSnapshots (files_in (S.state blocks.old) nothing_drafted)
         (files_in (S.state blocks.new) draft) (places_of (S.state blocks.old)) (places_in (S.state blocks.new) draft)) }
-    ensures loses { IsTrue S.tells → IfOk result (λ draft. (name : List ℕ) → IsNamed (files_in (S.state blocks.old) nothing_drafted) name named.now
+    ensures loses { IsTrue S.tells → IfOk result (λ draft. (name : List ℕ)
+        → IsNamed (S.state blocks.old).books.geom.layout (files_in (S.state blocks.old) nothing_drafted) name named.now
         → LosesName (S.state blocks.old) (S.state blocks.new) draft name named.now) }
     ensures refused { IfErr result LookRefused }
     ensures looks { LooksOnly S.tells (fails_reading result) (S.state blocks.old) (S.state blocks.new) }
@@ -360,7 +364,7 @@ pub(crate) fn what_stands_there_is_shown<S: Blocks>(blocks: &S, shared: &Shared)
     requires begin { MayBegin S.tells (S.state blocks.now) shared.now }
     ensures { IsTrue S.tells → (t : Tree) (path : List (List ℕ)) (dir count : ℕ) (e : Entry)
         → IsTreeOf (S.state blocks.now).books.geom (S.state blocks.now).map t
-        → ComesTo (files_in (S.state blocks.now) nothing_drafted) path (Fine (Inside dir count (Some e)))
+        → ComesTo (S.state blocks.now).books.geom.layout (files_in (S.state blocks.now) nothing_drafted) path (Fine (Inside dir count (Some e)))
         → ShowsFacts (inodes (S.state blocks.now)) path e.node.facts }
 {
     a_draft_may_begin(blocks);
@@ -374,8 +378,9 @@ pub(crate) fn what_stands_there_is_shown<S: Blocks>(blocks: &S, shared: &Shared)
 fn what_goes_is_known<S: Blocks>(blocks: &S, shared: &Shared)
     requires begin { MayBegin S.tells (S.state blocks.now) shared.now }
     ensures { IsTrue S.tells → (t : Tree) (kind : Kind) (path : List (List ℕ)) (n : Named)
-        → IsTreeOf (S.state blocks.now).books.geom (S.state blocks.now).map t → IsLoss kind (files_in (S.state blocks.now) nothing_drafted) path n
-        → KnowsLoss kind (files_in (S.state blocks.now) nothing_drafted) path n }
+        → IsTreeOf (S.state blocks.now).books.geom (S.state blocks.now).map t
+        → IsLoss kind (S.state blocks.now).books.geom.layout (files_in (S.state blocks.now) nothing_drafted) path n
+        → KnowsLoss kind (S.state blocks.now).books.geom.layout (files_in (S.state blocks.now) nothing_drafted) path n }
 {
     a_draft_may_begin(blocks);
     a_directory_has_whole_slots::<S>();
@@ -388,14 +393,14 @@ fn what_goes_is_known<S: Blocks>(blocks: &S, shared: &Shared)
 }
 
 /// The figures of a command by which a name goes: from a directory of so many slots, with so many blocks of its node.
-fn loss_figures(kind: Kind, bitmap: u32, count: u32, gone: u32) -> Figures
+fn loss_figures(kind: Kind, bitmap: u32, count: u32, gone: u32, layout: Layout) -> Figures
     requires { gone ≤ 1048576 }
     ensures { (shared : SharedNodes) (m : Inodes) (path : List (List ℕ)) → count ≡ slots_above m path → gone ≡ blocks_lost shared m path
-        → AreFiguresOf bitmap shared m (lose_cmd kind path) (value_of result) }
+        → AreFiguresOf layout bitmap shared m (lose_cmd kind path) (value_of result) }
 {
     match kind {
-        Kind::File => unlink_figures(bitmap, u64::from(count), gone),
-        Kind::Dir => rmdir_figures(bitmap, u64::from(count)),
+        Kind::File => unlink_figures(bitmap, u64::from(count), gone, layout),
+        Kind::Dir => rmdir_figures(bitmap, u64::from(count), layout),
     }
 }
 
@@ -423,8 +428,10 @@ fn plan_name_loss<'a, S: Blocks>(
     requires may { MayPlan S.tells (S.state blocks.old) shared.now }
     requires dir { IsNumber (S.state blocks.old).books.geom.i named.now.dir }
     requires entry { MayBeEntry (S.state blocks.old).books.geom.i named.now.entry }
-    requires loss { IsTrue S.tells → (path : List (List ℕ)) × IsLoss kind (files_in (S.state blocks.old) nothing_drafted) path named.now }
-    ensures plans { (path : List (List ℕ)) → (IsTrue S.tells → IsLoss kind (files_in (S.state blocks.old) nothing_drafted) path named.now)
+    requires loss { IsTrue S.tells
+        → (path : List (List ℕ)) × IsLoss kind (S.state blocks.old).books.geom.layout (files_in (S.state blocks.old) nothing_drafted) path named.now }
+    ensures plans { (path : List (List ℕ)) → (IsTrue S.tells
+        → IsLoss kind (S.state blocks.old).books.geom.layout (files_in (S.state blocks.old) nothing_drafted) path named.now)
         → Plans S.tells (lose_cmd kind path) result (S.state blocks.old) (S.state blocks.new) }
     ensures made { OnChange result (λ draft cost nodes. MayBeMade S.tells draft cost nodes (S.state blocks.new)) }
 {
@@ -451,10 +458,12 @@ fn plan_loss_of<'a, S: Blocks>(
     requires may { MayPlan S.tells (S.state blocks.old) shared.now }
     requires dir { IsNumber (S.state blocks.old).books.geom.i named.now.dir }
     requires entry { MayBeEntry (S.state blocks.old).books.geom.i named.now.entry }
-    requires loss { IsTrue S.tells → (path : List (List ℕ)) × IsLoss kind (files_in (S.state blocks.old) nothing_drafted) path named.now }
+    requires loss { IsTrue S.tells
+        → (path : List (List ℕ)) × IsLoss kind (S.state blocks.old).books.geom.layout (files_in (S.state blocks.old) nothing_drafted) path named.now }
     requires gone { IsTrue S.tells → LosesBlocks (S.state blocks.old) shared.now named.now.entry.node gone }
     requires few { gone ≤ 1048576 }
-    ensures plans { (path : List (List ℕ)) → (IsTrue S.tells → IsLoss kind (files_in (S.state blocks.old) nothing_drafted) path named.now)
+    ensures plans { (path : List (List ℕ)) → (IsTrue S.tells
+        → IsLoss kind (S.state blocks.old).books.geom.layout (files_in (S.state blocks.old) nothing_drafted) path named.now)
         → Plans S.tells (lose_cmd kind path) result (S.state blocks.old) (S.state blocks.new) }
     ensures made { OnChange result (λ draft cost nodes. MayBeMade S.tells draft cost nodes (S.state blocks.new)) }
 {
@@ -469,7 +478,7 @@ fn plan_loss_of<'a, S: Blocks>(
     the_map_gives_the_refusal();
     small_drafts_are_within_the_cost();
     let bitmap = blocks.geom().bitmap_blocks();
-    let figures = loss_figures(kind, bitmap, named.count, gone);
+    let figures = loss_figures(kind, bitmap, named.count, gone, blocks.geom().layout());
     match has_room(blocks, &figures) {
         Ok(()) => {}
         Err(why) => return Err(why),

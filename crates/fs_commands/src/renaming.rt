@@ -1,11 +1,13 @@
 //! What a rename comes upon: both paths are looked up, and the tree's refusal is found from reads alone. How a
 //! move that the tree accepts is drafted is described elsewhere.
 
-ghost use Rattle.std.specs.Prelude.{◌≡◌, ◌≢◌, ◌<◌, ◌^◌, ◌++◌, ◌∷◌, [], ℕ, IsTrue, true, false, List, Option, None, Some, IfSome, option_map, Ok as Fine};
+ghost use Rattle.std.specs.Prelude.{◌≡◌, ◌≢◌, ◌<◌, ◌≤◌, ◌^◌, ◌++◌, ◌∷◌, [], ℕ, IsTrue, true, false, if◌then◌else◌, List, length, Option, None, Some};
+ghost use Rattle.std.specs.Prelude.{IfNone, IfSome, option_map, Ok as Fine};
 ghost use Rattle.lang_tree.specs.declared.command.Cmd.TheVariants.{Rename};
-ghost use Rattle.lang_tree.specs.declared.command.Refusal.TheVariants.{BelowItself};
+ghost use Rattle.base_types.specs.Layouts.{longest_name};
+ghost use Rattle.lang_tree.specs.declared.command.Refusal.TheVariants.{BelowItself, NameTooLong};
 ghost use Rattle.lang_tree.specs.Conditions.{first_reason, when};
-ghost use Rattle.lang_tree.specs.Paths.{is_below, parent};
+ghost use Rattle.lang_tree.specs.Paths.{is_below, is_long, parent};
 ghost use Rattle.lang_tree.specs.Tree.{Tree};
 ghost use Rattle.lang_tree.specs.Walk.{are_same};
 ghost use Rattle.crash_stands.specs.Inodes.{Inodes};
@@ -24,11 +26,12 @@ ghost use Rattle.fs_session.specs.Sessions.{MayBegin, MayPlan, inodes};
 
 use crate::facts::what_a_path_comes_to_gives_the_walk;
 use crate::look::is_dir;
+use crate::making::is_long;
 use crate::moving::{Goal, plan_move};
 use crate::paths::{Entry, Spot, look_up};
 use crate::refusals::refusal_of;
 use crate::removing::{Named, what_stands_there_is_shown};
-use base_types::Name;
+use base_types::{Layout, Name};
 use engine_blocks::{Blocks, calls_compose};
 use fs_files::{FileFacts, Shared};
 use fs_inodes::{
@@ -37,7 +40,7 @@ use fs_inodes::{
     what_changes_nothing_keeps_the_map,
 };
 use fs_session::{Plan, blocks_have_the_map_of_their_tree};
-use lang_tree::{Path, Refusal, Reply};
+use lang_tree::{Path, Refusal, Reply, layouts_differ_in_long_names_alone};
 use std::alloc::Global;
 
 /// What a rename found at its two ends: the entry at the first path, and what is under the last name of the
@@ -91,7 +94,7 @@ fn plan_rename_of<'a, S: Blocks>(
     shared: &'a Shared,
 ) -> Result<Plan<'a>, Refusal>
     requires may { MayPlan S.tells (S.state blocks.old) shared.now }
-    requires comes { IsTrue S.tells → ComesTo (files_in (S.state blocks.old) nothing_drafted) from.now (Fine spot.now) }
+    requires comes { IsTrue S.tells → ComesTo (S.state blocks.old).books.geom.layout (files_in (S.state blocks.old) nothing_drafted) from.now (Fine spot.now) }
     requires within { IsWithin (S.state blocks.old).books.geom.i spot.now }
     ensures plans { Plans S.tells (Rename from.now to.now) result (S.state blocks.old) (S.state blocks.new) }
     ensures made { OnChange result (λ draft cost nodes. MayBeMade S.tells draft cost nodes (S.state blocks.new)) }
@@ -165,7 +168,7 @@ fn plan_entry_rename<'a, S: Blocks>(
     requires may { MayPlan S.tells (S.state blocks.old) shared.now }
     requires dir { IsNumber (S.state blocks.old).books.geom.i source.now.dir }
     requires entry { MayBeEntry (S.state blocks.old).books.geom.i source.now.entry }
-    requires comes { IsTrue S.tells → ComesTo (files_in (S.state blocks.old) nothing_drafted) from.now
+    requires comes { IsTrue S.tells → ComesTo (S.state blocks.old).books.geom.layout (files_in (S.state blocks.old) nothing_drafted) from.now
         (Fine (Inside source.now.dir source.now.count (Some source.now.entry))) }
     ensures plans { Plans S.tells (Rename from.now to.now) result (S.state blocks.old) (S.state blocks.new) }
     ensures made { OnChange result (λ draft cost nodes. MayBeMade S.tells draft cost nodes (S.state blocks.new)) }
@@ -225,9 +228,9 @@ fn plan_entry_move<'a, S: Blocks>(
     requires few { ends.now.goal.count < 2 ^ 24 }
     requires found { IfSome ends.now.goal.found (MayBeEntry (S.state blocks.old).books.geom.i) }
     requires last { to.now ≡ parent to.now ++ name.now ∷ [] }
-    requires comes { IsTrue S.tells → ComesTo (files_in (S.state blocks.old) nothing_drafted) from.now
+    requires comes { IsTrue S.tells → ComesTo (S.state blocks.old).books.geom.layout (files_in (S.state blocks.old) nothing_drafted) from.now
         (Fine (Inside ends.now.source.dir ends.now.source.count (Some ends.now.source.entry))) }
-    requires target { IsTrue S.tells → ComesTo (files_in (S.state blocks.old) nothing_drafted) to.now
+    requires target { IsTrue S.tells → ComesTo (S.state blocks.old).books.geom.layout (files_in (S.state blocks.old) nothing_drafted) to.now
         (Fine (Inside ends.now.goal.dir ends.now.goal.count ends.now.goal.found)) }
     ensures plans { Plans S.tells (Rename from.now to.now) result (S.state blocks.old) (S.state blocks.new) }
     ensures made { OnChange result (λ draft cost nodes. MayBeMade S.tells draft cost nodes (S.state blocks.new)) }
@@ -240,17 +243,36 @@ fn plan_entry_move<'a, S: Blocks>(
     what_a_path_comes_to_gives_the_walk();
     what_changes_nothing_keeps_the_map();
     what_is_found_is_shown(blocks, shared);
+    layouts_differ_in_long_names_alone();
+    let layout = blocks.geom().layout();
+    if let Some(why) = ends_refusal(ends, to.is_below(from), name, layout) {
+        return Ok(Plan::Answer(Reply::Refused(why)));
+    }
     if is_node(ends.source.entry.node.number, &ends.goal.found) {
         return Ok(Plan::Answer(Reply::Ok));
     }
-    match move_refusal(
-        &ends.source.entry.node.facts,
-        &ends.goal.found,
-        to.is_below(from),
-    ) {
-        Some(why) => Ok(Plan::Answer(Reply::Refused(why))),
-        None => plan_move(alloc, blocks, &ends.source, &ends.goal, name, shared),
+    plan_move(alloc, blocks, &ends.source, &ends.goal, name, shared)
+}
+
+/// Why what is at one end can't move to the other one, where it is to have this name; `below` says whether that lies
+/// below its own path.
+fn ends_refusal(ends: &Ends, below: bool, name: &Name, layout: Layout) -> Option<Refusal>
+    ensures reason { (m : Inodes) (from to : List (List ℕ)) → ShowsFacts m from ends.now.source.entry.node.facts
+        → ShowsEntry m to ends.now.goal.found → is_below from to ≡ below
+        → first_reason ((if are_same (Some ends.now.source.entry.node.number) (option_map (λ (e : EntryValue). e.node.number) ends.now.goal.found)
+        then None else onto_reason m from to) ∷ when (is_long layout (Some name.now)) NameTooLong ∷ []) ≡ result }
+    ensures short { IfNone result (length name.now ≤ longest_name layout) }
+{
+    if !is_node(ends.source.entry.node.number, &ends.goal.found) {
+        let refusal = move_refusal(&ends.source.entry.node.facts, &ends.goal.found, below);
+        if refusal.is_some() {
+            return refusal;
+        }
     }
+    if is_long(name, layout) {
+        return Some(Refusal::NameTooLong);
+    }
+    None
 }
 
 /// Whether what was found is the node of this number.
@@ -341,7 +363,7 @@ fn what_is_found_is_shown<S: Blocks>(blocks: &S, shared: &Shared)
     ensures root { (t : Tree) → IsTreeOf (S.state blocks.now).books.geom (S.state blocks.now).map t → HasRoot (inodes (S.state blocks.now)) }
     ensures entry { IsTrue S.tells → (t : Tree) (path : List (List ℕ)) (dir count : ℕ) (found : Option EntryValue)
         → IsTreeOf (S.state blocks.now).books.geom (S.state blocks.now).map t
-        → ComesTo (files_in (S.state blocks.now) nothing_drafted) path (Fine (Inside dir count found))
+        → ComesTo (S.state blocks.now).books.geom.layout (files_in (S.state blocks.now) nothing_drafted) path (Fine (Inside dir count found))
         → ShowsEntry (inodes (S.state blocks.now)) path found × IsBelowRoot (inodes (S.state blocks.now)) found }
 {
     a_name_stands_at_its_place();

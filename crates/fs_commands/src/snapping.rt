@@ -319,7 +319,7 @@ fn what_goes<S: Blocks>(
     requires begin { MayBegin S.tells (S.state blocks.old) (counts_in known.now) }
     requires number { IsNumber (S.state blocks.old).books.geom.i number }
     requires snapshot { IsTrue S.tells → IsSnapshot (S.state blocks.old).books.geom (S.state blocks.old).map number }
-    ensures own { IfOk result (λ lists. lists.own ≤ 29360128) }
+    ensures own { IfOk result (λ lists. lists.own ≤ 62914560) }
     ensures data { IfOk result (λ lists. All (IsData (S.state blocks.old).books.geom) lists.alone.items) }
     ensures lists { IsTrue S.tells → IfOk result (GoesWith (S.state blocks.old) (counts_in known.now) number) }
     ensures refused { IfErr result LookRefused }

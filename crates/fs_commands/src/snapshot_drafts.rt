@@ -4,7 +4,7 @@
 ghost use Rattle.std.specs.Prelude.{◌≡◌, ◌++◌, ℕ, true, false, List, length, IsTrue, Some, IfOk, IfErr, OnOk};
 ghost use Rattle.std.specs.List.{All, flat_map};
 ghost use Rattle.base_types.specs.Name.{is_name};
-ghost use Rattle.layout_geometry.specs.Geometry.{node_size};
+ghost use Rattle.base_types.specs.Layouts.{node_size};
 ghost use Rattle.layout_bytes.specs.SnapshotName.{name_block};
 ghost use Rattle.lang_tree.specs.declared.command.Cmd.TheVariants.{Snap, Unsnap};
 ghost use Rattle.crash_stands.specs.Stands.{AreSound};
@@ -28,8 +28,8 @@ ghost use Rattle.fs_session.specs.Sessions.{MayPlan};
 use crate::begins::a_draft_may_begin;
 use crate::refusals::refusal_of;
 use crate::snapping::{Gone, NewSnapshot};
-use base_types::limits::LARGEST_FILE;
-use base_types::{Block, Name};
+use base_types::limits::{LARGEST_FILE, LONGEST_NODE};
+use base_types::{Block, Layout, Name, the_numbers_of_a_layout_go_together};
 use crash_snapshots::{a_snapshot_can_be_made, a_snapshot_goes, a_snapshot_stands};
 use crash_stands::{a_node_in_use_has_data_blocks, blocks_have_a_map, files_have_one_map};
 use engine_blocks::{Blocks, calls_compose};
@@ -194,7 +194,7 @@ fn push_table<S: Blocks>(blocks: &mut S, bytes: &mut Vec<u8>) -> Result<(), File
     let mut table = [0; 1024];
     for slot in 0..geom.data_start() - geom.table_start() {
         blocks.get(geom.table_start() + slot, &mut table)?;
-        push_kept(bytes, &table)?;
+        push_kept(bytes, &table, geom.layout())?;
     }
     Ok(())
 }
@@ -203,15 +203,16 @@ fn push_table<S: Blocks>(blocks: &mut S, bytes: &mut Vec<u8>) -> Result<(), File
 ///
 /// # Errors
 /// Out of memory.
-fn push_kept(bytes: &mut Vec<u8>, table: &Block) -> Result<(), FileRefusal>
-    ensures bytes { OnOk result (bytes.new.items ≡ bytes.old.items ++ kept_table_block table.now) }
+fn push_kept(bytes: &mut Vec<u8>, table: &Block, layout: Layout) -> Result<(), FileRefusal>
+    ensures bytes { OnOk result (bytes.new.items ≡ bytes.old.items ++ kept_table_block layout table.now) }
     ensures refused { IfErr result LookRefused }
     ensures memory { fails_reading result ≡ false }
 {
-    push_node(bytes, &table[0..256])?;
-    push_node(bytes, &table[256..512])?;
-    push_node(bytes, &table[512..768])?;
-    push_node(bytes, &table[768..1024])?;
+    for rank in 0..layout.nodes_in_block() {
+        let at = layout.rank_byte(rank);
+        let end = at + layout.node_length();
+        push_node(bytes, &table[at..end], layout)?;
+    }
     Ok(())
 }
 
@@ -219,14 +220,16 @@ fn push_kept(bytes: &mut Vec<u8>, table: &Block) -> Result<(), FileRefusal>
 ///
 /// # Errors
 /// Out of memory.
-fn push_node(bytes: &mut Vec<u8>, node: &[u8]) -> Result<(), FileRefusal>
-    requires { length node.now ≡ node_size }
-    ensures bytes { OnOk result (bytes.new.items ≡ bytes.old.items ++ kept_bytes node.now) }
+fn push_node(bytes: &mut Vec<u8>, node: &[u8], layout: Layout) -> Result<(), FileRefusal>
+    requires { length node.now ≡ node_size layout }
+    ensures bytes { OnOk result (bytes.new.items ≡ bytes.old.items ++ kept_bytes layout node.now) }
     ensures refused { IfErr result LookRefused }
     ensures memory { fails_reading result ≡ false }
 {
+    the_numbers_of_a_layout_go_together();
     if node[0] == SNAPSHOT {
-        bytes.extend_from_slice(&[0; 256])?;
+        let zeros = [0; LONGEST_NODE];
+        bytes.extend_from_slice(&zeros[..layout.node_length()])?;
         return Ok(());
     }
     bytes.extend_from_slice(node)?;

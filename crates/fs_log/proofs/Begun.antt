@@ -9,10 +9,11 @@ use Rattle.std.specs.FinMap.{get, insert, get-insert}
 use Rattle.lang_tree.specs.declared.command.Cmd.{Cmd}
 use Rattle.lang_tree.specs.declared.command.Cmd.TheVariants.{Bad, Durable, Mkdir}
 use Rattle.lang_tree.specs.declared.command.Refusal.{Refusal}
-use Rattle.lang_tree.specs.declared.command.Refusal.TheVariants.{Exists, NoNode}
+use Rattle.lang_tree.specs.declared.command.Refusal.TheVariants.{Exists, NameTooLong, NoNode}
 use Rattle.lang_tree.specs.declared.command.Reply.{Reply}
 use Rattle.lang_tree.specs.declared.command.Reply.TheVariants.{Ok as Done, Refused}
 use Rattle.lang_tree.specs.Conditions.{first_reason, least_unused, refusal, when}
+use Rattle.lang_tree.specs.Paths.{is_too_long}
 use Rattle.lang_tree.specs.Run.{Answers, is_of_disk}
 use Rattle.lang_tree.specs.Step.{Session, answered, step, with_node}
 use Rattle.lang_tree.specs.Tree.{Dir, IsSound, Names, Tree, path_cmp}
@@ -44,11 +45,12 @@ path_total = lists_total (lists_total nat_cmp_total)
 here : (names : Names) (path : List (List ℕ)) (n : ℕ) → get (insert names path n) path ≡ Some n
 here names path n = get-insert path_total names path n path ∙ ap (λ b. cond b (Some n) (get names path)) (ap is_eq (tied_itself path_total path))
 
-some_unused : (walk there : Option Refusal) (unused : Option ℕ) → first_reason (walk ∷ there ∷ when (is_none unused) NoNode ∷ []) ≡ None → (n : ℕ) × (unused ≡ Some n)
-some_unused (Some why) there unused e = absurd cc
-some_unused None (Some why) unused e = absurd cc
-some_unused None None None e = absurd cc
-some_unused None None (Some n) e = (n, refl)
+some_unused : (walk there : Option Refusal) (unused : Option ℕ) (rest : List (Option Refusal)) → first_reason (walk ∷ there ∷ when (is_none unused) NoNode ∷ rest) ≡ None
+    → (n : ℕ) × (unused ≡ Some n)
+some_unused (Some why) there unused rest e = absurd cc
+some_unused None (Some why) unused rest e = absurd cc
+some_unused None None None rest e = absurd cc
+some_unused None None (Some n) rest e = (n, refl)
 
 with_path : (t : Tree) (path : List (List ℕ)) (unused : Option ℕ) (n : ℕ) → unused ≡ Some n → get (with_node t path Dir unused).names path ≡ Some n
 with_path t path unused n is = ap (λ (o : Option ℕ). get (with_node t path Dir o).names path) is ∙ here t.names path n
@@ -60,9 +62,9 @@ made_there f next path is = by (refusal f.limit f.tree (Mkdir path)) refl
     by : (o : Option Refusal) → refusal f.limit f.tree (Mkdir path) ≡ o → (n : ℕ) × (get next.tree.names path ≡ Some n)
     by (Some why) e = absurd (refused_not why (sym (ap (λ o. (answered f (Mkdir path) o).1) e) ∙ ap (λ x. x.1) is))
     by None e =
-        let u = some_unused (parent_refusal f.tree path) (when (is_there f.tree path) Exists) (least_unused f.limit f.tree) e in
-        let tree : next.tree ≡ with_node f.tree path Dir (least_unused f.limit f.tree) = sym (ap (λ x. x.0.tree) is) ∙ ap (λ o. (answered f (Mkdir path) o).0.tree) e in
-        (u.0, ap (λ (t : Tree). get t.names path) tree ∙ with_path f.tree path (least_unused f.limit f.tree) u.0 u.1)
+        let u = some_unused (parent_refusal f.tree path) (when (is_there f.tree path) Exists) (least_unused f.limit.nodes f.tree) (when (is_too_long f.limit.layout path) NameTooLong ∷ []) e in
+        let tree : next.tree ≡ with_node f.tree path Dir (least_unused f.limit.nodes f.tree) = sym (ap (λ x. x.0.tree) is) ∙ ap (λ o. (answered f (Mkdir path) o).0.tree) e in
+        (u.0, ap (λ (t : Tree). get t.names path) tree ∙ with_path f.tree path (least_unused f.limit.nodes f.tree) u.0 u.1)
 
 -- where it isn't, all is as it was
 not_done_same : (f next : Session) (path : List (List ℕ)) (reply : Reply) → step f (Mkdir path) ≡ (next, reply) → reply ≢ Done → next ≡ f
@@ -116,7 +118,7 @@ module _ {S : Type 0} (tells : Bool) (state : S → State) (path : List (List �
     time = time;
   }
 
-  module _ (is_log : path ≡ log_path) (done : reply ≡ Done) (f : Session) (session : IsSession (state old) f) (sound : IsSound f.limit f.tree) (free : get f.tree.names log_path ≡ None)
+  module _ (is_log : path ≡ log_path) (done : reply ≡ Done) (f : Session) (session : IsSession (state old) f) (sound : IsSound f.limit.nodes f.tree) (free : get f.tree.names log_path ≡ None)
       (before : (limit : ℕ) (t : Tree) → IsSound limit t → get t.names log_path ≡ None → HasSegments t [])
       (makes : (old new : Session) (reply : Reply) → get old.tree.names log_path ≡ None → IsAsked [] old (Mkdir log_path) new reply → LacksNode old new reply ⊎ Leaves [] new reply)
       (made : IsMadeOf [] nothing_logged) where
@@ -128,7 +130,7 @@ module _ {S : Type 0} (tells : Bool) (state : S → State) (path : List (List �
 
     leaves : Leaves [] a.next reply
     leaves = ⊎_elim (λ lacks. absurd (refused_not NoNode (sym lacks.refused ∙ done))) (λ is. is)
-        (makes f a.next reply free (record { sound = sound; had = before f.limit f.tree sound free; answered = subst (λ (p : List (List ℕ)). step f (Mkdir p) ≡ (a.next, reply)) is_log steps }))
+        (makes f a.next reply free (record { sound = sound; had = before f.limit.nodes f.tree sound free; answered = subst (λ (p : List (List ℕ)). step f (Mkdir p) ≡ (a.next, reply)) is_log steps }))
 
     there : (n : ℕ) × (get a.next.tree.names log_path ≡ Some n)
     there = subst (λ (p : List (List ℕ)). (n : ℕ) × (get a.next.tree.names p ≡ Some n)) is_log
@@ -139,7 +141,7 @@ module _ {S : Type 0} (tells : Bool) (state : S → State) (path : List (List �
 
     pub takes_nothing : ((t : Tree) (l k : Log) → IsLogOf t l → IsLogOf t k → l ≡ k) → TakesLog as_before (state old) (state new)
     takes_nothing one h keeps =
-        let now : nothing_logged ≡ h.now = one f.tree nothing_logged h.now (record { segments = []; has = before f.limit f.tree sound free; made = made }) (keeps.now f.tree session.tree) in
+        let now : nothing_logged ≡ h.now = one f.tree nothing_logged h.now (record { segments = []; has = before f.limit.nodes f.tree sound free; made = made }) (keeps.now f.tree session.tree) in
         a.goes h h keeps (same_history h) (record {
           log = subst (IsLogOf a.next.tree) now (record { segments = []; has = leaves.has; made = made });
           calm = λ calm none. absurd (true≢false (sym leaves.changed ∙ calm));

@@ -9,7 +9,7 @@ use Rattle.lang_tree.specs.declared.command.Cmd.{Cmd}
 use Rattle.lang_tree.specs.declared.command.Cmd.TheVariants.{Bad}
 use Rattle.lang_tree.specs.declared.command.Reply.{Reply}
 use Rattle.lang_tree.specs.Step.{Session}
-use Rattle.lang_tree.specs.Tree.{Tree, IsSound}
+use Rattle.lang_tree.specs.Tree.{Tree, IsSound, Bounds}
 use Rattle.engine_blocks.specs.Crashes.{Advances, MakesPoint}
 use Rattle.engine_blocks.specs.Effects.{Ticked}
 use Rattle.engine_blocks.specs.State.{State}
@@ -152,7 +152,7 @@ module _ {S : Type 0} (tells : Bool) (state : S → State) (told : IsTrue tells)
     answers = a.answers;
     session = a.session;
     only = λ t is. laws.one (state new).books.geom (state new).map t a.next.tree is a.session.tree;
-    sound = subst (λ limit. IsSound limit a.next.tree) (sym a.session.limit) (laws.sound (state new).books.geom (state new).map a.next.tree a.session.tree);
+    sound = subst (λ (limit : Bounds). IsSound limit.nodes a.next.tree) (sym a.session.limit) (laws.sound (state new).books.geom (state new).map a.next.tree a.session.tree);
     points = tellings;
     time = time.advances;
     goes = goes;

@@ -11,6 +11,7 @@ use Rattle.lang_log.specs.Segments.{Segment, HasSegments}
 use Rattle.lang_log.specs.Log.{Log, IsLogOf, IsMadeOf}
 use Rattle.lang_log.specs.History.{History}
 use Rattle.engine_blocks.specs.State.{State}
+use Rattle.crash_stands.specs.Bounds.{bounds_of}
 use Rattle.fs_session.specs.Sessions.{IsSession, Stands}
 use Rattle.fs_log.specs.Keeping.{HoldsLog, Keeps}
 use Rattle.fs_log.specs.Asked.{Asked, AskedOf}
@@ -18,7 +19,7 @@ use Rattle.fs_log.specs.Asked.{Asked, AskedOf}
 -- blocks in which a tree stands are those of a session
 pub session_of : (s : State) → Stands s → (f : Session) × IsSession s f
 session_of s stands = (
-  record { tree = stands.0; limit = s.books.geom.i; points = s.books.point; changed = nat_lt 0 s.books.running.weight; durable = s.books.floor },
+  record { tree = stands.0; limit = bounds_of s.books.geom; points = s.books.point; changed = nat_lt 0 s.books.running.weight; durable = s.books.floor },
   record { tree = stands.1; limit = refl; points = λ going. refl; changed = λ going. refl; durable = omega arith },
 )
 

@@ -14,12 +14,13 @@ use Rattle.lang_tree.specs.Figures.{Figures}
 use Rattle.lang_tree.specs.Sharing.{BlocksAlone, SharedNodes, accepted_over, figures_over_by}
 use Rattle.lang_tree.specs.Run.{Answers, is_of_disk, is_of_memory}
 use Rattle.lang_tree.specs.Step.{Session, step}
-use Rattle.lang_tree.specs.Tree.{IsSound, Tree}
+use Rattle.lang_tree.specs.Tree.{IsSound, Tree, Bounds}
 use Rattle.lang_log.specs.Commands.{IsAsked, LacksNode, Leaves}
 use Rattle.lang_log.specs.Segments.{HasSegments}
 use Rattle.lang_log.specs.Names.{log_path}
 use Rattle.engine_blocks.specs.Crashes.{Advances}
 use Rattle.engine_blocks.specs.State.{State}
+use Rattle.crash_stands.specs.Bounds.{bounds_of}
 use Rattle.fs_session.specs.Applying.{Applies}
 use Rattle.fs_session.specs.Commands.{is_on_tree}
 use Rattle.fs_session.specs.DiskRoom.{ComesBack, IsRoomOf}
@@ -62,7 +63,7 @@ tree_wants_none alone f cmd = by (step f cmd).1 refl
     by (replies.Known point) is = refl
     by replies.Bad is = refl
 
-no_need : (bitmap : ℕ) (shared : SharedNodes) (alone : BlocksAlone) (limit : ℕ) (t : Tree) (cmd : Cmd) (why : Option Refusal) → (accepted_over bitmap shared alone limit t cmd).need ≡ 0 → (figures_over_by bitmap shared alone limit t cmd why).need ≡ 0
+no_need : (bitmap : ℕ) (shared : SharedNodes) (alone : BlocksAlone) (limit : Bounds) (t : Tree) (cmd : Cmd) (why : Option Refusal) → (accepted_over bitmap shared alone limit t cmd).need ≡ 0 → (figures_over_by bitmap shared alone limit t cmd why).need ≡ 0
 no_need bitmap shared alone limit t cmd None none = none
 no_need bitmap shared alone limit t cmd (Some why) none = refl
 
@@ -152,7 +153,7 @@ module _ {S : Type 0} (tells : Bool) (state : S → State) (rooms : RoomLaw tell
 -- blocks that stand for a tree are those of a session of it
 pub session_for : (s : State) (t : Tree) → StandsIn s t → (f : Session) × (f.tree ≡ t) × IsSession s f
 session_for s t stands = (
-  record { tree = t; limit = s.books.geom.i; points = s.books.point; changed = nat_lt 0 s.books.running.weight; durable = s.books.floor },
+  record { tree = t; limit = bounds_of s.books.geom; points = s.books.point; changed = nat_lt 0 s.books.running.weight; durable = s.books.floor },
   refl,
   record { tree = stands; limit = refl; points = λ going. refl; changed = λ going. refl; durable = omega arith },
 )
@@ -268,7 +269,7 @@ done_not_refused why e = cc
 -- The tree refuses it where each number is used.
 pub mkdir_refusal : ((limit : ℕ) (t : Tree) → IsSound limit t → get t.names log_path ≡ None → HasSegments t [])
     → ((old new : Session) (reply : Reply) → get old.tree.names log_path ≡ None → IsAsked [] old (Mkdir log_path) new reply → LacksNode old new reply ⊎ Leaves [] new reply)
-    → (f next : Session) (path : List (List ℕ)) (reply : Reply) → path ≡ log_path → IsSound f.limit f.tree → get f.tree.names log_path ≡ None → Answers is_of_disk f (Mkdir path) reply next → is_past_room reply ≡ false
+    → (f next : Session) (path : List (List ℕ)) (reply : Reply) → path ≡ log_path → IsSound f.limit.nodes f.tree → get f.tree.names log_path ≡ None → Answers is_of_disk f (Mkdir path) reply next → is_past_room reply ≡ false
     → (why : Refusal) → reply ≡ replies.Refused why → IsOfLog why × (is_too_big why ≡ false)
 mkdir_refusal before makes f next path reply is_log sound free answers fits why is = (late answers, sym (ap is_past_room is) ∙ fits)
   where
@@ -276,7 +277,7 @@ mkdir_refusal before makes f next path reply is_log sound free answers fits why 
     late (inl steps) = ⊎_elim
         (λ lacks. subst IsOfLog (same_refusal because.NoNode why (sym lacks.refused ∙ is)) (omega arith, omega arith))
         (λ leaves. absurd (done_not_refused why (sym leaves.done ∙ is)))
-        (makes f next reply free (record { sound = sound; had = before f.limit f.tree sound free; answered = subst (λ (p : List (List ℕ)). step f (Mkdir p) ≡ (next, reply)) is_log steps }))
+        (makes f next reply free (record { sound = sound; had = before f.limit.nodes f.tree sound free; answered = subst (λ (p : List (List ℕ)). step f (Mkdir p) ≡ (next, reply)) is_log steps }))
     late (inr (inl refused)) = subst IsOfLog (same_refusal refused.0 why (sym refused.2 ∙ is)) (omega (arith, from_ten refused.0 refused.1), to_seventeen refused.0 refused.1)
     late (inr (inr known)) = absurd (known_not_refused known.1.point why (sym known.1.is ∙ is))
 

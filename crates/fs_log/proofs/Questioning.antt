@@ -10,7 +10,7 @@ use Rattle.lang_tree.specs.Conditions.{refusal}
 use Rattle.lang_tree.specs.Points.{is_sync, made_by}
 use Rattle.lang_tree.specs.Run.{Answers, is_of_disk}
 use Rattle.lang_tree.specs.Step.{Session, answered, step}
-use Rattle.lang_tree.specs.Tree.{IsSound, Tree}
+use Rattle.lang_tree.specs.Tree.{IsSound, Tree, Bounds}
 use Rattle.layout_geometry.specs.Geometry.{Geometry}
 use Rattle.crash_stands.specs.Stands.{IsTreeOf}
 use Rattle.engine_blocks.specs.Crashes.{Advances, IssuesNothing}
@@ -29,8 +29,8 @@ use Rattle.fs_log.proofs.Windows.{reads_only}
 use Rattle.fs_log.proofs.Writing.{looked, resting, rests_twice}
 
 -- the tree of a session is sound
-pub session_sound : ((g : Geometry) (m : Blocks) (t : Tree) → IsTreeOf g m t → IsSound g.i t) → (s : State) (f : Session) → IsSession s f → IsSound f.limit f.tree
-session_sound sound s f session = subst (λ (limit : ℕ). IsSound limit f.tree) (sym session.limit) (sound s.books.geom s.map f.tree session.tree)
+pub session_sound : ((g : Geometry) (m : Blocks) (t : Tree) → IsTreeOf g m t → IsSound g.i t) → (s : State) (f : Session) → IsSession s f → IsSound f.limit.nodes f.tree
+session_sound sound s f session = subst (λ (limit : Bounds). IsSound limit.nodes f.tree) (sym session.limit) (sound s.books.geom s.map f.tree session.tree)
 
 after_stat : (f : Session) (path : List (List ℕ)) (why : Option Refusal) → (answered f (Stat path) why).0 ≡ f
 after_stat f path None = refl

@@ -2,6 +2,7 @@
 use Rattle.std.proofs.Common.{◌≡◌, ◌⊎◌, inl, inr, ⊎_elim, ℕ, ◌+◌, ◌-◌, ◌*◌, ◌/◌, ◌≤◌, nat_le, min, max, ◌==◌, Bool, true, false, if◌then◌else◌, List, length, Option, None, Some, refl, sym, ◌∙◌, ap, subst, arith}
 use Rattle.std.proofs.lemmas.Bool.{and_parts, cases_Bool, false≢true, leb-true, true≢false}
 use Rattle.std.specs.FinMap.{get}
+use Rattle.base_types.specs.LayoutLaws.{directory_grows}
 use Rattle.layout_geometry.specs.Geometry.{Geometry, IsGeometry, bitmap_blocks}
 use Rattle.lang_tree.specs.declared.command.Cmd.{Cmd}
 use Rattle.lang_tree.specs.declared.command.Cmd.TheVariants.{Create, Dsync, List as ListPath, Mkdir, Osync, Read, Stat as StatPath, Unlink, Write}
@@ -10,12 +11,12 @@ use Rattle.lang_tree.specs.declared.command.Refusal.TheVariants.{DiskFault, NoMe
 use Rattle.lang_tree.specs.declared.command.Reply.{Reply}
 use Rattle.lang_tree.specs.declared.command.Reply.TheVariants.{Ok as Done, Bytes, Stat, Names, Synced, DurableAt, Known, Bad, Refused}
 use Rattle.lang_tree.specs.Conditions.{refusal}
-use Rattle.lang_tree.specs.Figures.{Figures, blocks_for, blocks_met, nothing, touches}
+use Rattle.lang_tree.specs.Figures.{Figures, blocks_for, blocks_met, nothing, siblings, touches}
 use Rattle.lang_tree.specs.Refusals.{refusal_number}
 use Rattle.lang_tree.specs.Run.{Answers, is_of_disk, is_of_memory}
 use Rattle.lang_tree.specs.Sharing.{BlocksAlone, SharedNodes, SharedPlaces, accepted_over, figures_over_by, is_renewed, shared_at, shared_met, write_over_figures, writing_over}
 use Rattle.lang_tree.specs.Step.{Session, osync, step}
-use Rattle.lang_tree.specs.Tree.{Tree}
+use Rattle.lang_tree.specs.Tree.{Tree, Bounds}
 use Rattle.lang_tree.specs.Walk.{content}
 use Rattle.engine_blocks.specs.Ranges.{fewer_from}
 use Rattle.engine_blocks.specs.State.{State}
@@ -169,7 +170,7 @@ module _ (g : Geometry) (f next : Session) (r room : Room) (reply : Reply) where
 
 -- Costs.
 
-no_more : (bitmap : ℕ) (shared : SharedNodes) (alone : BlocksAlone) (limit : ℕ) (t : Tree) (cmd : Cmd) (most : ℕ) (why : Option Refusal) → (accepted_over bitmap shared alone limit t cmd).cost ≤ most
+no_more : (bitmap : ℕ) (shared : SharedNodes) (alone : BlocksAlone) (limit : Bounds) (t : Tree) (cmd : Cmd) (most : ℕ) (why : Option Refusal) → (accepted_over bitmap shared alone limit t cmd).cost ≤ most
     → (figures_over_by bitmap shared alone limit t cmd why).cost ≤ most
 no_more bitmap shared alone limit t cmd most None upto = upto
 no_more bitmap shared alone limit t cmd most (Some why) upto = omega arith
@@ -202,10 +203,10 @@ module _ (g : Geometry) (limits : IsGeometry g) (f : Session) (r : Room) where
   within cmd upto = no_more bits shared (alone_by g f.tree r) f.limit f.tree cmd (most_weight g) (refusal f.limit f.tree cmd) upto
 
   pub mkdir_is_cheap : (path : List (List ℕ)) → (figures_in g f r (Mkdir path)).cost ≤ most_weight g
-  mkdir_is_cheap path = within (Mkdir path) (omega (arith, room))
+  mkdir_is_cheap path = within (Mkdir path) (omega (arith, room, directory_grows f.limit.layout (siblings f.tree.names path)))
 
   pub create_is_cheap : (path : List (List ℕ)) → (figures_in g f r (Create path)).cost ≤ most_weight g
-  create_is_cheap path = within (Create path) (omega (arith, room))
+  create_is_cheap path = within (Create path) (omega (arith, room, directory_grows f.limit.layout (siblings f.tree.names path)))
 
   pub unlink_is_cheap : (path : List (List ℕ)) → (figures_in g f r (Unlink path)).cost ≤ most_weight g
   unlink_is_cheap path = within (Unlink path) (omega (arith, room))

@@ -81,10 +81,10 @@ told_of t path n reply (File bytes) at is = record {
 }
 
 -- At `/log`.
-module _ (none : (old new : Session) (reply : Reply) → IsSound old.limit old.tree → get old.tree.names log_path ≡ None → step old (StatCmd log_path) ≡ (new, reply) → (reply ≡ Refused NotFound) × (new ≡ old))
-    (stat : (n : ℕ) (thing : Thing) (old new : Session) (reply : Reply) → IsSound old.limit old.tree → get old.tree.names log_path ≡ Some n → get old.tree.nodes n ≡ Some thing → step old (StatCmd log_path) ≡ (new, reply)
+module _ (none : (old new : Session) (reply : Reply) → IsSound old.limit.nodes old.tree → get old.tree.names log_path ≡ None → step old (StatCmd log_path) ≡ (new, reply) → (reply ≡ Refused NotFound) × (new ≡ old))
+    (stat : (n : ℕ) (thing : Thing) (old new : Session) (reply : Reply) → IsSound old.limit.nodes old.tree → get old.tree.names log_path ≡ Some n → get old.tree.nodes n ≡ Some thing → step old (StatCmd log_path) ≡ (new, reply)
     → (reply ≡ stat_of old.tree log_path n (Some thing)) × (new ≡ old))
-    (f : Session) (sound : IsSound f.limit f.tree) (reply : Reply) (answers : AnswersQuestion f (StatCmd log_path) reply) where
+    (f : Session) (sound : IsSound f.limit.nodes f.tree) (reply : Reply) (answers : AnswersQuestion f (StatCmd log_path) reply) where
   -- nothing is there; or this is told of it; or the disk failed
   abbrev AtLog : Type 0
   AtLog = ((reply ≡ Refused NotFound) × (get f.tree.names log_path ≡ None)) ⊎ (((n : ℕ) × (get f.tree.names log_path ≡ Some n) × ToldOf f.tree n reply) ⊎ IsOfDisk reply)
@@ -130,9 +130,9 @@ module _ (none : (old new : Session) (reply : Reply) → IsSound old.limit old.t
       by (inr (inr refused)) = refused
 
 -- The names in the directory.
-module _ (list : (n : ℕ) (old new : Session) (reply : Reply) → IsSound old.limit old.tree → get old.tree.names log_path ≡ Some n → get old.tree.nodes n ≡ Some Dir → step old (ListNames log_path) ≡ (new, reply)
+module _ (list : (n : ℕ) (old new : Session) (reply : Reply) → IsSound old.limit.nodes old.tree → get old.tree.names log_path ≡ Some n → get old.tree.nodes n ≡ Some Dir → step old (ListNames log_path) ≡ (new, reply)
     → (reply ≡ NamesReply (names_in old.tree.names log_path)) × (new ≡ old))
-    (f : Session) (sound : IsSound f.limit f.tree) (reply : Reply) (answers : AnswersQuestion f (ListNames log_path) reply) (there : HasDirectory f.tree) where
+    (f : Session) (sound : IsSound f.limit.nodes f.tree) (reply : Reply) (answers : AnswersQuestion f (ListNames log_path) reply) (there : HasDirectory f.tree) where
   listed : (reply ≡ NamesReply (names_in f.tree.names log_path)) ⊎ IsOfDisk reply
   listed = by answers
     where
@@ -147,9 +147,9 @@ module _ (list : (n : ℕ) (old new : Session) (reply : Reply) → IsSound old.l
   list_refused other = ⊎_elim (λ told. absurd (false≢true (sym other ∙ ap is_names told))) (λ refused. refused) listed
 
 -- A file in it.
-module _ (stat : (name : List ℕ) (n : ℕ) (thing : Thing) (old new : Session) (reply : Reply) → IsSound old.limit old.tree → get old.tree.names (path_in_log name) ≡ Some n → get old.tree.nodes n ≡ Some thing → step old (StatCmd (path_in_log name)) ≡ (new, reply)
+module _ (stat : (name : List ℕ) (n : ℕ) (thing : Thing) (old new : Session) (reply : Reply) → IsSound old.limit.nodes old.tree → get old.tree.names (path_in_log name) ≡ Some n → get old.tree.nodes n ≡ Some thing → step old (StatCmd (path_in_log name)) ≡ (new, reply)
     → (reply ≡ stat_of old.tree (path_in_log name) n (Some thing)) × (new ≡ old))
-    (f : Session) (sound : IsSound f.limit f.tree) (first n : ℕ) (at : get f.tree.names (segment_path first) ≡ Some n) (reply : Reply) (answers : AnswersQuestion f (StatCmd (segment_path first)) reply) where
+    (f : Session) (sound : IsSound f.limit.nodes f.tree) (first n : ℕ) (at : get f.tree.names (segment_path first) ≡ Some n) (reply : Reply) (answers : AnswersQuestion f (StatCmd (segment_path first)) reply) where
   told_there : ToldOf f.tree n reply ⊎ IsOfDisk reply
   told_there = by answers
     where
@@ -169,9 +169,9 @@ module _ (stat : (name : List ℕ) (n : ℕ) (thing : Thing) (old new : Session)
   stat_refused other = ⊎_elim (λ told. absurd (false≢true (sym other ∙ ap is_stat told.is))) (λ refused. refused) told_there
 
 -- Its bytes.
-module _ (read : (name : List ℕ) (n : ℕ) (bytes : List ℕ) (offset count : ℕ) (old new : Session) (reply : Reply) → IsSound old.limit old.tree → get old.tree.names (path_in_log name) ≡ Some n → get old.tree.nodes n ≡ Some (File bytes)
+module _ (read : (name : List ℕ) (n : ℕ) (bytes : List ℕ) (offset count : ℕ) (old new : Session) (reply : Reply) → IsSound old.limit.nodes old.tree → get old.tree.names (path_in_log name) ≡ Some n → get old.tree.nodes n ≡ Some (File bytes)
     → step old (Read (path_in_log name) offset count) ≡ (new, reply) → (reply ≡ Bytes (take count (drop offset bytes))) × (new ≡ old))
-    (f : Session) (sound : IsSound f.limit f.tree) (first node : ℕ) (bytes : List ℕ) (file : HasFile f.tree first node bytes) (offset count : ℕ) (reply : Reply)
+    (f : Session) (sound : IsSound f.limit.nodes f.tree) (first node : ℕ) (bytes : List ℕ) (file : HasFile f.tree first node bytes) (offset count : ℕ) (reply : Reply)
     (answers : AnswersQuestion f (Read (segment_path first) offset count) reply) where
   read_there : (reply ≡ Bytes (take count (drop offset bytes))) ⊎ IsOfDisk reply
   read_there = by answers

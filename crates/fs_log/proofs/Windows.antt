@@ -16,7 +16,7 @@ use Rattle.lang_tree.specs.declared.command.Reply.TheVariants.{Bytes, Refused}
 use Rattle.lang_tree.specs.Conditions.{refusal}
 use Rattle.lang_tree.specs.Run.{Answers, is_of_disk, is_of_memory}
 use Rattle.lang_tree.specs.Step.{Session, answered, step}
-use Rattle.lang_tree.specs.Tree.{Tree, IsSound}
+use Rattle.lang_tree.specs.Tree.{Tree, IsSound, Bounds}
 use Rattle.lang_log.specs.Names.{segment_path}
 use Rattle.lang_log.specs.Spelling.{AreShort, BeginsWith, IsShort, Passes, spelling, spellings}
 use Rattle.lang_log.specs.Segments.{LiesIn, Segment, appends_in}
@@ -51,7 +51,7 @@ same_bytes a b is = cc
 -- the bytes that a read of a segment was answered by
 pub window_is : {S : Type 0} (tells : Bool) (state : S → State)
     → ((g : Geometry) (m : Blocks) (t : Tree) → IsTreeOf g m t → IsSound g.i t)
-    → ((s : Segment) (offset count : ℕ) (old new : Session) (reply : Reply) → IsSound old.limit old.tree → LiesIn old.tree s → step old (Read (segment_path s.first) offset count) ≡ (new, reply) → (reply ≡ Bytes (take count (drop offset (spellings s.appends)))) × (new ≡ old))
+    → ((s : Segment) (offset count : ℕ) (old new : Session) (reply : Reply) → IsSound old.limit.nodes old.tree → LiesIn old.tree s → step old (Read (segment_path s.first) offset count) ≡ (new, reply) → (reply ≡ Bytes (take count (drop offset (spellings s.appends)))) × (new ≡ old))
     → (s : Segment) (offset count : ℕ) (cmd : Cmd) (reply : Reply) (bytes : List ℕ) (old new : S) → cmd ≡ Read (segment_path s.first) offset count → reply ≡ Bytes bytes → HoldsSegment s (state old) → AskedOf tells state cmd reply old new
     → bytes ≡ take count (drop offset (spellings s.appends))
 window_is {S} tells state sound reads s offset count cmd reply bytes old new cmd_is reply_is h asked = by a.answers
@@ -64,7 +64,7 @@ window_is {S} tells state sound reads s offset count cmd reply bytes old new cmd
 
     by : Answers is_of_disk f.0 cmd reply a.next → bytes ≡ take count (drop offset (spellings s.appends))
     by (inl is) = same_bytes bytes (take count (drop offset (spellings s.appends))) (sym reply_is
-        ∙ (reads s offset count f.0 a.next reply (subst (λ (limit : ℕ). IsSound limit f.0.tree) (sym f.1.limit) (sound (state old).books.geom (state old).map f.0.tree f.1.tree))
+        ∙ (reads s offset count f.0 a.next reply (subst (λ (limit : Bounds). IsSound limit.nodes f.0.tree) (sym f.1.limit) (sound (state old).books.geom (state old).map f.0.tree f.1.tree))
         (one_of_all (LiesIn f.0.tree) h.before s h.rest (h.holds.has f.0.tree f.1.tree).there) (subst (λ (c : Cmd). step f.0 c ≡ (a.next, reply)) cmd_is is)).0)
     by (inr (inl refused)) = absurd (false≢true (sym (ap is_bytes refused.2) ∙ ap is_bytes reply_is))
     by (inr (inr known)) = absurd (false≢true (sym (ap is_bytes known.1.is) ∙ ap is_bytes reply_is))
@@ -75,7 +75,7 @@ no_read path offset count is = cc
 -- a read of a segment that wasn't answered by bytes was refused
 pub read_late : {S : Type 0} (tells : Bool) (state : S → State)
     → ((g : Geometry) (m : Blocks) (t : Tree) → IsTreeOf g m t → IsSound g.i t)
-    → ((s : Segment) (offset count : ℕ) (old new : Session) (reply : Reply) → IsSound old.limit old.tree → LiesIn old.tree s → step old (Read (segment_path s.first) offset count) ≡ (new, reply) → (reply ≡ Bytes (take count (drop offset (spellings s.appends)))) × (new ≡ old))
+    → ((s : Segment) (offset count : ℕ) (old new : Session) (reply : Reply) → IsSound old.limit.nodes old.tree → LiesIn old.tree s → step old (Read (segment_path s.first) offset count) ≡ (new, reply) → (reply ≡ Bytes (take count (drop offset (spellings s.appends)))) × (new ≡ old))
     → RoomLaw tells state → ((s : S) (f : Session) → IsSession (state s) f → IsRoomOf (state s).books.geom f (room_of (state s)))
     → ((old new : Session) (cmd : Cmd) (why : Refusal) → Answers is_of_memory old cmd (Refused why) new → (is_of_disk why ≡ false) ⊎ (why ≡ NoMemory))
     → (s : Segment) (offset count : ℕ) (cmd : Cmd) (reply : Reply) (old new : S) → cmd ≡ Read (segment_path s.first) offset count → HoldsSegment s (state old) → AskedOf tells state cmd reply old new → Applies tells state cmd reply old new → is_bytes reply ≡ false
@@ -97,7 +97,7 @@ read_late {S} tells state sound reads rooms room alone s offset count cmd reply 
         (read_answers (state old).books.geom f.0 x.0 (room_of (state old)) (room_of (state new)) reply (segment_path s.first) offset count x.3)
 
     by : Answers is_of_disk f.0 cmd reply a.next → IsLate reply
-    by (inl is) = absurd (false≢true (sym none ∙ ap is_bytes (reads s offset count f.0 a.next reply (subst (λ (limit : ℕ). IsSound limit f.0.tree) (sym f.1.limit) (sound (state old).books.geom (state old).map f.0.tree f.1.tree))
+    by (inl is) = absurd (false≢true (sym none ∙ ap is_bytes (reads s offset count f.0 a.next reply (subst (λ (limit : Bounds). IsSound limit.nodes f.0.tree) (sym f.1.limit) (sound (state old).books.geom (state old).map f.0.tree f.1.tree))
         (one_of_all (LiesIn f.0.tree) h.before s h.rest (h.holds.has f.0.tree f.1.tree).there) (subst (λ (c : Cmd). step f.0 c ≡ (a.next, reply)) cmd_is is)).0))
     by (inr (inl refused)) = subst IsLate (sym refused.2) (outside_late refused.0 refused.1 (sym (ap is_past_room refused.2) ∙ fits))
     by (inr (inr known)) = absurd (no_read (segment_path s.first) offset count (sym cmd_is ∙ known.1.asked))

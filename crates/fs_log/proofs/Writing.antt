@@ -15,7 +15,7 @@ use Rattle.lang_tree.specs.declared.command.Reply.TheVariants.{Ok as Done, Refus
 use Rattle.lang_tree.specs.Figures.{blocks_for, blocks_met}
 use Rattle.lang_tree.specs.Run.{Answers, is_of_disk, is_of_memory}
 use Rattle.lang_tree.specs.Step.{Session, step, osync}
-use Rattle.lang_tree.specs.Tree.{Tree, IsSound}
+use Rattle.lang_tree.specs.Tree.{Tree, IsSound, Bounds}
 use Rattle.lang_tree.specs.Walk.{bytes_in, content}
 use Rattle.lang_log.specs.Commands.{IsAsked, LacksNode, Leaves}
 use Rattle.lang_log.specs.Names.{log_path, segment_name, segment_path}
@@ -101,7 +101,7 @@ module _ {S : Type 0} (tells : Bool) (state : S → State) (cmd : Cmd) (reply : 
       (before : HoldsLog segments l (state old)) where
     left : (node : ℕ) → Leaves (later node) a.next reply → Comes state change later k reply old new
     left node leaves =
-        let at = there a.next.limit a.next.tree node a.sound leaves.has in record {
+        let at = there a.next.limit.nodes a.next.tree node a.sound leaves.has in record {
           holds = λ done. (node, held tells state cmd reply f old new a (later node) k leaves.has (made node) at.0 at.1);
           goes = λ done h keeps. a.goes h (change h) keeps (becomes h) (record {
             log = subst (λ (m : Log). IsLogOf a.next.tree m) (sym (has_now h (same_log laws.one (state old) segments l h before keeps))) (record { segments = later node; has = leaves.has; made = made node });
@@ -118,7 +118,7 @@ module _ {S : Type 0} (tells : Bool) (state : S → State) (cmd : Cmd) (reply : 
         by : Answers is_of_disk f cmd reply a.next → ((a.next ≡ f) × (reply ≢ Done) × (is_past_room reply ≡ false → IsLate reply)) ⊎ ((node : ℕ) × Leaves (later node) a.next reply)
         by (inl is) =
             let at = before.there f.tree session.tree in
-            let sound : IsSound f.limit f.tree = subst (λ (limit : ℕ). IsSound limit f.tree) (sym session.limit) (laws.sound (state old).books.geom (state old).map f.tree session.tree) in
+            let sound : IsSound f.limit.nodes f.tree = subst (λ (limit : Bounds). IsSound limit.nodes f.tree) (sym session.limit) (laws.sound (state old).books.geom (state old).map f.tree session.tree) in
             ⊎_elim (λ r. inl (r.same, λ done. refused_not NoNode (sym r.refused ∙ done), λ fits. subst IsLate (sym r.refused) ((omega arith, omega arith), refl))) (λ r. inr r)
             (makes a.next at.0 at.1 (record { sound = sound; had = before.has f.tree session.tree; answered = is }))
         by (inr (inl refused)) = inl (

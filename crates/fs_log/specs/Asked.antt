@@ -62,7 +62,7 @@ module _ {S : Type 0} (tells : Bool) (state : S → State) where
     pub answers : Answers is_of_disk f cmd reply next
     pub session : IsSession (state new) next
     pub only : (t : Tree) → IsTreeOf (state new).books.geom (state new).map t → t ≡ next.tree
-    pub sound : IsSound next.limit next.tree
+    pub sound : IsSound next.limit.nodes next.tree
     pub points : TellsPoints f cmd reply 0 (state old) (state new)
     pub time : Advances (state old) (state new)
     pub goes : (h k : History) → Keeps h (state old) → MayBecome h k → Steps h k f next cmd reply → Goes h k (state old) (state new)

@@ -3,6 +3,7 @@ use Rattle.std.specs.Prelude.{◌≡◌, ◌⊎◌, ℕ, ◌+◌, ◌^◌, ◌�
 use Rattle.std.specs.FinMap.{keys}
 use Rattle.std.specs.List.{range_with_len}
 use Rattle.base_types.specs.Counts.{after_call}
+use Rattle.base_types.specs.Layouts.{most_runs}
 use Rattle.layout_geometry.specs.Geometry.{bitmap_blocks}
 use Rattle.layout_extent.specs.Renew.{renew}
 use Rattle.layout_extent.specs.Runs.{stretches}
@@ -112,10 +113,10 @@ pub record FindsBlocks (need : ℕ) (old settled : Bookkeeping) : Type 0 where
   pub enough : need ≤ length (reusable_blocks settled)
   pub sound : IsSound settled
 
--- Node k has room for its runs: with the least blocks that may be taken once it has settled, in the stead of its own that are renewed and behind them, its blocks lie in at most 28 runs.
+-- Node k has room for its runs: with the least blocks that may be taken once it has settled, in the stead of its own that are renewed and behind them, its blocks lie in at most as many runs as its layout has room for.
 pub record GrowsInRuns (renewed : SharedPlaces) (old : State) (settled : Bookkeeping) (k need : ℕ) : Type 0 where
   pub enough : need ≤ length (reusable_blocks settled)
-  pub runs : stretches (renew renewed 0 (places_of old k) (take need (reusable_blocks settled))) ≤ 28
+  pub runs : stretches (renew renewed 0 (places_of old k) (take need (reusable_blocks settled))) ≤ most_runs old.books.geom.layout
 
 -- a command that grows a node finds it so
 abbrev pub FindsRuns : State → Bookkeeping → Session → Cmd → Type 0
@@ -152,7 +153,7 @@ pub record IsOutOfRoom (old new : State) (f : Session) (cmd : Cmd) (why : Refusa
   pub lacks : LacksRoom old.books (figures_on old f cmd) why
   pub rests : SameFreed old.books new.books
 
--- There is room, and the blocks of the node that grows would lie in more than 28 runs.
+-- There is room, and the blocks of the node that grows would lie in more runs than its layout has room for.
 pub record IsScattered (old new : State) (f : Session) (cmd : Cmd) (why : Refusal) : Type 0 where
   pub accepted : refusal f.limit f.tree cmd ≡ None
   pub room : HasRoom old.books (figures_on old f cmd)
@@ -160,7 +161,7 @@ pub record IsScattered (old new : State) (f : Session) (cmd : Cmd) (why : Refusa
   pub grows : grown_on old cmd ≡ Some node
   pub enough : (figures_on old f cmd).need ≤ length (reusable_blocks new.books)
   pub is : why ≡ because.Scattered (stretches (renew (renewed_on old f cmd node) 0 (places_of old node) (take (figures_on old f cmd).need (reusable_blocks new.books))))
-  pub past : 28 < stretches (renew (renewed_on old f cmd node) 0 (places_of old node) (take (figures_on old f cmd).need (reusable_blocks new.books)))
+  pub past : most_runs old.books.geom.layout < stretches (renew (renewed_on old f cmd node) 0 (places_of old node) (take (figures_on old f cmd).need (reusable_blocks new.books)))
 
 -- There is room, fewer blocks than are needed may be taken, and the disk failed as the pipeline settled.
 pub record FailsToSettle (old : State) (f : Session) (cmd : Cmd) (why : Refusal) : Type 0 where

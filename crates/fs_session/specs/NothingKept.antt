@@ -8,6 +8,7 @@ use Rattle.std.specs.List.{list_any}
 use Rattle.std.specs.Ordering.{nat_cmp}
 use Rattle.std.specs.Cmp.Lexicographic.{slice_cmp}
 use mathlib.Core.Path.{fun_ext}
+use Rattle.base_types.specs.Layouts.{most_runs}
 use Rattle.layout_geometry.specs.Geometry.{Geometry, bitmap_blocks, data_start}
 use Rattle.layout_extent.specs.Renew.{renew}
 use Rattle.layout_extent.specs.Runs.{stretches}
@@ -19,7 +20,7 @@ use Rattle.lang_tree.specs.Conditions.{is_snapshot, refusal, when}
 use Rattle.lang_tree.specs.Figures.{blocks, figures, touches}
 use Rattle.lang_tree.specs.Sharing.{BlocksAlone, SharedNodes, SharedPlaces, accepted_over, figures_over, figures_over_by, none_alone, none_shared}
 use Rattle.lang_tree.specs.Step.{Session}
-use Rattle.lang_tree.specs.Tree.{Kept, Snapshots, Tree}
+use Rattle.lang_tree.specs.Tree.{Bounds, Kept, Snapshots, Tree}
 use Rattle.lang_tree.specs.Walk.{are_same, content}
 use Rattle.engine_blocks.specs.Running.{has}
 use Rattle.engine_blocks.specs.State.{Bookkeeping, State, reusable_blocks}
@@ -51,8 +52,8 @@ pub behind_placed : (old new : ℕ → List ℕ) (more : List ℕ) → ArePlaced
 behind_placed old new more placed k = placed k ∙ ap (take (length (new k))) (behind_all 0 (old k) more)
 
 -- and a node has room for its runs with these behind it
-pub runs_behind : (old : State) (settled : Bookkeeping) (k need : ℕ) → need ≤ length (reusable_blocks settled) → stretches (places_of old k ++ take need (reusable_blocks settled)) ≤ 28 → GrowsInRuns none_shared old settled k need
-runs_behind old settled k need enough few = record { enough = enough; runs = subst (λ (xs : List ℕ). stretches xs ≤ 28) (sym (behind_all 0 (places_of old k) (take need (reusable_blocks settled)))) few }
+pub runs_behind : (old : State) (settled : Bookkeeping) (k need : ℕ) → need ≤ length (reusable_blocks settled) → stretches (places_of old k ++ take need (reusable_blocks settled)) ≤ most_runs old.books.geom.layout → GrowsInRuns none_shared old settled k need
+runs_behind old settled k need enough few = record { enough = enough; runs = subst (λ (xs : List ℕ). stretches xs ≤ most_runs old.books.geom.layout) (sym (behind_all 0 (places_of old k) (take need (reusable_blocks settled)))) few }
 
 -- No command renews what isn't shared.
 
@@ -71,7 +72,7 @@ CostsAsAlone = (bitmap : ℕ) (f : Session) (cmd : Cmd) → figures_over bitmap 
 
 -- What a snapshot alone has counts where it goes.
 
-unless_it_goes : (bitmap : ℕ) (shared : SharedNodes) (alone : BlocksAlone) (limit : ℕ) (t : Tree) (cmd : Cmd) (why : Option Refusal)
+unless_it_goes : (bitmap : ℕ) (shared : SharedNodes) (alone : BlocksAlone) (limit : Bounds) (t : Tree) (cmd : Cmd) (why : Option Refusal)
     → accepted_over bitmap shared alone limit t cmd ≡ accepted_over bitmap shared none_alone limit t cmd → figures_over_by bitmap shared alone limit t cmd why ≡ figures_over_by bitmap shared none_alone limit t cmd why
 unless_it_goes bitmap shared alone limit t cmd None same = same
 unless_it_goes bitmap shared alone limit t cmd (Some why) same = refl
@@ -121,7 +122,7 @@ module _ (g : Geometry) (f : Session) (r : Room) (none : f.tree.snapshots ≡ em
   alone_uses b = ap (λ (names : List (List ℕ)). is_listed g.i r.places r.kept names b) no_names ∙ or-false (has (node_blocks r.places g.i) b)
 
   -- in a room that holds the tree as many are left as the tree doesn't need
-  pub alone_left : HoldsTree g f.tree r → left_in g f r ≡ (g.n - data_start g) - blocks f.tree - r.held
+  pub alone_left : HoldsTree g f.tree r → left_in g f r ≡ (g.n - data_start g) - blocks g.layout f.tree - r.held
   alone_left holds = ap (λ n. (g.n - data_start g) - n - r.held) (holds.alone none)
 
   -- and new blocks stand behind a node's own

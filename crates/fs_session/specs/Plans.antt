@@ -49,7 +49,7 @@ pub record HasDrafted (s : State) (d : DraftState) (m : Blocks) : Type 0 where
 -- A snapshot of this name comes, under the least unused number.
 pub record MakesSnapshot (name : List ℕ) (d : DraftState) (now : State) (f : Session) : Type 0 where
   pub number : ℕ
-  pub least : least_unused f.limit f.tree ≡ Some number
+  pub least : least_unused f.limit.nodes f.tree ≡ Some number
   pub places : List ℕ
   pub adds : (m : Blocks) → HasDrafted now d m → AddsSnapshot now.books.geom now.map m number name places
 
@@ -77,8 +77,8 @@ pub record MakesTree (cmd : Cmd) (d : DraftState) (cost : ℕ) (old now : State)
   pub costs : (figures_on old f cmd).cost ≡ cost
   pub room : HasRoom old.books (figures_on old f cmd)
   pub runs : FindsRuns old now.books f cmd
-  pub reads : AreInodesOf (files_in now d) (inodes_of (files_in now d))
-  pub map : IsMapOf f.limit (inodes_of (files_in now d)) (step f cmd).0.tree
+  pub reads : AreInodesOf now.books.geom.layout (files_in now d) (inodes_of now.books.geom.layout (files_in now d))
+  pub map : IsMapOf f.limit.nodes (inodes_of now.books.geom.layout (files_in now d)) (step f cmd).0.tree
   pub snapshots : MakesSnapshots cmd d now f
   pub within : IsWithinCost now.books.geom d cost
   pub uses : Uses (figures_on old f cmd).need (figures_on old f cmd).freed (reusable_blocks now.books) (renewed_on old f cmd) (places_of old) (places_in now d) d

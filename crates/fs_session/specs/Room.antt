@@ -2,6 +2,7 @@
 use Rattle.std.specs.Prelude.{◌≡◌, ◌⊎◌, ℕ, ◌+◌, ◌-◌, ◌*◌, ◌<◌, ◌≤◌, Bool, false, not, List, [], ◌∷◌, length, take, drop, None, Some}
 use Rattle.std.specs.FinMap.{empty, get, keys}
 use Rattle.std.specs.List.{filter}
+use Rattle.base_types.specs.Layouts.{directory_blocks, most_runs}
 use Rattle.layout_geometry.specs.Geometry.{Geometry, bitmap_blocks, data_start}
 use Rattle.layout_extent.specs.Renew.{renew}
 use Rattle.layout_extent.specs.Runs.{stretches}
@@ -12,12 +13,13 @@ use Rattle.lang_tree.specs.declared.command.Refusal.TheVariants.{Scattered, NoMe
 use Rattle.lang_tree.specs.declared.command.Reply.{Reply}
 use Rattle.lang_tree.specs.declared.command.Reply.TheVariants.{Refused}
 use Rattle.lang_tree.specs.Conditions.{is_snapshot, refusal}
-use Rattle.lang_tree.specs.Figures.{Figures, blocks, blocks_for, directory_blocks, snapshot_blocks}
+use Rattle.lang_tree.specs.Figures.{Figures, blocks, blocks_for, snapshot_blocks}
 use Rattle.lang_tree.specs.Names.{names_in}
 use Rattle.lang_tree.specs.Run.{MayKnow}
 use Rattle.lang_tree.specs.Sharing.{BlocksAlone, SharedNodes, figures_over}
 use Rattle.lang_tree.specs.Step.{Session, step}
 use Rattle.lang_tree.specs.Tree.{Kept, Tree, Dir, File}
+use Rattle.crash_stands.specs.Bounds.{bounds_of}
 use Rattle.engine_blocks.specs.State.{data_blocks}
 use Rattle.fs_session.specs.Lists.{KeptLists, alone_in, is_listed, kept_after, listed, shared_in}
 use Rattle.fs_session.specs.Space.{ArePlaced, FitsIn, FailsToFit, grown_in, renewed_by}
@@ -59,10 +61,10 @@ blocks_in_use g t r = listed g.i r.places r.kept (keys t.snapshots) (data_start 
 -- Each node has as many blocks as its content needs, and so has each snapshot. A number that is no node's and no snapshot's has none. Without snapshots as many data blocks are in use as the tree needs.
 pub record HoldsTree (g : Geometry) (t : Tree) (r : Room) : Type 0 where
   pub files : (k : ℕ) (bytes : List ℕ) → get t.nodes k ≡ Some (File bytes) → length (r.places k) ≡ blocks_for (length bytes)
-  pub directories : (path : List (List ℕ)) (k : ℕ) → get t.names path ≡ Some k → get t.nodes k ≡ Some Dir → length (r.places k) ≡ directory_blocks (length (names_in t.names path))
+  pub directories : (path : List (List ℕ)) (k : ℕ) → get t.names path ≡ Some k → get t.nodes k ≡ Some Dir → length (r.places k) ≡ directory_blocks g.layout (length (names_in t.names path))
   pub unused : (k : ℕ) → get t.nodes k ≡ None → is_snapshot t.snapshots k ≡ false → r.places k ≡ []
-  pub snapshots : (name : List ℕ) (k : Kept) → get t.snapshots name ≡ Some k → length (r.places k.number) ≡ snapshot_blocks g.i k.names
-  pub alone : t.snapshots ≡ empty → blocks_in_use g t r ≡ blocks t
+  pub snapshots : (name : List ℕ) (k : Kept) → get t.snapshots name ≡ Some k → length (r.places k.number) ≡ snapshot_blocks (bounds_of g) k.names
+  pub alone : t.snapshots ≡ empty → blocks_in_use g t r ≡ blocks g.layout t
 
 -- Whether there is room.
 
@@ -86,9 +88,9 @@ renewed_in g f r cmd = renewed_by f cmd (shared_by g f.tree r)
 abbrev pub runs_with : Geometry → Session → Room → Cmd → ℕ → ℕ → ℕ
 runs_with g f r cmd k need = stretches (renew (renewed_in g f r cmd k) 0 (r.places k) (take need r.takeable))
 
--- a command that grows a node leaves it in at most 28 runs
+-- a command that grows a node leaves it in at most as many runs as its layout has room for
 abbrev pub StaysInRuns : Geometry → Session → Room → Cmd → ℕ → Type 0
-StaysInRuns g f r cmd need = (k : ℕ) → 0 < need → grown_in f cmd ≡ Some k → runs_with g f r cmd k need ≤ 28
+StaysInRuns g f r cmd need = (k : ℕ) → 0 < need → grown_in f cmd ≡ Some k → runs_with g f r cmd k need ≤ most_runs g.layout
 
 -- The command would scatter the node that it grows over more runs, with blocks enough.
 pub record Scatters (g : Geometry) (f : Session) (r : Room) (cmd : Cmd) (need : ℕ) (why : Refusal) : Type 0 where
@@ -97,7 +99,7 @@ pub record Scatters (g : Geometry) (f : Session) (r : Room) (cmd : Cmd) (need : 
   pub enough : need ≤ length r.takeable
   pub grows : grown_in f cmd ≡ Some node
   pub is : why ≡ Scattered (runs_with g f r cmd node need)
-  pub past : 28 < runs_with g f r cmd node need
+  pub past : most_runs g.layout < runs_with g f r cmd node need
 
 -- What becomes of the room.
 

@@ -3,6 +3,7 @@ use Rattle.std.specs.Prelude.{◌≡◌, ◌≢◌, ℕ, ◌+◌, ◌<◌, ◌�
 use Rattle.std.specs.List.{list_any}
 use Rattle.lang_tree.specs.Tree.{Tree}
 use Rattle.lang_tree.specs.Step.{Session}
+use Rattle.crash_stands.specs.Bounds.{bounds_of}
 use Rattle.crash_stands.specs.Files.{Files, files_of}
 use Rattle.crash_stands.specs.Inodes.{Inodes, inodes_of}
 use Rattle.crash_stands.specs.Stands.{AreSound, IsTreeOf}
@@ -19,13 +20,13 @@ use Rattle.fs_session.specs.declared.unused.UnusedNodes.{UnusedNodes}
 
 -- what the nodes in use read as
 abbrev pub inodes : State → Inodes
-inodes s = inodes_of (files_of s.books.geom s.map)
+inodes s = inodes_of s.books.geom.layout (files_of s.books.geom s.map)
 
 -- The blocks stand for the session's tree. While no call of the disk failed, the last point is the session's, and the tree changed since exactly where the transaction has a weight.
 -- The point that the session knows to be on the disk is one to which no crash goes back.
 pub record IsSession (s : State) (f : Session) : Type 0 where
   pub tree : IsTreeOf s.books.geom s.map f.tree
-  pub limit : f.limit ≡ s.books.geom.i
+  pub limit : f.limit ≡ bounds_of s.books.geom
   pub points : s.books.stopped ≡ false → f.points ≡ s.books.point
   pub changed : s.books.stopped ≡ false → f.changed ≡ nat_lt 0 s.books.running.weight
   pub durable : f.durable ≤ s.books.floor

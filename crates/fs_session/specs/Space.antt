@@ -62,7 +62,7 @@ grown_path _ = None
 
 -- the number of the node that the command may grow: a new snapshot's, or that at its path
 abbrev pub grown_in : Session → Cmd → Option ℕ
-grown_in f (cmds.Snap name) = least_unused f.limit f.tree
+grown_in f (cmds.Snap name) = least_unused f.limit.nodes f.tree
 grown_in f cmd = option_and_then (get f.tree.names) (grown_path cmd)
 
 -- the shared blocks that the command's bytes touch, by their places in the file that it writes

@@ -5,6 +5,7 @@ use Rattle.layout_geometry.specs.Geometry.{Geometry}
 use Rattle.lang_tree.specs.declared.command.Cmd.{Cmd}
 use Rattle.lang_tree.specs.Step.{Session}
 use Rattle.lang_tree.specs.Tree.{Tree}
+use Rattle.crash_stands.specs.Bounds.{bounds_of}
 use Rattle.crash_stands.specs.Files.{files_of}
 use Rattle.crash_stands.specs.Stands.{AreSound, IsTreeOf}
 use Rattle.engine_blocks.specs.Crashes.{IssuesNothing}
@@ -42,7 +43,7 @@ pub session_stays : (s t : State) (f : Session) → s.books.stopped ≡ false �
     → IsSession s f → IsSession t f
 session_stays s t f going g m p w fl h = record {
   tree = tree_stays s t f.tree g m h.tree;
-  limit = h.limit ∙ ap (λ (k : Geometry). k.i) (sym g);
+  limit = h.limit ∙ ap bounds_of (sym g);
   points = λ stopped. h.points going ∙ sym p;
   changed = λ stopped. h.changed going ∙ ap (λ n. nat_lt 0 n) (sym w);
   durable = omega (arith, h.durable, fl);

@@ -30,7 +30,7 @@ pub fn without_snapshots_a_room_is_that_of_its_tree()
     ensures uses { (g : Geometry) (f : Session) (r : Room) (b : ℕ) → f.tree.snapshots ≡ empty
         → is_in_use g f.tree r b ≡ has (node_blocks r.places g.i) b }
     ensures left { (g : Geometry) (f : Session) (r : Room) → f.tree.snapshots ≡ empty → HoldsTree g f.tree r
-        → left_in g f r ≡ (g.n - data_start g) - blocks f.tree - r.held }
+        → left_in g f r ≡ (g.n - data_start g) - blocks g.layout f.tree - r.held }
 {
     nothing_shared_costs_nothing();
 }

@@ -34,7 +34,7 @@ use lang_tree::a_tree_in_memory_refuses_for_no_disk;
 
 /// Blocks stand for a tree exactly where they are sound and what their nodes read as is that tree's map.
 pub fn blocks_have_the_map_of_their_tree()
-    ensures map { (g : Geometry) (m : BlockMap) (t : Tree) → IsTreeOf g m t → IsMapOf g.i (inodes_of (files_of g m)) t }
+    ensures map { (g : Geometry) (m : BlockMap) (t : Tree) → IsTreeOf g m t → IsMapOf g.i (inodes_of g.layout (files_of g m)) t }
 {
     blocks_have_a_map();
     files_have_one_map();

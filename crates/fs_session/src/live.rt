@@ -29,9 +29,9 @@ pub fn bitmap_and_node_table_are_live()
 /// lists. These blocks may be taken, or wait until they may.
 pub fn as_many_blocks_are_marked_as_the_tree_has<S: Blocks>()
     ensures live { (s : S) (f : Session) → IsTrue S.tells → IsSession (S.state s) f → f.tree.snapshots ≡ empty
-        → length (live_blocks (S.state s).books) ≡ blocks f.tree }
+        → length (live_blocks (S.state s).books) ≡ blocks (S.state s).books.geom.layout f.tree }
     ensures left { (s : S) (f : Session) → IsTrue S.tells → IsSession (S.state s) f → f.tree.snapshots ≡ empty
-        → left_of (S.state s).books ≡ (S.state s).books.area - blocks f.tree - (S.state s).books.running.held }
+        → left_of (S.state s).books ≡ (S.state s).books.area - blocks (S.state s).books.geom.layout f.tree - (S.state s).books.running.held }
     ensures room { (s : S) (f : Session) → IsTrue S.tells → IsSession (S.state s) f
         → left_of (S.state s).books ≡ left_in (S.state s).books.geom f (room_of (S.state s)) }
     ensures takeable { (s : S) → left_of (S.state s).books ≡ length (reusable_blocks (S.state s).books) + (S.state s).books.waiting }

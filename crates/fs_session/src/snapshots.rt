@@ -3,10 +3,10 @@
 
 ghost use Rattle.std.specs.Prelude.{◌≡◌, ℕ, ◌+◌, ◌≤◌, List, length, replicate, slice_get, IsTrue, Option, Some, None};
 ghost use Rattle.std.specs.FinMap.{get};
+ghost use Rattle.base_types.specs.Layouts.{node_size};
 ghost use Rattle.base_types.specs.Seal.{Blocks as BlockMap};
 ghost use Rattle.lang_tree.specs.Conditions.{least_unused};
 ghost use Rattle.lang_tree.specs.Figures.{snapshot_blocks};
-ghost use Rattle.layout_geometry.specs.Geometry.{node_size};
 ghost use Rattle.layout_bytes.specs.Node.{node_at, node_bytes};
 ghost use Rattle.lang_tree.specs.declared.command.Cmd.{Cmd};
 ghost use Rattle.lang_tree.specs.Step.{Session, step};
@@ -50,12 +50,12 @@ pub fn counts_tell_what_is_shared<S: Blocks>()
         → CountsKeepers (S.state s).books.geom (S.state s).map counts → get f.tree.snapshots name ≡ Some k
         → alone_on (S.state s) f name ≡ length (alone_among counts (live_files (S.state s).books.geom (S.state s).map)
         (kept_files_of (S.state s).books.geom (S.state s).map k.number)) }
-    ensures least { (s : S) (f : Session) → IsSession (S.state s) f → least_unused f.limit f.tree ≡ least_number (S.state s) }
+    ensures least { (s : S) (f : Session) → IsSession (S.state s) f → least_unused f.limit.nodes f.tree ≡ least_number (S.state s) }
     ensures blocks { (s : S) (f : Session) (name : List ℕ) (k : Kept) → IsSession (S.state s) f → get f.tree.snapshots name ≡ Some k
         → length (places_of (S.state s) k.number) ≡ snapshot_blocks f.limit k.names }
     ensures live { (s : S) (f : Session) → IsSession (S.state s) f
         → snapshot_blocks f.limit f.tree.names
-        ≡ 1 + (table_blocks (S.state s).books.geom + length (all_dirs (used_node (S.state s).books.geom (S.state s).map) 1 f.limit)) }
+        ≡ 1 + (table_blocks (S.state s).books.geom + length (all_dirs (used_node (S.state s).books.geom (S.state s).map) 1 f.limit.nodes)) }
 {
     what_is_known_of_snapshots_is_so();
     a_sound_snapshot_is_whole();
@@ -75,7 +75,8 @@ pub fn a_draft_that_leaves_snapshots_makes_its_tree<S: Blocks>(blocks: &S)
     ensures tree { IsTrue S.tells → (d : DraftState) (m : BlockMap) (t u : Tree) (inodes : Inodes)
         → IsTreeOf (S.state blocks.now).books.geom (S.state blocks.now).map t
         → IsDraftOf S.tells (S.state blocks.now) d → StaysBeside d (S.state blocks.now) → HasDrafted (S.state blocks.now) d m
-        → u.snapshots ≡ t.snapshots → AreInodesOf (files_in (S.state blocks.now) d) inodes → IsMapOf (S.state blocks.now).books.geom.i inodes u
+        → u.snapshots ≡ t.snapshots → AreInodesOf (S.state blocks.now).books.geom.layout (files_in (S.state blocks.now) d) inodes
+        → IsMapOf (S.state blocks.now).books.geom.i inodes u
         → IsTreeOf (S.state blocks.now).books.geom m u }
     ensures known { IsTrue S.tells → (d : DraftState) (m : BlockMap) (t : Tree) (counts : List ℕ) (numbers : List ℕ → Option ℕ)
         → IsTreeOf (S.state blocks.now).books.geom (S.state blocks.now).map t
@@ -127,7 +128,7 @@ pub fn a_node_that_a_draft_leaves_stays<S: Blocks>(blocks: &S)
         → used_node (S.state blocks.now).books.geom m k ≡ used_node (S.state blocks.now).books.geom (S.state blocks.now).map k }
     ensures bare { IsTrue S.tells → (d : DraftState) (m : BlockMap) (k : ℕ) → IsDraftOf S.tells (S.state blocks.now) d → HasDrafted (S.state blocks.now) d m
         → 1 ≤ k → k ≤ (S.state blocks.now).books.geom.i → node_at (S.state blocks.now).books.geom m k ≡ None
-        → node_bytes (S.state blocks.now).books.geom m k ≡ replicate node_size 0 }
+        → node_bytes (S.state blocks.now).books.geom m k ≡ replicate (node_size (S.state blocks.now).books.geom.layout) 0 }
 {
     blocks.geom().lawful();
 }

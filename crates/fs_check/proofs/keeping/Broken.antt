@@ -10,6 +10,7 @@ use Rattle.layout_bytes.specs.declared.node.Node.{Node}
 use Rattle.layout_bytes.specs.SnapshotName.{name_block}
 use Rattle.lang_tree.specs.Tree.{Kept, Tree, kept_tree}
 use Rattle.engine_blocks.specs.Puts.{IsData}
+use Rattle.crash_stands.specs.Bounds.{bounds_of}
 use Rattle.crash_stands.specs.Files.{used_node}
 use Rattle.crash_stands.specs.Places.{kept_table}
 use Rattle.crash_stands.specs.Kept.{kept_files}
@@ -82,4 +83,4 @@ broken_none one alike rules g m (damage.KeptElsewhere k b) t bad stands =
 broken_none one alike rules g m (damage.InSnapshot k what) t bad stands =
     let h = held g m t k bad.is stands in
     let keeps : KeepsTree g m (places_of bad.is.node) h.kept = subst (λ (n : Node). KeepsTree g m (run_places n.runs) h.kept) h.same h.holds.keeps in
-    none_in_tree one alike rules g.i (kept_files g m (places_of bad.is.node)) keeps.inodes (kept_tree h.kept) what keeps.read keeps.map bad.broken
+    none_in_tree one alike rules (bounds_of g) (kept_files g m (places_of bad.is.node)) keeps.inodes (kept_tree h.kept) what keeps.read keeps.map bad.broken

@@ -41,15 +41,15 @@ plain_known : Each → (g : Geometry) (m : Blocks) (maps : Maps) (k : ℕ) (foun
 plain_known each g m maps k found plain h = record { nodes = h.nodes; maps_true = h.maps_true; below = checked_plain each g m k _ found.tally.counts plain h.below }
 
 -- there is none in these bytes
-pub none_known : Each → (g : Geometry) (m : Blocks) (maps : Maps) (k : ℕ) (found : Found) (bytes : List ℕ) (o : Option OpenFile) → 1 ≤ k → k ≤ g.i → bytes ≡ node_bytes g m k → option_map node_of_file o ≡ node_of g bytes → o ≡ None → IsKnownBelow g m maps k found → IsKnownBelow g m maps (k + 1) found
+pub none_known : Each → (g : Geometry) (m : Blocks) (maps : Maps) (k : ℕ) (found : Found) (bytes : List ℕ) (o : Option OpenFile) → 1 ≤ k → k ≤ g.i → bytes ≡ node_bytes g m k → option_map (node_of_file g.layout) o ≡ node_of g bytes → o ≡ None → IsKnownBelow g m maps k found → IsKnownBelow g m maps (k + 1) found
 none_known each g m maps k found bytes o from upto is read there h =
-    plain_known each g m maps k found (λ node used. absurd (none-some node (sym (node_read g m k bytes o from upto is read ∙ ap (option_map node_of_file) there) ∙ used))) h
+    plain_known each g m maps k found (λ node used. absurd (none-some node (sym (node_read g m k bytes o from upto is read ∙ ap (option_map (node_of_file g.layout)) there) ∙ used))) h
 
 -- there is one of another kind
-pub other_known : Each → (g : Geometry) (m : Blocks) (maps : Maps) (k : ℕ) (found : Found) (bytes : List ℕ) (o : Option OpenFile) (file : OpenFile) → 1 ≤ k → k ≤ g.i → bytes ≡ node_bytes g m k → option_map node_of_file o ≡ node_of g bytes → o ≡ Some file → file.facts.kind ≢ Snapshot
+pub other_known : Each → (g : Geometry) (m : Blocks) (maps : Maps) (k : ℕ) (found : Found) (bytes : List ℕ) (o : Option OpenFile) (file : OpenFile) → 1 ≤ k → k ≤ g.i → bytes ≡ node_bytes g m k → option_map (node_of_file g.layout) o ≡ node_of g bytes → o ≡ Some file → file.facts.kind ≢ Snapshot
     → IsKnownBelow g m maps k found → IsKnownBelow g m maps (k + 1) found
 other_known each g m maps k found bytes o file from upto is read there other h =
-    plain_known each g m maps k found (λ node used kind. other (ap (λ (n : Node). n.kind) (same_Some (node_of_file file) node (sym (node_read g m k bytes o from upto is read ∙ ap (option_map node_of_file) there) ∙ used)) ∙ kind)) h
+    plain_known each g m maps k found (λ node used kind. other (ap (λ (n : Node). n.kind) (same_Some (node_of_file g.layout file) node (sym (node_read g m k bytes o from upto is read ∙ ap (option_map (node_of_file g.layout)) there) ∙ used)) ∙ kind)) h
 
 pub dir_other : (kind : NodeKind) → kind ≡ Dir → kind ≢ Snapshot
 dir_other kind is = λ other. let both : Dir ≡ Snapshot = sym is ∙ other in cc
@@ -58,12 +58,12 @@ pub file_other : (kind : NodeKind) → kind ≡ File → kind ≢ Snapshot
 file_other kind is = λ other. let both : File ≡ Snapshot = sym is ∙ other in cc
 
 -- node 1 is a snapshot: then there is no root
-pub no_root : (g : Geometry) (m : Blocks) (bytes : List ℕ) (o : Option OpenFile) (file : OpenFile) (k : ℕ) → k ≡ 1 → 1 ≤ k → k ≤ g.i → bytes ≡ node_bytes g m k → option_map node_of_file o ≡ node_of g bytes → o ≡ Some file → file.facts.kind ≡ Snapshot
-    → (slots : List Slot) → inodes_of (files_of g m) 1 ≢ Some (ADir slots)
+pub no_root : (g : Geometry) (m : Blocks) (bytes : List ℕ) (o : Option OpenFile) (file : OpenFile) (k : ℕ) → k ≡ 1 → 1 ≤ k → k ≤ g.i → bytes ≡ node_bytes g m k → option_map (node_of_file g.layout) o ≡ node_of g bytes → o ≡ Some file → file.facts.kind ≡ Snapshot
+    → (slots : List Slot) → inodes_of g.layout (files_of g m) 1 ≢ Some (ADir slots)
 no_root g m bytes o file k one from upto is read there kind slots root =
-    let used : used_node g m k ≡ Some (node_of_file file) = node_read g m k bytes o from upto is read ∙ ap (option_map node_of_file) there in
-    let none : inodes_of (files_of g m) k ≡ None = ap (λ u. option_and_then inode_of (option_map (file_of m) u)) used ∙ snapshot_inode (file_of m (node_of_file file)) kind in
-    none-some (ADir slots) (sym none ∙ ap (inodes_of (files_of g m)) one ∙ root)
+    let used : used_node g m k ≡ Some (node_of_file g.layout file) = node_read g m k bytes o from upto is read ∙ ap (option_map (node_of_file g.layout)) there in
+    let none : inodes_of g.layout (files_of g m) k ≡ None = ap (λ u. option_and_then (inode_of g.layout) (option_map (file_of g.layout m) u)) used ∙ snapshot_inode g.layout (file_of g.layout m (node_of_file g.layout file)) kind in
+    none-some (ADir slots) (sym none ∙ ap (inodes_of g.layout (files_of g m)) one ∙ root)
 
 -- Many nodes.
 

@@ -1,5 +1,5 @@
 -- The bits of the blocks that directories and snapshots have, set place by place and node by node.
-use Rattle.std.proofs.Common.{◌≡◌, ◌≢◌, ◌⊎◌, inl, inr, ◌↔◌, ℕ, ◌+◌, ◌*◌, ◌<◌, ◌≤◌, Bool, true, false, IsTrue, ◌==◌, if◌then◌else◌, List, length, slice_get, Option, None, Some, option_map, refl, sym, ap, subst, ◌∙◌, arith, ⊎_elim}
+use Rattle.std.proofs.Common.{◌≡◌, ◌≢◌, ◌⊎◌, inl, inr, ◌↔◌, ℕ, ◌+◌, ◌<◌, ◌≤◌, Bool, true, false, IsTrue, ◌==◌, if◌then◌else◌, List, length, slice_get, Option, None, Some, option_map, refl, sym, ap, subst, ◌∙◌, arith, ⊎_elim}
 use Rattle.std.proofs.lemmas.Bool.{cases_Bool, cases_lt, eqb-true, false≢true}
 use Rattle.std.proofs.lemmas.Option.{none-some, same_Some, slice_get_within}
 use Rattle.base_types.specs.Runs.{run_places}
@@ -7,6 +7,7 @@ use Rattle.base_types.specs.Seal.{Blocks, blocks_of}
 use Rattle.layout_bitmap.specs.Bits.{BitBecomes}
 use Rattle.layout_extent.specs.Renew.{IsAmong}
 use Rattle.layout_extent.specs.TidyLaws.{places_of_runs}
+use Rattle.base_types.specs.Layouts.{nodes_before}
 use Rattle.layout_geometry.specs.Geometry.{Geometry, table_start}
 use Rattle.layout_bytes.specs.declared.node.Node.{Node}
 use Rattle.layout_bytes.specs.declared.node.NodeKind.{NodeKind}
@@ -94,7 +95,7 @@ firm_begins g m firm clear b low = (
 
 -- The node that was read from these bytes of the table.
 
-pub node_read : (g : Geometry) (m : Blocks) (k : ℕ) (bytes : List ℕ) (o : Option OpenFile) → 1 ≤ k → k ≤ g.i → bytes ≡ node_bytes g m k → option_map node_of_file o ≡ node_of g bytes → used_node g m k ≡ option_map node_of_file o
+pub node_read : (g : Geometry) (m : Blocks) (k : ℕ) (bytes : List ℕ) (o : Option OpenFile) → 1 ≤ k → k ≤ g.i → bytes ≡ node_bytes g m k → option_map (node_of_file g.layout) o ≡ node_of g bytes → used_node g m k ≡ option_map (node_of_file g.layout) o
 node_read g m k bytes o from upto is read = used_at g m k from upto ∙ sym (ap (node_of g) is) ∙ sym read
 
 pub dir_no_file : (kind : NodeKind) → kind ≡ Dir → kind ≢ File
@@ -104,32 +105,32 @@ pub snapshot_no_file : (kind : NodeKind) → kind ≡ Snapshot → kind ≢ File
 snapshot_no_file kind is = λ other. let both : Snapshot ≡ File = sym is ∙ other in cc
 
 -- it is a directory or a snapshot, and its bits were set
-pub firm_read : (g : Geometry) (m : Blocks) (k : ℕ) (bytes : List ℕ) (o : Option OpenFile) (file : OpenFile) (old new : Blocks) → 1 ≤ k → k ≤ g.i → bytes ≡ node_bytes g m k → option_map node_of_file o ≡ node_of g bytes → o ≡ Some file
+pub firm_read : (g : Geometry) (m : Blocks) (k : ℕ) (bytes : List ℕ) (o : Option OpenFile) (file : OpenFile) (old new : Blocks) → 1 ≤ k → k ≤ g.i → bytes ≡ node_bytes g m k → option_map (node_of_file g.layout) o ≡ node_of g bytes → o ≡ Some file
     → file.facts.kind ≢ File → SetsBits file.blocks old new → AreFirmBelow g m k old → AreFirmBelow g m (k + 1) new
 firm_read g m k bytes o file old new from upto is read there kind sets below =
-    firm_more g m k (node_of_file file) old new (node_read g m k bytes o from upto is read ∙ ap (option_map node_of_file) there) kind
+    firm_more g m k (node_of_file g.layout file) old new (node_read g m k bytes o from upto is read ∙ ap (option_map (node_of_file g.layout)) there) kind
     (subst (λ places. SetsBits places old new) (sym (places_of_runs file.blocks)) sets) below
 
 -- it is a file
-pub firm_file : (g : Geometry) (m : Blocks) (k : ℕ) (bytes : List ℕ) (o : Option OpenFile) (file : OpenFile) (old : Blocks) → 1 ≤ k → k ≤ g.i → bytes ≡ node_bytes g m k → option_map node_of_file o ≡ node_of g bytes → o ≡ Some file
+pub firm_file : (g : Geometry) (m : Blocks) (k : ℕ) (bytes : List ℕ) (o : Option OpenFile) (file : OpenFile) (old : Blocks) → 1 ≤ k → k ≤ g.i → bytes ≡ node_bytes g m k → option_map (node_of_file g.layout) o ≡ node_of g bytes → o ≡ Some file
     → file.facts.kind ≡ File → AreFirmBelow g m k old → AreFirmBelow g m (k + 1) old
 firm_file g m k bytes o file old from upto is read there kind below =
     firm_same g m k old (λ node used.
-    ap (λ (n : Node). n.kind) (same_Some node (node_of_file file) (sym used ∙ node_read g m k bytes o from upto is read ∙ ap (option_map node_of_file) there)) ∙ kind) below
+    ap (λ (n : Node). n.kind) (same_Some node (node_of_file g.layout file) (sym used ∙ node_read g m k bytes o from upto is read ∙ ap (option_map (node_of_file g.layout)) there)) ∙ kind) below
 
 -- there is none
-pub firm_none : (g : Geometry) (m : Blocks) (k : ℕ) (bytes : List ℕ) (o : Option OpenFile) (old : Blocks) → 1 ≤ k → k ≤ g.i → bytes ≡ node_bytes g m k → option_map node_of_file o ≡ node_of g bytes → o ≡ None → AreFirmBelow g m k old → AreFirmBelow g m (k + 1) old
+pub firm_none : (g : Geometry) (m : Blocks) (k : ℕ) (bytes : List ℕ) (o : Option OpenFile) (old : Blocks) → 1 ≤ k → k ≤ g.i → bytes ≡ node_bytes g m k → option_map (node_of_file g.layout) o ≡ node_of g bytes → o ≡ None → AreFirmBelow g m k old → AreFirmBelow g m (k + 1) old
 firm_none g m k bytes o old from upto is read there below =
-    firm_same g m k old (λ node used. absurd (none-some node (sym (node_read g m k bytes o from upto is read ∙ ap (option_map node_of_file) there) ∙ used))) below
+    firm_same g m k old (λ node used. absurd (none-some node (sym (node_read g m k bytes o from upto is read ∙ ap (option_map (node_of_file g.layout)) there) ∙ used))) below
 
 -- From block to block of the table.
 
 -- the bits are set of the nodes in its first places
 pub record SetsNodes (g : Geometry) (t : ℕ) (table : List ℕ) (old new : List (List ℕ)) (at : ℕ) : Type 0 where
   pub size : length new ≡ length old
-  pub firm : (m : Blocks) → table ≡ m (table_start g + t) → AreFirmBelow g m (4 * t + 1) (blocks_of old) → AreFirmBelow g m at (blocks_of new)
+  pub firm : (m : Blocks) → table ≡ m (table_start g + t) → AreFirmBelow g m (nodes_before g.layout t + 1) (blocks_of old) → AreFirmBelow g m at (blocks_of new)
 
-pub nodes_begin : (g : Geometry) (t at : ℕ) (table : List ℕ) (old : List (List ℕ)) → 4 * t + 1 ≡ at → SetsNodes g t table old old at
+pub nodes_begin : (g : Geometry) (t at : ℕ) (table : List ℕ) (old : List (List ℕ)) → nodes_before g.layout t + 1 ≡ at → SetsNodes g t table old old at
 nodes_begin g t at table old same = record { size = refl; firm = λ m is below. subst (λ k. AreFirmBelow g m k (blocks_of old)) same below }
 
 pub nodes_more : (g : Geometry) (t at here later next : ℕ) (table bytes : List ℕ) (old new newer : List (List ℕ)) → at ≡ here → later ≡ next → SetsNodes g t table old new at → length newer ≡ length new

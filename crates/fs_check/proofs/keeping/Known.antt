@@ -5,6 +5,7 @@ use Rattle.std.specs.List.{range_with_len}
 use Rattle.base_types.specs.Seal.{Blocks}
 use Rattle.layout_geometry.specs.Geometry.{Geometry}
 use Rattle.lang_tree.specs.Tree.{Kept, Tree}
+use Rattle.crash_stands.specs.Bounds.{bounds_of}
 use Rattle.crash_stands.specs.Files.{files_of}
 use Rattle.crash_stands.specs.Stands.{AreSound, IsTreeOf}
 use Rattle.fs_snapshots.specs.Known.{CountsKeepers, KnowsSnapshots, keeps_block, snapshot_number}
@@ -22,7 +23,7 @@ counts_keepers g m numbers counts h room = record {
 abbrev pub AreNamed : Type 0
 AreNamed = (g : Geometry) (m : Blocks) (t : Tree) (name : List ℕ) → IsTreeOf g m t → snapshot_number g m name ≡ option_map (λ (k : Kept). k.number) (get t.snapshots name)
 
-pub knows : AreNamed → (g : Geometry) (m : Blocks) (numbers : Numbers) (counts : List ℕ) → ReadsAsTree g.i (files_of g m) → AreSound g m → AreCheckedBelow g m (g.i + 1) numbers counts → (counts ≡ []) ⊎ (length counts ≡ g.n)
+pub knows : AreNamed → (g : Geometry) (m : Blocks) (numbers : Numbers) (counts : List ℕ) → ReadsAsTree (bounds_of g) (files_of g m) → AreSound g m → AreCheckedBelow g m (g.i + 1) numbers counts → (counts ≡ []) ⊎ (length counts ≡ g.n)
     → KnowsSnapshots g m counts (get numbers)
 knows are_named g m numbers counts r sound h room =
     let tree = stands g m numbers counts r sound h in

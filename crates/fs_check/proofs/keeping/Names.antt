@@ -29,7 +29,7 @@ zeros_behind block name n lawful is count =
     ∙ zeros_are (1023 - length name)
 
 -- a length, so many bytes and zeros are the block of these bytes
-pub spelled : ZerosAreTold → (block name : List ℕ) (n : ℕ) → length block ≡ 1024 → n ≡ get_or block 0 0 → n ≤ 59 → name ≡ take (1 + n - 1) (drop 1 block) → are_zeros (take (1024 - (1 + n)) (drop (1 + n) block)) ≡ true → block ≡ name_block name
+pub spelled : ZerosAreTold → (block name : List ℕ) (n : ℕ) → length block ≡ 1024 → n ≡ get_or block 0 0 → n ≤ 255 → name ≡ take (1 + n - 1) (drop 1 block) → are_zeros (take (1024 - (1 + n)) (drop (1 + n) block)) ≡ true → block ≡ name_block name
 spelled told [] name n size count low bytes zeros = absurd (omega (arith, size))
 spelled told (x ∷ rest) name n size count low bytes zeros =
     let left : length rest ≡ 1023 = omega (arith, size) in

@@ -4,7 +4,9 @@ use Rattle.std.specs.List.{All}
 use Rattle.base_types.specs.Seal.{Blocks, blocks_of}
 use Rattle.layout_extent.specs.TidyLaws.{places_of_runs}
 use Rattle.layout_geometry.specs.Geometry.{Geometry}
+use Rattle.layout_bytes.specs.declared.node.NodeKind.{NodeKind}
 use Rattle.layout_bytes.specs.declared.node.NodeKind.TheVariants.{Snapshot}
+use Rattle.layout_bytes.specs.Node.{size_of}
 use Rattle.layout_bytes.specs.Bitmap.{bit_in}
 use Rattle.engine_blocks.specs.Crashes.{IsTold}
 use Rattle.engine_blocks.specs.Puts.{IsData}
@@ -37,15 +39,16 @@ use Rattle.fs_check.proofs.sound.Tails.{AreWhole}
 use Rattle.fs_check.proofs.sound.Told.{whole_at}
 
 -- a snapshot whose size isn't right
-pub size_broken : (g : Geometry) (m : Blocks) (k : ℕ) (f : OpenFile) (why : CheckRefusal) → used_node g m k ≡ Some (node_of_file f) → f.facts.kind ≡ Snapshot
+pub size_broken : (g : Geometry) (m : Blocks) (k : ℕ) (f : OpenFile) (why : CheckRefusal) → used_node g m k ≡ Some (node_of_file g.layout f) → f.facts.kind ≡ Snapshot
     → (f.facts.links ≡ 1 → f.facts.size ≡ 1024 * length f.blocks → HasItsParts g m f.blocks → ⊥) → why ≡ refusal.Damaged (whole.Snapshot (WrongSize k)) → OnDamage why (IsDamaged g m)
 size_broken g m k f why used kind wrong is = subst (λ w. OnDamage w (IsDamaged g m)) (sym is) (record {
-  is = record { node = node_of_file f; is_node = used; kind = kind };
-  wrong = subst (λ ps. f.facts.links ≡ 1 → f.facts.size ≡ 1024 * length ps → HasItsParts g m ps → ⊥) (sym (places_of_runs f.blocks)) wrong;
+  is = record { node = node_of_file g.layout f; is_node = used; kind = kind };
+  wrong = subst (λ ps. f.facts.links ≡ 1 → size_of g.layout f.facts.kind f.facts.size ≡ 1024 * length ps → HasItsParts g m ps → ⊥) (sym (places_of_runs f.blocks))
+      (λ links size parts. wrong links (ap (λ (t : NodeKind). size_of g.layout t f.facts.size) (sym kind) ∙ size) parts);
 })
 
 -- or hasn't its parts
-pub parts_broken : (g h : Geometry) (m : Blocks) (k n : ℕ) (f : OpenFile) (places : List ℕ) (why : CheckRefusal) → h ≡ g → used_node g m k ≡ Some (node_of_file f) → f.facts.kind ≡ Snapshot → n ≡ length f.blocks → places ≡ take n f.blocks
+pub parts_broken : (g h : Geometry) (m : Blocks) (k n : ℕ) (f : OpenFile) (places : List ℕ) (why : CheckRefusal) → h ≡ g → used_node g m k ≡ Some (node_of_file g.layout f) → f.facts.kind ≡ Snapshot → n ≡ length f.blocks → places ≡ take n f.blocks
     → OnDamage why (λ what. (what ≡ whole.Snapshot (WrongSize k)) × (HasItsParts h m places → ⊥)) → OnDamage why (IsDamaged g m)
 parts_broken g h m k n f places refusal.ReadFault same used kind all are is = tt
 parts_broken g h m k n f places refusal.NoMemory same used kind all are is = tt

@@ -8,13 +8,16 @@ use Rattle.base_types.specs.Seal.{Blocks}
 use Rattle.layout_extent.specs.TidyLaws.{places_of_runs}
 use Rattle.layout_geometry.specs.Geometry.{Geometry}
 use Rattle.layout_bytes.specs.declared.node.Node.{Node}
+use Rattle.layout_bytes.specs.declared.node.NodeKind.{NodeKind}
 use Rattle.layout_bytes.specs.declared.node.NodeKind.TheVariants.{Snapshot}
+use Rattle.layout_bytes.specs.Node.{size_of}
 use Rattle.layout_bytes.specs.Bitmap.{bit_in}
 use Rattle.lang_tree.specs.Tree.{Kept}
 use Rattle.engine_blocks.specs.Crashes.{IsTold}
 use Rattle.engine_blocks.specs.Puts.{IsData}
 use Rattle.engine_blocks.specs.Running.{HasNoBare}
 use Rattle.engine_blocks.specs.State.{State}
+use Rattle.crash_stands.specs.Bounds.{bounds_of}
 use Rattle.crash_stands.specs.Files.{used_node}
 use Rattle.crash_stands.specs.Kept.{kept_files}
 use Rattle.crash_stands.specs.Places.{kept_table}
@@ -44,24 +47,24 @@ use Rattle.fs_check.proofs.sound.Tails.{AreWhole}
 use Rattle.fs_check.proofs.sound.Told.{whole_marked}
 
 -- a node's blocks are whole where nodes were checked
-pub own_whole : (s : State) (g : Geometry) (k : ℕ) (f : OpenFile) → s.books.geom ≡ g → HasNoBare s.books.running → IsTold s → All (IsData g) f.blocks → AreSoundNodes g s.map → used_node g s.map k ≡ Some (node_of_file f) → AreWhole s.map f.blocks
+pub own_whole : (s : State) (g : Geometry) (k : ℕ) (f : OpenFile) → s.books.geom ≡ g → HasNoBare s.books.running → IsTold s → All (IsData g) f.blocks → AreSoundNodes g s.map → used_node g s.map k ≡ Some (node_of_file g.layout f) → AreWhole s.map f.blocks
 own_whole s g k f same none told all nodes used =
     whole_marked s g f.blocks same none told all (λ i d low. nodes.marked k i (get_or f.blocks i d)
-    (record { node = node_of_file f; is_node = used; place = ap (λ ps. slice_get ps i) (places_of_runs f.blocks) ∙ slice_get-get_or f.blocks i d low }))
+    (record { node = node_of_file g.layout f; is_node = used; place = ap (λ ps. slice_get ps i) (places_of_runs f.blocks) ∙ slice_get-get_or f.blocks i d low }))
 
 -- the node is a snapshot with these blocks
-pub opened : (g : Geometry) (m : Blocks) (maps : Maps) (k : ℕ) (found : Found) (f : OpenFile) → IsKnownBelow g m maps k found → used_node g m k ≡ Some (node_of_file f) → f.facts.kind ≡ Snapshot → HasItsParts g m f.blocks → IsOpened g m maps (record { number = k; places = f.blocks })
+pub opened : (g : Geometry) (m : Blocks) (maps : Maps) (k : ℕ) (found : Found) (f : OpenFile) → IsKnownBelow g m maps k found → used_node g m k ≡ Some (node_of_file g.layout f) → f.facts.kind ≡ Snapshot → HasItsParts g m f.blocks → IsOpened g m maps (record { number = k; places = f.blocks })
 opened g m maps k found f known used kind parts = record {
   nodes = known.nodes;
   maps_true = known.maps_true;
-  is = record { node = node_of_file f; is_node = used; kind = kind };
+  is = record { node = node_of_file g.layout f; is_node = used; kind = kind };
   at = places_of_runs f.blocks;
   parts = parts;
 }
 
 -- What is broken where its name can't be added.
 
-other_named : (g : Geometry) (m : Blocks) (maps : Maps) (k l : ℕ) (found : Found) (f : OpenFile) → IsKnownBelow g m maps k found → used_node g m k ≡ Some (node_of_file f) → f.facts.kind ≡ Snapshot
+other_named : (g : Geometry) (m : Blocks) (maps : Maps) (k l : ℕ) (found : Found) (f : OpenFile) → IsKnownBelow g m maps k found → used_node g m k ≡ Some (node_of_file g.layout f) → f.facts.kind ≡ Snapshot
     → NamesOther m (record { number = k; places = f.blocks }) (numbers_in found.numbers.entries) l → HasSameName g m k l
 other_named g m maps k l found f known used kind other = by (get known.below.snapshots other.name) refl (known.below.named other.name)
   where
@@ -73,13 +76,13 @@ other_named g m maps k l found f known used kind other = by (get known.below.sna
         let low = held.1 in
         let number : kept.number ≡ l = same_Some kept.number l (sym (ap (option_map (λ (x : Kept). x.number)) e) ∙ sym named ∙ other.there) in
         record {
-          is = record { node = node_of_file f; is_node = used; kind = kind };
+          is = record { node = node_of_file g.layout f; is_node = used; kind = kind };
           other = record { node = h.node; is_node = ap (used_node g m) (sym number) ∙ h.is_node; kind = h.kind };
           before = omega (arith, low, number);
           same = ap (λ ps. m (get_or ps 0 0)) (places_of_runs f.blocks) ∙ other.named ∙ sym h.named;
         }
 
-pub misnamed : (g : Geometry) (m : Blocks) (maps : Maps) (k : ℕ) (found : Found) (f : OpenFile) (why : CheckRefusal) → IsKnownBelow g m maps k found → used_node g m k ≡ Some (node_of_file f) → f.facts.kind ≡ Snapshot
+pub misnamed : (g : Geometry) (m : Blocks) (maps : Maps) (k : ℕ) (found : Found) (f : OpenFile) (why : CheckRefusal) → IsKnownBelow g m maps k found → used_node g m k ≡ Some (node_of_file g.layout f) → f.facts.kind ≡ Snapshot
     → OnDamage why (IsMisnamed m (record { number = k; places = f.blocks }) (numbers_in found.numbers.entries)) → OnDamage why (IsDamaged g m)
 misnamed g m maps k found f refusal.ReadFault known used kind is = tt
 misnamed g m maps k found f refusal.NoMemory known used kind is = tt
@@ -87,7 +90,7 @@ misnamed g m maps k found f (refusal.Damaged (whole.Blocks what)) known used kin
 misnamed g m maps k found f (refusal.Damaged (whole.Tree what)) known used kind is = absurd is
 misnamed g m maps k found f (refusal.Damaged (whole.Snapshot (one.WrongSize j))) known used kind is = absurd is
 misnamed g m maps k found f (refusal.Damaged (whole.Snapshot (one.BadName j))) known used kind is = subst (λ n. IsBroken g m (one.BadName n)) (sym is.0) (record {
-  is = record { node = node_of_file f; is_node = used; kind = kind };
+  is = record { node = node_of_file g.layout f; is_node = used; kind = kind };
   unnamed = λ name lawful named. is.1 name lawful (sym (ap (λ ps. m (get_or ps 0 0)) (places_of_runs f.blocks)) ∙ named);
 })
 misnamed g m maps k found f (refusal.Damaged (whole.Snapshot (one.SameName j l))) known used kind is = subst (λ n. IsBroken g m (one.SameName n l)) (sym is.0) (other_named g m maps k l found f known used kind is.1)
@@ -104,7 +107,7 @@ misnamed g m maps k found f (refusal.Damaged (whole.Snapshot (one.InSnapshot j w
 pub record IsChecked (g : Geometry) (m : Blocks) (f : OpenFile) (dirs : ℕ) (met : Blocks) : Type 0 where
   pub parts : HasItsParts g m f.blocks
   pub below : IsKeptSoundBelow g m f.blocks (g.i + 1) dirs met
-  pub rules : AreTreeFiles g.i (kept_files g m f.blocks)
+  pub rules : AreTreeFiles (bounds_of g) (kept_files g m f.blocks)
   pub links : f.facts.links ≡ 1
   pub size : f.facts.size ≡ 1024 * length f.blocks
 
@@ -131,13 +134,13 @@ module _ (g : Geometry) (m : Blocks) (k : ℕ) (node : Node) (dirs : ℕ) (met :
           let has : HasKeptBlock g m (run_places node.runs) is.number is.place b = subst (λ (n : Node). HasKeptBlock g m (run_places n.runs) is.number is.place b) one is.has in
           record { node = is.number; place = is.place; before = inl (upto is.number is.place b has); has = has }
 
-pub one_more : Reads → MakesTree → (g : Geometry) (m : Blocks) (k : ℕ) (f : OpenFile) (dirs : ℕ) (met : Blocks) (numbers new : Numbers) (counts later : List ℕ) → used_node g m k ≡ Some (node_of_file f) → f.facts.kind ≡ Snapshot → IsChecked g m f dirs met
-    → IsNamed m (record { number = k; places = f.blocks }) numbers new → CountsMet met counts later → IsMore g m k (node_of_file f) numbers new counts later
+pub one_more : Reads → MakesTree → (g : Geometry) (m : Blocks) (k : ℕ) (f : OpenFile) (dirs : ℕ) (met : Blocks) (numbers new : Numbers) (counts later : List ℕ) → used_node g m k ≡ Some (node_of_file g.layout f) → f.facts.kind ≡ Snapshot → IsChecked g m f dirs met
+    → IsNamed m (record { number = k; places = f.blocks }) numbers new → CountsMet met counts later → IsMore g m k (node_of_file g.layout f) numbers new counts later
 one_more reads makes g m k f dirs met numbers new counts later used kind checked named counts_met =
-    let node = node_of_file f in
+    let node = node_of_file g.layout f in
     let at : f.blocks ≡ run_places node.runs = sym (places_of_runs f.blocks) in
     let below = subst (λ ps. IsKeptSoundBelow g m ps (g.i + 1) dirs met) at checked.below in
-    let r = tree_read reads makes g.i (kept_files g m (run_places node.runs)) (subst (λ ps. AreTreeFiles g.i (kept_files g m ps)) at checked.rules) in
+    let r = tree_read reads makes (bounds_of g) (kept_files g m (run_places node.runs)) (subst (λ ps. AreTreeFiles (bounds_of g) (kept_files g m ps)) at checked.rules) in
     record {
       used = used;
       kind = kind;
@@ -145,7 +148,7 @@ one_more reads makes g m k f dirs met numbers new counts later used kind checked
       name = named.name;
       kept = kept_of k r.tree;
       number = refl;
-      holds = holds g m k node named.name r used kind checked.links (subst (λ ps. f.facts.size ≡ 1024 * length ps) at checked.size) named.lawful (ap (λ ps. m (get_or ps 0 0)) (sym at) ∙ named.named);
+      holds = holds g m k node named.name r used kind checked.links (ap (λ (t : NodeKind). size_of g.layout t f.facts.size) kind ∙ subst (λ ps. f.facts.size ≡ 1024 * length ps) at checked.size) named.lawful (ap (λ ps. m (get_or ps 0 0)) (sym at) ∙ named.named);
       fresh = named.fresh;
       grows = named.grows;
       met = met;
@@ -153,11 +156,11 @@ one_more reads makes g m k f dirs met numbers new counts later used kind checked
       counts_met = counts_met;
     }
 
-pub known_more : Each → Reads → MakesTree → (g : Geometry) (m : Blocks) (maps : Maps) (k : ℕ) (found later : Found) (f : OpenFile) (dirs : ℕ) (met : Blocks) → used_node g m k ≡ Some (node_of_file f) → f.facts.kind ≡ Snapshot → IsChecked g m f dirs met
+pub known_more : Each → Reads → MakesTree → (g : Geometry) (m : Blocks) (maps : Maps) (k : ℕ) (found later : Found) (f : OpenFile) (dirs : ℕ) (met : Blocks) → used_node g m k ≡ Some (node_of_file g.layout f) → f.facts.kind ≡ Snapshot → IsChecked g m f dirs met
     → IsNamed m (record { number = k; places = f.blocks }) (numbers_in found.numbers.entries) (numbers_in later.numbers.entries) → CountsMet met found.tally.counts later.tally.counts → IsKnownBelow g m maps k found → IsKnownBelow g m maps (k + 1) later
 known_more each reads makes g m maps k found later f dirs met used kind checked named counts_met known = record {
   nodes = known.nodes;
   maps_true = known.maps_true;
-  below = checked_more each g m k (node_of_file f) (numbers_in found.numbers.entries) (numbers_in later.numbers.entries) found.tally.counts later.tally.counts
+  below = checked_more each g m k (node_of_file g.layout f) (numbers_in found.numbers.entries) (numbers_in later.numbers.entries) found.tally.counts later.tally.counts
       (one_more reads makes g m k f dirs met (numbers_in found.numbers.entries) (numbers_in later.numbers.entries) found.tally.counts later.tally.counts used kind checked named counts_met) known.below;
 }

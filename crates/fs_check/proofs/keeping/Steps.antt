@@ -2,12 +2,12 @@
 use Rattle.std.proofs.Common.{◌≡◌, ◌≢◌, ◌⊎◌, inl, inr, ℕ, ◌+◌, ◌-◌, ◌<◌, ◌≤◌, false, IsTrue, List, drop, replicate, None, Some, refl, sym, ap, subst, ◌∙◌, arith}
 use Rattle.std.proofs.lemmas.Bool.{cases_lt}
 use Rattle.base_types.specs.Seal.{Blocks}
-use Rattle.layout_geometry.specs.Geometry.{Geometry, node_size}
+use Rattle.layout_geometry.specs.Geometry.{Geometry}
 use Rattle.layout_bytes.specs.declared.node.Node.{Node}
 use Rattle.layout_bytes.specs.declared.node.NodeKind.TheVariants.{Dir, Snapshot}
 use Rattle.layout_bytes.specs.Bitmap.{bit_in}
 use Rattle.layout_bytes.specs.Bytes.{are_zeros}
-use Rattle.layout_bytes.specs.Node.{node_bytes}
+use Rattle.layout_bytes.specs.Node.{content_of, node_bytes, node_size}
 use Rattle.crash_stands.specs.Files.{joined}
 use Rattle.crash_stands.specs.Places.{dirs_from, kept_table}
 use Rattle.crash_stands.specs.Kept.{kept_nodes, kept_places}
@@ -22,9 +22,9 @@ use Rattle.fs_check.proofs.keeping.Meets.{keep_begins}
 pub record IsKeptNext (g : Geometry) (m : Blocks) (own : List ℕ) (k dirs : ℕ) (met : Blocks) : Type 0 where
   pub blocks : HasMetKept g m own (k + 1) 0 met
   pub plain : (node : Node) → kept_nodes g m own k ≡ Some node → node.kind ≢ Snapshot
-  pub free : kept_nodes g m own k ≡ None → node_bytes g (kept_table m own g) k ≡ replicate node_size 0
-  pub tail : (node : Node) → kept_nodes g m own k ≡ Some node → node.kind ≡ Dir → IsTrue (are_zeros (drop node.size (joined m (kept_places g m own k node))))
-  pub behind : dirs ≡ dirs_from (kept_nodes g m own) 1 k
+  pub free : kept_nodes g m own k ≡ None → node_bytes g (kept_table m own g) k ≡ replicate (node_size g.layout) 0
+  pub tail : (node : Node) → kept_nodes g m own k ≡ Some node → node.kind ≡ Dir → IsTrue (are_zeros (drop (content_of g.layout node.kind node.size) (joined m (kept_places g m own k node))))
+  pub behind : dirs ≡ dirs_from g.layout (kept_nodes g m own) 1 k
 
 pub kept_step : (g : Geometry) (m : Blocks) (own : List ℕ) (k dirs later : ℕ) (met new : Blocks) → IsKeptSoundBelow g m own k dirs met → IsKeptNext g m own k later new → IsKeptSoundBelow g m own (k + 1) later new
 kept_step g m own k dirs later met new below next = record {
@@ -32,7 +32,7 @@ kept_step g m own k dirs later met new below next = record {
   plain = λ l node low at. plain l node at low (cases_lt l k);
   free = λ l from low none. free l from none low (cases_lt l k);
   tail = λ l node low at dir. tail l node at dir low (cases_lt l k);
-  behind = next.behind ∙ ap (dirs_from (kept_nodes g m own) 1) (minus k);
+  behind = next.behind ∙ ap (dirs_from g.layout (kept_nodes g m own) 1) (minus k);
 }
   where
     minus : (n : ℕ) → n ≡ n + 1 - 1
@@ -42,17 +42,17 @@ kept_step g m own k dirs later met new below next = record {
     plain l node at low (inl under) = below.plain l node under at
     plain l node at low (inr over) = let same : k ≡ l = omega (arith, low, over) in next.plain node (ap (kept_nodes g m own) same ∙ at)
 
-    free : (l : ℕ) → 1 ≤ l → kept_nodes g m own l ≡ None → l < k + 1 → (l < k) ⊎ (k ≤ l) → node_bytes g (kept_table m own g) l ≡ replicate node_size 0
+    free : (l : ℕ) → 1 ≤ l → kept_nodes g m own l ≡ None → l < k + 1 → (l < k) ⊎ (k ≤ l) → node_bytes g (kept_table m own g) l ≡ replicate (node_size g.layout) 0
     free l from none low (inl under) = below.free l from under none
     free l from none low (inr over) =
         let same : k ≡ l = omega (arith, low, over) in
         ap (node_bytes g (kept_table m own g)) (sym same) ∙ next.free (ap (kept_nodes g m own) same ∙ none)
 
-    tail : (l : ℕ) (node : Node) → kept_nodes g m own l ≡ Some node → node.kind ≡ Dir → l < k + 1 → (l < k) ⊎ (k ≤ l) → IsTrue (are_zeros (drop node.size (joined m (kept_places g m own l node))))
+    tail : (l : ℕ) (node : Node) → kept_nodes g m own l ≡ Some node → node.kind ≡ Dir → l < k + 1 → (l < k) ⊎ (k ≤ l) → IsTrue (are_zeros (drop (content_of g.layout node.kind node.size) (joined m (kept_places g m own l node))))
     tail l node at dir low (inl under) = below.tail l node under at dir
     tail l node at dir low (inr over) =
         let same : k ≡ l = omega (arith, low, over) in
-        subst (λ n. IsTrue (are_zeros (drop node.size (joined m (kept_places g m own n node))))) same (next.tail node (ap (kept_nodes g m own) same ∙ at) dir)
+        subst (λ n. IsTrue (are_zeros (drop (content_of g.layout node.kind node.size) (joined m (kept_places g m own n node))))) same (next.tail node (ap (kept_nodes g m own) same ∙ at) dir)
 
 -- a check of a snapshot begins with its first node
 pub kept_begins : (g : Geometry) (m : Blocks) (own : List ℕ) (met : Blocks) → ((b : ℕ) → bit_in met b ≡ false) → IsKeptSoundBelow g m own 1 0 met

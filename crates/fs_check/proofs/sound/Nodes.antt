@@ -1,8 +1,9 @@
--- A node in use fits the disk: its blocks are data blocks, as many as its size needs.
-use Rattle.std.proofs.Common.{◌≡◌, ℕ, zero, suc, ◌+◌, ◌/◌, ◌≤◌, true, nat_lt, nat_le, ◌&&◌, not, ◌==◌, List, [], ◌∷◌, length, slice_get, All, Some, ap, ap₂, subst, ◌∙◌, arith}
-use Rattle.std.proofs.lemmas.Bool.{and_parts, leb-true, le-leb, eqb-true}
+-- A node in use fits the disk: its blocks are data blocks, as many as its content needs.
+use Rattle.std.proofs.Common.{◌≡◌, ℕ, zero, suc, ◌+◌, ◌*◌, ◌^◌, ◌≤◌, true, nat_lt, nat_le, ◌&&◌, not, ◌==◌, List, [], ◌∷◌, length, slice_get, All, Some, ap, ap₂, subst, ◌∙◌, arith}
+use Rattle.std.proofs.lemmas.Bool.{and_parts, leb-true, le-leb}
 use Rattle.std.proofs.lemmas.Option.{slice_get_within, get_or_from_slice_get}
 use Rattle.std.proofs.lemmas.List.Elements.{All-append, All-cons}
+use Rattle.base_types.specs.LayoutLaws.{few_runs}
 use Rattle.base_types.specs.Seal.{Blocks}
 use Rattle.base_types.specs.Runs.{blocks_from, run_places}
 use Rattle.base_types.specs.declared.places.Run.{Run}
@@ -10,10 +11,12 @@ use Rattle.engine_blocks.specs.Puts.{IsData}
 use Rattle.layout_geometry.specs.Geometry.{Geometry, data_start}
 use Rattle.layout_bytes.specs.declared.node.Node.{Node}
 use Rattle.layout_bytes.specs.Bytes.{when}
-use Rattle.layout_bytes.specs.Node.{runs_fit, run_blocks, kind_fits, node_fits, node_bytes, node_at}
+use Rattle.layout_bytes.specs.Node.{content_blocks, runs_fit, run_blocks, node_fits, node_bytes, node_at}
+use Rattle.layout_bytes.specs.NodeLaws.{size_below}
 use Rattle.crash_stands.specs.Files.{used_node}
 use Rattle.crash_stands.specs.Stands.{HasBlock}
-use Rattle.fs_files.specs.Places.{places_count, read_fits, when_some}
+use Rattle.fs_files.specs.Places.{first_fits, places_count, read_fits, when_some}
+use Rattle.fs_snapshots.specs.Nodes.{fits_parts}
 
 -- what a node in use says of its number and its bytes
 pub record IsUsed (g : Geometry) (m : Blocks) (k : ℕ) (node : Node) : Type 0 where
@@ -50,15 +53,20 @@ runs_data g end (r ∷ rs) e =
 -- what the blocks of a node that fits are
 pub record PlacesFit (g : Geometry) (node : Node) : Type 0 where
   pub «data» : All (IsData g) (run_places node.runs)
-  pub count : length (run_places node.runs) ≡ (node.size + 1023) / 1024
+  pub count : length (run_places node.runs) ≡ content_blocks g.layout node.kind node.size
 
 pub places_fit : (g : Geometry) (node : Node) → node_fits g node ≡ true → PlacesFit g node
-places_fit g node e =
-    let links = and_parts (nat_lt 0 node.links) (nat_le (length node.runs) 28 && (runs_fit g 0 node.runs && ((run_blocks node.runs == (node.size + 1023) / 1024) && kind_fits node node.kind))) e in
-    let few = and_parts (nat_le (length node.runs) 28) (runs_fit g 0 node.runs && ((run_blocks node.runs == (node.size + 1023) / 1024) && kind_fits node node.kind)) links.1 in
-    let runs = and_parts (runs_fit g 0 node.runs) ((run_blocks node.runs == (node.size + 1023) / 1024) && kind_fits node node.kind) few.1 in
-    let blocks = and_parts (run_blocks node.runs == (node.size + 1023) / 1024) (kind_fits node node.kind) runs.1 in
-    record { «data» = runs_data g 0 node.runs runs.0; count = places_count node.runs ∙ eqb-true (run_blocks node.runs) ((node.size + 1023) / 1024) blocks.0 }
+places_fit g node e = let fits = fits_parts g node e in record { «data» = runs_data g 0 node.runs fits.runs; count = places_count node.runs ∙ fits.count }
+
+-- its size is no more than its runs have room for
+few_blocks : (g : Geometry) → g.n ≤ 1048576 → (end : ℕ) (rs : List Run) → runs_fit g end rs ≡ true → run_blocks rs ≤ 1048576 * length rs
+few_blocks g small end [] fits = omega arith
+few_blocks g small end (r ∷ rs) fits = let first = first_fits g end r rs fits in omega (arith, small, first.below, few_blocks g small (r.first + r.count) rs first.rest)
+
+pub small_size : (g : Geometry) (node : Node) → g.n ≤ 1048576 → node_fits g node ≡ true → node.size ≤ 2 ^ 38
+small_size g node small e =
+    let fits = fits_parts g node e in
+    omega (arith, few_runs g.layout, fits.few, fits.count, few_blocks g small 0 node.runs fits.runs, size_below g.layout node.kind node.size)
 
 -- each block that a node has is a data block
 pub has_data : (g : Geometry) (m : Blocks) (k i b : ℕ) → HasBlock g m k i b → IsData g b

@@ -1,17 +1,19 @@
 -- A check goes on from node to node.
-use Rattle.std.proofs.Common.{◌≡◌, ◌≢◌, ◌⊎◌, inl, inr, ℕ, ◌+◌, ◌-◌, ◌*◌, ◌/◌, ◌%◌, ◌<◌, ◌≤◌, Bool, true, false, IsTrue, List, length, take, drop, replicate, get_or, None, Some, refl, sym, ap, subst, ◌∙◌, arith, Err}
+use Rattle.std.proofs.Common.{◌≡◌, ◌≢◌, ◌⊎◌, inl, inr, ℕ, ◌+◌, ◌<◌, ◌≤◌, Bool, true, false, IsTrue, List, length, take, drop, replicate, get_or, None, Some, refl, sym, ap, ap₂, subst, ◌∙◌, arith, Err}
 use Rattle.std.specs.List.{All}
 use Rattle.std.proofs.lemmas.Bool.{cases_lt}
 use Rattle.std.proofs.lemmas.Option.{none-some, same_Some, slice_get-get_or}
 use Rattle.base_types.specs.Runs.{run_places}
 use Rattle.base_types.specs.Seal.{Blocks, blocks_of}
 use Rattle.engine_blocks.specs.State.{State}
-use Rattle.layout_geometry.specs.Geometry.{Geometry, node_size, nodes_in_block, table_start}
+use Rattle.base_types.specs.Layouts.{node_block, node_byte, node_size, nodes_before, nodes_in_block, rank_byte}
+use Rattle.base_types.specs.LayoutLaws.{block_of_rank, byte_of_rank}
+use Rattle.layout_geometry.specs.Geometry.{Geometry, table_start}
 use Rattle.layout_bytes.specs.declared.node.Node.{Node}
 use Rattle.layout_bytes.specs.declared.node.NodeKind.TheVariants.{Dir, Snapshot}
 use Rattle.layout_bytes.specs.Bitmap.{bit_in, is_set}
 use Rattle.layout_bytes.specs.Bytes.{are_zeros}
-use Rattle.layout_bytes.specs.Node.{node_at, node_bytes}
+use Rattle.layout_bytes.specs.Node.{content_of, node_at, node_bytes}
 use Rattle.crash_stands.specs.Files.{joined, used_node, past_content}
 use Rattle.fs_check.specs.declared.block_damage.BlockDamage.TheVariants.{WrongBit, BadNode, Unmarked, Shared, Tail, Lost}
 use Rattle.fs_check.specs.declared.block_damage.BlocksRefusal.{BlocksRefusal}
@@ -33,7 +35,7 @@ all_marked g m k places met node so_far = λ i d low.
 
 -- a node in use, whose blocks were met and whose tail is zeros if it is a directory
 pub used_step : (g : Geometry) (m : Blocks) (bits met new : List (List ℕ)) (found after : Bool) (k : ℕ) (node : Node) (places : List ℕ) → used_node g m k ≡ Some node → places ≡ run_places node.runs → IsCheckedTo g m bits met found k
-    → HasMet g m k (length places) (blocks_of new) → (node.kind ≡ Dir → IsTrue (are_zeros (drop node.size (joined m places)))) → (after ≡ false → found ≡ false) → (after ≡ false → node.kind ≢ Snapshot) → IsCheckedTo g m bits new after (k + 1)
+    → HasMet g m k (length places) (blocks_of new) → (node.kind ≡ Dir → IsTrue (are_zeros (drop (content_of g.layout node.kind node.size) (joined m places)))) → (after ≡ false → found ≡ false) → (after ≡ false → node.kind ≢ Snapshot) → IsCheckedTo g m bits new after (k + 1)
 used_step g m bits met new found after k node places used are checked so_far tail before plain = record {
   are = checked.are;
   plain = λ none l other low is_node. plains none l other is_node (cases_lt l k) low;
@@ -51,22 +53,22 @@ used_step g m bits met new found after k node places used are checked so_far tai
         let one : node ≡ other = same_Some node other (sym used ∙ ap (used_node g m) (sym same) ∙ is_node) in
         subst (λ (n : Node). n.kind ≢ Snapshot) one (plain none)
 
-    free : (l : ℕ) → 1 ≤ l → l < k + 1 → node_at g m l ≡ None → (l < k) ⊎ (k ≤ l) → node_bytes g m l ≡ replicate node_size 0
+    free : (l : ℕ) → 1 ≤ l → l < k + 1 → node_at g m l ≡ None → (l < k) ⊎ (k ≤ l) → node_bytes g m l ≡ replicate (node_size g.layout) 0
     free l from low none (inl under) = checked.sound.free l from under none
     free l from low none (inr over) =
         let same : l ≡ k = omega (arith, low, over) in
         absurd (none-some node (sym none ∙ ap (node_at g m) same ∙ (used_is g m k node used).read))
 
-    tails : (l : ℕ) (other : Node) → l < k + 1 → used_node g m l ≡ Some other → other.kind ≡ Dir → (l < k) ⊎ (k ≤ l) → IsTrue (are_zeros (past_content m other))
+    tails : (l : ℕ) (other : Node) → l < k + 1 → used_node g m l ≡ Some other → other.kind ≡ Dir → (l < k) ⊎ (k ≤ l) → IsTrue (are_zeros (past_content g.layout m other))
     tails l other low is_node is_dir (inl under) = checked.sound.tail l other under is_node is_dir
     tails l other low is_node is_dir (inr over) =
         let same : l ≡ k = omega (arith, low, over) in
         let one : node ≡ other = same_Some node other (sym used ∙ ap (used_node g m) (sym same) ∙ is_node) in
-        let zeros : IsTrue (are_zeros (drop node.size (joined m (run_places node.runs)))) = subst (λ ps. IsTrue (are_zeros (drop node.size (joined m ps)))) are (tail (ap (λ (n : Node). n.kind) one ∙ is_dir)) in
-        subst (λ (n : Node). IsTrue (are_zeros (past_content m n))) one zeros
+        let zeros : IsTrue (are_zeros (drop (content_of g.layout node.kind node.size) (joined m (run_places node.runs)))) = subst (λ ps. IsTrue (are_zeros (drop (content_of g.layout node.kind node.size) (joined m ps)))) are (tail (ap (λ (n : Node). n.kind) one ∙ is_dir)) in
+        subst (λ (n : Node). IsTrue (are_zeros (past_content g.layout m n))) one zeros
 
 -- a node out of use, which is zeros
-pub free_step : (g : Geometry) (m : Blocks) (bits met : List (List ℕ)) (found : Bool) (k : ℕ) → 1 ≤ k → k ≤ g.i → node_at g m k ≡ None → node_bytes g m k ≡ replicate node_size 0 → IsCheckedTo g m bits met found k → IsCheckedTo g m bits met found (k + 1)
+pub free_step : (g : Geometry) (m : Blocks) (bits met : List (List ℕ)) (found : Bool) (k : ℕ) → 1 ≤ k → k ≤ g.i → node_at g m k ≡ None → node_bytes g m k ≡ replicate (node_size g.layout) 0 → IsCheckedTo g m bits met found k → IsCheckedTo g m bits met found (k + 1)
 free_step g m bits met found k from upto none zeros checked = record {
   are = checked.are;
   plain = λ is l other low is_node. plains is l other is_node (cases_lt l k) low;
@@ -83,11 +85,11 @@ free_step g m bits met found k from upto none zeros checked = record {
         let same : l ≡ k = omega (arith, low, over) in
         absurd (none-some other (sym (used_at g m k from upto ∙ none) ∙ ap (used_node g m) (sym same) ∙ is_node))
 
-    free : (l : ℕ) → 1 ≤ l → l < k + 1 → node_at g m l ≡ None → (l < k) ⊎ (k ≤ l) → node_bytes g m l ≡ replicate node_size 0
+    free : (l : ℕ) → 1 ≤ l → l < k + 1 → node_at g m l ≡ None → (l < k) ⊎ (k ≤ l) → node_bytes g m l ≡ replicate (node_size g.layout) 0
     free l low high unread (inl under) = checked.sound.free l low under unread
     free l low high unread (inr over) = let same : l ≡ k = omega (arith, high, over) in ap (node_bytes g m) same ∙ zeros
 
-    tails : (l : ℕ) (other : Node) → l < k + 1 → used_node g m l ≡ Some other → other.kind ≡ Dir → (l < k) ⊎ (k ≤ l) → IsTrue (are_zeros (past_content m other))
+    tails : (l : ℕ) (other : Node) → l < k + 1 → used_node g m l ≡ Some other → other.kind ≡ Dir → (l < k) ⊎ (k ≤ l) → IsTrue (are_zeros (past_content g.layout m other))
     tails l other low is_node is_dir (inl under) = checked.sound.tail l other under is_node is_dir
     tails l other low is_node is_dir (inr over) =
         let same : l ≡ k = omega (arith, low, over) in
@@ -95,7 +97,7 @@ free_step g m bits met found k from upto none zeros checked = record {
 
 -- what is broken where the tail isn't zeros
 pub tail_broken : (g : Geometry) (m : Blocks) (k : ℕ) (node : Node) (places : List ℕ) (why : BlocksRefusal) → used_node g m k ≡ Some node → places ≡ run_places node.runs
-    → IfDamaged {T = Unit {0}} (Err why) (IsTailOf k node.kind (drop node.size (joined m places))) → IfDamaged {T = Unit {0}} (Err why) (IsBroken g m)
+    → IfDamaged {T = Unit {0}} (Err why) (IsTailOf k node.kind (drop (content_of g.layout node.kind node.size) (joined m places))) → IfDamaged {T = Unit {0}} (Err why) (IsBroken g m)
 tail_broken g m k node places refusal.ReadFault used are is = tt
 tail_broken g m k node places refusal.NoMemory used are is = tt
 tail_broken g m k node places (refusal.Damaged (WrongBit c)) used are is = absurd is
@@ -106,7 +108,7 @@ tail_broken g m k node places (refusal.Damaged (Tail l)) used are is = record {
   node = node;
   is_node = ap (used_node g m) is.0 ∙ used;
   is_dir = is.1;
-  carries = subst (λ ps. are_zeros (drop node.size (joined m ps)) ≡ false) are is.2;
+  carries = subst (λ ps. are_zeros (drop (content_of g.layout node.kind node.size) (joined m ps)) ≡ false) are is.2;
 }
 tail_broken g m k node places (refusal.Damaged (Lost c)) used are is = absurd is
 
@@ -139,12 +141,13 @@ goes_broken P tells g s t bits met new found after from at here why told same go
     (broken p (goes_here tells g s t bits new after at here goes.looks same (told p) (goes.sound p checked)))
 
 -- the bytes of a node are in their block of the table
-pub bytes_at : (g : Geometry) (m : Blocks) (t place number at n : ℕ) (table : List ℕ) → table ≡ m (table_start g + t) → number ≡ 4 * t + place + 1 → place < 4 → at ≡ 256 * place → n ≡ 256
+pub bytes_at : (g : Geometry) (m : Blocks) (t place number at n : ℕ) (table : List ℕ) → table ≡ m (table_start g + t) → number ≡ nodes_before g.layout t + place + 1 → place < nodes_in_block g.layout → at ≡ rank_byte g.layout place → n ≡ node_size g.layout
     → take n (drop at table) ≡ node_bytes g m number
 bytes_at g m t place number at n table is number_is low at_is n_is =
-    ap (λ k. take k (drop at table)) n_is
-    ∙ ap (λ j. take 256 (drop j table)) {x = at} {y = node_size * ((number - 1) % nodes_in_block)} (omega (arith, number_is, low, at_is))
-    ∙ ap (λ b. take node_size (drop (node_size * ((number - 1) % nodes_in_block)) b)) (is ∙ ap (λ j. m (table_start g + j)) {x = t} {y = (number - 1) / nodes_in_block} (omega (arith, number_is, low)))
+    let block : node_block g.layout number ≡ t = ap (node_block g.layout) number_is ∙ block_of_rank g.layout t place low in
+    let byte : node_byte g.layout number ≡ rank_byte g.layout place = ap (node_byte g.layout) number_is ∙ byte_of_rank g.layout t place low in
+    ap₂ (λ k j. take k (drop j table)) n_is (at_is ∙ sym byte)
+    ∙ ap (λ b. take (node_size g.layout) (drop (node_byte g.layout number) b)) (is ∙ ap (λ j. m (table_start g + j)) (sym block))
 
 -- a check begins with the first node
 pub begins : (g : Geometry) (m : Blocks) (bits met : List (List ℕ)) (found : Bool) → AreBits g m bits → ((b : ℕ) → bit_in (blocks_of met) b ≡ false) → IsCheckedTo g m bits met found 1

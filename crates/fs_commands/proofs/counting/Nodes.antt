@@ -19,7 +19,7 @@ no_places s d k none = by (used_node s.books.geom (drafted d s.map) k) refl
   where
     by : (o : Option Node) → used_node s.books.geom (drafted d s.map) k ≡ o → places_or_none (used_node s.books.geom (drafted d s.map) k) ≡ []
     by None e = ap places_or_none e
-    by (Some node) e = absurd (none-some (facts_of (file_of (drafted d s.map) node)) (none ∙ ap (λ o. option_map facts_of (option_map (file_of (drafted d s.map)) o)) e))
+    by (Some node) e = absurd (none-some (facts_of (file_of s.books.geom.layout (drafted d s.map) node)) (none ∙ ap (λ o. option_map facts_of (option_map (file_of s.books.geom.layout (drafted d s.map)) o)) e))
 
 module _ (s : State) (counts : List ℕ) (k : ℕ) where
   abbrev shares : SharedPlaces

@@ -2,6 +2,7 @@
 use Rattle.std.proofs.Common.{⊎_elim, ◌≡◌, ◌≢◌, ℕ, Bool, false, IsTrue, List, [], Option, None, Some, IfSome, Ok, sym, subst, ap, ◌∙◌}
 use Rattle.std.specs.Prelude.{IfNone}
 use Rattle.std.proofs.lemmas.Bool.{cases_eq}
+use Rattle.base_types.specs.declared.layout.Layout.{Layout}
 use Rattle.layout_bytes.specs.declared.node.NodeKind.TheVariants.{Snapshot}
 use Rattle.layout_bytes.specs.declared.slot.Slot.{Slot}
 use Rattle.crash_stands.specs.Files.{FileNode, Files}
@@ -27,9 +28,9 @@ pub altered_beside : (counts : List ℕ) (most : ℕ) (takes : List ℕ) (frees 
 altered_beside counts most takes frees e a = record { among = a.among; some = a.some; taken = a.taken; freed = a.freed; fresh = a.fresh }
 
 -- what is no snapshot is none where a directory has other slots
-pub plain_still : (old new : Files) (k : ℕ) (slots : List Slot) → IsWithSlots old new k slots → (node : ℕ) → IsNoSnapshot (old node) → IsNoSnapshot (new node)
-plain_still old new k slots slotted node plain = ⊎_elim
-    (λ e. subst (λ n. IsNoSnapshot (new n)) (sym e) (no_snapshot (new k) (ADir slots) slotted.inodes.here))
+pub plain_still : (l : Layout) (old new : Files) (k : ℕ) (slots : List Slot) → IsWithSlots l old new k slots → (node : ℕ) → IsNoSnapshot (old node) → IsNoSnapshot (new node)
+plain_still l old new k slots slotted node plain = ⊎_elim
+    (λ e. subst (λ n. IsNoSnapshot (new n)) (sym e) (no_snapshot _ (new k) (ADir slots) slotted.inodes.here))
     (λ d. subst IsNoSnapshot (sym (slotted.others node d)) plain) (cases_eq node k)
 
 -- nor behind reads
@@ -37,17 +38,17 @@ pub plain_behind : (tells : Bool) (s t : State) → LooksOnly tells false s t �
 plain_behind tells s t looks told k plain = subst (λ (files : Files). IsNoSnapshot (files k)) (sym (same_files tells false s t nothing_drafted looks told)) plain
 
 -- what a path leads to is none, where a tree stands
-pub walked_plain : EndsLaw → (limit : ℕ) (files : Files) (t : Tree) (path : List (List ℕ)) (k : ℕ) → IsMapOf limit (inodes_of files) t → walk_on (inodes_of files) 1 path ≡ Ok k → IsNoSnapshot (files k)
-walked_plain ends limit files t path k map walked = let u = map.shows.used path k (ends (inodes_of files) path k walked) in no_snapshot (files k) u.0 u.1
+pub walked_plain : EndsLaw → (limit : ℕ) (l : Layout) (files : Files) (t : Tree) (path : List (List ℕ)) (k : ℕ) → IsMapOf limit (inodes_of l files) t → walk_on (inodes_of l files) 1 path ≡ Ok k → IsNoSnapshot (files k)
+walked_plain ends limit l files t path k map walked = let u = map.shows.used path k (ends (inodes_of l files) path k walked) in no_snapshot _ (files k) u.0 u.1
 
-module _ (old new : Files) (old_places new_places : ℕ → List ℕ) (k : ℕ) (places : List ℕ) (placed : IsWithPlaces old_places new_places k places) where
+module _ (l : Layout) (old new : Files) (old_places new_places : ℕ → List ℕ) (k : ℕ) (places : List ℕ) (placed : IsWithPlaces old_places new_places k places) where
   -- a node that is no snapshot became one that is none, or none is there then
   pub file_leaves : (o : Option FileNode) → IsWithFile old new k o → IsNoSnapshot (old k) → IsNoSnapshot o → LeavesSnapshots old new old_places new_places
   file_leaves o set before after = leaves_but old new old_places new_places k set.others placed.others before (subst IsNoSnapshot (sym set.own) after)
 
   -- a directory has other slots
-  pub slots_leave : (slots more : List Slot) → inodes_of old k ≡ Some (ADir slots) → IsWithSlots old new k more → LeavesSnapshots old new old_places new_places
-  slots_leave slots more at slotted = leaves_but old new old_places new_places k slotted.others placed.others (no_snapshot (old k) (ADir slots) at) (no_snapshot (new k) (ADir more) slotted.inodes.here)
+  pub slots_leave : (slots more : List Slot) → inodes_of l old k ≡ Some (ADir slots) → IsWithSlots l old new k more → LeavesSnapshots old new old_places new_places
+  slots_leave slots more at slotted = leaves_but old new old_places new_places k slotted.others placed.others (no_snapshot _ (old k) (ADir slots) at) (no_snapshot _ (new k) (ADir more) slotted.inodes.here)
 
   -- a node that is no snapshot has other links
   pub links_leave : (x : FileNode) (links : ℕ) → old k ≡ Some x → IsWithFile old new k (Some (with_links x links)) → IsNoSnapshot (old k) → LeavesSnapshots old new old_places new_places
@@ -61,7 +62,7 @@ module _ (old new : Files) (old_places new_places : ℕ → List ℕ) (k : ℕ) 
 pub sought_leaves : (tells : Bool) (s t : State) (d e : DraftState) → LooksOnly tells false s t → IsTrue tells → (x : FileNode) → x.kind ≢ Snapshot → (limit : ℕ) (E : Type 0) (found : Option ℕ)
     → IfSome found (λ k. IsLeastUnused limit (files_in s d) k × IsWithFile (files_in s d) (files_in t e) k (Some x)) → IfSome found (λ k. IsWithPlaces (places_in s d) (places_in t e) k [])
     → IfNone found (E × (e ≡ d)) → LeavesSnapshots (files_in s d) (files_in t e) (places_in s d) (places_in t e)
-sought_leaves tells s t d e looks told x plain limit E (Some k) made placed none = made_leaves (files_in s d) (files_in t e) (places_in s d) (places_in t e) k [] placed x plain made.0.unused made.1
+sought_leaves tells s t d e looks told x plain limit E (Some k) made placed none = made_leaves s.books.geom.layout (files_in s d) (files_in t e) (places_in s d) (places_in t e) k [] placed x plain made.0.unused made.1
 sought_leaves tells s t d e looks told x plain limit E None made placed none =
     leaves_all (files_in s d) (files_in t e) (places_in s d) (places_in t e) (λ l. ap (λ (v : NodeMap). v.files l) same) (λ l. ap (λ (v : NodeMap). v.places l) same)
   where

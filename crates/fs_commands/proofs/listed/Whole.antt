@@ -127,7 +127,7 @@ ended m t w before after frames root h =
 -- The blocks of a session.
 
 -- what holds of each tree of this map holds of the session's
-pub in_session : {counts : List ℕ} (s : State) (d : DraftState) (P : Tree → Type 0) → d ≡ begun_beside counts → ((g : Geometry) (m : Blocks) (t : Tree) → IsTreeOf g m t → IsMapOf g.i (inodes_of (files_of g m)) t)
+pub in_session : {counts : List ℕ} (s : State) (d : DraftState) (P : Tree → Type 0) → d ≡ begun_beside counts → ((g : Geometry) (m : Blocks) (t : Tree) → IsTreeOf g m t → IsMapOf g.i (inodes_of g.layout (files_of g m)) t)
     → ((m : Inodes) (t : Tree) → IsMapIn s (nodes_in s d) m t → P t) → (f : Session) → IsSession s f → P f.tree
 in_session s d P none law holds f h =
     holds (inodes_in s d) f.tree (record { same = refl; map = subst (λ e. IsMapOf s.books.geom.i (inodes_in s e) f.tree) (sym none) (law s.books.geom s.map f.tree h.tree) })

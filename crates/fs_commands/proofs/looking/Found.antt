@@ -1,5 +1,6 @@
 -- What a path leads to, from the number that a walk comes to and what is known of the node. Looks come one behind the other.
 use Rattle.std.proofs.Common.{◌≡◌, ℕ, Bool, false, IsTrue, List, Option, None, Some, Result, Ok, Err, IfOk, option_map, option_and_then, sym, subst, ap, ap₂, ◌∙◌, arith}
+use Rattle.base_types.specs.declared.layout.Layout.{Layout}
 use Rattle.std.proofs.lemmas.Option.{none-some}
 use Rattle.base_types.specs.Seal.{Blocks}
 use Rattle.layout_geometry.specs.Geometry.{Geometry}
@@ -38,9 +39,9 @@ pub uses_of : (nodes : NodeUse) (s t : State) (d : DraftState) → files_in t no
 uses_of nodes s t d same h = subst (λ (files : Files). KeepsUsed nodes files (files_in t d)) (sym same) h
 
 -- a node that reads as an inode is in use
-pub is_used : (o : Option FileNode) (x : Inode) → option_and_then inode_of o ≡ Some x → None ≡ option_map facts_of o → ⊥
-is_used None x e none = none-some x e
-is_used (Some file) x e none = none-some (facts_of file) none
+pub is_used : (lay : Layout) (o : Option FileNode) (x : Inode) → option_and_then (inode_of lay) o ≡ Some x → None ≡ option_map facts_of o → ⊥
+is_used lay None x e none = none-some x e
+is_used lay (Some file) x e none = none-some (facts_of file) none
 
 -- after looks an empty draft has the files that it had
 pub files_stay : {counts : List ℕ} (tells : Bool) (s t : State) (d : DraftState) → d ≡ begun_beside counts → IsTrue tells → LooksOnly tells false s t → files_in t d ≡ files_in s nothing_drafted
@@ -59,10 +60,10 @@ look_begins tells s d k none may number law = record { going = may.going; from =
 
 -- what a look in an empty draft finds, it finds in the blocks as they are
 pub found_begun : {counts : List ℕ} (s : State) (d : DraftState) (path : List (List ℕ)) (r : Result (Result NodeFound Refusal) FileRefusal) → d ≡ begun_beside counts
-    → ((t : Tree) → IsTreeOf s.books.geom s.map t → IsMapOf s.books.geom.i (inodes_of (files_of s.books.geom s.map)) t)
-    → IfOk r (λ found. (t : Tree) → IsMapOf s.books.geom.i (inodes_of (files_in s d)) t → LeadsToFound (files_in s d) path found)
-    → IfOk r (λ found. (t : Tree) → IsTreeOf s.books.geom s.map t → LeadsToFound (files_in s nothing_drafted) path found)
-found_begun s d path (Ok found) none map h = λ t stands. subst (λ e. IsMapOf s.books.geom.i (inodes_of (files_in s e)) t → LeadsToFound (files_in s e) path found) none (h t) (map t stands)
+    → ((t : Tree) → IsTreeOf s.books.geom s.map t → IsMapOf s.books.geom.i (inodes_of s.books.geom.layout (files_of s.books.geom s.map)) t)
+    → IfOk r (λ found. (t : Tree) → IsMapOf s.books.geom.i (inodes_of s.books.geom.layout (files_in s d)) t → LeadsToFound s.books.geom.layout (files_in s d) path found)
+    → IfOk r (λ found. (t : Tree) → IsTreeOf s.books.geom s.map t → LeadsToFound s.books.geom.layout (files_in s nothing_drafted) path found)
+found_begun s d path (Ok found) none map h = λ t stands. subst (λ e. IsMapOf s.books.geom.i (inodes_of s.books.geom.layout (files_in s e)) t → LeadsToFound s.books.geom.layout (files_in s e) path found) none (h t) (map t stands)
 found_begun s d path (Err why) none map h = tt
 
 pub there_begun : {counts : List ℕ} (s : State) (d : DraftState) (r : Result (Result NodeFound Refusal) FileRefusal) → d ≡ begun_beside counts
@@ -78,3 +79,9 @@ look_stays tells s t looks P Q k on may number = record {
   upto = omega (arith, number.upto, ap (λ (b : Bookkeeping). b.geom.i) looks.books);
   may = on may.may;
 }
+
+-- what holds of the disk's layout and nodes holds of them behind looks
+pub over_same : (tells : Bool) (s t : State) → LooksOnly tells false s t → IsTrue tells → (P : Layout → Files → Type 0) → P s.books.geom.layout (files_in s nothing_drafted) → P t.books.geom.layout (files_in t nothing_drafted)
+over_same tells s t looks told P holds =
+    subst (λ (k : Bookkeeping). P k.geom.layout (files_in t nothing_drafted)) (sym looks.books)
+    (subst (λ (files : Files). P s.books.geom.layout files) (sym (same_files tells false s t nothing_drafted looks told)) holds)

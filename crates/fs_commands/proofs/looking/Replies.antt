@@ -1,20 +1,25 @@
 -- What the tree answers a command that only looks, from the node at the path.
 use Rattle.std.proofs.Common.{◌≡◌, ℕ, ◌*◌, true, false, List, length, ◌∷◌, [], take, drop, Option, None, Some, option_and_then, Result, Ok, Err, IfOk, ◌==◌, refl, sym, subst, ap, ◌∙◌}
+use Rattle.crash_stands.specs.Bounds.{bounds_of}
 use Rattle.std.proofs.lemmas.Option.{none-some}
 use Rattle.std.proofs.lemmas.Bool.{true≢false}
+use Rattle.base_types.specs.declared.layout.Layout.{Layout}
+use Rattle.base_types.specs.Layouts.{directory_bytes}
+use Rattle.base_types.specs.LayoutLaws.{directory_count}
 use Rattle.layout_bytes.specs.declared.slot.Slot.{Slot}
 use Rattle.layout_bytes.specs.declared.node.NodeKind.{NodeKind}
 use Rattle.layout_bytes.specs.declared.node.NodeKind.TheVariants.{Free, Dir, File, Snapshot}
 use Rattle.lang_tree.specs.declared.command.Cmd.{Cmd}
 use Rattle.lang_tree.specs.declared.command.Cmd.TheVariants.{Read, Stat as StatCmd, List as ListNames}
+use Rattle.lang_tree.specs.declared.command.Kind.TheVariants.{Dir as DirKind}
 use Rattle.lang_tree.specs.declared.command.Refusal.{Refusal}
 use Rattle.lang_tree.specs.declared.command.Refusal.TheVariants.{IsDir, NotDir}
 use Rattle.lang_tree.specs.declared.command.Reply.{Reply}
-use Rattle.lang_tree.specs.declared.command.Reply.TheVariants.{Bytes, Names as NamesReply, Refused}
+use Rattle.lang_tree.specs.declared.command.Reply.TheVariants.{Bytes, Names as NamesReply, Refused, Stat as StatReply}
 use Rattle.lang_tree.specs.Conditions.{first_reason, least_unused, when as whenever}
 use Rattle.lang_tree.specs.Points.{answers_point}
 use Rattle.lang_tree.specs.Step.{Session, step}
-use Rattle.lang_tree.specs.Tree.{Snapshots}
+use Rattle.lang_tree.specs.Tree.{Snapshots, Bounds}
 use Rattle.lang_tree.specs.Walk.{refusal_in}
 use Rattle.crash_stands.specs.Files.{FileNode, Files}
 use Rattle.crash_stands.specs.Inodes.{Inode, Inodes, ADir, AFile, inode_by, inode_of, inodes_of}
@@ -36,25 +41,26 @@ use Rattle.fs_files.specs.declared.look.FileFacts.{FileFacts}
 use Rattle.fs_snapshots.specs.Nodes.{not_file}
 
 -- what is told of a node that reads as an inode is what the inode gives
-pub stat_told : (kind : NodeKind) (links : ℕ) (bytes : List ℕ) (inode : Inode) (n : ℕ) → inode_by kind links bytes ≡ Some inode
-    → ((slots : List Slot) → kind ≡ Dir → inode ≡ ADir slots → length bytes ≡ 64 * length slots)
-    → stat_of_kind kind n links (length bytes) ≡ stat_by n (Some inode)
-stat_told Free links bytes inode n reads size = absurd (none-some inode reads)
-stat_told Snapshot links bytes inode n reads size = absurd (none-some inode reads)
-stat_told Dir links bytes (AFile l b) n reads size = absurd (not_file (links == 1) _ l b reads)
-stat_told Dir links bytes (ADir slots) n reads size = ap (λ s. stat_of_kind Dir n links s) (size slots refl refl)
-stat_told File links bytes (ADir slots) n reads size = absurd cc
-stat_told File links bytes (AFile l b) n reads size = cc
+pub stat_told : (lay : Layout) (kind : NodeKind) (links : ℕ) (bytes : List ℕ) (inode : Inode) (n : ℕ) → inode_by lay kind links bytes ≡ Some inode
+    → ((slots : List Slot) → kind ≡ Dir → inode ≡ ADir slots → length bytes ≡ directory_bytes lay (length slots))
+    → stat_of_kind lay kind n links (length bytes) ≡ stat_by n (Some inode)
+stat_told lay Free links bytes inode n reads size = absurd (none-some inode reads)
+stat_told lay Snapshot links bytes inode n reads size = absurd (none-some inode reads)
+stat_told lay Dir links bytes (AFile l b) n reads size = absurd (not_file (links == 1) _ l b reads)
+stat_told lay Dir links bytes (ADir slots) n reads size =
+    ap (λ s. stat_of_kind lay Dir n links s) (size slots refl refl) ∙ ap (λ e. StatReply (record { kind = DirKind; number = n; size = 64 * e; links = 1 })) (directory_count lay (length slots))
+stat_told lay File links bytes (ADir slots) n reads size = absurd cc
+stat_told lay File links bytes (AFile l b) n reads size = cc
 
-module _ (m : Inodes) (least : Option ℕ) (kept : Snapshots) (path : List (List ℕ)) where
+module _ (lay : Layout) (m : Inodes) (least : Option ℕ) (kept : Snapshots) (path : List (List ℕ)) where
   -- a path that leads nowhere
-  pub stat_refused : (why : Refusal) → walk_on m 1 path ≡ Err why → Refused why ≡ reply_of least kept m (StatCmd path)
+  pub stat_refused : (why : Refusal) → walk_on m 1 path ≡ Err why → Refused why ≡ reply_of lay least kept m (StatCmd path)
   stat_refused why e = sym (ap (λ r. reply_by kept m (StatCmd path) (refusal_in r)) e)
 
-  pub read_refused : (offset count : ℕ) (why : Refusal) → walk_on m 1 path ≡ Err why → Refused why ≡ reply_of least kept m (Read path offset count)
+  pub read_refused : (offset count : ℕ) (why : Refusal) → walk_on m 1 path ≡ Err why → Refused why ≡ reply_of lay least kept m (Read path offset count)
   read_refused offset count why e = sym (ap (λ r. reply_by kept m (Read path offset count) (first_reason (refusal_in r ∷ whenever (is_dir_inode (inode_at m path)) IsDir ∷ []))) e)
 
-  pub list_refused : (why : Refusal) → walk_on m 1 path ≡ Err why → Refused why ≡ reply_of least kept m (ListNames path)
+  pub list_refused : (why : Refusal) → walk_on m 1 path ≡ Err why → Refused why ≡ reply_of lay least kept m (ListNames path)
   list_refused why e = sym (ap (λ r. reply_by kept m (ListNames path) (first_reason (refusal_in r ∷ whenever (is_file_inode (inode_at m path)) NotDir ∷ []))) e)
 
   -- a path that leads to a node
@@ -62,61 +68,61 @@ module _ (m : Inodes) (least : Option ℕ) (kept : Snapshots) (path : List (List
     pub at_path : inode_at m path ≡ Some inode
     at_path = ap (option_and_then m) leads ∙ here
 
-    pub stat_is : reply_of least kept m (StatCmd path) ≡ stat_by n (Some inode)
+    pub stat_is : reply_of lay least kept m (StatCmd path) ≡ stat_by n (Some inode)
     stat_is = ap (λ r. reply_by kept m (StatCmd path) (refusal_in r)) walked ∙ ap (stat_at m) leads ∙ ap (stat_by n) here
 
-    reads_by : (offset count : ℕ) → reply_of least kept m (Read path offset count) ≡ reply_by kept m (Read path offset count) (first_reason (None ∷ whenever (is_dir_inode (Some inode)) IsDir ∷ []))
+    reads_by : (offset count : ℕ) → reply_of lay least kept m (Read path offset count) ≡ reply_by kept m (Read path offset count) (first_reason (None ∷ whenever (is_dir_inode (Some inode)) IsDir ∷ []))
     reads_by offset count = ap (λ r. reply_by kept m (Read path offset count) (first_reason (refusal_in r ∷ whenever (is_dir_inode (inode_at m path)) IsDir ∷ []))) walked
         ∙ ap (λ i. reply_by kept m (Read path offset count) (first_reason (None ∷ whenever (is_dir_inode i) IsDir ∷ []))) at_path
 
-    lists_by : reply_of least kept m (ListNames path) ≡ reply_by kept m (ListNames path) (first_reason (None ∷ whenever (is_file_inode (Some inode)) NotDir ∷ []))
+    lists_by : reply_of lay least kept m (ListNames path) ≡ reply_by kept m (ListNames path) (first_reason (None ∷ whenever (is_file_inode (Some inode)) NotDir ∷ []))
     lists_by = ap (λ r. reply_by kept m (ListNames path) (first_reason (refusal_in r ∷ whenever (is_file_inode (inode_at m path)) NotDir ∷ []))) walked
         ∙ ap (λ i. reply_by kept m (ListNames path) (first_reason (None ∷ whenever (is_file_inode i) NotDir ∷ []))) at_path
 
-  pub read_dir : (n offset count : ℕ) (slots : List Slot) → walk_on m 1 path ≡ Ok n → LeadsTo m path n → m n ≡ Some (ADir slots) → Refused IsDir ≡ reply_of least kept m (Read path offset count)
+  pub read_dir : (n offset count : ℕ) (slots : List Slot) → walk_on m 1 path ≡ Ok n → LeadsTo m path n → m n ≡ Some (ADir slots) → Refused IsDir ≡ reply_of lay least kept m (Read path offset count)
   read_dir n offset count slots walked leads here = sym (reads_by n (ADir slots) walked leads here offset count)
 
-  pub read_file : (n offset count links : ℕ) (bytes : List ℕ) → walk_on m 1 path ≡ Ok n → LeadsTo m path n → m n ≡ Some (AFile links bytes) → Bytes (take count (drop offset bytes)) ≡ reply_of least kept m (Read path offset count)
+  pub read_file : (n offset count links : ℕ) (bytes : List ℕ) → walk_on m 1 path ≡ Ok n → LeadsTo m path n → m n ≡ Some (AFile links bytes) → Bytes (take count (drop offset bytes)) ≡ reply_of lay least kept m (Read path offset count)
   read_file n offset count links bytes walked leads here =
       sym (reads_by n (AFile links bytes) walked leads here offset count ∙ ap (λ i. Bytes (take count (drop offset (bytes_of i)))) (at_path n (AFile links bytes) walked leads here))
 
-  pub list_file : (n links : ℕ) (bytes : List ℕ) → walk_on m 1 path ≡ Ok n → LeadsTo m path n → m n ≡ Some (AFile links bytes) → Refused NotDir ≡ reply_of least kept m (ListNames path)
+  pub list_file : (n links : ℕ) (bytes : List ℕ) → walk_on m 1 path ≡ Ok n → LeadsTo m path n → m n ≡ Some (AFile links bytes) → Refused NotDir ≡ reply_of lay least kept m (ListNames path)
   list_file n links bytes walked leads here = sym (lists_by n (AFile links bytes) walked leads here)
 
-  pub list_dir : (n : ℕ) (slots : List Slot) → walk_on m 1 path ≡ Ok n → LeadsTo m path n → m n ≡ Some (ADir slots) → NamesReply (names_of slots) ≡ reply_of least kept m (ListNames path)
+  pub list_dir : (n : ℕ) (slots : List Slot) → walk_on m 1 path ≡ Ok n → LeadsTo m path n → m n ≡ Some (ADir slots) → NamesReply (names_of slots) ≡ reply_of lay least kept m (ListNames path)
   list_dir n slots walked leads here = sym (lists_by n (ADir slots) walked leads here ∙ ap (λ i. NamesReply (names_of (slots_of i))) (at_path n (ADir slots) walked leads here))
 
 -- the inodes are the map of the session's tree, by its own limit
-pub session_maps : (limit : ℕ) (m : Inodes) (f : Session) → IsMapOfSession limit m f → IsMapOf f.limit m f.tree
-session_maps limit m f h = subst (λ n. IsMapOf n m f.tree) (sym h.limit_is) h.map
+pub session_maps : (limit : Bounds) (m : Inodes) (f : Session) → IsMapOfSession limit m f → IsMapOf f.limit.nodes m f.tree
+session_maps limit m f h = subst (λ (b : Bounds). IsMapOf b.nodes m f.tree) (sym h.limit_is) h.map
 
 -- what a look in an empty draft answers, it answers for each session over the blocks
 pub answers_begun : {counts : List ℕ} (s : State) (d : DraftState) (cmd : Cmd) (r : Result Reply FileRefusal) → d ≡ begun_beside counts → MapLaw
-    → IfOk r (λ reply. (f : Session) → IsMapOfSession s.books.geom.i (inodes_of (files_in s d)) f → reply ≡ (step f cmd).1) → IfOk r (λ reply. (f : Session) → IsSession s f → reply ≡ (step f cmd).1)
+    → IfOk r (λ reply. (f : Session) → IsMapOfSession (bounds_of s.books.geom) (inodes_of s.books.geom.layout (files_in s d)) f → reply ≡ (step f cmd).1) → IfOk r (λ reply. (f : Session) → IsSession s f → reply ≡ (step f cmd).1)
 answers_begun s d cmd (Ok reply) none map h = λ f is. h f (record {
-  map = subst (λ e. IsMapOf s.books.geom.i (inodes_of (files_in s e)) f.tree) (sym none) (map s.books.geom s.map f.tree is.tree);
+  map = subst (λ e. IsMapOf s.books.geom.i (inodes_of s.books.geom.layout (files_in s e)) f.tree) (sym none) (map s.books.geom s.map f.tree is.tree);
   limit_is = is.limit;
 })
 answers_begun s d cmd (Err why) none map h = tt
 
 -- The replies of a session whose tree has these inodes as its map.
-module _ (files : Files) (f : Session) (map : IsMapOf f.limit (inodes_of files) f.tree) (law : ReplyLaw) (path : List (List ℕ)) where
+module _ (l : Layout) (files : Files) (f : Session) (map : IsMapOf f.limit.nodes (inodes_of l files) f.tree) (law : ReplyLaw) (path : List (List ℕ)) where
   abbrev m : Inodes
-  m = inodes_of files
+  m = inodes_of l files
 
-  replies : (cmd : Cmd) → answers_point cmd ≡ false → reply_of (least_unused f.limit f.tree) f.tree.snapshots m cmd ≡ (step f cmd).1
+  replies : (cmd : Cmd) → answers_point cmd ≡ false → reply_of f.limit.layout (least_unused f.limit.nodes f.tree) f.tree.snapshots m cmd ≡ (step f cmd).1
   replies cmd none = sym (law f m cmd map none)
 
   pub stat_nowhere : (why : Refusal) → walk_on m 1 path ≡ Err why → Refused why ≡ (step f (StatCmd path)).1
-  stat_nowhere why e = stat_refused m (least_unused f.limit f.tree) f.tree.snapshots path why e ∙ replies (StatCmd path) refl
+  stat_nowhere why e = stat_refused f.limit.layout m (least_unused f.limit.nodes f.tree) f.tree.snapshots path why e ∙ replies (StatCmd path) refl
 
   pub read_nowhere : (offset count : ℕ) (why : Refusal) → walk_on m 1 path ≡ Err why → Refused why ≡ (step f (Read path offset count)).1
-  read_nowhere offset count why e = read_refused m (least_unused f.limit f.tree) f.tree.snapshots path offset count why e ∙ replies (Read path offset count) refl
+  read_nowhere offset count why e = read_refused f.limit.layout m (least_unused f.limit.nodes f.tree) f.tree.snapshots path offset count why e ∙ replies (Read path offset count) refl
 
   pub list_nowhere : (why : Refusal) → walk_on m 1 path ≡ Err why → Refused why ≡ (step f (ListNames path)).1
-  list_nowhere why e = list_refused m (least_unused f.limit f.tree) f.tree.snapshots path why e ∙ replies (ListNames path) refl
+  list_nowhere why e = list_refused f.limit.layout m (least_unused f.limit.nodes f.tree) f.tree.snapshots path why e ∙ replies (ListNames path) refl
 
-  module _ (ends : EndsLaw) (found : NodeFound) (led : LeadsToFound files path (Ok found)) where
+  module _ (ends : EndsLaw) (found : NodeFound) (led : LeadsToFound l files path (Ok found)) where
     abbrev n : ℕ
     n = found.number
 
@@ -135,25 +141,25 @@ module _ (files : Files) (f : Session) (map : IsMapOf f.limit (inodes_of files) 
     here : m n ≡ Some inode
     here = (map.shows.used path n leads).1
 
-    reads : inode_of x ≡ Some inode
-    reads = sym (ap (option_and_then inode_of) led.1.1) ∙ here
+    reads : inode_of l x ≡ Some inode
+    reads = sym (ap (option_and_then (inode_of l)) led.1.1) ∙ here
 
-    pub stat_there : ((slots : List Slot) → x.kind ≡ Dir → inode_of x ≡ Some (ADir slots) → length x.bytes ≡ 64 * length slots) → stat_of_kind x.kind n x.links (length x.bytes) ≡ (step f (StatCmd path)).1
-    stat_there size = stat_told x.kind x.links x.bytes inode n reads (λ slots dir is. size slots dir (reads ∙ ap Some is)) ∙ sym (stat_is m (least_unused f.limit f.tree) f.tree.snapshots path n inode walked leads here) ∙ replies (StatCmd path) refl
+    pub stat_there : ((slots : List Slot) → x.kind ≡ Dir → inode_of l x ≡ Some (ADir slots) → length x.bytes ≡ directory_bytes l (length slots)) → stat_of_kind l x.kind n x.links (length x.bytes) ≡ (step f (StatCmd path)).1
+    stat_there size = stat_told l x.kind x.links x.bytes inode n reads (λ slots dir is. size slots dir (reads ∙ ap Some is)) ∙ sym (stat_is f.limit.layout m (least_unused f.limit.nodes f.tree) f.tree.snapshots path n inode walked leads here) ∙ replies (StatCmd path) refl
 
     -- a file reads as one, and a directory too
-    kind_is : (i : Inode) → inode_of x ≡ Some i → is_dir_inode (Some i) ≡ is_dir x.kind
-    kind_is i e = (kind_told x.kind x.links x.bytes i e).0
+    kind_is : (i : Inode) → inode_of l x ≡ Some i → is_dir_inode (Some i) ≡ is_dir x.kind
+    kind_is i e = (kind_told _ x.kind x.links x.bytes i e).0
 
-    read_is : (offset count : ℕ) (i : Inode) → inode_of x ≡ Some i → m n ≡ Some i → (is_dir x.kind ≡ true → Refused IsDir ≡ reply_of (least_unused f.limit f.tree) f.tree.snapshots m (Read path offset count))
-        × (is_dir x.kind ≡ false → Bytes (take count (drop offset x.bytes)) ≡ reply_of (least_unused f.limit f.tree) f.tree.snapshots m (Read path offset count))
+    read_is : (offset count : ℕ) (i : Inode) → inode_of l x ≡ Some i → m n ≡ Some i → (is_dir x.kind ≡ true → Refused IsDir ≡ reply_of f.limit.layout (least_unused f.limit.nodes f.tree) f.tree.snapshots m (Read path offset count))
+        × (is_dir x.kind ≡ false → Bytes (take count (drop offset x.bytes)) ≡ reply_of f.limit.layout (least_unused f.limit.nodes f.tree) f.tree.snapshots m (Read path offset count))
     read_is offset count (ADir slots) e is = (
-      (λ dir. read_dir m (least_unused f.limit f.tree) f.tree.snapshots path n offset count slots walked leads is),
+      (λ dir. read_dir f.limit.layout m (least_unused f.limit.nodes f.tree) f.tree.snapshots path n offset count slots walked leads is),
       (λ file. absurd (true≢false (kind_is (ADir slots) e ∙ file))),
     )
     read_is offset count (AFile l b) e is = (
       (λ dir. absurd (true≢false (sym dir ∙ sym (kind_is (AFile l b) e)))),
-      (λ file. ap (λ bytes. Bytes (take count (drop offset bytes))) (ap bytes_of (sym (file_told x.kind x.links x.bytes (AFile l b) e file) ∙ e)) ∙ read_file m (least_unused f.limit f.tree) f.tree.snapshots path n offset count l b walked leads is),
+      (λ file. ap (λ bytes. Bytes (take count (drop offset bytes))) (ap bytes_of (sym (file_told _ x.kind x.links x.bytes (AFile l b) e file) ∙ e)) ∙ read_file f.limit.layout m (least_unused f.limit.nodes f.tree) f.tree.snapshots path n offset count l b walked leads is),
     )
 
     kind : is_dir x.kind ≡ is_dir found.facts.kind
@@ -165,14 +171,14 @@ module _ (files : Files) (f : Session) (map : IsMapOf f.limit (inodes_of files) 
         let law = replies (Read path offset count) refl in
         ((λ dir. r.0 (kind ∙ dir) ∙ law), (λ file. r.1 (kind ∙ file) ∙ law))
 
-    list_is : (i : Inode) → inode_of x ≡ Some i → m n ≡ Some i → (is_dir x.kind ≡ false → Refused NotDir ≡ reply_of (least_unused f.limit f.tree) f.tree.snapshots m (ListNames path))
-        × (is_dir x.kind ≡ true → (slots : List Slot) × (i ≡ ADir slots) × (NamesReply (names_of slots) ≡ reply_of (least_unused f.limit f.tree) f.tree.snapshots m (ListNames path)))
+    list_is : (i : Inode) → inode_of l x ≡ Some i → m n ≡ Some i → (is_dir x.kind ≡ false → Refused NotDir ≡ reply_of f.limit.layout (least_unused f.limit.nodes f.tree) f.tree.snapshots m (ListNames path))
+        × (is_dir x.kind ≡ true → (slots : List Slot) × (i ≡ ADir slots) × (NamesReply (names_of slots) ≡ reply_of f.limit.layout (least_unused f.limit.nodes f.tree) f.tree.snapshots m (ListNames path)))
     list_is (ADir slots) e is = (
       (λ file. absurd (true≢false (kind_is (ADir slots) e ∙ file))),
-      (λ dir. (slots, refl, list_dir m (least_unused f.limit f.tree) f.tree.snapshots path n slots walked leads is)),
+      (λ dir. (slots, refl, list_dir f.limit.layout m (least_unused f.limit.nodes f.tree) f.tree.snapshots path n slots walked leads is)),
     )
     list_is (AFile l b) e is = (
-      (λ file. list_file m (least_unused f.limit f.tree) f.tree.snapshots path n l b walked leads is),
+      (λ file. list_file f.limit.layout m (least_unused f.limit.nodes f.tree) f.tree.snapshots path n l b walked leads is),
       (λ dir. absurd (true≢false (sym dir ∙ sym (kind_is (AFile l b) e)))),
     )
 

@@ -2,6 +2,7 @@
 use Rattle.std.proofs.Common.{⊎_elim, ◌≡◌, ◌⊎◌, inl, inr, ℕ, ◌-◌, Bool, true, false, List, [], ◌∷◌, ◌++◌, length, Option, None, Some, option_map, option_and_then, Result, Ok, Err, if◌then◌else◌, refl, sym, ap, ◌∙◌, arith, take_at}
 use Rattle.std.proofs.lemmas.Option.{none-some, same_Some}
 use Rattle.std.proofs.lemmas.List.{length-append}
+use Rattle.base_types.specs.declared.layout.Layout.{Layout}
 use Rattle.layout_bytes.specs.declared.slot.Slot.{Slot}
 use Rattle.lang_tree.specs.declared.command.Refusal.{Refusal}
 use Rattle.lang_tree.specs.declared.command.Refusal.TheVariants.{NotDir}
@@ -68,33 +69,33 @@ entered : (slots : List Slot) (name : List ℕ) (dir count : ℕ) (entry : Optio
 entered slots name dir count None e = ap (λ o. enter true o Ok) (sym e)
 entered slots name dir count (Some x) e = ap (λ o. enter true o Ok) (sym e)
 
-pub walk_is : (files : Files) (path : List (List ℕ)) (spot : Result Spot Refusal) → ComesTo files path spot → walk_on (inodes_of files) 1 path ≡ walk_of spot
-walk_is files path (Ok TheRoot) h = ap (walk_on (inodes_of files) 1) h
-walk_is files path (Ok (Inside dir count entry)) (up, name, is, at, h) =
-    let m = inodes_of files in
+pub walk_is : (l : Layout) (files : Files) (path : List (List ℕ)) (spot : Result Spot Refusal) → ComesTo l files path spot → walk_on (inodes_of l files) 1 path ≡ walk_of spot
+walk_is l files path (Ok TheRoot) h = ap (walk_on (inodes_of l files) 1) h
+walk_is l files path (Ok (Inside dir count entry)) (up, name, is, at, h) =
+    let m = inodes_of l files in
     ap (walk_on m 1) is ∙ walk_last m 1 up name ∙ ap (then_enter m name) at ∙ ap (λ o. enter (is_dir_inode o) (entry_in o name) Ok) h.dir ∙ entered h.slots name dir count entry h.node
-walk_is files path (Err why) h = walk_refused (inodes_of files) path why h
+walk_is l files path (Err why) h = walk_refused (inodes_of l files) path why h
 
 -- a directory is above a path that comes to a spot
-pub none_against : (files : Files) (path : List (List ℕ)) (spot : Spot) → ComesTo files path (Ok spot) → parent_reason (inodes_of files) path ≡ None
-none_against files path TheRoot h = ap (parent_reason (inodes_of files)) h
-none_against files path (Inside dir count entry) (up, name, is, at, h) =
-    let m = inodes_of files in
+pub none_against : (l : Layout) (files : Files) (path : List (List ℕ)) (spot : Spot) → ComesTo l files path (Ok spot) → parent_reason (inodes_of l files) path ≡ None
+none_against l files path TheRoot h = ap (parent_reason (inodes_of l files)) h
+none_against l files path (Inside dir count entry) (up, name, is, at, h) =
+    let m = inodes_of l files in
     ap (parent_reason m) is ∙ reason_by m up name ∙ ap (dir_reason m) at ∙ ap (λ o. if is_dir_inode o then None else Some NotDir) h.dir
 
 -- the number at the path
 pub number_is : EndsLaw
     → ((m : Inodes) (up : List (List ℕ)) (name : List ℕ) (dir : ℕ) (slots : List Slot) → LeadsTo m up dir → m dir ≡ Some (ADir slots) → number_at m (up ++ name ∷ []) ≡ node_in slots name)
-    → (files : Files) (path : List (List ℕ)) (spot : Spot) → ComesTo files path (Ok spot) → number_at (inodes_of files) path ≡ number_of spot
-number_is ends last files path TheRoot h = ap (number_at (inodes_of files)) h
-number_is ends last files path (Inside dir count entry) (up, name, is, at, h) =
-    let m = inodes_of files in
+    → (l : Layout) (files : Files) (path : List (List ℕ)) (spot : Spot) → ComesTo l files path (Ok spot) → number_at (inodes_of l files) path ≡ number_of spot
+number_is ends last l files path TheRoot h = ap (number_at (inodes_of l files)) h
+number_is ends last l files path (Inside dir count entry) (up, name, is, at, h) =
+    let m = inodes_of l files in
     ap (number_at m) is ∙ last m up name dir h.slots (ends m up dir at) h.dir ∙ sym h.node
 
 -- the slots above the path
 pub slots_are : EndsLaw
-    → (files : Files) (path : List (List ℕ)) (dir count : ℕ) (entry : Option Entry) → ComesTo files path (Ok (Inside dir count entry)) → count ≡ slots_above (inodes_of files) path
-slots_are ends files path dir count entry (up, name, is, at, h) =
-    let m = inodes_of files in
+    → (l : Layout) (files : Files) (path : List (List ℕ)) (dir count : ℕ) (entry : Option Entry) → ComesTo l files path (Ok (Inside dir count entry)) → count ≡ slots_above (inodes_of l files) path
+slots_are ends l files path dir count entry (up, name, is, at, h) =
+    let m = inodes_of l files in
     h.count ∙ sym (ap (slots_above m) is ∙ ap (λ p. length (slots_of (inode_at m p))) (above up name)
     ∙ ap (λ (o : Option ℕ). length (slots_of (option_and_then m o))) (ends m up dir at) ∙ ap (λ o. length (slots_of o)) h.dir)

@@ -53,28 +53,28 @@ within_move g d most frees grown takes law alters few less =
     record { blocks = p.0; only = p.1; price = omega (arith, p.2, few, less); some = λ costs. alters.some }
 
 -- what a rename takes, by what the two paths lead to
-module _ (bitmap : ℕ) (shared : SharedNodes) (alone : BlocksAlone) (f : Session) (m : Inodes) (from to : List (List ℕ)) (map : IsMapOf f.limit m f.tree) (accepted : rename_reason m from to ≡ None) (apart : are_same (number_at m from) (number_at m to) ≡ false)
+module _ (bitmap : ℕ) (shared : SharedNodes) (alone : BlocksAlone) (f : Session) (m : Inodes) (from to : List (List ℕ)) (map : IsMapOf f.limit.nodes m f.tree) (accepted : rename_reason f.limit.layout m from to ≡ None) (apart : are_same (number_at m from) (number_at m to) ≡ false)
     (law : FiguresLaw) where
   -- where nothing is at the second path
   abbrev free_cost : Figures
-  free_cost = cond (are_in_one from to) (moving bitmap 0 0) (moving bitmap (growth (slots_above m to)) (release (slots_above m from)))
+  free_cost = cond (are_in_one from to) (moving bitmap 0 0) (moving bitmap (growth f.limit.layout (slots_above m to)) (release f.limit.layout (slots_above m from)))
 
-  moves_cost : figures_over bitmap shared alone f (Rename from to) ≡ move_cost bitmap shared m from to
+  moves_cost : figures_over bitmap shared alone f (Rename from to) ≡ move_cost bitmap shared f.limit.layout m from to
   moves_cost = law bitmap shared alone f m (Rename from to) map ∙ ap (λ r. cost_over_by bitmap shared alone f.limit f.tree.snapshots m (Rename from to) r) accepted
-      ∙ cond-false (are_same (number_at m from) (number_at m to)) nothing (move_cost bitmap shared m from to) apart
+      ∙ cond-false (are_same (number_at m from) (number_at m to)) nothing (move_cost bitmap shared f.limit.layout m from to) apart
 
-  pub onto_cost : is_some (number_at m to) ≡ true → figures_over bitmap shared alone f (Rename from to) ≡ moving bitmap 0 (release (slots_above m from) + blocks_lost shared m to)
-  onto_cost there = moves_cost ∙ cond-true (is_some (number_at m to)) (moving bitmap 0 (release (slots_above m from) + blocks_lost shared m to)) free_cost there
+  pub onto_cost : is_some (number_at m to) ≡ true → figures_over bitmap shared alone f (Rename from to) ≡ moving bitmap 0 (release f.limit.layout (slots_above m from) + blocks_lost shared m to)
+  onto_cost there = moves_cost ∙ cond-true (is_some (number_at m to)) (moving bitmap 0 (release f.limit.layout (slots_above m from) + blocks_lost shared m to)) free_cost there
 
   pub within_cost : is_some (number_at m to) ≡ false → are_in_one from to ≡ true → figures_over bitmap shared alone f (Rename from to) ≡ moving bitmap 0 0
   within_cost free one = moves_cost
-      ∙ cond-false (is_some (number_at m to)) (moving bitmap 0 (release (slots_above m from) + blocks_lost shared m to)) free_cost free
-      ∙ cond-true (are_in_one from to) (moving bitmap 0 0) (moving bitmap (growth (slots_above m to)) (release (slots_above m from))) one
+      ∙ cond-false (is_some (number_at m to)) (moving bitmap 0 (release f.limit.layout (slots_above m from) + blocks_lost shared m to)) free_cost free
+      ∙ cond-true (are_in_one from to) (moving bitmap 0 0) (moving bitmap (growth f.limit.layout (slots_above m to)) (release f.limit.layout (slots_above m from))) one
 
-  pub across_cost : is_some (number_at m to) ≡ false → are_in_one from to ≡ false → figures_over bitmap shared alone f (Rename from to) ≡ moving bitmap (growth (slots_above m to)) (release (slots_above m from))
+  pub across_cost : is_some (number_at m to) ≡ false → are_in_one from to ≡ false → figures_over bitmap shared alone f (Rename from to) ≡ moving bitmap (growth f.limit.layout (slots_above m to)) (release f.limit.layout (slots_above m from))
   across_cost free two = moves_cost
-      ∙ cond-false (is_some (number_at m to)) (moving bitmap 0 (release (slots_above m from) + blocks_lost shared m to)) free_cost free
-      ∙ cond-false (are_in_one from to) (moving bitmap 0 0) (moving bitmap (growth (slots_above m to)) (release (slots_above m from))) two
+      ∙ cond-false (is_some (number_at m to)) (moving bitmap 0 (release f.limit.layout (slots_above m from) + blocks_lost shared m to)) free_cost free
+      ∙ cond-false (are_in_one from to) (moving bitmap 0 0) (moving bitmap (growth f.limit.layout (slots_above m to)) (release f.limit.layout (slots_above m from))) two
 
 -- the blocks that a rename uses are those taken
 move_uses : (s t : State) (source into node most frees grown : ℕ) (takes : List ℕ) (name other : List ℕ) (d : DraftState) (nodes : NodeUse) → MovesName s t d source into node name other most takes frees nodes
@@ -94,15 +94,15 @@ move_stands s f from to dir more = sym (ap (λ (renewed : SharedNodes). renew (r
 
 -- A rename that the tree accepts, as it is weighed: what is known of it, and its figures.
 pub record MoveIs (s : State) (f : Session) (from to : List (List ℕ)) (source : Named) (into count : ℕ) (found : Option Entry) (other : List ℕ) (grown freed : ℕ) (fs : Figures) : Type 0 where
-  pub known : KnowsMove (files_in s nothing_drafted) from to source into count found other
-  pub map : IsMapOf f.limit (inodes s) f.tree
-  pub reason : rename_reason (inodes s) from to ≡ None
+  pub known : KnowsMove s.books.geom.layout (files_in s nothing_drafted) from to source into count found other
+  pub map : IsMapOf f.limit.nodes (inodes s) f.tree
+  pub reason : rename_reason f.limit.layout (inodes s) from to ≡ None
   pub accepted : refusal f.limit f.tree (Rename from to) ≡ None
   pub counted : figures_on s f (Rename from to) ≡ moving (bitmap_blocks s.books.geom) grown freed
   pub figures : figures_on s f (Rename from to) ≡ fs
 
-pub move_is : (s : State) (f : Session) (from to : List (List ℕ)) (source : Named) (into count : ℕ) (found : Option Entry) (other : List ℕ) (grown freed : ℕ) (fs : Figures) → KnowsMove (files_in s nothing_drafted) from to source into count found other
-    → IsMapOf f.limit (inodes s) f.tree → rename_reason (inodes s) from to ≡ None → RefusalLaw → figures_on s f (Rename from to) ≡ moving (bitmap_blocks s.books.geom) grown freed → fs ≡ moving (bitmap_blocks s.books.geom) grown freed
+pub move_is : (s : State) (f : Session) (from to : List (List ℕ)) (source : Named) (into count : ℕ) (found : Option Entry) (other : List ℕ) (grown freed : ℕ) (fs : Figures) → KnowsMove s.books.geom.layout (files_in s nothing_drafted) from to source into count found other
+    → IsMapOf f.limit.nodes (inodes s) f.tree → rename_reason f.limit.layout (inodes s) from to ≡ None → RefusalLaw → figures_on s f (Rename from to) ≡ moving (bitmap_blocks s.books.geom) grown freed → fs ≡ moving (bitmap_blocks s.books.geom) grown freed
     → MoveIs s f from to source into count found other grown freed fs
 move_is s f from to source into count found other grown freed fs known map none law counted same =
     record { known = known; map = map; reason = none; accepted = law f.limit (inodes s) f.tree (Rename from to) map ∙ none; counted = counted; figures = counted ∙ sym same }
@@ -112,8 +112,8 @@ pub planned_move : (s t : State) (f : Session) (from to : List (List ℕ)) (sour
     → (a : MoveIs s f from to source into count found other grown frees fs) → MovesName s t d source.dir into source.entry.node.number a.known.name other most takes frees nodes → StaysBeside d t → HasRoom s.books fs
     → most ≤ 6 → takes ≡ take grown (reusable_blocks t.books) → grown ≤ length (reusable_blocks t.books) → (grown ≤ length (reusable_blocks s.books) → t.books ≡ s.books) → t.books.geom ≡ s.books.geom
     → FindsRuns s t.books f (Rename from to)
-    → ((s : Session) (m new : Inodes) (up to : List (List ℕ)) (name other : List ℕ) (from into node : ℕ) → IsMapOf s.limit m s.tree → refusal s.limit s.tree (Rename (up ++ name ∷ []) (to ++ other ∷ [])) ≡ None
-    → LeadsTo m up from → LeadsTo m to into → MovesSlot m new from into node name other → IsMapOf s.limit new (step s (Rename (up ++ name ∷ []) (to ++ other ∷ []))).0.tree)
+    → ((s : Session) (m new : Inodes) (up to : List (List ℕ)) (name other : List ℕ) (from into node : ℕ) → IsMapOf s.limit.nodes m s.tree → refusal s.limit s.tree (Rename (up ++ name ∷ []) (to ++ other ∷ [])) ≡ None
+    → LeadsTo m up from → LeadsTo m to into → MovesSlot m new from into node name other → IsMapOf s.limit.nodes new (step s (Rename (up ++ name ∷ []) (to ++ other ∷ []))).0.tree)
     → ReplyLaw → PriceLaw
     → MakesTree (Rename from to) d fs.cost s t f
 planned_move s t f from to source into count found other most frees grown fs takes d nodes a made stays room few are enough rests geom runs moved replies prices =
@@ -127,7 +127,7 @@ planned_move s t f from to source into count found other most frees grown fs tak
       room = subst (λ (n : Figures). HasRoom s.books n) (sym a.figures) room;
       runs = runs;
       reads = made.reads;
-      map = subst (λ (cmd : Cmd). IsMapOf f.limit (inodes_in t d) (step f cmd).0.tree) same
+      map = subst (λ (cmd : Cmd). IsMapOf f.limit.nodes (inodes_in t d) (step f cmd).0.tree) same
           (moved f (inodes s) (inodes_in t d) paths.up paths.above a.known.name other source.dir into source.entry.node.number a.map (subst (λ (cmd : Cmd). refusal f.limit f.tree cmd ≡ None) (sym same) a.accepted) paths.source_leads paths.into_leads made.moves);
       snapshots = stays;
       within = subst (λ n. IsWithinCost t.books.geom d n) (sym (ap (λ (n : Figures). n.cost) a.counted) ∙ costs)
@@ -143,26 +143,28 @@ pub no_growth : (s : State) (settled : Bookkeeping) (f : Session) (cmd : Cmd) (b
 no_growth s settled f cmd bitmap freed are = λ k some grown. absurd (omega (arith, some, ap (λ (n : Figures). n.need) are))
 
 -- its figures are those that were counted
-module _ (s : State) (f : Session) (from to : List (List ℕ)) (source : Named) (other : List ℕ) (map : IsMapOf f.limit (inodes s) f.tree) (accepted : rename_reason (inodes s) from to ≡ None)
+module _ (s : State) (f : Session) (from to : List (List ℕ)) (source : Named) (other : List ℕ) (map : IsMapOf f.limit.nodes (inodes s) f.tree) (accepted : rename_reason f.limit.layout (inodes s) from to ≡ None) (same : f.limit.layout ≡ s.books.geom.layout)
     (law : FiguresLaw) where
-  pub onto_counted : (target : Named) → KnowsMove (files_in s nothing_drafted) from to source target.dir target.count (Some target.entry) other → (gone : ℕ) → blocks_lost (shared_on s f) (inodes s) to ≡ gone
-      → figures_on s f (Rename from to) ≡ moving (bitmap_blocks s.books.geom) 0 (release source.count + gone)
+  pub onto_counted : (target : Named) → KnowsMove s.books.geom.layout (files_in s nothing_drafted) from to source target.dir target.count (Some target.entry) other → (gone : ℕ) → blocks_lost (shared_on s f) (inodes s) to ≡ gone
+      → figures_on s f (Rename from to) ≡ moving (bitmap_blocks s.books.geom) 0 (release s.books.geom.layout source.count + gone)
   onto_counted target k gone lost = onto_cost (bitmap_blocks s.books.geom) (shared_on s f) (alone_on s f) f (inodes s) from to map accepted k.apart law k.there
-      ∙ ap₂ (λ c g. moving (bitmap_blocks s.books.geom) 0 (release c + g)) (sym k.slots) lost
+      ∙ ap₂ (λ c g. moving (bitmap_blocks s.books.geom) 0 (release f.limit.layout c + g)) (sym k.slots) lost
+      ∙ ap (λ l. moving (bitmap_blocks s.books.geom) 0 (release l source.count + gone)) same
 
-  module _ (into count : ℕ) (k : KnowsMove (files_in s nothing_drafted) from to source into count None other)
+  module _ (into count : ℕ) (k : KnowsMove s.books.geom.layout (files_in s nothing_drafted) from to source into count None other)
       (one : (limit : ℕ) (m : Inodes) (t : Tree) (up to : List (List ℕ)) (name other : List ℕ) (dir into : ℕ) (slots : List Slot) → IsMapOf limit m t → LeadsTo m up dir → LeadsTo m to into → m dir ≡ Some (ADir slots)
       → are_in_one (up ++ name ∷ []) (to ++ other ∷ []) ≡ (dir == into)) where
     in_one : are_in_one from to ≡ (source.dir == into)
     in_one = ap₂ are_in_one k.paths.from_is k.paths.to_is
-        ∙ one f.limit (inodes s) f.tree k.paths.up k.paths.above k.name other source.dir into k.named.slots map k.paths.source_leads k.paths.into_leads k.named.dir
+        ∙ one f.limit.nodes (inodes s) f.tree k.paths.up k.paths.above k.name other source.dir into k.named.slots map k.paths.source_leads k.paths.into_leads k.named.dir
 
     pub within_counted : source.dir ≡ into → figures_on s f (Rename from to) ≡ moving (bitmap_blocks s.books.geom) 0 0
     within_counted same = within_cost (bitmap_blocks s.books.geom) (shared_on s f) (alone_on s f) f (inodes s) from to map accepted k.apart law k.there (in_one ∙ eq-eqb source.dir into same)
 
-    pub across_counted : source.dir ≢ into → figures_on s f (Rename from to) ≡ moving (bitmap_blocks s.books.geom) (growth count) (release source.count)
+    pub across_counted : source.dir ≢ into → figures_on s f (Rename from to) ≡ moving (bitmap_blocks s.books.geom) (growth s.books.geom.layout count) (release s.books.geom.layout source.count)
     across_counted two = across_cost (bitmap_blocks s.books.geom) (shared_on s f) (alone_on s f) f (inodes s) from to map accepted k.apart law k.there (in_one ∙ ne_eqb source.dir into two)
-        ∙ ap₂ (λ c n. moving (bitmap_blocks s.books.geom) (growth c) (release n)) (sym k.more) (sym k.slots)
+        ∙ ap₂ (λ c n. moving (bitmap_blocks s.books.geom) (growth f.limit.layout c) (release f.limit.layout n)) (sym k.more) (sym k.slots)
+        ∙ ap (λ l. moving (bitmap_blocks s.books.geom) (growth l count) (release l source.count)) same
 
 -- figures that were made of equal numbers
 pub counted_as : (bitmap grown freed b g n : ℕ) (fs : Figures) → fs ≡ moving bitmap grown freed → bitmap ≡ b → grown ≡ g → freed ≡ n → fs ≡ moving b g n
@@ -175,12 +177,12 @@ pub move_made : (tells : Bool) (s now : State) (d : DraftState) (fs : Figures) �
 move_made tells s now d fs draft sound weight room has same used = record { draft = draft; sound = sound; weight = omega (arith, weight, room, has.weight); used = λ told. uses_of Stays s now d (same told) (used told) }
 
 -- what moves to a free name of its directory, and of another one
-pub may_rename : (s : State) (from to : List (List ℕ)) (source : Named) (other : List ℕ) → (k : KnowsMove (files_in s nothing_drafted) from to source source.dir source.count None other) → MayRename s source k.name other
-may_rename s from to source other k = record { from = k.named; into = entry_lacks (files_in s nothing_drafted) other source.dir source.count k.entry }
+pub may_rename : (s : State) (from to : List (List ℕ)) (source : Named) (other : List ℕ) → (k : KnowsMove s.books.geom.layout (files_in s nothing_drafted) from to source source.dir source.count None other) → MayRename s source k.name other
+may_rename s from to source other k = record { from = k.named; into = entry_lacks s.books.geom.layout (files_in s nothing_drafted) other source.dir source.count k.entry }
 
-pub may_move_away : (s : State) (from to : List (List ℕ)) (source : Named) (into count : ℕ) (other : List ℕ) → source.dir ≢ into → (k : KnowsMove (files_in s nothing_drafted) from to source into count None other)
+pub may_move_away : (s : State) (from to : List (List ℕ)) (source : Named) (into count : ℕ) (other : List ℕ) → source.dir ≢ into → (k : KnowsMove s.books.geom.layout (files_in s nothing_drafted) from to source into count None other)
     → MayMoveAway s source into count k.name other
-may_move_away s from to source into count other apart k = record { from = k.named; into = entry_lacks (files_in s nothing_drafted) other into count k.entry; apart = apart }
+may_move_away s from to source into count other apart k = record { from = k.named; into = entry_lacks s.books.geom.layout (files_in s nothing_drafted) other into count k.entry; apart = apart }
 
 -- the second directory is what grows
 pub grown_into : (s : State) (from to : List (List ℕ)) (source into : ℕ) (name other : List ℕ) → KnowsPaths (inodes s) from to source into name other → grown_on s (Rename from to) ≡ Some into

@@ -31,37 +31,37 @@ use Rattle.fs_commands.proofs.planning.Looking.{growth_plan}
 use Rattle.layout_extent.specs.Renew.{renew}
 use Rattle.lang_tree.specs.Sharing.{SharedNodes, none_shared}
 
-module _ (old now : State) (f : Session) (cmd : Cmd) (dir count : ℕ) (h : AcceptsName old f cmd dir count) (v : Figures) (value : v ≡ adding (growth count)) (room : HasRoom old.books v) where
+module _ (old now : State) (f : Session) (cmd : Cmd) (dir count : ℕ) (h : AcceptsName old f cmd dir count) (v : Figures) (value : v ≡ adding (growth old.books.geom.layout count)) (room : HasRoom old.books v) where
   room_is : HasRoom old.books (figures_on old f cmd)
   room_is = subst (λ w. HasRoom old.books w) (value ∙ sym h.figures) room
 
-  need_is : (figures_on old f cmd).need ≡ growth (length h.slots)
-  need_is = ap (λ (w : Figures). w.need) h.figures ∙ ap growth h.count
+  need_is : (figures_on old f cmd).need ≡ growth old.books.geom.layout (length h.slots)
+  need_is = ap (λ (w : Figures). w.need) h.figures ∙ ap (growth old.books.geom.layout) h.count
 
-  cost_is : (adding (growth (length h.slots))).cost ≡ v.cost
-  cost_is = ap (λ n. (adding (growth n)).cost) (sym h.count) ∙ ap (λ (w : Figures). w.cost) (sym value)
+  cost_is : (adding (growth old.books.geom.layout (length h.slots))).cost ≡ v.cost
+  cost_is = ap (λ n. (adding (growth old.books.geom.layout n)).cost) (sym h.count) ∙ ap (λ (w : Figures). w.cost) (sym value)
 
   -- the draft makes the tree
-  pub made_so : (d : DraftState) (node : ℕ) (name : List ℕ) (x : Inode) → AddsName old now d dir node name x h.slots → IsMapOf f.limit (inodes_in now d) (step f cmd).0.tree → StaysBeside d now → MakesTree cmd d v.cost old now f
+  pub made_so : (d : DraftState) (node : ℕ) (name : List ℕ) (x : Inode) → AddsName old now d dir node name x h.slots → IsMapOf f.limit.nodes (inodes_in now d) (step f cmd).0.tree → StaysBeside d now → MakesTree cmd d v.cost old now f
   made_so d node name x a map stays = record {
     accepted = h.accepted;
     answer = h.answer;
     costs = ap (λ (w : Figures). w.cost) (h.figures ∙ sym value);
     room = room_is;
     runs = λ k some grows. grows_unrenewed old f cmd h.renews now.books k _
-        (subst (λ n. GrowsInRuns none_shared old now.books k n) (sym need_is) (subst (λ l. GrowsInRuns none_shared old now.books l (growth (length h.slots))) (same_Some dir k (sym h.grows ∙ grows)) a.runs));
+        (subst (λ n. GrowsInRuns none_shared old now.books k n) (sym need_is) (subst (λ l. GrowsInRuns none_shared old now.books l (growth old.books.geom.layout (length h.slots))) (same_Some dir k (sym h.grows ∙ grows)) a.runs));
     reads = a.reads;
     map = map;
     snapshots = makes_stay cmd d now f h.keeps stays;
     within = subst (λ n. IsWithinCost now.books.geom d n) cost_is a.within;
     uses = uses_unrenewed old f cmd h.renews _ _ (reusable_blocks now.books) (places_of old) (places_in now d) d
-        (subst (λ (w : Figures). Uses w.need w.freed (reusable_blocks now.books) none_renewed (places_of old) (places_in now d) d) (ap (λ n. adding (growth n)) (sym h.count) ∙ sym h.figures) a.uses);
+        (subst (λ (w : Figures). Uses w.need w.freed (reusable_blocks now.books) none_renewed (places_of old) (places_in now d) d) (ap (λ n. adding (growth old.books.geom.layout n)) (sym h.count) ∙ sym h.figures) a.uses);
     enough = subst (λ n. n ≤ length (reusable_blocks now.books)) (sym need_is) a.runs.enough;
     rests = λ enough. a.rests (subst (λ n. n ≤ length (reusable_blocks old.books)) need_is enough);
   }
 
   -- it has no event where the directory's block may be taken
-  pub quiet_so : IsCalm (growth (length h.slots)) old now → IsCalm (figures_on old f cmd).need old now
+  pub quiet_so : IsCalm (growth old.books.geom.layout (length h.slots)) old now → IsCalm (figures_on old f cmd).need old now
   quiet_so quiet = subst (λ n. IsCalm n old now) (sym need_is) quiet
 
   -- its new blocks stand behind all of its own
@@ -69,7 +69,7 @@ module _ (old now : State) (f : Session) (cmd : Cmd) (dir count : ℕ) (h : Acce
   alike more = sym (ap (λ (renewed : SharedNodes). renew (renewed dir) 0 (places_of old dir) more) h.renews ∙ behind_all 0 (places_of old dir) more)
 
   -- the directory couldn't grow
-  pub refused_so : IsSound now.books → MovesPipeline old.books now.books → old.books.geom.n ≤ 1048576 → length (places_of old dir) ≤ 1048576 → (why : FileRefusal) → GrowthRefused (growth (length h.slots)) (λ more. places_of old dir ++ more) old.books now.books why
+  pub refused_so : IsSound now.books → MovesPipeline old.books now.books → old.books.geom.n ≤ 1048576 → length (places_of old dir) ≤ 1048576 → (why : FileRefusal) → GrowthRefused (growth old.books.geom.layout (length h.slots)) (λ more. places_of old dir ++ more) old.books now.books why
       → IsRefusedFor old now f cmd (refusal_of why)
   refused_so sound moves small few why grown =
       growth_refused old now f cmd dir sound moves small h.accepted room_is h.grows few why
@@ -82,12 +82,12 @@ pub record Names (old now : State) (f : Session) (cmd : Cmd) (d : DraftState) (d
   pub name : List ℕ
   pub inode : Inode
   pub adds : AddsName old now d dir node name inode slots
-  pub map : IsMapOf f.limit (inodes_in now d) (step f cmd).0.tree
+  pub map : IsMapOf f.limit.nodes (inodes_in now d) (step f cmd).0.tree
   pub stays : StaysBeside d now
 
 -- The plans.
-module _ (tells : Bool) (cmd : Cmd) (s t : State) (dir count : ℕ) (v : Figures) (going : s.books.stopped ≡ false) (value : v ≡ adding (growth count)) (room : HasRoom s.books v) (accepts : IsTrue tells → (f : Session) → IsSession s f → AcceptsName s f cmd dir count)
-    (quiet : IsTrue tells → (slots : List Slot) → inodes s dir ≡ Some (ADir slots) → IsCalm (growth (length slots)) s t) where
+module _ (tells : Bool) (cmd : Cmd) (s t : State) (dir count : ℕ) (v : Figures) (going : s.books.stopped ≡ false) (value : v ≡ adding (growth s.books.geom.layout count)) (room : HasRoom s.books v) (accepts : IsTrue tells → (f : Session) → IsSession s f → AcceptsName s f cmd dir count)
+    (quiet : IsTrue tells → (slots : List Slot) → inodes s dir ≡ Some (ADir slots) → IsCalm (growth s.books.geom.layout (length slots)) s t) where
   quiet_is : IsTrue tells → (f : Session) → IsSession s f → IsCalm (figures_on s f cmd).need s t
   quiet_is told f h = let a = accepts told f h in quiet_so s t f cmd dir count a v value room (quiet told a.slots a.is_dir)
 
@@ -100,6 +100,6 @@ module _ (tells : Bool) (cmd : Cmd) (s t : State) (dir count : ℕ) (v : Figures
   }
 
   pub name_refused : IsSound t.books → s.books.geom.n ≤ 1048576 → (IsTrue tells → length (places_of s dir) ≤ 1048576) → (why : FileRefusal) → LooksAndSettles tells (fails_reading {T = DraftState} (Err why)) (fails_settling {T = DraftState} (Err why)) s t
-      → (IsTrue tells → (slots : List Slot) → inodes s dir ≡ Some (ADir slots) → GrowthRefused (growth (length slots)) (λ more. places_of s dir ++ more) s.books t.books why) → Plans tells cmd (Err (refusal_of why)) s t
+      → (IsTrue tells → (slots : List Slot) → inodes s dir ≡ Some (ADir slots) → GrowthRefused (growth s.books.geom.layout (length slots)) (λ more. places_of s dir ++ more) s.books t.books why) → Plans tells cmd (Err (refusal_of why)) s t
   name_refused sound small few why settles refused =
       growth_plan tells cmd s t why going (λ told f h. let a = accepts told f h in refused_so s t f cmd dir count a v value room sound settles.pipeline small (few told) why (refused told a.slots a.is_dir)) quiet_is settles

@@ -28,7 +28,7 @@ use Rattle.fs_session.specs.Commands.{least_number, places_of}
 use Rattle.fs_session.specs.Sessions.{AreUsedBelow, MayBegin, MayPlan}
 use Rattle.fs_commands.specs.Writing.{IsFile}
 use Rattle.fs_session.specs.Staying.{sound_stays, stands_still}
-use Rattle.fs_commands.proofs.looking.Found.{same_files}
+use Rattle.fs_commands.proofs.looking.Found.{over_same, same_files}
 
 module _ (tells : Bool) (s t : State) (looks : LooksOnly tells false s t) where
   pub may_begin_still : {counts : List ℕ} → MayBegin tells s counts → MayBegin tells t counts
@@ -52,27 +52,27 @@ module _ (tells : Bool) (s t : State) (looks : LooksOnly tells false s t) where
     files_still : files_in t nothing_drafted ≡ files_in s nothing_drafted
     files_still = same_files tells false s t nothing_drafted looks told
 
-    pub comes_still : (path : List (List ℕ)) (spot : Result Spot Refusal) → ComesTo (files_in s nothing_drafted) path spot → ComesTo (files_in t nothing_drafted) path spot
-    comes_still path spot comes = subst (λ (files : Files). ComesTo files path spot) (sym files_still) comes
+    pub comes_still : (path : List (List ℕ)) (spot : Result Spot Refusal) → ComesTo s.books.geom.layout (files_in s nothing_drafted) path spot → ComesTo t.books.geom.layout (files_in t nothing_drafted) path spot
+    comes_still path spot comes = over_same tells s t looks told (λ l files. ComesTo l files path spot) comes
 
-    pub may_appear_still : (path : List (List ℕ)) (v : Result Vacancy Refusal) → MayAppear (files_in s nothing_drafted) path v → MayAppear (files_in t nothing_drafted) path v
-    may_appear_still path v may = subst (λ (files : Files). MayAppear files path v) (sym files_still) may
+    pub may_appear_still : (path : List (List ℕ)) (v : Result Vacancy Refusal) → MayAppear s.books.geom.layout (files_in s nothing_drafted) path v → MayAppear t.books.geom.layout (files_in t nothing_drafted) path v
+    may_appear_still path v may = over_same tells s t looks told (λ l files. MayAppear l files path v) may
 
     -- a directory in which a name may come to be has as many slots as were counted
-    pub counted_still : (path : List (List ℕ)) (v : Vacancy) → MayAppear (files_in s nothing_drafted) path (Ok v) → HasCount t nothing_drafted v.dir v.count
+    pub counted_still : (path : List (List ℕ)) (v : Vacancy) → MayAppear s.books.geom.layout (files_in s nothing_drafted) path (Ok v) → HasCount t nothing_drafted v.dir v.count
     counted_still path v may = by (may_appear_still path (Ok v) may)
       where
-        by : MayAppear (files_in t nothing_drafted) path (Ok v) → HasCount t nothing_drafted v.dir v.count
+        by : MayAppear t.books.geom.layout (files_in t nothing_drafted) path (Ok v) → HasCount t nothing_drafted v.dir v.count
         by ((up, name, is, at, h), last) = (h.slots, h.dir, h.count)
 
-    pub found_still : (path : List (List ℕ)) (r : Result NodeFound Refusal) → LeadsToFound (files_in s nothing_drafted) path r → LeadsToFound (files_in t nothing_drafted) path r
-    found_still path r found = subst (λ (files : Files). LeadsToFound files path r) (sym files_still) found
+    pub found_still : (path : List (List ℕ)) (r : Result NodeFound Refusal) → LeadsToFound s.books.geom.layout (files_in s nothing_drafted) path r → LeadsToFound t.books.geom.layout (files_in t nothing_drafted) path r
+    found_still path r found = over_same tells s t looks told (λ l files. LeadsToFound l files path r) found
 
     pub used_still : (k : ℕ) → IsUsed (files_in s nothing_drafted) k → IsUsed (files_in t nothing_drafted) k
     used_still k used = subst (λ (files : Files). IsUsed files k) (sym files_still) used
 
     pub count_still : (dir count : ℕ) → HasCount s nothing_drafted dir count → HasCount t nothing_drafted dir count
-    count_still dir count has = subst (λ (files : Files). (slots : List Slot) × (inodes_of files dir ≡ Some (ADir slots)) × (count ≡ length slots)) (sym files_still) has
+    count_still dir count has = over_same tells s t looks told (λ l files. (slots : List Slot) × (inodes_of l files dir ≡ Some (ADir slots)) × (count ≡ length slots)) has
 
     pub below_still : (first : ℕ) → AreUsedBelow (files_in s nothing_drafted) first → AreUsedBelow (files_in t nothing_drafted) first
     below_still first used = subst (λ (files : Files). AreUsedBelow files first) (sym files_still) used
@@ -101,13 +101,13 @@ module _ (tells : Bool) (s t : State) (looks : LooksOnly tells false s t) where
     pub file_is_still : (found : NodeFound) → IsFile (files_in s nothing_drafted) found → IsFile (files_in t nothing_drafted) found
     file_is_still found file = subst (λ (files : Files). IsFile files found) (sym files_still) file
 
-    pub walks_still : (path : List (List ℕ)) (k : ℕ) → walk_on (inodes_of (files_in s nothing_drafted)) 1 path ≡ Ok k → walk_on (inodes_of (files_in t nothing_drafted)) 1 path ≡ Ok k
-    walks_still path k walk = subst (λ (files : Files). walk_on (inodes_of files) 1 path ≡ Ok k) (sym files_still) walk
+    pub walks_still : (path : List (List ℕ)) (k : ℕ) → walk_on (inodes_of s.books.geom.layout (files_in s nothing_drafted)) 1 path ≡ Ok k → walk_on (inodes_of t.books.geom.layout (files_in t nothing_drafted)) 1 path ≡ Ok k
+    walks_still path k walk = over_same tells s t looks told (λ l files. walk_on (inodes_of l files) 1 path ≡ Ok k) walk
 
     -- a file that a path leads to
-    module _ (path : List (List ℕ)) (found : NodeFound) (led : LeadsToFile (files_in s nothing_drafted) path (Ok found)) where
+    module _ (path : List (List ℕ)) (found : NodeFound) (led : LeadsToFile s.books.geom.layout (files_in s nothing_drafted) path (Ok found)) where
       pub file_still : IsFile (files_in t nothing_drafted) found
       file_still = subst (λ (files : Files). IsFile files found) (sym files_still) led.1
 
-      pub walk_still : walk_on (inodes_of (files_in t nothing_drafted)) 1 path ≡ Ok found.number
-      walk_still = subst (λ (files : Files). walk_on (inodes_of files) 1 path ≡ Ok found.number) (sym files_still) led.0
+      pub walk_still : walk_on (inodes_of t.books.geom.layout (files_in t nothing_drafted)) 1 path ≡ Ok found.number
+      walk_still = over_same tells s t looks told (λ l files. walk_on (inodes_of l files) 1 path ≡ Ok found.number) led.0

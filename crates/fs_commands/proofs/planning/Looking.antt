@@ -8,7 +8,7 @@ use Rattle.lang_tree.specs.declared.command.Reply.TheVariants.{Ok as Done, Refus
 use Rattle.lang_tree.specs.Conditions.{least_unused, refusal}
 use Rattle.lang_tree.specs.Figures.{Figures, nothing}
 use Rattle.lang_tree.specs.Step.{Session, step}
-use Rattle.lang_tree.specs.Tree.{Snapshots, Tree}
+use Rattle.lang_tree.specs.Tree.{Bounds, Snapshots, Tree}
 use Rattle.engine_blocks.specs.State.{Bookkeeping, State}
 use Rattle.engine_blocks.specs.Calls.{IsSound, MovesPipeline}
 use Rattle.engine_blocks.specs.Crashes.{Advances}
@@ -200,9 +200,10 @@ module _ {S : Type 0} (tells : Bool) (state : S → State) (rests : Rests tells 
 
     -- the reason that the inode map gives
     pub reason_plan : MapLaw → RefusalLaw → (cmd : Cmd) (old new : S) (why : Refusal) → (state old).books.stopped ≡ false
-        → (IsTrue tells → (u : Tree) → IsTreeOf (state old).books.geom (state old).map u → (least : Option ℕ) (kept : Snapshots) → reason least kept (inodes (state old)) cmd ≡ Some why) → LooksOnly tells false (state old) (state new) → Plans tells cmd (Ok (Answer (Refused why))) (state old) (state new)
+        → (IsTrue tells → (u : Tree) → IsTreeOf (state old).books.geom (state old).map u → (least : Option ℕ) (kept : Snapshots) → reason (state old).books.geom.layout least kept (inodes (state old)) cmd ≡ Some why) → LooksOnly tells false (state old) (state new) → Plans tells cmd (Ok (Answer (Refused why))) (state old) (state new)
     reason_plan map law cmd old new why going refuses looks =
-        refusal_plan cmd old new why going (λ told f h. law f.limit (inodes (state old)) f.tree cmd (session_map map (state old) f h) ∙ refuses told f.tree h.tree (least_unused f.limit f.tree) f.tree.snapshots) looks
+        refusal_plan cmd old new why going (λ told f h. law f.limit (inodes (state old)) f.tree cmd (session_map map (state old) f h)
+        ∙ ap (λ (b : Bounds). reason b.layout (least_unused f.limit.nodes f.tree) f.tree.snapshots (inodes (state old)) cmd) h.limit ∙ refuses told f.tree h.tree (least_unused f.limit.nodes f.tree) f.tree.snapshots) looks
 
 -- a look that was refused says nothing of growth
 pub cut_growth : (n : ℕ) (with_more : List ℕ → List ℕ) (old new : Bookkeeping) (why : FileRefusal) → LookRefused why → GrowthRefused n with_more old new why

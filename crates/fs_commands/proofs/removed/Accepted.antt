@@ -2,6 +2,7 @@
 use Rattle.std.proofs.Common.{◌≡◌, ℕ, zero, suc, ◌+◌, ◌^◌, ◌==◌, ◌≤◌, nat_lt, Bool, true, false, List, [], ◌∷◌, ◌++◌, length, slice_get, if◌then◌else◌, Option, None, Some, option_and_then, Ok, Err, refl, sym, subst, ap, ap₂, ◌∙◌, arith}
 use Rattle.std.proofs.lemmas.Bool.{true≢false, lt-ltb}
 use Rattle.std.proofs.lemmas.Option.{same_Some}
+use Rattle.base_types.specs.declared.layout.Layout.{Layout}
 use Rattle.lang_tree.specs.declared.command.Cmd.TheVariants.{Unlink, Rmdir}
 use Rattle.lang_tree.specs.declared.command.Kind.{Kind}
 use Rattle.lang_tree.specs.declared.command.Kind.TheVariants.{Dir, File}
@@ -12,7 +13,7 @@ use Rattle.lang_tree.specs.Conditions.{refusal, when, first_reason}
 use Rattle.lang_tree.specs.Figures.{removing, release, blocks_for}
 use Rattle.lang_tree.specs.Sharing.{BlocksAlone, SharedNodes, alone_from, shared_at}
 use Rattle.lang_tree.specs.Step.{Session, step, answered, changes_snapshots}
-use Rattle.lang_tree.specs.Tree.{Snapshots}
+use Rattle.lang_tree.specs.Tree.{Snapshots, Bounds}
 use Rattle.lang_tree.specs.Walk.{refusal_in}
 use Rattle.crash_stands.specs.Files.{FileNode, Files}
 use Rattle.crash_stands.specs.Inodes.{Inode, Inodes, ADir, AFile, inodes_of}
@@ -51,23 +52,23 @@ accepted_bare Dir m path e =
     no_when (has_slots (inode_at m path)) NotEmpty (no_reason (when (has_slots (inode_at m path)) NotEmpty) (when (length path == 0) BelowItself ∷ []) held.1).0
 
 -- what a path comes to in a directory is a slot that names a node
-pub entry_slot : (files : Files) (dir count : ℕ) (name : List ℕ) (e : Entry) (h : HasEntry files dir count name (Some e)) → PlaceLaw → slice_get h.slots e.place ≡ Some (slot_of e.node.number name)
-entry_slot files dir count name e h law =
+pub entry_slot : (l : Layout) (files : Files) (dir count : ℕ) (name : List ℕ) (e : Entry) (h : HasEntry l files dir count name (Some e)) → PlaceLaw → slice_get h.slots e.place ≡ Some (slot_of e.node.number name)
+entry_slot l files dir count name e h law =
     let r = law h.slots name e.place (sym h.place) in
     r.1 ∙ ap (λ n. Some (slot_of n name)) (sym (same_Some e.node.number r.0 (h.node ∙ r.2)))
 
-pub named_entry : (files : Files) (path : List (List ℕ)) (n : Named) (c : ComesTo files path (Ok (Inside n.dir n.count (Some n.entry)))) → PlaceLaw → LeadsTo (inodes_of files) path n.entry.node.number → (inode : Inode) → inodes_of files n.entry.node.number ≡ Some inode → has_slots (inode_at (inodes_of files) path) ≡ false → IsNamed files c.1 n
-named_entry files path n c law leads inode shown bare =
+pub named_entry : (l : Layout) (files : Files) (path : List (List ℕ)) (n : Named) (c : ComesTo l files path (Ok (Inside n.dir n.count (Some n.entry)))) → PlaceLaw → LeadsTo (inodes_of l files) path n.entry.node.number → (inode : Inode) → inodes_of l files n.entry.node.number ≡ Some inode → has_slots (inode_at (inodes_of l files) path) ≡ false → IsNamed l files c.1 n
+named_entry l files path n c law leads inode shown bare =
     let h = c.4 in
     record {
       slots = h.slots;
       dir = h.dir;
       count = h.count;
-      slot = entry_slot files n.dir n.count c.1 n.entry h law;
+      slot = entry_slot l files n.dir n.count c.1 n.entry h law;
       node = record { file = h.facts.0; is = h.facts.1; facts = h.facts.2 };
       inode = inode;
       shown = shown;
-      bare = ap has_slots (sym (ap (option_and_then (inodes_of files)) leads)) ∙ bare;
+      bare = ap has_slots (sym (ap (option_and_then (inodes_of l files)) leads)) ∙ bare;
     }
 
 -- The links and bytes at a path, from what is known of a node that holds nothing.
@@ -93,12 +94,12 @@ bare_facts m path f shows bare = (sym shows.links, by (is_dir f.kind) refl)
 -- The figures.
 
 -- they are those of a name less, with the blocks that go
-pub accepted_removes : (kind : Kind) (bitmap : ℕ) (shared : SharedNodes) (alone : BlocksAlone) (limit : ℕ) (kept : Snapshots) (m : Inodes) (path : List (List ℕ)) (count gone : ℕ) → lose_reason kind m path ≡ None → count ≡ slots_above m path → gone ≡ blocks_lost shared m path
-    → accepted_cost_over bitmap shared alone limit kept m (lose_cmd kind path) ≡ removing bitmap (release count + gone)
-accepted_removes File bitmap shared alone limit kept m path count gone accepted above lost = ap₂ (λ c g. removing bitmap (release c + g)) (sym above) (sym lost)
+pub accepted_removes : (kind : Kind) (bitmap : ℕ) (shared : SharedNodes) (alone : BlocksAlone) (limit : Bounds) (kept : Snapshots) (m : Inodes) (path : List (List ℕ)) (count gone : ℕ) → lose_reason kind m path ≡ None → count ≡ slots_above m path → gone ≡ blocks_lost shared m path
+    → accepted_cost_over bitmap shared alone limit kept m (lose_cmd kind path) ≡ removing bitmap (release limit.layout count + gone)
+accepted_removes File bitmap shared alone limit kept m path count gone accepted above lost = ap₂ (λ c g. removing bitmap (release limit.layout c + g)) (sym above) (sym lost)
 accepted_removes Dir bitmap shared alone limit kept m path count gone accepted above lost =
     let none : gone ≡ 0 = lost ∙ nothing (inode_at m path) file in
-    ap (λ n. removing bitmap n) {x = release (slots_above m path)} {y = release count + gone} (omega (arith, ap release above, none))
+    ap (λ n. removing bitmap n) {x = release limit.layout (slots_above m path)} {y = release limit.layout count + gone} (omega (arith, ap (release limit.layout) above, none))
   where
     file : is_file_inode (inode_at m path) ≡ false
     file =
@@ -116,9 +117,9 @@ accepted_removes Dir bitmap shared alone limit kept m path count gone accepted a
 
 -- What the tree makes of it.
 
-pub reason_is : (kind : Kind) (least : Option ℕ) (kept : Snapshots) (m : Inodes) (path : List (List ℕ)) → reason least kept m (lose_cmd kind path) ≡ lose_reason kind m path
-reason_is File least kept m path = refl
-reason_is Dir least kept m path = refl
+pub reason_is : (l : Layout) (kind : Kind) (least : Option ℕ) (kept : Snapshots) (m : Inodes) (path : List (List ℕ)) → reason l least kept m (lose_cmd kind path) ≡ lose_reason kind m path
+reason_is l File least kept m path = refl
+reason_is l Dir least kept m path = refl
 
 -- it puts no bytes into a file, and leaves the snapshots
 pub lose_puts_none : (kind : Kind) (path : List (List ℕ)) → puts_no_bytes (lose_cmd kind path) ≡ true
@@ -135,36 +136,36 @@ loss_done Dir f path e = ap (λ r. (answered f (Rmdir path) r).1) e
 
 -- where one slot goes, and a link of its node, the map is that of the tree
 abbrev pub LossLaw : Kind → Type 0
-LossLaw kind = (s : Session) (m new : Inodes) (up : List (List ℕ)) (name : List ℕ) (dir node : ℕ) → IsMapOf s.limit m s.tree → refusal s.limit s.tree (lose_cmd kind (up ++ name ∷ [])) ≡ None
-    → LeadsTo m up dir → TakesSlot m new dir node name → IsMapOf s.limit new (step s (lose_cmd kind (up ++ name ∷ []))).0.tree
+LossLaw kind = (s : Session) (m new : Inodes) (up : List (List ℕ)) (name : List ℕ) (dir node : ℕ) → IsMapOf s.limit.nodes m s.tree → refusal s.limit s.tree (lose_cmd kind (up ++ name ∷ [])) ≡ None
+    → LeadsTo m up dir → TakesSlot m new dir node name → IsMapOf s.limit.nodes new (step s (lose_cmd kind (up ++ name ∷ []))).0.tree
 
 pub law_of : (kind : Kind) → LossLaw File → LossLaw Dir → LossLaw kind
 law_of File unlink rmdir = unlink
 law_of Dir unlink rmdir = rmdir
 
-pub loss_mapped : (kind : Kind) → LossLaw kind → (f : Session) (m new : Inodes) (path up : List (List ℕ)) (name : List ℕ) (dir node : ℕ) → path ≡ up ++ name ∷ [] → IsMapOf f.limit m f.tree → refusal f.limit f.tree (lose_cmd kind path) ≡ None
-    → LeadsTo m up dir → TakesSlot m new dir node name → IsMapOf f.limit new (step f (lose_cmd kind path)).0.tree
+pub loss_mapped : (kind : Kind) → LossLaw kind → (f : Session) (m new : Inodes) (path up : List (List ℕ)) (name : List ℕ) (dir node : ℕ) → path ≡ up ++ name ∷ [] → IsMapOf f.limit.nodes m f.tree → refusal f.limit f.tree (lose_cmd kind path) ≡ None
+    → LeadsTo m up dir → TakesSlot m new dir node name → IsMapOf f.limit.nodes new (step f (lose_cmd kind path)).0.tree
 loss_mapped kind law f m new path up name dir node is map accepted leads takes =
-    subst (λ p. IsMapOf f.limit new (step f (lose_cmd kind p)).0.tree) (sym is)
+    subst (λ p. IsMapOf f.limit.nodes new (step f (lose_cmd kind p)).0.tree) (sym is)
     (law f m new up name dir node map (ap (λ p. refusal f.limit f.tree (lose_cmd kind p)) (sym is) ∙ accepted) leads takes)
 
 -- What is known of what goes.
-pub known_loss : (kind : Kind) (files : Files) (path : List (List ℕ)) (n : Named) → (loss : IsLoss kind files path n) → PlaceLaw → EndsLaw
-    → n.count ≡ slots_above (inodes_of files) path → (leads : LeadsTo (inodes_of files) path n.entry.node.number) → (inode : Inode) → inodes_of files n.entry.node.number ≡ Some inode → ((x : FileNode) → files n.entry.node.number ≡ Some x → ShowsFacts (inodes_of files) path (facts_of x))
-    → ((x : FileNode) → files n.entry.node.number ≡ Some x → length x.bytes + 1024 ≤ 2 ^ 30) → KnowsLoss kind files path n
-known_loss kind files path n loss place ends above leads inode shown shows fits =
+pub known_loss : (kind : Kind) (l : Layout) (files : Files) (path : List (List ℕ)) (n : Named) → (loss : IsLoss kind l files path n) → PlaceLaw → EndsLaw
+    → n.count ≡ slots_above (inodes_of l files) path → (leads : LeadsTo (inodes_of l files) path n.entry.node.number) → (inode : Inode) → inodes_of l files n.entry.node.number ≡ Some inode → ((x : FileNode) → files n.entry.node.number ≡ Some x → ShowsFacts (inodes_of l files) path (facts_of x))
+    → ((x : FileNode) → files n.entry.node.number ≡ Some x → length x.bytes + 1024 ≤ 2 ^ 30) → KnowsLoss kind l files path n
+known_loss kind l files path n loss place ends above leads inode shown shows fits =
     let c = loss.comes in
-    let bare = accepted_bare kind (inodes_of files) path loss.accepted in
+    let bare = accepted_bare kind (inodes_of l files) path loss.accepted in
     let x = c.4.facts in
     record {
       up = c.0;
       name = c.1;
       is = c.2;
-      leads = ends (inodes_of files) c.0 n.dir c.3;
-      named = named_entry files path n c place leads inode shown bare;
+      leads = ends (inodes_of l files) c.0 n.dir c.3;
+      named = named_entry l files path n c place leads inode shown bare;
       above = above;
       to_node = leads;
-      facts = bare_facts (inodes_of files) path n.entry.node.facts (subst (λ (f : FileFacts). ShowsFacts (inodes_of files) path f) (sym x.2) (shows x.0 x.1)) bare;
+      facts = bare_facts (inodes_of l files) path n.entry.node.facts (subst (λ (f : FileFacts). ShowsFacts (inodes_of l files) path f) (sym x.2) (shows x.0 x.1)) bare;
       small = omega (arith, fits x.0 x.1, ap (λ (f : FileFacts). f.size) x.2);
       accepted = loss.accepted;
     }

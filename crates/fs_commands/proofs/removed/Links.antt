@@ -2,6 +2,7 @@
 use Rattle.std.proofs.Common.{◌≡◌, ◌≢◌, ℕ, ◌-◌, ◌≤◌, ◌==◌, Bool, true, false, List, length, if◌then◌else◌, Option, Some, None, option_and_then, Result, Ok, Err, OnOk, refl, sym, ap, subst, ◌∙◌, arith}
 use Rattle.std.proofs.lemmas.Bool.{eqb-true, eq-eqb}
 use Rattle.std.proofs.lemmas.Option.{none-some, same_Some}
+use Rattle.base_types.specs.declared.layout.Layout.{Layout}
 use Rattle.base_types.specs.Seal.{Blocks}
 use Rattle.layout_geometry.specs.Geometry.{Geometry}
 use Rattle.layout_bytes.specs.declared.node.NodeKind.{NodeKind}
@@ -23,8 +24,8 @@ left_by true x y fails e = fails refl
 left_by false x y fails e = none-some y e
 
 -- a directory has one link
-pub dir_links : (links : ℕ) (bytes : List ℕ) (inode : Inode) → links ≢ 1 → inode_by Dir links bytes ≡ Some inode → ⊥
-dir_links links bytes inode more reads = left_by (links == 1) _ inode (λ e. more (eqb-true links 1 e)) reads
+pub dir_links : (lay : Layout) (links : ℕ) (bytes : List ℕ) (inode : Inode) → links ≢ 1 → inode_by lay Dir links bytes ≡ Some inode → ⊥
+dir_links lay links bytes inode more reads = left_by (links == 1) _ inode (λ e. more (eqb-true links 1 e)) reads
 
 -- what holds where two calls' results do
 pub on_both : {A E P Q R : Type 0} (r : Result A E) → OnOk r P → OnOk r Q → (P → Q → R) → OnOk r R
@@ -38,39 +39,39 @@ on_one (Err e) p on = tt
 -- A link that wasn't the last one.
 
 -- what has more links than one is a file, and reads as one with one link less
-less : (kind : NodeKind) (links : ℕ) (bytes : List ℕ) (inode : Inode) → links ≢ 1 → inode_by kind links bytes ≡ Some inode → IsInodeOf (Some (record { kind = kind; links = links - 1; bytes = bytes })) (one_link_less inode)
-less Free links bytes inode more reads = absurd (none-some inode reads)
-less Snapshot links bytes inode more reads = absurd (none-some inode reads)
-less Dir links bytes inode more reads = absurd (dir_links links bytes inode more reads)
-less File links bytes inode more reads = subst (λ (i : Inode). IsInodeOf (Some (record { kind = File; links = links - 1; bytes = bytes })) (one_link_less i)) (same_Some (AFile links bytes) inode reads) (file (links == 1) refl)
+less : (lay : Layout) (kind : NodeKind) (links : ℕ) (bytes : List ℕ) (inode : Inode) → links ≢ 1 → inode_by lay kind links bytes ≡ Some inode → IsInodeOf lay (Some (record { kind = kind; links = links - 1; bytes = bytes })) (one_link_less inode)
+less lay Free links bytes inode more reads = absurd (none-some inode reads)
+less lay Snapshot links bytes inode more reads = absurd (none-some inode reads)
+less lay Dir links bytes inode more reads = absurd (dir_links _ links bytes inode more reads)
+less lay File links bytes inode more reads = subst (λ (i : Inode). IsInodeOf lay (Some (record { kind = File; links = links - 1; bytes = bytes })) (one_link_less i)) (same_Some (AFile links bytes) inode reads) (file (links == 1) refl)
   where
-    file : (b : Bool) → (links == 1) ≡ b → IsInodeOf (Some (record { kind = File; links = links - 1; bytes = bytes })) (if links == 1 then None else Some (AFile (links - 1) bytes))
+    file : (b : Bool) → (links == 1) ≡ b → IsInodeOf lay (Some (record { kind = File; links = links - 1; bytes = bytes })) (if links == 1 then None else Some (AFile (links - 1) bytes))
     file true e = absurd (more (eqb-true links 1 e))
-    file false e = subst (λ b. IsInodeOf (Some (record { kind = File; links = links - 1; bytes = bytes })) (if b then None else Some (AFile (links - 1) bytes))) (sym e) refl
+    file false e = subst (λ b. IsInodeOf lay (Some (record { kind = File; links = links - 1; bytes = bytes })) (if b then None else Some (AFile (links - 1) bytes))) (sym e) refl
 
 -- it has as many links as a number on the disk, of those that a node keeps
-kept_links : (kind : NodeKind) (links : ℕ) (bytes : List ℕ) (inode : Inode) → (1 ≤ links) × (kind ≡ File → links ≤ 65535) → links ≢ 1 → inode_by kind links bytes ≡ Some inode → (2 ≤ links) × (links ≤ 65535)
-kept_links Free links bytes inode has more reads = absurd (none-some inode reads)
-kept_links Snapshot links bytes inode has more reads = absurd (none-some inode reads)
-kept_links Dir links bytes inode has more reads = absurd (dir_links links bytes inode more reads)
-kept_links File links bytes inode has more reads = (omega (arith, has.0, more), has.1 refl)
+kept_links : (lay : Layout) (kind : NodeKind) (links : ℕ) (bytes : List ℕ) (inode : Inode) → (1 ≤ links) × (kind ≡ File → links ≤ 65535) → links ≢ 1 → inode_by lay kind links bytes ≡ Some inode → (2 ≤ links) × (links ≤ 65535)
+kept_links lay Free links bytes inode has more reads = absurd (none-some inode reads)
+kept_links lay Snapshot links bytes inode has more reads = absurd (none-some inode reads)
+kept_links lay Dir links bytes inode has more reads = absurd (dir_links _ links bytes inode more reads)
+kept_links lay File links bytes inode has more reads = (omega (arith, has.0, more), has.1 refl)
 
-pub keeps_links : LinksLaw → (g : Geometry) (m : Blocks) (node : NodeFound) (found : IsFound (files_of g m) node) (inode : Inode) (less : ℕ) → inodes_of (files_of g m) node.number ≡ Some inode → node.facts.links ≢ 1
+pub keeps_links : LinksLaw → (g : Geometry) (m : Blocks) (node : NodeFound) (found : IsFound (files_of g m) node) (inode : Inode) (less : ℕ) → inodes_of g.layout (files_of g m) node.number ≡ Some inode → node.facts.links ≢ 1
     → (2 ≤ node.facts.links → node.facts.links ≤ 65535 → less ≡ node.facts.links - 1) → less ≡ found.file.links - 1
 keeps_links has g m node found inode less reads more law =
     let x = found.file in
     let links : node.facts.links ≡ x.links = ap (λ (f : FileFacts). f.links) found.facts in
-    let so = kept_links x.kind x.links x.bytes inode (has g m node.number x found.is) (λ e. more (links ∙ e)) (sym (ap (option_and_then inode_of) found.is) ∙ reads) in
+    let so = kept_links _ x.kind x.links x.bytes inode (has g m node.number x found.is) (λ e. more (links ∙ e)) (sym (ap (option_and_then (inode_of g.layout)) found.is) ∙ reads) in
     law (omega (arith, links, so.0)) (omega (arith, links, so.1)) ∙ ap (λ n. n - 1) links
 
-pub link_kept : (old new : Files) (node : NodeFound) (found : IsFound old node) (inode : Inode) (less : ℕ) → inodes_of old node.number ≡ Some inode → node.facts.links ≢ 1 → less ≡ found.file.links - 1
-    → IsWithFile old new node.number (Some (with_links found.file less)) → LosesLink old new node.number
-link_kept old new node found inode n reads more is set =
+pub link_kept : (l : Layout) (old new : Files) (node : NodeFound) (found : IsFound old node) (inode : Inode) (less : ℕ) → inodes_of l old node.number ≡ Some inode → node.facts.links ≢ 1 → less ≡ found.file.links - 1
+    → IsWithFile old new node.number (Some (with_links found.file less)) → LosesLink l old new node.number
+link_kept l old new node found inode n reads more is set =
     let x = found.file in
     record {
-      own = subst (λ (o : Option FileNode). IsInodeOf o (option_and_then one_link_less (inodes_of old node.number))) (sym (set.own ∙ ap (λ l. Some (with_links x l)) is))
-          (subst (λ (o : Option Inode). IsInodeOf (Some (with_links x (x.links - 1))) (option_and_then one_link_less o)) (sym reads)
-          (less x.kind x.links x.bytes inode (λ e. more (ap (λ (f : FileFacts). f.links) found.facts ∙ e)) (sym (ap (option_and_then inode_of) found.is) ∙ reads)));
+      own = subst (λ (o : Option FileNode). IsInodeOf l o (option_and_then one_link_less (inodes_of l old node.number))) (sym (set.own ∙ ap (λ n. Some (with_links x n)) is))
+          (subst (λ (o : Option Inode). IsInodeOf l (Some (with_links x (x.links - 1))) (option_and_then one_link_less o)) (sym reads)
+          (less l x.kind x.links x.bytes inode (λ e. more (ap (λ (f : FileFacts). f.links) found.facts ∙ e)) (sym (ap (option_and_then (inode_of l)) found.is) ∙ reads)));
       others = set.others;
     }
 

@@ -56,17 +56,17 @@ module _ (s : State) (counts : List ℕ) (node : NodeFound) (gone : ℕ) (lost :
 
 -- A command that takes a path away, as it is weighed: what goes, and the figures.
 pub record LossIs (kind : Kind) (s : State) (path : List (List ℕ)) (n : Named) (counts : List ℕ) (f : Session) (fs : Figures) : Type 0 where
-  pub known : KnowsLoss kind (files_in s nothing_drafted) path n
-  pub map : IsMapOf f.limit (inodes s) f.tree
+  pub known : KnowsLoss kind s.books.geom.layout (files_in s nothing_drafted) path n
+  pub map : IsMapOf f.limit.nodes (inodes s) f.tree
   pub accepted : refusal f.limit f.tree (lose_cmd kind path) ≡ None
-  pub removes : figures_on s f (lose_cmd kind path) ≡ removing (bitmap_blocks s.books.geom) (release n.count + blocks_gone (is_kept counts) n.entry.node.facts (places_of s n.entry.node.number))
+  pub removes : figures_on s f (lose_cmd kind path) ≡ removing (bitmap_blocks s.books.geom) (release s.books.geom.layout n.count + blocks_gone (is_kept counts) n.entry.node.facts (places_of s n.entry.node.number))
   pub figures : figures_on s f (lose_cmd kind path) ≡ fs
 
-pub loss_is : (kind : Kind) (s : State) (path : List (List ℕ)) (n : Named) (counts : List ℕ) (gone : ℕ) (f : Session) (fs : Figures) (bitmap : ℕ) → KnowsLoss kind (files_in s nothing_drafted) path n → IsMapOf f.limit (inodes s) f.tree → RefusalLaw → FiguresLaw → SharedLaw s f counts
+pub loss_is : (kind : Kind) (s : State) (path : List (List ℕ)) (n : Named) (counts : List ℕ) (gone : ℕ) (f : Session) (fs : Figures) (bitmap : ℕ) → KnowsLoss kind s.books.geom.layout (files_in s nothing_drafted) path n → IsMapOf f.limit.nodes (inodes s) f.tree → RefusalLaw → FiguresLaw → SharedLaw s f counts
     → LosesBlocks s counts n.entry.node gone → length (places_of s n.entry.node.number) ≡ blocks_for n.entry.node.facts.size → bitmap ≡ bitmap_blocks s.books.geom
-    → (n.count ≡ slots_above (inodes s) path → gone ≡ blocks_lost (shared_on s f) (inodes s) path → AreFiguresOf bitmap (shared_on s f) (inodes s) (lose_cmd kind path) fs) → LossIs kind s path n counts f fs
-loss_is kind s path n counts gone f fs bitmap known map refusals counted shared lost many is are =
-    let none : reason (least_unused f.limit f.tree) f.tree.snapshots (inodes s) (lose_cmd kind path) ≡ None = reason_is kind (least_unused f.limit f.tree) f.tree.snapshots (inodes s) path ∙ known.accepted in
+    → (n.count ≡ slots_above (inodes s) path → gone ≡ blocks_lost (shared_on s f) (inodes s) path → AreFiguresOf s.books.geom.layout bitmap (shared_on s f) (inodes s) (lose_cmd kind path) fs) → f.limit.layout ≡ s.books.geom.layout → LossIs kind s path n counts f fs
+loss_is kind s path n counts gone f fs bitmap known map refusals counted shared lost many is are same =
+    let none : reason f.limit.layout (least_unused f.limit.nodes f.tree) f.tree.snapshots (inodes s) (lose_cmd kind path) ≡ None = reason_is f.limit.layout kind (least_unused f.limit.nodes f.tree) f.tree.snapshots (inodes s) path ∙ known.accepted in
     let accepted = refusals f.limit (inodes s) f.tree (lose_cmd kind path) map ∙ none in
     let with_path = lost_with_path s counts n.entry.node gone lost f path shared known.to_node known.facts in
     record {
@@ -76,8 +76,8 @@ loss_is kind s path n counts gone f fs bitmap known map refusals counted shared 
       removes = counted (bitmap_blocks s.books.geom) (shared_on s f) (alone_on s f) f (inodes s) (lose_cmd kind path) map
           ∙ ap (cost_over_by (bitmap_blocks s.books.geom) (shared_on s f) (alone_on s f) f.limit f.tree.snapshots (inodes s) (lose_cmd kind path)) none
           ∙ accepted_removes kind (bitmap_blocks s.books.geom) (shared_on s f) (alone_on s f) f.limit f.tree.snapshots (inodes s) path n.count gone known.accepted known.above with_path
-          ∙ ap (λ g. removing (bitmap_blocks s.books.geom) (release n.count + g)) (lost_alone s counts n.entry.node gone lost many);
-      figures = figures_as s f (lose_cmd kind path) bitmap (inodes s) fs is (are known.above with_path) map accepted;
+          ∙ ap₂ (λ l g. removing (bitmap_blocks s.books.geom) (release l n.count + g)) same (lost_alone s counts n.entry.node gone lost many);
+      figures = figures_as s f (lose_cmd kind path) bitmap (inodes s) fs s.books.geom.layout same is (are known.above with_path) map accepted;
     }
 
 -- the tree of such a loss
@@ -85,9 +85,9 @@ pub makes_loss : (kind : Kind) (s : State) (path : List (List ℕ)) (n : Named) 
     → ((g : Geometry) (d : DraftState) (freed : ℕ) → ChangesAtMost d 4 0 0 freed → IsWithinCost g d (removing (bitmap_blocks g) freed).cost) → now.books ≡ s.books
     → MakesTree (lose_cmd kind path) d fs.cost s now f
 makes_loss kind s path n counts f fs a now d kept stays room loses law priced books =
-    let freed : ℕ = release n.count + blocks_gone (is_kept d.kept) n.entry.node.facts (places_of s n.entry.node.number) in
+    let freed : ℕ = release s.books.geom.layout n.count + blocks_gone (is_kept d.kept) n.entry.node.facts (places_of s n.entry.node.number) in
     let removes : figures_on s f (lose_cmd kind path) ≡ removing (bitmap_blocks s.books.geom) freed
-    = a.removes ∙ ap (λ (c : List ℕ). removing (bitmap_blocks s.books.geom) (release n.count + blocks_gone (is_kept c) n.entry.node.facts (places_of s n.entry.node.number))) (sym kept) in
+    = a.removes ∙ ap (λ (c : List ℕ). removing (bitmap_blocks s.books.geom) (release s.books.geom.layout n.count + blocks_gone (is_kept c) n.entry.node.facts (places_of s n.entry.node.number))) (sym kept) in
     record {
       accepted = a.accepted;
       answer = loss_done kind f path a.accepted;

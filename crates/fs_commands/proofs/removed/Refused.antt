@@ -19,4 +19,4 @@ use Rattle.fs_commands.proofs.Given.{MapLaw, RefusalLaw, Rests}
 pub refused_loss : {S : Type 0} (tells : Bool) (state : S → State) → Rests tells state → ((s : S) → IsSound (state s).books) → MapLaw → RefusalLaw → (kind : Kind) (path : List (List ℕ)) (old new : S) (why : Refusal) → (state old).books.stopped ≡ false
     → (IsTrue tells → (u : Tree) → IsTreeOf (state old).books.geom (state old).map u → lose_reason kind (inodes (state old)) path ≡ Some why) → LooksOnly tells false (state old) (state new) → Plans tells (lose_cmd kind path) (Ok (Answer (Refused why))) (state old) (state new)
 refused_loss tells state rests sound map law kind path old new why going refuses =
-    reason_plan tells state rests sound map law (lose_cmd kind path) old new why going (λ told u h least kept. reason_is kind least kept (inodes (state old)) path ∙ refuses told u h)
+    reason_plan tells state rests sound map law (lose_cmd kind path) old new why going (λ told u h least kept. reason_is _ kind least kept (inodes (state old)) path ∙ refuses told u h)

@@ -2,6 +2,7 @@
 use Rattle.std.proofs.Common.{⊎_elim, ◌≡◌, ◌≢◌, ◌⊎◌, inl, inr, ℕ, ◌-◌, ◌==◌, Bool, true, false, List, [], ◌∷◌, slice_get, if◌then◌else◌, Option, Some, None, option_and_then, refl, sym, ap, subst, ◌∙◌}
 use Rattle.std.proofs.lemmas.Bool.{cases_eq, true≢false, eqb-true, eq-eqb}
 use Rattle.std.proofs.lemmas.Option.{none-some}
+use Rattle.base_types.specs.declared.layout.Layout.{Layout}
 use Rattle.layout_bytes.specs.declared.node.NodeKind.{NodeKind}
 use Rattle.layout_bytes.specs.declared.node.NodeKind.TheVariants.{Free, Dir, File, Snapshot}
 use Rattle.layout_bytes.specs.declared.slot.Slot.{Slot}
@@ -30,12 +31,12 @@ apart m dir node place slots s at slot bare same = true≢false (sym (has_some s
 
 -- A directory with other slots.
 
-module _ (old new : Files) (dir : ℕ) (slots : List Slot) (set : IsWithSlots old new dir slots) where
+module _ (l : Layout) (old new : Files) (dir : ℕ) (slots : List Slot) (set : IsWithSlots l old new dir slots) where
   -- nodes in use stay so
-  pub slots_used : (l : ℕ) → IsUsed old l → IsUsed new l
-  slots_used l used = ⊎_elim
-      (λ e. let x = node_there (new l) (ADir slots) (ap (inodes_of new) e ∙ set.inodes.here) in (x.0, x.1))
-      (λ n. (used.0, set.others l n ∙ used.1)) (cases_eq l dir)
+  pub slots_used : (k : ℕ) → IsUsed old k → IsUsed new k
+  slots_used k used = ⊎_elim
+      (λ e. let x = node_there _ (new k) (ADir slots) (ap (inodes_of l new) e ∙ set.inodes.here) in (x.0, x.1))
+      (λ n. (used.0, set.others k n ∙ used.1)) (cases_eq k dir)
 
   -- another node is as it was found
   pub found_still : (node : NodeFound) → node.number ≢ dir → IsFound old node → IsFound new node
@@ -43,24 +44,24 @@ module _ (old new : Files) (dir : ℕ) (slots : List Slot) (set : IsWithSlots ol
 
 -- A node with one link less.
 
-module _ (old new : Files) (k : ℕ) (lost : LosesLink old new k) where
-  pub lost_inode : inodes_of new k ≡ option_and_then one_link_less (inodes_of old k)
-  lost_inode = sym (own_inode (new k) (option_and_then one_link_less (inodes_of old k)) lost.own)
+module _ (l : Layout) (old new : Files) (k : ℕ) (lost : LosesLink l old new k) where
+  pub lost_inode : inodes_of l new k ≡ option_and_then one_link_less (inodes_of l old k)
+  lost_inode = sym (own_inode _ (new k) (option_and_then one_link_less (inodes_of l old k)) lost.own)
 
-  pub lost_others : (l : ℕ) → l ≢ k → inodes_of new l ≡ inodes_of old l
-  lost_others l other = ap (option_and_then inode_of) (lost.others l other)
+  pub lost_others : (n : ℕ) → n ≢ k → inodes_of l new n ≡ inodes_of l old n
+  lost_others n other = ap (option_and_then (inode_of l)) (lost.others n other)
 
   -- each node in use still reads as an inode
-  pub lost_reads : AreInodesOf old (inodes_of old) → AreInodesOf new (inodes_of new)
-  lost_reads = read_still old new k (subst (λ (i : Option Inode). IsInodeOf (new k) i) (sym lost_inode) lost.own) lost.others
+  pub lost_reads : AreInodesOf l old (inodes_of l old) → AreInodesOf l new (inodes_of l new)
+  lost_reads = read_still l old new k (subst (λ (i : Option Inode). IsInodeOf l (new k) i) (sym lost_inode) lost.own) lost.others
 
 -- a node with more links than one is in use still
-more_left : (kind : NodeKind) (links : ℕ) (bytes : List ℕ) (inode : Inode) → links ≢ 1 → inode_by kind links bytes ≡ Some inode → (left : Inode) × (one_link_less inode ≡ Some left)
-more_left Free links bytes inode more reads = absurd (none-some inode reads)
-more_left Snapshot links bytes inode more reads = absurd (none-some inode reads)
-more_left Dir links bytes inode more reads = absurd (dir_links links bytes inode more reads)
-more_left File links bytes (ADir slots) more reads = absurd cc
-more_left File links bytes (AFile l b) more reads = by (l == 1) refl
+more_left : (lay : Layout) (kind : NodeKind) (links : ℕ) (bytes : List ℕ) (inode : Inode) → links ≢ 1 → inode_by lay kind links bytes ≡ Some inode → (left : Inode) × (one_link_less inode ≡ Some left)
+more_left lay Free links bytes inode more reads = absurd (none-some inode reads)
+more_left lay Snapshot links bytes inode more reads = absurd (none-some inode reads)
+more_left lay Dir links bytes inode more reads = absurd (dir_links _ links bytes inode more reads)
+more_left lay File links bytes (ADir slots) more reads = absurd cc
+more_left lay File links bytes (AFile l b) more reads = by (l == 1) refl
   where
     same : links ≡ l
     same = cc
@@ -69,12 +70,12 @@ more_left File links bytes (AFile l b) more reads = by (l == 1) refl
     by true e = absurd (more (same ∙ eqb-true l 1 e))
     by false e = (AFile (l - 1) b, ap (λ t. if t then None else Some (AFile (l - 1) b)) e)
 
-module _ (old new : Files) (node : NodeFound) (lost : LosesLink old new node.number) (found : IsFound old node) (inode : Inode) (shown : inodes_of old node.number ≡ Some inode) where
+module _ (l : Layout) (old new : Files) (node : NodeFound) (lost : LosesLink l old new node.number) (found : IsFound old node) (inode : Inode) (shown : inodes_of l old node.number ≡ Some inode) where
   stays_used : node.facts.links ≢ 1 → IsUsed new node.number
   stays_used more =
       let x = found.file in
-      let left = more_left x.kind x.links x.bytes inode (λ e. more (ap (λ (f : FileFacts). f.links) found.facts ∙ e)) (sym (ap (option_and_then inode_of) found.is) ∙ shown) in
-      let there = node_there (new node.number) left.0 (lost_inode old new node.number lost ∙ ap (option_and_then one_link_less) shown ∙ left.1) in
+      let left = more_left l x.kind x.links x.bytes inode (λ e. more (ap (λ (f : FileFacts). f.links) found.facts ∙ e)) (sym (ap (option_and_then (inode_of l)) found.is) ∙ shown) in
+      let there = node_there _ (new node.number) left.0 (lost_inode l old new node.number lost ∙ ap (option_and_then one_link_less) shown ∙ left.1) in
       (there.0, there.1)
 
   -- the other nodes in use stay so, and the node itself where it had more links

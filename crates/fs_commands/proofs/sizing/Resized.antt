@@ -1,5 +1,5 @@
 -- A draft that gives a file another size makes the tree of the truncate, and is within its cost.
-use Rattle.std.proofs.Common.{⊎_elim, ◌≡◌, ◌≢◌, ◌⊎◌, ℕ, ◌-◌, ◌/◌, ◌<◌, ◌≤◌, ◌==◌, Bool, true, false, cond, List, [], ◌∷◌, take, drop, length, Option, None, Some, option_and_then, refl, sym, subst, ap, ap₂, ◌∙◌, arith, ◌++◌}
+use Rattle.std.proofs.Common.{⊎_elim, ◌≡◌, ◌≢◌, ◌⊎◌, ℕ, ◌-◌, ◌/◌, ◌<◌, ◌≤◌, ◌==◌, ◌&&◌, not, Bool, true, false, cond, List, [], ◌∷◌, take, drop, length, Option, None, Some, option_and_then, refl, sym, subst, ap, ap₂, ◌∙◌, arith, ◌++◌}
 use Rattle.std.proofs.lemmas.Bool.{cases_order}
 use Rattle.std.proofs.lemmas.List.{length-append}
 use Rattle.std.proofs.lemmas.Option.{same_Some}
@@ -24,13 +24,14 @@ use Rattle.fs_files.specs.Calls.{IsWithFile, Resizes, Shrinks, ChangesAmong, cut
 use Rattle.fs_files.specs.Drafts.{DraftState, begun_beside, nothing_drafted}
 use Rattle.fs_files.specs.Effects.{LooksAndSettles, LooksOnly}
 use Rattle.fs_files.specs.Growing.{alone, taken_by}
-use Rattle.fs_files.specs.Nodes.{node_block}
+use Rattle.fs_files.specs.Nodes.{fills_blocks, node_block}
 use Rattle.fs_files.specs.Shared.{is_kept}
 use Rattle.fs_dirs.specs.Directories.{inodes_in}
 use Rattle.fs_session.specs.Changes.{ChangesAtMost, IsWithinCost, Uses}
 use Rattle.fs_session.specs.Commands.{FindsRuns, GrowsInRuns, alone_on, figures_on, places_of, renewed_on, shared_on}
 use Rattle.fs_session.specs.Plans.{MakesTree, StaysBeside}
 use Rattle.fs_commands.specs.Writing.{IsWeighed}
+use Rattle.fs_commands.proofs.keeping.Laid.{inodes_laid, reads_laid}
 use Rattle.fs_commands.proofs.AtMost.{only_these}
 use Rattle.fs_commands.proofs.Placing.{placed_cut, placed_without}
 use Rattle.fs_commands.proofs.counting.Costs.{cut_costs, grown_costs}
@@ -56,11 +57,12 @@ cut_at_most : (g : Geometry) (number : ℕ) (x : FileNode) (counts places new_pl
     → Shrinks x places new_places size (begun_beside counts) d → ChangesAmong (cut_blocks g number x places size) (begun_beside counts) d → ChangesAtMost d 1 0 0 (length (alone (is_kept counts) (drop (blocks_for size) places)))
 cut_at_most g number x counts places new_places d size file shrinks among =
     let rest = drop (size / 1024) (take (blocks_for size) places) in
-    let none : cond (is_dir x.kind) rest [] ≡ [] = ap (λ kind. cond (is_dir kind) rest []) file in
+    let cuts = not (fills_blocks g.layout size) in
+    let none : cond (is_dir x.kind && cuts) rest [] ≡ [] = ap (λ kind. cond (is_dir kind && cuts) rest []) file in
     record {
       blocks = cut_blocks g number x places size;
       only = only_these (cut_blocks g number x places size) d among;
-      few_changed = omega (arith, length-append (cond (is_dir x.kind) rest []) (node_block g number ∷ []), ap (λ (xs : List ℕ). length xs) none);
+      few_changed = omega (arith, length-append (cond (is_dir x.kind && cuts) rest []) (node_block g number ∷ []), ap (λ (xs : List ℕ). length xs) none);
       few_fresh = shrinks.fresh;
       few_taken = omega (arith, ap (λ (xs : List ℕ). length xs) shrinks.taken);
       few_freed = omega (arith, ap (λ (xs : List ℕ). length xs) shrinks.freed);
@@ -134,7 +136,7 @@ module _ (s t : State) (f : Session) (path : List (List ℕ)) (number size cost 
     runs_are : FindsRuns s t.books f cmd
     runs_are k some grown = ⊎_elim
         (λ more. subst (λ n. GrowsInRuns (renewed_on s f cmd n) s t.books n (figures_on s f cmd).need) (same_Some number k (sym a.leads ∙ grown))
-        (runs_there s f cmd path number old size counts shared lies_there touches_there t (figures_on s f cmd).need x (places_in t d number) d a.count (need_grown more) (w.resizes.grows more)))
+        (runs_there s f cmd path number old size counts shared lies_there touches_there t settles.pipeline.geom (figures_on s f cmd).need x (places_in t d number) d a.count (need_grown more) (w.resizes.grows more)))
         (λ less. absurd (omega (arith, some, need_cut less))) (larger_or_smaller old size other)
 
     -- and there are enough
@@ -150,7 +152,7 @@ module _ (s t : State) (f : Session) (path : List (List ℕ)) (number size cost 
         (λ more. subst (λ n. IsWithinCost t.books.geom d n) (sym (ap (λ (n : Figures). n.cost) (figures_growing more)) ∙ weighed.costs)
         (subst (λ (g : Geometry). IsWithinCost t.books.geom d (writing_over (bitmap_blocks g) kept old old size).cost) settles.pipeline.geom
         (writes t.books.geom d kept old old size
-        (at_most t.books.geom number x counts (places_of s number) (places_in t d number) t.books d old size a.file a.count kept_too division (w.resizes.grows more) (w.resizes.grows_among more)))))
+        (at_most t.books.geom number x counts (places_of s number) (places_in t d number) t.books d size old size a.file (omega (arith, more)) a.count kept_too division (w.resizes.grows more) (w.resizes.grows_among more)))))
         (λ less. subst (λ n. IsWithinCost t.books.geom d n) (sym (ap (λ (n : Figures). n.cost) (figures_cutting less)) ∙ weighed.costs)
         (subst (λ (g : Geometry). IsWithinCost t.books.geom d (shrinking (bitmap_blocks g) gone).cost) settles.pipeline.geom
         (cuts t.books.geom d gone
@@ -168,23 +170,24 @@ module _ (s t : State) (f : Session) (path : List (List ℕ)) (number size cost 
     pub others_are : (l : ℕ) → l ≢ number → places_in t d l ≡ places_of s l
     others_are l away = ⊎_elim (λ more. w.grown more l away) (λ less. w.cut less l away) (larger_or_smaller old size other)
 
-    pub resized_tree : StaysBeside d t → AreInodesOf (files_in s nothing_drafted) (inodes_in s nothing_drafted)
-        → ((s : Session) (m new : Inodes) (path : List (List ℕ)) (size node links : ℕ) (old : List ℕ) → IsMapOf s.limit m s.tree → refusal s.limit s.tree (Truncate path size) ≡ None
-        → size ≢ length old → LeadsTo m path node → m node ≡ Some (AFile links old) → Sets m new node (Some (AFile links (resized size old))) → IsMapOf s.limit new (step s (Truncate path size)).0.tree)
+    pub resized_tree : StaysBeside d t → AreInodesOf s.books.geom.layout (files_in s nothing_drafted) (inodes_in s nothing_drafted)
+        → ((s : Session) (m new : Inodes) (path : List (List ℕ)) (size node links : ℕ) (old : List ℕ) → IsMapOf s.limit.nodes m s.tree → refusal s.limit s.tree (Truncate path size) ≡ None
+        → size ≢ length old → LeadsTo m path node → m node ≡ Some (AFile links old) → Sets m new node (Some (AFile links (resized size old))) → IsMapOf s.limit.nodes new (step s (Truncate path size)).0.tree)
         → KeptTooLaw → DivisionLaw → WritingLaw → ((g : Geometry) (d : DraftState) (freed : ℕ) → ChangesAtMost d 1 0 0 freed → IsWithinCost g d (shrinking (bitmap_blocks g) freed).cost) → MakesTree cmd d cost s t f
     resized_tree stays reads law kept_too division writes cuts =
         let new : FileNode = with_bytes x (resized size x.bytes) in
-        let becomes : inode_of new ≡ Some (AFile x.links (resized size x.bytes)) = file_reads new a.file in
-        let was : inodes_in s nothing_drafted number ≡ Some (AFile x.links x.bytes) = ap (option_and_then inode_of) a.is ∙ file_reads x a.file in
+        let becomes : inode_of s.books.geom.layout new ≡ Some (AFile x.links (resized size x.bytes)) = file_reads _ new a.file in
+        let was : inodes_in s nothing_drafted number ≡ Some (AFile x.links x.bytes) = ap (option_and_then (inode_of s.books.geom.layout)) a.is ∙ file_reads _ x a.file in
         record {
           accepted = weighed.accepted;
           answer = answer_is;
           costs = weighed.costs;
           room = weighed.room;
           runs = runs_are;
-          reads = read_with (files_in s nothing_drafted) (files_in t d) number new (AFile x.links (resized size x.bytes)) becomes w.file reads;
+          reads = reads_laid s t settles.pipeline.geom d (read_with s.books.geom.layout (files_in s nothing_drafted) (files_in t d) number new (AFile x.links (resized size x.bytes)) becomes w.file reads);
           map = law f (inodes_in s nothing_drafted) (inodes_in t d) path size number x.links x.bytes a.map weighed.accepted other a.leads was
-              (sets_inode (files_in s nothing_drafted) (files_in t d) number new (AFile x.links (resized size x.bytes)) becomes w.file);
+              (subst (λ m. Sets (inodes_in s nothing_drafted) m number (Some (AFile x.links (resized size x.bytes)))) (sym (inodes_laid s t settles.pipeline.geom d))
+              (sets_inode s.books.geom.layout (files_in s nothing_drafted) (files_in t d) number new (AFile x.links (resized size x.bytes)) becomes w.file));
           snapshots = stays;
           within = within_cost kept_too division writes cuts;
           uses = uses_are;

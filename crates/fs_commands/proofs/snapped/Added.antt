@@ -1,4 +1,7 @@
 -- What the draft of a new snapshot makes of the blocks: they have just that snapshot more.
+use Rattle.base_types.specs.declared.layout.Layout.{Layout}
+use Rattle.base_types.specs.Layouts.{most_runs}
+use Rattle.base_types.specs.LayoutLaws.{node_in_table}
 use Rattle.std.proofs.Common.{◌≡◌, ◌≢◌, ◌↔◌, ◌⊎◌, inl, inr, ℕ, ◌+◌, ◌-◌, ◌*◌, ◌/◌, ◌<◌, ◌≤◌, ◌||◌, ◌&&◌, ◌==◌, nat_lt, not, Bool, true, false, IsTrue, if◌then◌else◌, List, [], ◌∷◌, ◌++◌, length, take, get_or, slice_get, min, All, Option, None, Some, is_some, option_map, refl, sym, ap, ap₂, subst, ◌∙◌, arith}
 use Rattle.std.proofs.lemmas.Bool.{eqb-true, or_cases, or_left, or_right, true≢false}
 use Rattle.std.proofs.lemmas.List.{length-take, take_all}
@@ -10,8 +13,10 @@ use Rattle.base_types.specs.Seal.{Blocks}
 use Rattle.layout_geometry.specs.Geometry.{Geometry, IsGeometry, bitmap_blocks, data_start}
 use Rattle.layout_extent.specs.Renew.{AreOnce, IsAmong}
 use Rattle.layout_bytes.specs.declared.node.Node.{Node}
+use Rattle.layout_bytes.specs.declared.node.NodeKind.{NodeKind}
 use Rattle.layout_bytes.specs.declared.node.NodeKind.TheVariants.{Snapshot}
 use Rattle.layout_bytes.specs.Bitmap.{is_set}
+use Rattle.layout_bytes.specs.Node.{content_blocks, content_of}
 use Rattle.layout_bytes.specs.SnapshotName.{name_block}
 use Rattle.lang_tree.specs.Figures.{blocks_for}
 use Rattle.crash_stands.specs.Files.{FileNode, Files, content, file_of, files_of, joined, used_node}
@@ -55,7 +60,7 @@ drafts_now s v n name d geom map h = record {
   file = both (λ k m. IsWithFile (files_of k (drafted nothing_drafted m)) (files_in v d) n (Some (record { kind = Snapshot; links = 1; bytes = snapshot_bytes k m name }))) h.file;
   places = both (λ k m. IsWithPlaces (blocks_of_node k (drafted nothing_drafted m)) (places_in v d) n (take (snapshot_count k m) (reusable_blocks v.books))) h.places;
   enough = both (λ k m. snapshot_count k m ≤ length (reusable_blocks v.books)) h.enough;
-  runs = both (λ k m. stretches (take (snapshot_count k m) (reusable_blocks v.books)) ≤ 28) h.runs;
+  runs = both (λ k m. stretches (take (snapshot_count k m) (reusable_blocks v.books)) ≤ most_runs k.layout) h.runs;
   taken = both (λ k m. d.taken ≡ take (snapshot_count k m) (reusable_blocks v.books)) h.taken;
   freed = h.freed;
   fresh = both (λ k m. length d.fresh ≤ snapshot_count k m) h.fresh;
@@ -66,9 +71,9 @@ drafts_now s v n name d geom map h = record {
     both : (Q : Geometry → Blocks → Type 0) → Q s.books.geom s.map → Q v.books.geom v.map
     both Q q = subst (λ (k : Geometry). Q k v.map) (sym geom) (subst (Q s.books.geom) (sym map) q)
 
-node_is : (m : Blocks) (o : Option Node) (x : FileNode) → option_map (file_of m) o ≡ Some x → (node : Node) × (o ≡ Some node) × (file_of m node ≡ x)
-node_is m None x e = absurd (none-some x e)
-node_is m (Some node) x e = (node, refl, same_Some (file_of m node) x e)
+node_is : (l : Layout) (m : Blocks) (o : Option Node) (x : FileNode) → option_map (file_of l m) o ≡ Some x → (node : Node) × (o ≡ Some node) × (file_of l m node ≡ x)
+node_is l m None x e = absurd (none-some x e)
+node_is l m (Some node) x e = (node, refl, same_Some (file_of l m node) x e)
 
 whole_size : (size count : ℕ) → min size (1024 * count) ≡ 1024 * count → blocks_for size ≡ count → size ≡ 1024 * count
 whole_size size count fits count_is = omega (arith, fits, count_is)
@@ -134,12 +139,12 @@ module _ (tells : Bool) (v : State) (n : ℕ) (name : List ℕ) (d : DraftState)
         not_changed h = by (or_cases (b == node_block g n) false (snap.only b h))
           where
             by : ((b == node_block g n) ≡ true) ⊎ (false ≡ true) → ⊥
-            by (inl at) = omega (arith, eqb-true b (node_block g n) at, from, limits.whole_blocks, number, above)
+            by (inl at) = omega (arith, eqb-true b (node_block g n) at, from, node_in_table g.layout g.i n limits.whole_blocks above number)
             by (inr never) = true≢false (sym never)
 
     -- The new node.
-    abbrev new_node : (node : Node) × (used_node g m n ≡ Some node) × (file_of m node ≡ record { kind = Snapshot; links = 1; bytes = snapshot_bytes g v.map name })
-    new_node = node_is m (used_node g m n) (record { kind = Snapshot; links = 1; bytes = snapshot_bytes g v.map name }) (made.files n ∙ snap.file.own)
+    abbrev new_node : (node : Node) × (used_node g m n ≡ Some node) × (file_of g.layout m node ≡ record { kind = Snapshot; links = 1; bytes = snapshot_bytes g v.map name })
+    new_node = node_is g.layout m (used_node g m n) (record { kind = Snapshot; links = 1; bytes = snapshot_bytes g v.map name }) (made.files n ∙ snap.file.own)
 
     abbrev node : Node
     node = new_node.0
@@ -150,8 +155,15 @@ module _ (tells : Bool) (v : State) (n : ℕ) (name : List ℕ) (d : DraftState)
     runs : run_places node.runs ≡ its
     runs = sym (ap places_or_none used) ∙ made.places n ∙ snap.places.own
 
-    bytes : content m node ≡ snapshot_bytes g v.map name
+    bytes : content g.layout m node ≡ snapshot_bytes g v.map name
     bytes = ap (λ (x : FileNode). x.bytes) new_node.2
+
+    kind_is : node.kind ≡ Snapshot
+    kind_is = ap (λ (x : FileNode). x.kind) new_node.2
+
+    -- all of its bytes are its content
+    all_content : content_of g.layout node.kind node.size ≡ node.size
+    all_content = ap (λ (k : NodeKind). content_of g.layout k node.size) kind_is
 
     lie : length (joined m its) ≡ 1024 * size
     lie = joined_long m its whole_at ∙ ap (λ k. 1024 * k) its_count
@@ -159,12 +171,14 @@ module _ (tells : Bool) (v : State) (n : ℕ) (name : List ℕ) (d : DraftState)
     node_size_is : node.size ≡ 1024 * size
     node_size_is =
         whole_size node.size size
-        (ap (λ k. min node.size k) (sym lie ∙ ap (λ ps. length (joined m ps)) (sym runs)) ∙ sym (length-take node.size (joined m (run_places node.runs))) ∙ ap length bytes ∙ bytes_long g v.map sound limits name lawful inside)
-        (sym (count g m n node used) ∙ ap length runs ∙ its_count)
+        (ap (λ k. min node.size k) (sym lie ∙ ap (λ ps. length (joined m ps)) (sym runs)) ∙ sym (length-take node.size (joined m (run_places node.runs)))
+        ∙ ap (λ k. length (take k (joined m (run_places node.runs)))) (sym all_content) ∙ ap length bytes ∙ bytes_long g v.map sound limits name lawful inside)
+        (sym (count g m n node used ∙ ap (λ (k : NodeKind). content_blocks g.layout k node.size) kind_is) ∙ ap length runs ∙ its_count)
 
     all_bytes : joined m its ≡ flat_map (λ block. block) (snapshot_of g v.map (name_block name))
     all_bytes =
-        sym (take_all node.size (joined m its) (omega (arith, lie, node_size_is))) ∙ ap (λ ps. take node.size (joined m ps)) (sym runs) ∙ bytes
+        sym (take_all node.size (joined m its) (omega (arith, lie, node_size_is))) ∙ ap (λ ps. take node.size (joined m ps)) (sym runs)
+        ∙ ap (λ k. take k (joined m (run_places node.runs))) (sym all_content) ∙ bytes
 
     -- its blocks have what a snapshot has
     they_have : Have m its (snapshot_of g v.map (name_block name))
@@ -188,10 +202,10 @@ module _ (tells : Bool) (v : State) (n : ℕ) (name : List ℕ) (d : DraftState)
 
     pub adds : AddsSnapshot g v.map m n name its
     adds = record {
-      free = nothing_in (file_of v.map) (used_node g v.map n) unused;
+      free = nothing_in (file_of g.layout v.map) (used_node g v.map n) unused;
       node = node;
       is_node = used;
-      kind = ap (λ (x : FileNode). x.kind) new_node.2;
+      kind = kind_is;
       runs = runs;
       links = ap (λ (x : FileNode). x.links) new_node.2;
       size = node_size_is ∙ ap (λ k. 1024 * k) (sym its_count);

@@ -1,5 +1,6 @@
 -- A snapshot's draft: its node, the least that no node has, and then its bytes.
-use Rattle.std.proofs.Common.{◌≡◌, ◌≢◌, ◌⊎◌, inl, inr, ℕ, zero, suc, ◌+◌, ◌-◌, ◌*◌, ◌/◌, ◌<◌, ◌≤◌, ◌==◌, ◌&&◌, ◌||◌, ◌^◌, nat_le, Bool, true, false, IsTrue, cond, if◌then◌else◌, find, is_none, is_some, List, [], ◌∷◌, ◌++◌, length, take, drop, replicate, Option, Some, None, IfSome, refl, sym, ap, ap₂, subst, ◌∙◌, arith}
+use Rattle.base_types.specs.Layouts.{most_runs}
+use Rattle.std.proofs.Common.{min, ◌≡◌, ◌≢◌, ◌⊎◌, inl, inr, ℕ, zero, suc, ◌+◌, ◌-◌, ◌*◌, ◌/◌, ◌<◌, ◌≤◌, ◌==◌, ◌&&◌, ◌||◌, ◌^◌, nat_le, Bool, true, false, IsTrue, cond, if◌then◌else◌, find, is_none, is_some, List, [], ◌∷◌, ◌++◌, length, take, drop, replicate, Option, Some, None, IfSome, refl, sym, ap, ap₂, subst, ◌∙◌, arith}
 use Rattle.std.specs.Prelude.{IfNone}
 use Rattle.std.specs.List.{range_with_len}
 use Rattle.std.proofs.Math.Bool.{or-false}
@@ -109,8 +110,9 @@ all_written ys some =
 -- of old blocks none is changed
 none_changed : (g : Geometry) (kept : ℕ → Bool) (number lo hi q : ℕ) (more places : List ℕ) → places ≡ [] → has (written_blocks g kept number bare_snapshot places more lo hi) q ≡ true → has (node_block g number ∷ []) q ≡ true
 none_changed g kept number lo hi q more places none is =
-    by (nat_le hi 0 && (taken_by kept lo hi [] == 0))
-    (sym (ap (λ xs. has (alone kept (drop (lo / 1024) xs) ++ last (nat_le hi 0 && (taken_by kept lo hi [] == 0))) q) (take-nil (blocks_for hi)) ∙ ap (λ xs. has (alone kept xs ++ last (nat_le hi 0 && (taken_by kept lo hi [] == 0))) q) (drop-nil (lo / 1024)))
+    by (nat_le hi 0 && (taken_by kept (min lo 0) hi [] == 0))
+    (sym (ap (λ xs. has (alone kept (drop (min lo 0 / 1024) xs) ++ last (nat_le hi 0 && (taken_by kept (min lo 0) hi [] == 0))) q) (take-nil (blocks_for hi))
+    ∙ ap (λ xs. has (alone kept xs ++ last (nat_le hi 0 && (taken_by kept (min lo 0) hi [] == 0))) q) (drop-nil (min lo 0 / 1024)))
     ∙ ap (λ ps. has (written_blocks g kept number bare_snapshot ps more lo hi) q) (sym none) ∙ is)
   where
     last : Bool → List ℕ
@@ -136,7 +138,7 @@ module _ (s u : State) (number lo hi : ℕ) (shared : List ℕ) (d : DraftState)
       (subst (λ n. GrowthRefused n (placed (is_kept d.kept) lo hi (places_in u d number)) u.books v why) (taken_none (is_kept d.kept) lo hi (places_in u d number) bare.places.own ∙ end) h))
 
 -- What a write of all the bytes made of the node.
-module _ (s u v : State) (number lo hi : ℕ) (shared ys name : List ℕ) (d e : DraftState) (bare : HasBareNode s u number shared d) (geom : u.books.geom ≡ s.books.geom)
+module _ (s u v : State) (number lo hi : ℕ) (shared ys name : List ℕ) (d e : DraftState) (bare : HasBareNode s u number shared d) (geom : u.books.geom ≡ s.books.geom) (after : v.books.geom ≡ u.books.geom)
     (is : ys ≡ snapshot_bytes s.books.geom s.map name) (end : blocks_for hi ≡ snapshot_count s.books.geom s.map) (some : 0 < length ys) where
   -- how many blocks it takes
   pub takes_count : taken_by (is_kept d.kept) lo hi (places_in u d number) ≡ snapshot_count s.books.geom s.map
@@ -178,7 +180,7 @@ module _ (s u v : State) (number lo hi : ℕ) (shared ys name : List ℕ) (d e :
         others = λ l ne. others.others l ne ∙ bare.places.others l ne;
       };
       enough = omega (arith, grows.enough, takes_count);
-      runs = subst (λ (ps : List ℕ). stretches ps ≤ 28) its_places grows.runs;
+      runs = subst (λ (ps : List ℕ). stretches ps ≤ most_runs s.books.geom.layout) its_places (subst (λ (g : Geometry). stretches (places_in v e number) ≤ most_runs g.layout) (after ∙ geom) grows.runs);
       taken = grows.taken ∙ ap₂ (λ (xs : List ℕ) n. xs ++ take n (reusable_blocks v.books)) bare.sets.taken takes_count;
       freed = grows.freed ∙ bare.sets.freed;
       fresh = omega (arith, grows.fresh, bare.sets.fresh, takes_count);

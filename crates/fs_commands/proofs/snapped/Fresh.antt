@@ -14,7 +14,7 @@ use Rattle.lang_tree.specs.Conditions.{first_reason, least_unused, refusal, when
 use Rattle.lang_tree.specs.Figures.{Figures, snapping, snapshot_blocks}
 use Rattle.lang_tree.specs.Sharing.{figures_over_by}
 use Rattle.lang_tree.specs.Step.{Session}
-use Rattle.lang_tree.specs.Tree.{Kept}
+use Rattle.lang_tree.specs.Tree.{Kept, Bounds}
 use Rattle.crash_stands.specs.Files.{used_node}
 use Rattle.crash_stands.specs.Places.{is_copied, table_blocks}
 use Rattle.crash_stands.specs.Stands.{AreSound}
@@ -33,7 +33,7 @@ use Rattle.fs_commands.proofs.unsnapped.Once.{IsOnce, nodes_once}
 
 -- a snapshot's blocks are as many as the tree says
 abbrev pub LiveLaw : State → Session → Type 0
-LiveLaw s f = snapshot_blocks f.limit f.tree.names ≡ 1 + (table_blocks s.books.geom + length (all_dirs (used_node s.books.geom s.map) 1 f.limit))
+LiveLaw s f = snapshot_blocks f.limit f.tree.names ≡ 1 + (table_blocks s.books.geom + length (all_dirs (used_node s.books.geom s.map) 1 f.limit.nodes))
 
 -- there is a number where one is told
 pub told_number : (o : Option ℕ) → is_some o ≡ true → (n : ℕ) × (o ≡ Some n)
@@ -49,9 +49,9 @@ module _ (law : NamedLaw) (s : State) (f : Session) (h : IsSession s f) (name : 
   pub name_there : (n : ℕ) → snapshot_number s.books.geom s.map name ≡ Some n → refusal f.limit f.tree (Snap name) ≡ Some Exists
   name_there n e =
       let k = one_named s.books.geom s.map f.tree name h.tree law n e in
-      ap (λ (o : Option Kept). first_reason (when (is_some o) Exists ∷ when (is_none (least_unused f.limit f.tree)) NoNode ∷ [])) k.1
+      ap (λ (o : Option Kept). first_reason (when (is_some o) Exists ∷ when (is_none (least_unused f.limit.nodes f.tree)) NoNode ∷ [])) k.1
 
-  module _ (none : snapshot_number s.books.geom s.map name ≡ None) (least : least_unused f.limit f.tree ≡ least_number s) where
+  module _ (none : snapshot_number s.books.geom s.map name ≡ None) (least : least_unused f.limit.nodes f.tree ≡ least_number s) where
     reasons : refusal f.limit f.tree (Snap name) ≡ first_reason (when false Exists ∷ when (is_none (least_number s)) NoNode ∷ [])
     reasons = ap₂ (λ (o : Option Kept) (l : Option ℕ). first_reason (when (is_some o) Exists ∷ when (is_none l) NoNode ∷ [])) (none_named s.books.geom s.map f.tree name h.tree law none) least
 
@@ -64,7 +64,7 @@ module _ (law : NamedLaw) (s : State) (f : Session) (h : IsSession s f) (name : 
     accepts n e live = (
       reasons ∙ ap (λ (l : Option ℕ). first_reason (when false Exists ∷ when (is_none l) NoNode ∷ [])) e,
       ap (figures_over_by (bitmap_blocks s.books.geom) (shared_on s f) (alone_on s f) f.limit f.tree (Snap name)) (reasons ∙ ap (λ (l : Option ℕ). first_reason (when false Exists ∷ when (is_none l) NoNode ∷ [])) e)
-          ∙ ap (snapping (bitmap_blocks s.books.geom)) (live ∙ ap (λ n. 1 + (table_blocks s.books.geom + length (all_dirs (used_node s.books.geom s.map) 1 n))) h.limit),
+          ∙ ap (snapping (bitmap_blocks s.books.geom)) (live ∙ ap (λ (b : Bounds). 1 + (table_blocks s.books.geom + length (all_dirs (used_node s.books.geom s.map) 1 b.nodes))) h.limit),
     )
 
 -- A directory's block is one of its node.

@@ -1,6 +1,7 @@
 -- What is so of geometry and blocks stays so where both are the same, and over a command that leaves the snapshots if it stays over its draft. So does what is known of snapshots.
 use Rattle.std.proofs.Common.{◌≡◌, ℕ, nat_lt, Bool, false, IsTrue, List, Option, Result, Ok, Err, OnOk, OnErr, refl, sym, subst, ◌∙◌, arith}
 use Rattle.std.proofs.lemmas.Bool.{true≢false}
+use Rattle.crash_stands.specs.Bounds.{bounds_of}
 use Rattle.base_types.specs.Seal.{Blocks}
 use Rattle.layout_geometry.specs.Geometry.{Geometry}
 use Rattle.lang_tree.specs.declared.command.Cmd.{Cmd}
@@ -31,7 +32,7 @@ knows_same s t counts numbers = same_so (λ g m. KnowsSnapshots g m counts numbe
 -- blocks where a tree stands have a session
 pub session_of : (s : State) (stands : Stands s) → (f : Session) × IsSession s f
 session_of s (t, tree) = (
-  record { tree = t; limit = s.books.geom.i; points = s.books.point; changed = nat_lt 0 s.books.running.weight; durable = 0 },
+  record { tree = t; limit = bounds_of s.books.geom; points = s.books.point; changed = nat_lt 0 s.books.running.weight; durable = 0 },
   record {
     tree = tree;
     limit = refl;

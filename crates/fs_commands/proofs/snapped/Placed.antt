@@ -1,5 +1,5 @@
 -- Bytes that lie in blocks, one behind the other: what each block has, and that the blocks have a snapshot where these are its bytes.
-use Rattle.std.proofs.Common.{◌≡◌, ◌≢◌, ◌⊎◌, inl, inr, ℕ, zero, suc, ◌+◌, ◌-◌, ◌*◌, ◌/◌, ◌%◌, ◌<◌, ◌≤◌, ◌==◌, ◌||◌, true, if◌then◌else◌, List, [], ◌∷◌, ◌++◌, length, take, drop, get_or, slice_get, Some, refl, sym, ap, ◌∙◌, arith}
+use Rattle.std.proofs.Common.{◌≡◌, ◌≢◌, ◌⊎◌, inl, inr, ℕ, zero, suc, ◌+◌, ◌-◌, ◌*◌, ◌<◌, ◌≤◌, ◌==◌, ◌||◌, true, if◌then◌else◌, List, [], ◌∷◌, ◌++◌, length, take, drop, get_or, slice_get, Some, refl, sym, ap, ◌∙◌, arith}
 use Rattle.std.proofs.Math.Seq.{drop-append_seam, take-append_seam}
 use Rattle.std.proofs.lemmas.Bool.{cases_eq, cases_order, eq-eqb, false≢true, ne_eqb}
 use Rattle.std.proofs.lemmas.List.{length-append}
@@ -8,7 +8,9 @@ use Rattle.std.specs.List.{AllPairs, flat_map}
 use Rattle.std.specs.Prelude.{⊤}
 use Rattle.base_types.specs.Runs.{run_places}
 use Rattle.base_types.specs.Seal.{Blocks}
-use Rattle.layout_geometry.specs.Geometry.{Geometry, IsGeometry, node_size, nodes_in_block, table_start}
+use Rattle.base_types.specs.Layouts.{node_block, node_byte, node_size}
+use Rattle.base_types.specs.LayoutLaws.{node_in_table}
+use Rattle.layout_geometry.specs.Geometry.{Geometry, IsGeometry, table_start}
 use Rattle.layout_extent.specs.Renew.{AreOnce}
 use Rattle.layout_bytes.specs.declared.node.Node.{Node}
 use Rattle.layout_bytes.specs.declared.node.NodeKind.TheVariants.{File}
@@ -74,8 +76,8 @@ module _ (g : Geometry) (old m w : Blocks) (places : List ℕ) (limits : IsGeome
     (files : (k i b : ℕ) (node : Node) → used_node g old k ≡ Some node → node.kind ≡ File → slice_get (run_places node.runs) i ≡ Some b → m b ≡ old b) where
   table_alike : (k : ℕ) → 1 ≤ k → k ≤ g.i → node_bytes g (kept_table m places g) k ≡ node_bytes g (kept_table w places g) k
   table_alike k from upto =
-      let at = 1 + (table_start g + (k - 1) / nodes_in_block - table_start g) in
-      ap (λ bytes. take node_size (drop (node_size * ((k - 1) % nodes_in_block)) bytes)) (same at (get_or places at 0) (slice_get-get_or places at 0 (omega (arith, long, from, upto, limits.whole_blocks))))
+      let at = 1 + (table_start g + node_block g.layout k - table_start g) in
+      ap (λ bytes. take (node_size g.layout) (drop (node_byte g.layout k) bytes)) (same at (get_or places at 0) (slice_get-get_or places at 0 (omega (arith, long, node_in_table g.layout g.i k limits.whole_blocks from upto))))
 
   pub has_alike : HasSnapshot g old w places → HasSnapshot g old m places
   has_alike h = record {

@@ -1,10 +1,12 @@
 -- A new snapshot's draft makes the tree of its command, and is within its cost.
+use Rattle.base_types.specs.Layouts.{most_runs}
 use Rattle.std.proofs.Common.{◌≡◌, ◌≢◌, ◌⊎◌, inl, inr, ℕ, ◌+◌, ◌*◌, ◌<◌, ◌≤◌, is_none, is_some, List, [], ◌∷◌, ◌++◌, length, take, Option, None, Some, option_and_then, refl, sym, ap, ap₂, subst, ◌∙◌, arith}
 use Rattle.std.proofs.lemmas.Bool.{cases_eq}
 use Rattle.std.proofs.lemmas.List.{length-take, take_all}
 use Rattle.std.proofs.lemmas.Option.{same_Some}
 use Rattle.std.specs.FinMap.{get}
 use mathlib.Core.Path.{fun_ext}
+use Rattle.base_types.specs.declared.layout.Layout.{Layout}
 use Rattle.base_types.specs.Seal.{Blocks}
 use Rattle.layout_geometry.specs.Geometry.{bitmap_blocks}
 use Rattle.layout_extent.specs.Runs.{stretches}
@@ -15,7 +17,7 @@ use Rattle.lang_tree.specs.Conditions.{first_reason, least_unused, refusal, when
 use Rattle.lang_tree.specs.Figures.{Figures, snapping, snapshot_blocks}
 use Rattle.lang_tree.specs.Sharing.{figures_over_by}
 use Rattle.lang_tree.specs.Step.{Session, answered, snapped_by, step}
-use Rattle.lang_tree.specs.Tree.{Kept}
+use Rattle.lang_tree.specs.Tree.{Kept, Bounds}
 use Rattle.crash_stands.specs.Files.{FileNode, Files, file_of, files_of, used_node}
 use Rattle.crash_stands.specs.Inodes.{AreInodesOf, Inode, inode_of, inodes_of}
 use Rattle.crash_stands.specs.Maps.{IsMapOf}
@@ -33,6 +35,7 @@ use Rattle.fs_session.specs.NothingKept.{grows_unrenewed, renews_without_bytes, 
 use Rattle.fs_session.specs.Plans.{HasDrafted, MakesTree}
 use Rattle.fs_session.specs.Sessions.{IsSession, KeepsUsed, inodes}
 use Rattle.fs_session.specs.declared.unused.NodeUse.TheVariants.{Taken}
+use Rattle.fs_commands.proofs.keeping.Laid.{inodes_laid, reads_laid}
 use Rattle.fs_commands.proofs.looking.Found.{uses_of}
 use Rattle.fs_commands.proofs.looking.InUse.{still_used}
 use Rattle.layout_extent.specs.Renew.{renew}
@@ -53,11 +56,11 @@ use Rattle.fs_commands.proofs.unsnapped.Taken.{nothing_in}
 -- A snapshot of this name, under this number, is accepted.
 pub record AcceptsSnapshot (s : State) (f : Session) (name : List ℕ) (number : ℕ) : Type 0 where
   pub accepted : refusal f.limit f.tree (Snap name) ≡ None
-  pub least : least_unused f.limit f.tree ≡ Some number
+  pub least : least_unused f.limit.nodes f.tree ≡ Some number
   pub figures : figures_on s f (Snap name) ≡ figures_to_snap s
 
-pub snap_accepted : (s : State) (f : Session) (name : List ℕ) (number : ℕ) → IsSession s f → get f.tree.snapshots name ≡ None → least_unused f.limit f.tree ≡ Some number
-    → snapshot_blocks f.limit f.tree.names ≡ 1 + (table_blocks s.books.geom + length (all_dirs (used_node s.books.geom s.map) 1 f.limit)) → AcceptsSnapshot s f name number
+pub snap_accepted : (s : State) (f : Session) (name : List ℕ) (number : ℕ) → IsSession s f → get f.tree.snapshots name ≡ None → least_unused f.limit.nodes f.tree ≡ Some number
+    → snapshot_blocks f.limit f.tree.names ≡ 1 + (table_blocks s.books.geom + length (all_dirs (used_node s.books.geom s.map) 1 f.limit.nodes)) → AcceptsSnapshot s f name number
 snap_accepted s f name number h free least live =
     let accepted : refusal f.limit f.tree (Snap name) ≡ None = ap₂ (λ (o : Option Kept) (n : Option ℕ). first_reason (when (is_some o) Exists ∷ when (is_none n) NoNode ∷ [])) free least in
     record {
@@ -65,34 +68,34 @@ snap_accepted s f name number h free least live =
       least = least;
       figures =
           ap (λ r. figures_over_by (bitmap_blocks s.books.geom) (shared_on s f) (alone_on s f) f.limit f.tree (Snap name) r) accepted
-          ∙ ap (snapping (bitmap_blocks s.books.geom)) (live ∙ ap (λ n. 1 + (table_blocks s.books.geom + length (all_dirs (used_node s.books.geom s.map) 1 n))) h.limit);
+          ∙ ap (snapping (bitmap_blocks s.books.geom)) (live ∙ ap (λ (b : Bounds). 1 + (table_blocks s.books.geom + length (all_dirs (used_node s.books.geom s.map) 1 b.nodes))) h.limit);
     }
 
 -- the files that are no inodes as before
-module _ (old new : Files) (number : ℕ) (x : FileNode) (with_it : IsWithFile old new number (Some x)) (kind : x.kind ≡ Snapshot) (unused : old number ≡ None) where
-  pub same_inodes : inodes_of new ≡ inodes_of old
+module _ (l : Layout) (old new : Files) (number : ℕ) (x : FileNode) (with_it : IsWithFile old new number (Some x)) (kind : x.kind ≡ Snapshot) (unused : old number ≡ None) where
+  pub same_inodes : inodes_of l new ≡ inodes_of l old
   same_inodes = fun_ext (λ k. by k (cases_eq k number))
     where
-      by : (k : ℕ) → (k ≡ number) ⊎ (k ≢ number) → inodes_of new k ≡ inodes_of old k
-      by k (inl e) = ap (inodes_of new) e ∙ ap (option_and_then inode_of) with_it.own ∙ none_of x kind ∙ sym (ap (option_and_then inode_of) unused) ∙ ap (inodes_of old) (sym e)
+      by : (k : ℕ) → (k ≡ number) ⊎ (k ≢ number) → inodes_of l new k ≡ inodes_of l old k
+      by k (inl e) = ap (inodes_of l new) e ∙ ap (option_and_then (inode_of l)) with_it.own ∙ none_of x kind ∙ sym (ap (option_and_then (inode_of l)) unused) ∙ ap (inodes_of l old) (sym e)
         where
-          none_of : (x : FileNode) → x.kind ≡ Snapshot → inode_of x ≡ None
+          none_of : (x : FileNode) → x.kind ≡ Snapshot → inode_of l x ≡ None
           none_of x is = cc
-      by k (inr ne) = ap (option_and_then inode_of) (with_it.others k ne)
+      by k (inr ne) = ap (option_and_then (inode_of l)) (with_it.others k ne)
 
-  pub reads_still : DoesRead old → DoesRead new
+  pub reads_still : DoesRead l old → DoesRead l new
   reads_still reads k file is plain = by (cases_eq k number)
     where
-      by : (k ≡ number) ⊎ (k ≢ number) → (i : Inode) × (inode_of file ≡ Some i)
+      by : (k ≡ number) ⊎ (k ≢ number) → (i : Inode) × (inode_of l file ≡ Some i)
       by (inl e) = absurd (plain (ap (λ (y : FileNode). y.kind) (same_Some file x (sym is ∙ ap new e ∙ with_it.own)) ∙ kind))
       by (inr ne) = reads k file (sym (with_it.others k ne) ∙ is) plain
 
 -- The map that the inodes have is that of the tree with the snapshot.
-map_of_session : (s : State) (f : Session) (name : List ℕ) (m : ℕ → Option Inode) → refusal f.limit f.tree (Snap name) ≡ None → IsMapOf f.limit m f.tree → IsMapOf f.limit m (step f (Snap name)).0.tree
+map_of_session : (s : State) (f : Session) (name : List ℕ) (m : ℕ → Option Inode) → refusal f.limit f.tree (Snap name) ≡ None → IsMapOf f.limit.nodes m f.tree → IsMapOf f.limit.nodes m (step f (Snap name)).0.tree
 map_of_session s f name m accepted map =
-    subst (λ r. IsMapOf f.limit m (answered f (Snap name) r).0.tree) (sym accepted) (by (least_unused f.limit f.tree))
+    subst (λ r. IsMapOf f.limit.nodes m (answered f (Snap name) r).0.tree) (sym accepted) (by (least_unused f.limit.nodes f.tree))
   where
-    by : (o : Option ℕ) → IsMapOf f.limit m (snapped_by f.tree name o)
+    by : (o : Option ℕ) → IsMapOf f.limit.nodes m (snapped_by f.tree name o)
     by None = map
     by (Some n) = record {
       root = map.root;
@@ -119,7 +122,7 @@ module _ (s v : State) (f : Session) (name : List ℕ) (number cost : ℕ) (d : 
 
   -- the node had no blocks
   bare : places_of s number ≡ []
-  bare = ap places_or_none (nothing_in (file_of (drafted nothing_drafted s.map)) (used_node s.books.geom (drafted nothing_drafted s.map) number) unused)
+  bare = ap places_or_none (nothing_in (file_of s.books.geom.layout (drafted nothing_drafted s.map)) (used_node s.books.geom (drafted nothing_drafted s.map) number) unused)
 
   within : IsWithinCost v.books.geom d cost
   within = record {
@@ -131,7 +134,7 @@ module _ (s v : State) (f : Session) (name : List ℕ) (number cost : ℕ) (d : 
 
   runs : GrowsInRuns (renewed_on s f (Snap name) number) s v.books number size
   runs = grows_unrenewed s f (Snap name) unrenewed v.books number size
-      (runs_behind s v.books number size snap.enough (subst (λ ps. stretches (ps ++ more) ≤ 28) (sym bare) snap.runs))
+      (runs_behind s v.books number size snap.enough (subst (λ ps. stretches (ps ++ more) ≤ most_runs s.books.geom.layout) (sym bare) snap.runs))
 
   uses : Uses size 0 (reusable_blocks v.books) (renewed_on s f (Snap name)) (places_of s) (places_in v d) d
   uses = uses_unrenewed s f (Snap name) unrenewed size 0 (reusable_blocks v.books) (places_of s) (places_in v d) d (record {
@@ -140,7 +143,7 @@ module _ (s v : State) (f : Session) (name : List ℕ) (number cost : ℕ) (d : 
     placed = placed_by (places_of s) (places_in v d) number more more snap.places (subst (λ ps. more ≡ take (length more) (ps ++ more)) (sym bare) (sym (take_all (length more) more (omega arith))));
   })
 
-  module _ (map : IsMapOf f.limit (inodes s) f.tree) (reads : DoesRead (files_in s nothing_drafted)) (read : (files : Files) → DoesRead files → AreInodesOf files (inodes_of files))
+  module _ (map : IsMapOf f.limit.nodes (inodes s) f.tree) (reads : DoesRead s.books.geom.layout (files_in s nothing_drafted)) (read : (l : Layout) (files : Files) → DoesRead l files → AreInodesOf l files (inodes_of l files))
       (adds : (m : Blocks) → HasDrafted v d m → AddsSnapshot v.books.geom v.map m number name more) (rests : size ≤ length (reusable_blocks s.books) → v.books ≡ s.books) where
     pub makes : MakesTree (Snap name) d cost s v f
     makes = record {
@@ -150,8 +153,8 @@ module _ (s v : State) (f : Session) (name : List ℕ) (number cost : ℕ) (d : 
       room = subst (HasRoom s.books) (sym a.figures) room;
       runs = λ k some grown. subst (λ l. GrowsInRuns (renewed_on s f (Snap name) l) s v.books l (figures_on s f (Snap name)).need) (same_Some number k (sym least ∙ grown))
           (subst (λ n. GrowsInRuns (renewed_on s f (Snap name) number) s v.books number n) (sym need_is) runs);
-      reads = read (files_in v d) (reads_still (files_in s nothing_drafted) (files_in v d) number _ snap.file refl unused reads);
-      map = subst (λ m. IsMapOf f.limit m (step f (Snap name)).0.tree) (sym (same_inodes (files_in s nothing_drafted) (files_in v d) number _ snap.file refl unused)) (map_of_session s f name (inodes s) a.accepted map);
+      reads = reads_laid s v geom d (read s.books.geom.layout (files_in v d) (reads_still s.books.geom.layout (files_in s nothing_drafted) (files_in v d) number _ snap.file refl unused reads));
+      map = subst (λ m. IsMapOf f.limit.nodes m (step f (Snap name)).0.tree) (sym (inodes_laid s v geom d ∙ same_inodes s.books.geom.layout (files_in s nothing_drafted) (files_in v d) number _ snap.file refl unused)) (map_of_session s f name (inodes s) a.accepted map);
       snapshots = record { number = number; least = a.least; places = more; adds = adds };
       within = within;
       uses = subst (λ (n : Figures). Uses n.need n.freed (reusable_blocks v.books) (renewed_on s f (Snap name)) (places_of s) (places_in v d) d) (sym a.figures) uses;
@@ -174,7 +177,7 @@ keeps_used s v name number d snap same least = uses_of (Taken number) s v d same
 pub snap_refused : (s v : State) (f : Session) (name : List ℕ) (number : ℕ) → AcceptsSnapshot s f name number → files_in s nothing_drafted number ≡ None → least_number s ≡ Some number → HasRoom s.books (figures_to_snap s) → IsSound v.books → MovesPipeline s.books v.books → s.books.geom.n ≤ 1048576
     → (why : FileRefusal) → GrowthRefused (snapshot_count s.books.geom s.map) (λ more. more) s.books v.books why → IsRefusedFor s v f (Snap name) (refusal_of why)
 snap_refused s v f name number a unused least room sound moves small why h =
-    let bare : places_of s number ≡ [] = ap places_or_none (nothing_in (file_of (drafted nothing_drafted s.map)) (used_node s.books.geom (drafted nothing_drafted s.map) number) unused) in
+    let bare : places_of s number ≡ [] = ap places_or_none (nothing_in (file_of s.books.geom.layout (drafted nothing_drafted s.map)) (used_node s.books.geom (drafted nothing_drafted s.map) number) unused) in
     growth_refused s v f (Snap name) number sound moves small a.accepted (subst (HasRoom s.books) (sym a.figures) room) least (omega (arith, ap (λ (ps : List ℕ). length ps) bare)) why
     (refused_alike (figures_on s f (Snap name)).need (λ more. more) (λ more. renew (renewed_on s f (Snap name) number) 0 (places_of s number) more) s.books v.books (λ more. sym (ap (λ ps. renew (renewed_on s f (Snap name) number) 0 ps more) bare)) why
     (subst (λ n. GrowthRefused n (λ more. more) s.books v.books why) (sym (ap (λ (n : Figures). n.need) a.figures)) h))

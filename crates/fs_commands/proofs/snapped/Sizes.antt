@@ -1,56 +1,55 @@
 -- How long a snapshot's bytes are: whole blocks, as many as it has.
 use Rattle.std.proofs.Common.{◌≡◌, ◌⊎◌, ℕ, zero, suc, ◌+◌, ◌-◌, ◌*◌, ◌/◌, ◌<◌, ◌≤◌, ◌==◌, ◌&&◌, ◌||◌, nat_lt, Bool, true, false, if◌then◌else◌, List, [], ◌∷◌, ◌++◌, length, take, drop, replicate, slice_get, slice_index, All, Option, Some, None, refl, sym, ap, ◌∙◌, arith}
-use Rattle.std.specs.List.{flat_map}
+use Rattle.std.specs.List.{flat_map, range_with_len}
 use Rattle.std.proofs.lemmas.Bool.{or_left}
 use Rattle.std.proofs.lemmas.Option.{none-some, same_Some}
 use Rattle.std.proofs.lemmas.Bool.Decides.{nat_tests}
 use Rattle.std.proofs.lemmas.List.{length-append, length-take, length-drop, length-replicate}
+use Rattle.base_types.specs.declared.layout.Layout.{Layout}
+use Rattle.base_types.specs.Layouts.{node_size, nodes_in_block, rank_byte}
+use Rattle.base_types.specs.LayoutLaws.{first_rank, last_rank, next_rank, rank_within}
 use Rattle.base_types.specs.Name.{is_name}
 use Rattle.base_types.specs.Runs.{run_places}
 use Rattle.base_types.specs.Seal.{Blocks}
-use Rattle.layout_geometry.specs.Geometry.{Geometry, IsGeometry, data_start, node_size, table_start}
+use Rattle.layout_geometry.specs.Geometry.{Geometry, IsGeometry, data_start, table_start}
 use Rattle.layout_bytes.specs.declared.node.Node.{Node}
 use Rattle.layout_bytes.specs.declared.node.NodeKind.{NodeKind}
 use Rattle.layout_bytes.specs.declared.node.NodeKind.TheVariants.{Free, Dir, File, Snapshot}
 use Rattle.layout_bytes.specs.Bitmap.{is_set}
-use Rattle.layout_bytes.specs.Node.{kind_byte}
+use Rattle.layout_bytes.specs.Node.{content_blocks, kind_byte}
 use Rattle.layout_bytes.specs.SnapshotName.{name_block}
-use Rattle.lang_tree.specs.Figures.{blocks_for}
-use Rattle.crash_stands.specs.Files.{used_node}
+use Rattle.crash_stands.specs.Files.{joined, used_node}
 use Rattle.crash_stands.specs.Places.{dir_blocks, dirs_from, is_copied, table_blocks}
 use Rattle.crash_stands.specs.Stands.{AreSound}
 use Rattle.crash_snapshots.specs.Making.{blocks_at, kept_block, kept_blocks, snapshot_of}
 use Rattle.crash_snapshots.specs.Places.{all_dirs, places_of_dir}
 use Rattle.engine_blocks.specs.Puts.{IsData}
 use Rattle.fs_snapshots.specs.Nodes.{live, short_name}
-use Rattle.fs_commands.specs.Gathering.{kept_quarter, kept_table_block, live_dirs, snapshot_bytes, snapshot_count}
-use Rattle.fs_commands.proofs.snapped.Bytes.{block_is}
+use Rattle.fs_commands.specs.Gathering.{kept_at_rank, kept_table_block, live_dirs, snapshot_bytes, snapshot_count}
+use Rattle.fs_commands.proofs.snapped.Bytes.{block_is, pieces_more}
 use Rattle.fs_commands.proofs.snapped.Live.{dirs_whole}
 
-name_long : (name : List ℕ) → length name ≤ 59 → length (name_block name) ≡ 1024
+name_long : (name : List ℕ) → length name ≤ 255 → length (name_block name) ≡ 1024
 name_long name few = omega (arith, few, length-append name (replicate {A = ℕ} (1023 - length name) 0), length-replicate {A = ℕ} (1023 - length name) 0)
 
-chosen_long : (b : Bool) (bytes : List ℕ) → length bytes ≡ 256 → length (if b then replicate {A = ℕ} node_size 0 else bytes) ≡ 256
-chosen_long true bytes is = length-replicate {A = ℕ} 256 0
-chosen_long false bytes is = is
+chosen_long : (l : Layout) (b : Bool) (bytes : List ℕ) → length bytes ≡ node_size l → length (if b then replicate {A = ℕ} (node_size l) 0 else bytes) ≡ node_size l
+chosen_long l true bytes is = length-replicate {A = ℕ} (node_size l) 0
+chosen_long l false bytes is = is
 
-quarter_long : (table : List ℕ) (r : ℕ) → length table ≡ 1024 → r < 4 → length (kept_quarter table r) ≡ 256
-quarter_long table r whole low =
-    let piece = take node_size (drop (node_size * r) table) in
-    chosen_long (slice_index piece 0 == kind_byte Snapshot) piece (omega (arith, whole, low, length-take node_size (drop (node_size * r) table), length-drop (node_size * r) table))
+rank_long : (l : Layout) (table : List ℕ) (r : ℕ) → length table ≡ 1024 → r < nodes_in_block l → length (kept_at_rank l table r) ≡ node_size l
+rank_long l table r whole low =
+    let piece = take (node_size l) (drop (rank_byte l r) table) in
+    chosen_long l (slice_index piece 0 == kind_byte Snapshot) piece (omega (arith, whole, rank_within l r low, length-take (node_size l) (drop (rank_byte l r) table), length-drop (rank_byte l r) table))
 
-table_block_long : (table : List ℕ) → length table ≡ 1024 → length (kept_table_block table) ≡ 1024
-table_block_long table whole =
-    omega (
-      arith,
-      quarter_long table 0 whole (omega arith),
-      quarter_long table 1 whole (omega arith),
-      quarter_long table 2 whole (omega arith),
-      quarter_long table 3 whole (omega arith),
-      length-append (kept_quarter table 0) (kept_quarter table 1 ++ (kept_quarter table 2 ++ kept_quarter table 3)),
-      length-append (kept_quarter table 1) (kept_quarter table 2 ++ kept_quarter table 3),
-      length-append (kept_quarter table 2) (kept_quarter table 3),
-    )
+pieces_long : (l : Layout) (p : Blocks) (n : ℕ) → ((r : ℕ) → r < n → length (p r) ≡ node_size l) → length (joined p (range_with_len 0 n)) ≡ rank_byte l n
+pieces_long l p zero each = sym (first_rank l)
+pieces_long l p (suc n) each =
+    ap (λ xs. length xs) (pieces_more p 0 n)
+    ∙ omega (arith, length-append (joined p (range_with_len 0 n)) (p (0 + n)), pieces_long l p n (λ r low. each r (omega (arith, low))), each (0 + n) (omega arith), next_rank l n)
+    ∙ ap (rank_byte l) {x = n + 1} {y = suc n} (omega arith)
+
+table_block_long : (l : Layout) (table : List ℕ) → length table ≡ 1024 → length (kept_table_block l table) ≡ 1024
+table_block_long l table whole = pieces_long l (kept_at_rank l table) (nodes_in_block l) (λ r low. rank_long l table r whole low) ∙ last_rank l
 
 -- each of some blocks is whole
 abbrev pub AreWhole : List (List ℕ) → Type 0
@@ -98,7 +97,7 @@ module _ (g : Geometry) (m : Blocks) (sound : AreSound g m) (limits : IsGeometry
   blocks_whole i zero fits = λ k y is. absurd (none-some y is)
   blocks_whole i (suc n) fits =
       one_more (kept_block g m i) (kept_blocks g m (i + 1) n)
-      (ap length (block_is g m i) ∙ table_block_long (m (table_start g + i)) (table_whole (table_start g + i) (omega arith) (omega (arith, fits))))
+      (ap length (block_is g m i) ∙ table_block_long g.layout (m (table_start g + i)) (table_whole (table_start g + i) (omega arith) (omega (arith, fits))))
       (blocks_whole (i + 1) n (omega (arith, fits)))
 
   -- each block of a snapshot is whole
@@ -112,22 +111,22 @@ module _ (g : Geometry) (m : Blocks) (sound : AreSound g m) (limits : IsGeometry
 
 -- directories have as many blocks as their bytes need
 abbrev pub CountLaw : Type 0
-CountLaw = (g : Geometry) (m : Blocks) (k : ℕ) (node : Node) → used_node g m k ≡ Some node → length (run_places node.runs) ≡ blocks_for node.size
+CountLaw = (g : Geometry) (m : Blocks) (k : ℕ) (node : Node) → used_node g m k ≡ Some node → length (run_places node.runs) ≡ content_blocks g.layout node.kind node.size
 
-dir_count : (node : Node) → length (run_places node.runs) ≡ blocks_for node.size → length (places_of_dir (Some node)) ≡ dir_blocks (Some node)
-dir_count node count = by node.kind
+dir_count : (l : Layout) (node : Node) → length (run_places node.runs) ≡ content_blocks l node.kind node.size → length (places_of_dir (Some node)) ≡ dir_blocks l (Some node)
+dir_count l node count = by node.kind count
   where
-    by : (kind : NodeKind) → length (if is_copied kind then run_places node.runs else []) ≡ (if is_copied kind then blocks_for node.size else 0)
-    by Free = refl
-    by Dir = count
-    by File = refl
-    by Snapshot = refl
+    by : (kind : NodeKind) → length (run_places node.runs) ≡ content_blocks l kind node.size → length (if is_copied kind then run_places node.runs else []) ≡ (if is_copied kind then content_blocks l kind node.size else 0)
+    by Free count = refl
+    by Dir count = count
+    by File count = refl
+    by Snapshot count = refl
 
-one_count : CountLaw → (g : Geometry) (m : Blocks) (k : ℕ) (o : Option Node) → used_node g m k ≡ o → length (places_of_dir o) ≡ dir_blocks o
+one_count : CountLaw → (g : Geometry) (m : Blocks) (k : ℕ) (o : Option Node) → used_node g m k ≡ o → length (places_of_dir o) ≡ dir_blocks g.layout o
 one_count law g m k None is = refl
-one_count law g m k (Some node) is = dir_count node (law g m k node is)
+one_count law g m k (Some node) is = dir_count g.layout node (law g m k node is)
 
-pub dirs_from_is : CountLaw → (g : Geometry) (m : Blocks) (k n : ℕ) → length (all_dirs (used_node g m) k n) ≡ dirs_from (used_node g m) k n
+pub dirs_from_is : CountLaw → (g : Geometry) (m : Blocks) (k n : ℕ) → length (all_dirs (used_node g m) k n) ≡ dirs_from g.layout (used_node g m) k n
 dirs_from_is law g m k zero = refl
 dirs_from_is law g m k (suc n) =
     omega (arith, length-append (places_of_dir (used_node g m k)) (all_dirs (used_node g m) (k + 1) n), one_count law g m k (used_node g m k) refl, dirs_from_is law g m (k + 1) n)

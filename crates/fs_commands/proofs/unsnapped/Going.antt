@@ -51,4 +51,4 @@ module _ (tells : Bool) (s t : State) (looks : LooksOnly tells false s t) where
 -- a snapshot is opened
 pub unopened : {counts : List ℕ} (s : State) (d : DraftState) (k : ℕ) → d ≡ begun_beside counts → IsSnapshot s.books.geom s.map k → None ≡ option_map facts_of (files_in s d k) → ⊥
 unopened s d k begun (node, used, kind) none =
-    none-some (facts_of (file_of s.map node)) (none ∙ ap (λ e. option_map facts_of (files_in s e k)) begun ∙ ap (λ o. option_map facts_of (option_map (file_of s.map) o)) used)
+    none-some (facts_of (file_of s.books.geom.layout s.map node)) (none ∙ ap (λ e. option_map facts_of (files_in s e k)) begun ∙ ap (λ o. option_map facts_of (option_map (file_of s.books.geom.layout s.map) o)) used)

@@ -78,7 +78,7 @@ module _ (tells : Bool) (s : State) (name : List ℕ) (gone : Gone) (rest : List
     goes_used = by goes_is
       where
         by : IsSnapshot s.books.geom s.map gone.number → IsUsed (files_in s d) gone.number
-        by (node, used, kind) = (file_of s.map node, (same gone.number).0 ∙ ap (option_map (file_of s.map)) used)
+        by (node, used, kind) = (file_of s.books.geom.layout s.map node, (same gone.number).0 ∙ ap (option_map (file_of s.books.geom.layout s.map)) used)
 
     unchanged : (b : ℕ) → is_some (change_of d.changed b) ≡ false
     unchanged b = ap is_some (begun.changed b) ∙ either (has gone.alone.items b)

@@ -4,6 +4,7 @@ use Rattle.std.proofs.lemmas.Bool.{cases_eq}
 use Rattle.std.proofs.lemmas.List.{length-append}
 use mathlib.Core.Path.{fun_ext}
 use Rattle.std.specs.FinMap.{get, remove}
+use Rattle.base_types.specs.declared.layout.Layout.{Layout}
 use Rattle.base_types.specs.Seal.{Blocks}
 use Rattle.layout_geometry.specs.Geometry.{Geometry, IsGeometry, bitmap_blocks}
 use Rattle.layout_bytes.specs.declared.node.NodeKind.{NodeKind}
@@ -37,6 +38,7 @@ use Rattle.fs_session.specs.Snapshots.{alone_among, kept_files_of, live_files}
 use Rattle.fs_session.specs.Space.{HasRoom, none_renewed}
 use Rattle.fs_commands.specs.declared.snapping.Gone.{Gone}
 use Rattle.fs_commands.specs.Snapping.{DraftsLoss, MayTake, MayUnsnap, figures_to_unsnap}
+use Rattle.fs_commands.proofs.keeping.Laid.{inodes_laid, reads_laid}
 use Rattle.fs_commands.proofs.Placing.{placed_by}
 use Rattle.fs_commands.proofs.planning.Behind.{may_plan_still}
 use Rattle.fs_commands.proofs.snapped.Answers.{NamedLaw, one_named}
@@ -76,25 +78,25 @@ module _ (tells : Bool) (s t : State) (looks : LooksOnly tells false s t) (told 
 -- The tree.
 
 -- no node is read as another one where a snapshot goes: it is no inode
-reads_itself : (o : Option FileNode) (i : Option Inode) → IsInodeOf o i → IsInodeOf o (option_and_then inode_of o)
-reads_itself None i h = refl
-reads_itself (Some file) None h = subst (λ x. IsInodeOf (Some file) x) (sym (ap (λ (k : NodeKind). inode_by k file.links file.bytes) h)) h
-reads_itself (Some file) (Some inode) h = subst (λ x. IsInodeOf (Some file) x) (sym h) h
+reads_itself : (lay : Layout) (o : Option FileNode) (i : Option Inode) → IsInodeOf lay o i → IsInodeOf lay o (option_and_then (inode_of lay) o)
+reads_itself lay None i h = refl
+reads_itself lay (Some file) None h = subst (λ x. IsInodeOf lay (Some file) x) (sym (ap (λ (k : NodeKind). inode_by lay k file.links file.bytes) h)) h
+reads_itself lay (Some file) (Some inode) h = subst (λ x. IsInodeOf lay (Some file) x) (sym h) h
 
-module _ (files new : Files) (n : ℕ) (file : IsWithFile files new n None) where
-  loss_reads : (m : Inodes) → AreInodesOf files m → AreInodesOf new (inodes_of new)
+module _ (l : Layout) (files new : Files) (n : ℕ) (file : IsWithFile files new n None) where
+  loss_reads : (m : Inodes) → AreInodesOf l files m → AreInodesOf l new (inodes_of l new)
   loss_reads m reads k = by (cases_eq k n)
     where
-      by : (k ≡ n) ⊎ (k ≢ n) → IsInodeOf (new k) (inodes_of new k)
-      by (inl same) = subst (λ o. IsInodeOf o (option_and_then inode_of o)) (sym (ap new same ∙ file.own)) refl
-      by (inr other) = subst (λ o. IsInodeOf o (option_and_then inode_of o)) (sym (file.others k other)) (reads_itself (files k) (m k) (reads k))
+      by : (k ≡ n) ⊎ (k ≢ n) → IsInodeOf l (new k) (inodes_of l new k)
+      by (inl same) = subst (λ o. IsInodeOf l o (option_and_then (inode_of l) o)) (sym (ap new same ∙ file.own)) refl
+      by (inr other) = subst (λ o. IsInodeOf l o (option_and_then (inode_of l) o)) (sym (file.others k other)) (reads_itself _ (files k) (m k) (reads k))
 
-  loss_inodes : (x : FileNode) → files n ≡ Some x → x.kind ≡ Snapshot → inodes_of files ≡ inodes_of new
+  loss_inodes : (x : FileNode) → files n ≡ Some x → x.kind ≡ Snapshot → inodes_of l files ≡ inodes_of l new
   loss_inodes x is kind = fun_ext (λ k. by k (cases_eq k n))
     where
-      by : (k : ℕ) → (k ≡ n) ⊎ (k ≢ n) → inodes_of files k ≡ inodes_of new k
-      by k (inl same) = ap (λ o. option_and_then inode_of o) (ap files same ∙ is) ∙ ap (λ (t : NodeKind). inode_by t x.links x.bytes) kind ∙ sym (ap (λ o. option_and_then inode_of o) (ap new same ∙ file.own))
-      by k (inr other) = sym (ap (λ o. option_and_then inode_of o) (file.others k other))
+      by : (k : ℕ) → (k ≡ n) ⊎ (k ≢ n) → inodes_of l files k ≡ inodes_of l new k
+      by k (inl same) = ap (λ o. option_and_then (inode_of l) o) (ap files same ∙ is) ∙ ap (λ (t : NodeKind). inode_by l t x.links x.bytes) kind ∙ sym (ap (λ o. option_and_then (inode_of l) o) (ap new same ∙ file.own))
+      by k (inr other) = sym (ap (λ o. option_and_then (inode_of l) o) (file.others k other))
 
 map_without : (limit : ℕ) (m : Inodes) (t : Tree) (name : List ℕ) → IsMapOf limit m t → IsMapOf limit m (unsnapped t name)
 map_without limit m t name h = record {
@@ -152,7 +154,7 @@ module _ (s now : State) (name : List ℕ) (gone : Gone) (f : Session) (is : Uns
     some = λ more. loss.changes;
   })
 
-  pub makes_unsnap : (x : FileNode) → files_of s.books.geom s.map gone.number ≡ Some x → x.kind ≡ Snapshot → (m : Inodes) → AreInodesOf (files_of s.books.geom s.map) m → IsMapOf f.limit (inodes s) f.tree
+  pub makes_unsnap : (x : FileNode) → files_of s.books.geom s.map gone.number ≡ Some x → x.kind ≡ Snapshot → (m : Inodes) → AreInodesOf s.books.geom.layout (files_of s.books.geom s.map) m → IsMapOf f.limit.nodes (inodes s) f.tree
       → gone.cost ≡ (figures_to_unsnap s gone.number (length gone.alone.items)).cost → HasRoom s.books (figures_to_unsnap s gone.number (length gone.alone.items)) → now.books ≡ s.books
       → ((m : Blocks) → HasDrafted now d m → TakesSnapshot now.books.geom now.map m gone.number) → MakesTree (Unsnap name) d gone.cost s now f
   makes_unsnap x there kind m reads map cost room books takes = record {
@@ -161,10 +163,11 @@ module _ (s now : State) (name : List ℕ) (gone : Gone) (f : Session) (is : Uns
     costs = ap (λ (n : Figures). n.cost) is.figures ∙ sym cost;
     room = subst (λ (n : Figures). HasRoom s.books n) (sym is.figures) room;
     runs = λ k some grown. absurd (omega (arith, some, ap (λ (n : Figures). n.need) is.figures));
-    reads = loss_reads (files_of s.books.geom s.map) (files_in now d) gone.number loss.file m reads;
-    map = subst (λ (u : Tree). IsMapOf f.limit (inodes_of (files_in now d)) u) (sym (ap (λ r. (answered f (Unsnap name) r).0.tree) is.accepted))
-        (map_without f.limit (inodes_of (files_in now d)) f.tree name
-        (subst (λ (i : Inodes). IsMapOf f.limit i f.tree) (loss_inodes (files_of s.books.geom s.map) (files_in now d) gone.number loss.file x there kind) map));
+    reads = reads_laid s now (ap (λ (b : Bookkeeping). b.geom) books) d (loss_reads s.books.geom.layout (files_of s.books.geom s.map) (files_in now d) gone.number loss.file m reads);
+    map = subst (λ (u : Tree). IsMapOf f.limit.nodes (inodes_of now.books.geom.layout (files_in now d)) u) (sym (ap (λ r. (answered f (Unsnap name) r).0.tree) is.accepted))
+        (map_without f.limit.nodes (inodes_of now.books.geom.layout (files_in now d)) f.tree name
+        (subst (λ (i : Inodes). IsMapOf f.limit.nodes i f.tree) (loss_inodes s.books.geom.layout (files_of s.books.geom s.map) (files_in now d) gone.number loss.file x there kind
+        ∙ sym (inodes_laid s now (ap (λ (b : Bookkeeping). b.geom) books) d)) map));
     snapshots = record { kept = is.kept; is = is.is; takes = λ m made. subst (TakesSnapshot now.books.geom now.map m) (sym is.number_is) (takes m made) };
     within = within_cost now.books.geom (ap (λ (b : Bookkeeping). b.geom) books) cost;
     uses = uses_unrenewed s f (Unsnap name) (renews_without_bytes s f (Unsnap name) refl) _ _ (reusable_blocks now.books) (places_of s) (places_in now d) d

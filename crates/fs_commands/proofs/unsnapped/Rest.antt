@@ -68,8 +68,9 @@ module _ (tells : Bool) (s : State) (name counts : List ℕ) (gone : Gone) (goes
       never (one, at) =
           let tree = stands.1 in
           let used : used_node s.books.geom s.map 1 ≡ Some one.node = ap (used_node s.books.geom s.map) (sym at) ∙ one.is_node in
-          let read : IsInodeOf (Some (file_of s.map one.node)) (Some (ADir tree.map.root.0)) = subst (λ o. IsInodeOf o (Some (ADir tree.map.root.0))) (ap (option_map (file_of s.map)) used) (subst (IsInodeOf _) tree.map.root.1 (tree.read 1)) in
-          none-some (ADir tree.map.root.0) (sym (ap (λ (k : NodeKind). inode_by k one.node.links (file_of s.map one.node).bytes) one.kind) ∙ read)
+          let l = s.books.geom.layout in
+          let read : IsInodeOf l (Some (file_of l s.map one.node)) (Some (ADir tree.map.root.0)) = subst (λ o. IsInodeOf l o (Some (ADir tree.map.root.0))) (ap (option_map (file_of l s.map)) used) (subst (IsInodeOf l _) tree.map.root.1 (tree.read 1)) in
+          none-some (ADir tree.map.root.0) (sym (ap (λ (k : NodeKind). inode_by l k one.node.links (file_of l s.map one.node).bytes) one.kind) ∙ read)
 
       by : (keeps_block s.books.geom s.map b 1 ≡ true) ⊎ (keeps_block s.books.geom s.map b 1 ≡ false) → keeps_block s.books.geom s.map b 1 ≡ false
       by (inl e) = absurd (never ((each s.books.geom s.map b 1).0 e))

@@ -5,7 +5,9 @@ use Rattle.std.proofs.lemmas.Option.{none-some, same_Some, slice_get-get_or, sli
 use Rattle.std.specs.List.{filter, range_with_len}
 use Rattle.base_types.specs.Runs.{run_places}
 use Rattle.base_types.specs.Seal.{Blocks}
-use Rattle.layout_geometry.specs.Geometry.{Geometry, IsGeometry, bitmap_blocks, data_start, node_size}
+use Rattle.base_types.specs.Layouts.{node_size}
+use Rattle.base_types.specs.LayoutLaws.{node_in_table}
+use Rattle.layout_geometry.specs.Geometry.{Geometry, IsGeometry, bitmap_blocks, data_start}
 use Rattle.layout_bytes.specs.declared.node.Node.{Node}
 use Rattle.layout_bytes.specs.declared.node.NodeKind.TheVariants.{File, Snapshot}
 use Rattle.layout_bytes.specs.Bitmap.{is_set}
@@ -46,7 +48,7 @@ SameLaw tells s = (d : DraftState) (m : Blocks) (k : ℕ) → AreSound s.books.g
 
 -- and the bytes of no node are zeros
 abbrev pub BareLaw : Bool → State → Type 0
-BareLaw tells s = (d : DraftState) (m : Blocks) (k : ℕ) → IsDraftOf tells s d → HasDrafted s d m → 1 ≤ k → k ≤ s.books.geom.i → node_at s.books.geom m k ≡ None → node_bytes s.books.geom m k ≡ replicate node_size 0
+BareLaw tells s = (d : DraftState) (m : Blocks) (k : ℕ) → IsDraftOf tells s d → HasDrafted s d m → 1 ≤ k → k ≤ s.books.geom.i → node_at s.books.geom m k ≡ None → node_bytes s.books.geom m k ≡ replicate (node_size s.books.geom.layout) 0
 
 pub all_has : (P : ℕ → Type 0) (xs : List ℕ) (b : ℕ) → All P xs → has xs b ≡ true → P b
 all_has P xs b all is =
@@ -237,7 +239,7 @@ module _ (tells : Bool) (s : State) (name : List ℕ) (gone : Gone) (rest : List
             by here
           where
             by : ((b == node_block g gone.number) ≡ true) ⊎ (false ≡ true) → ⊥
-            by (inl at) = omega (arith, eqb-true b (node_block g gone.number) at, from, number_in.0, number_in.1, limits.whole_blocks)
+            by (inl at) = omega (arith, eqb-true b (node_block g gone.number) at, from, node_in_table g.layout g.i gone.number limits.whole_blocks number_in.0 number_in.1)
             by (inr never) = true≢false (sym never)
 
         unchanged : change_of d.changed b ≡ None
@@ -249,7 +251,7 @@ module _ (tells : Bool) (s : State) (name : List ℕ) (gone : Gone) (rest : List
       node = node;
       is_node = used;
       kind = kind;
-      gone = nothing_in (file_of m) (used_node g m gone.number) (made.files gone.number ∙ loss.file.own);
+      gone = nothing_in (file_of g.layout m) (used_node g m gone.number) (made.files gone.number ∙ loss.file.own);
       others = λ k other. same d m k sound draft made (loss.file.others k other) (loss.places.others k other);
       bare = λ k from upto none. bare d m k draft made from upto none;
       bits = λ b low. (marked_to b low, marked_from b low);

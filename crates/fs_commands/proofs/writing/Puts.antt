@@ -19,8 +19,8 @@ use Rattle.fs_commands.specs.Writing.{PutsBytes}
 
 -- what other bytes of a file make of the inode map, for a command
 abbrev pub Maps : Cmd → List (List ℕ) → ℕ → List ℕ → Type 0
-Maps cmd path offset bytes = (s : Session) (m new : Inodes) (node links : ℕ) (old : List ℕ) → IsMapOf s.limit m s.tree → refusal s.limit s.tree cmd ≡ None → 0 < length bytes → LeadsTo m path node → m node ≡ Some (AFile links old)
-    → Sets m new node (Some (AFile links (written offset bytes old))) → IsMapOf s.limit new (step s cmd).0.tree
+Maps cmd path offset bytes = (s : Session) (m new : Inodes) (node links : ℕ) (old : List ℕ) → IsMapOf s.limit.nodes m s.tree → refusal s.limit s.tree cmd ≡ None → 0 < length bytes → LeadsTo m path node → m node ≡ Some (AFile links old)
+    → Sets m new node (Some (AFile links (written offset bytes old))) → IsMapOf s.limit.nodes new (step s cmd).0.tree
 
 pub record PutsSo (cmd : Cmd) (path : List (List ℕ)) (offset : ℕ) (bytes : List ℕ) : Type 0 where
   pub takes : (bitmap : ℕ) (shared : SharedNodes) (alone : BlocksAlone) (f : Session) → refusal f.limit f.tree cmd ≡ None
@@ -56,10 +56,10 @@ fill_so path offset n byte bytes is size law = record {
 }
 
 pub puts_so : (cmd : Cmd) (path : List (List ℕ)) (offset : ℕ) (bytes : List ℕ) → PutsBytes cmd path offset bytes
-    → ((s : Session) (m new : Inodes) (path : List (List ℕ)) (offset : ℕ) (bytes : List ℕ) (node links : ℕ) (old : List ℕ) → IsMapOf s.limit m s.tree → refusal s.limit s.tree (Write path offset bytes) ≡ None
-    → 0 < length bytes → LeadsTo m path node → m node ≡ Some (AFile links old) → Sets m new node (Some (AFile links (written offset bytes old))) → IsMapOf s.limit new (step s (Write path offset bytes)).0.tree)
-    → ((s : Session) (m new : Inodes) (path : List (List ℕ)) (offset count byte node links : ℕ) (old : List ℕ) → IsMapOf s.limit m s.tree → refusal s.limit s.tree (Fill path offset count byte) ≡ None
-    → 0 < count → LeadsTo m path node → m node ≡ Some (AFile links old) → Sets m new node (Some (AFile links (written offset (replicate count byte) old))) → IsMapOf s.limit new (step s (Fill path offset count byte)).0.tree)
+    → ((s : Session) (m new : Inodes) (path : List (List ℕ)) (offset : ℕ) (bytes : List ℕ) (node links : ℕ) (old : List ℕ) → IsMapOf s.limit.nodes m s.tree → refusal s.limit s.tree (Write path offset bytes) ≡ None
+    → 0 < length bytes → LeadsTo m path node → m node ≡ Some (AFile links old) → Sets m new node (Some (AFile links (written offset bytes old))) → IsMapOf s.limit.nodes new (step s (Write path offset bytes)).0.tree)
+    → ((s : Session) (m new : Inodes) (path : List (List ℕ)) (offset count byte node links : ℕ) (old : List ℕ) → IsMapOf s.limit.nodes m s.tree → refusal s.limit s.tree (Fill path offset count byte) ≡ None
+    → 0 < count → LeadsTo m path node → m node ≡ Some (AFile links old) → Sets m new node (Some (AFile links (written offset (replicate count byte) old))) → IsMapOf s.limit.nodes new (step s (Fill path offset count byte)).0.tree)
     → PutsSo cmd path offset bytes
 puts_so cmd path offset bytes (inl is) writes fills =
     subst (λ c. PutsSo c path offset bytes) (sym is) (write_so path offset bytes (λ s m new node links old map accepted some leads at sets. writes s m new path offset bytes node links old map accepted some leads at sets))

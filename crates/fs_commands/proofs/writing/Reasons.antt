@@ -6,6 +6,7 @@ use Rattle.std.specs.FinMap.{get}
 use Rattle.layout_geometry.specs.Geometry.{bitmap_blocks}
 use Rattle.engine_blocks.specs.State.{State}
 use Rattle.fs_session.specs.Commands.{alone_on, figures_on, shared_on}
+use Rattle.base_types.specs.declared.layout.Layout.{Layout}
 use Rattle.lang_tree.specs.declared.command.Cmd.TheVariants.{Write}
 use Rattle.lang_tree.specs.declared.command.Refusal.{Refusal}
 use Rattle.lang_tree.specs.declared.command.Refusal.TheVariants.{IsDir, TooLarge}
@@ -38,9 +39,9 @@ pub not_too_large : (offset n : ℕ) → offset + n ≤ 1073741824 → (nat_lt 0
 not_too_large offset n fits = ap (λ b. nat_lt 0 n && b) (le-ltb 1073741824 (offset + n) fits) ∙ and-false (nat_lt 0 n)
 
 -- the refusal of a command that puts so many bytes into a file that was found
-pub refusal_is : (m : Inodes) (f : Session) (cmd : Cmd) (path : List (List ℕ)) (offset n : ℕ) → RefusalLaw → ((least : Option ℕ) (kept : Snapshots) → reason least kept m cmd ≡ write_reason m path offset n) → (found : NodeFound) → IsKnownFile m f path found
+pub refusal_is : (m : Inodes) (f : Session) (cmd : Cmd) (path : List (List ℕ)) (offset n : ℕ) → RefusalLaw → ((l : Layout) (least : Option ℕ) (kept : Snapshots) → reason l least kept m cmd ≡ write_reason m path offset n) → (found : NodeFound) → IsKnownFile m f path found
     → (b : Bool) → (nat_lt 0 n && is_too_large (offset + n)) ≡ b → refusal f.limit f.tree cmd ≡ first_reason (None ∷ when false IsDir ∷ when b TooLarge ∷ [])
-refusal_is m f cmd path offset n law is found k b large = law f.limit m f.tree cmd k.map ∙ is (least_unused f.limit f.tree) f.tree.snapshots ∙ write_reason_is m path found.number offset n b k.walk k.file large
+refusal_is m f cmd path offset n law is found k b large = law f.limit m f.tree cmd k.map ∙ is f.limit.layout (least_unused f.limit.nodes f.tree) f.tree.snapshots ∙ write_reason_is m path found.number offset n b k.walk k.file large
 
 -- no bytes change nothing, and take nothing
 pub nothing_put : (s : State) (f : Session) (path : List (List ℕ)) (offset : ℕ) (bytes : List ℕ) → refusal f.limit f.tree (Write path offset bytes) ≡ None → (length bytes == 0) ≡ true

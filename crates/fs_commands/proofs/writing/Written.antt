@@ -1,4 +1,5 @@
 -- A draft that puts bytes into a file makes the tree of the command, and is within its cost.
+use Rattle.base_types.specs.Layouts.{most_runs}
 use Rattle.std.proofs.Common.{◌≡◌, ◌≢◌, ℕ, ◌+◌, ◌-◌, ◌/◌, ◌<◌, ◌≤◌, ◌==◌, nat_le, min, max, Bool, true, false, ◌&&◌, cond, List, [], ◌∷◌, ◌++◌, take, drop, length, Option, Some, option_and_then, refl, sym, subst, ap, ap₂, ◌∙◌, arith, Ok}
 use mathlib.Core.Path.{fun_ext}
 use Rattle.std.specs.FinMap.{get}
@@ -6,6 +7,7 @@ use Rattle.std.proofs.Math.Bool.{and-false, and-true}
 use Rattle.std.proofs.lemmas.Bool.{eq-eqb, ne_eqb, cond-false}
 use Rattle.std.proofs.lemmas.List.{length-append, length-take, length-drop}
 use Rattle.std.proofs.lemmas.Option.{same_Some}
+use Rattle.base_types.specs.declared.layout.Layout.{Layout}
 use Rattle.layout_geometry.specs.Geometry.{Geometry, bitmap_blocks}
 use Rattle.layout_extent.specs.Renew.{renew}
 use Rattle.layout_extent.specs.Runs.{stretches}
@@ -25,7 +27,7 @@ use Rattle.fs_inodes.specs.Changes.{Sets}
 use Rattle.fs_inodes.specs.Lookups.{bytes_of, walk_on, inode_at}
 use Rattle.engine_blocks.specs.State.{Bookkeeping, State, reusable_blocks}
 use Rattle.fs_files.specs.Bytes.{met, overwritten}
-use Rattle.fs_files.specs.Calls.{IsWithFile, ChangesAmong, Grows, is_dir, files_in, places_in, written_blocks, with_bytes}
+use Rattle.fs_files.specs.Calls.{IsWithFile, ChangesAmong, Grows, is_dir, files_in, places_in, written_blocks, written_from, with_bytes}
 use Rattle.fs_files.specs.Drafts.{DraftState, begun_beside, nothing_drafted}
 use Rattle.fs_files.specs.Growing.{alone, places_after, taken_by}
 use Rattle.fs_files.specs.Nodes.{node_block}
@@ -39,6 +41,7 @@ use Rattle.fs_session.specs.Snapshots.{LeavesSnapshots}
 use Rattle.fs_session.specs.declared.unused.NodeUse.TheVariants.{Stays}
 use Rattle.fs_session.specs.Sessions.{IsSession, KeepsUsed, inodes}
 use Rattle.fs_commands.specs.Writing.{IsWeighed}
+use Rattle.fs_commands.proofs.keeping.Laid.{inodes_laid, reads_laid}
 use Rattle.fs_commands.proofs.AtMost.{only_these}
 use Rattle.fs_commands.proofs.Placing.{placed_renewed}
 use Rattle.fs_commands.proofs.counting.Touched.{ways_count, ways_renew}
@@ -52,20 +55,20 @@ use Rattle.fs_commands.specs.Figures.{kept_places}
 
 -- One node became a file with other bytes.
 
-pub file_reads : (x : FileNode) → x.kind ≡ File → inode_of x ≡ Some (AFile x.links x.bytes)
-file_reads x e = cc
+pub file_reads : (lay : Layout) (x : FileNode) → x.kind ≡ File → inode_of lay x ≡ Some (AFile x.links x.bytes)
+file_reads lay x e = cc
 
-pub file_bytes : (x : FileNode) → x.kind ≡ File → bytes_of (inode_of x) ≡ x.bytes
-file_bytes x e = ap bytes_of (file_reads x e)
+pub file_bytes : (lay : Layout) (x : FileNode) → x.kind ≡ File → bytes_of (inode_of lay x) ≡ x.bytes
+file_bytes lay x e = ap bytes_of (file_reads _ x e)
 
-pub read_with : (old new : Files) (k : ℕ) (x : FileNode) (i : Inode) → inode_of x ≡ Some i → IsWithFile old new k (Some x) → AreInodesOf old (inodes_of old) → AreInodesOf new (inodes_of new)
-read_with old new k x i is h = read_still old new k (subst (λ o. IsInodeOf o (option_and_then inode_of o)) (sym h.own) (subst (λ o. IsInodeOf (Some x) o) (sym is) is)) h.others
+pub read_with : (l : Layout) (old new : Files) (k : ℕ) (x : FileNode) (i : Inode) → inode_of l x ≡ Some i → IsWithFile old new k (Some x) → AreInodesOf l old (inodes_of l old) → AreInodesOf l new (inodes_of l new)
+read_with l old new k x i is h = read_still l old new k (subst (λ o. IsInodeOf l o (option_and_then (inode_of l) o)) (sym h.own) (subst (λ o. IsInodeOf l (Some x) o) (sym is) is)) h.others
 
 -- so one inode is set
-pub sets_inode : (old new : Files) (k : ℕ) (x : FileNode) (i : Inode) → inode_of x ≡ Some i → IsWithFile old new k (Some x) → Sets (inodes_of old) (inodes_of new) k (Some i)
-sets_inode old new k x i is h = record {
-  here = ap (option_and_then inode_of) h.own ∙ is;
-  others = λ l d. ap (option_and_then inode_of) (h.others l d);
+pub sets_inode : (l : Layout) (old new : Files) (k : ℕ) (x : FileNode) (i : Inode) → inode_of l x ≡ Some i → IsWithFile old new k (Some x) → Sets (inodes_of l old) (inodes_of l new) k (Some i)
+sets_inode l old new k x i is h = record {
+  here = ap (option_and_then (inode_of l)) h.own ∙ is;
+  others = λ n d. ap (option_and_then (inode_of l)) (h.others n d);
 }
 
 last_one : (b : Bool) (x : ℕ) → length (cond {A = List ℕ} b [] (x ∷ [])) ≤ 1
@@ -86,27 +89,31 @@ module _ (counts : List ℕ) (places : List ℕ) (size lo hi : ℕ) (count : len
   pub placed_is : (spare : List ℕ) → places_after (is_kept counts) lo hi places spare ≡ renew (is_renewed shares lo hi) 0 places (take (taken_by (is_kept counts) lo hi places) spare)
   placed_is spare = ways_renew counts places lo hi (take (taken_by (is_kept counts) lo hi places) spare)
 
-module _ (g : Geometry) (number : ℕ) (x : FileNode) (counts places new_places : List ℕ) (k : Bookkeeping) (d : DraftState) (lo hi : ℕ) (file : x.kind ≡ File) (count : length places ≡ blocks_for (length x.bytes))
+module _ (g : Geometry) (number : ℕ) (x : FileNode) (counts places new_places : List ℕ) (k : Bookkeeping) (d : DraftState) (off lo hi : ℕ) (file : x.kind ≡ File) (begins : min off (length x.bytes) ≡ lo) (count : length places ≡ blocks_for (length x.bytes))
     (kept_too : KeptTooLaw) (division : DivisionLaw)
-    (grows : Grows k x places new_places lo hi (begun_beside counts) d) (among : ChangesAmong (written_blocks g (is_kept counts) number x places (drop (length places) new_places) lo hi) (begun_beside counts) d) where
+    (grows : Grows k x places new_places lo hi (begun_beside counts) d) (among : ChangesAmong (written_blocks g (is_kept counts) number x places (drop (length places) new_places) off hi) (begun_beside counts) d) where
   abbrev met_shared : ℕ
   met_shared = shared_met (kept_places counts places) (length x.bytes) lo hi
 
   abbrev taken_now : ℕ
   taken_now = met_shared + (blocks_for (max (length x.bytes) hi) - blocks_for (length x.bytes))
 
-  few : length (written_blocks g (is_kept counts) number x places (drop (length places) new_places) lo hi) ≤ blocks_met (length x.bytes) lo hi - met_shared + 1
+  -- the bytes that it changes begin there
+  from : written_from x off ≡ lo
+  from = ap (λ kind. cond (is_dir kind) off (min off (length x.bytes))) file ∙ begins
+
+  few : length (written_blocks g (is_kept counts) number x places (drop (length places) new_places) off hi) ≤ blocks_met (length x.bytes) lo hi - met_shared + 1
   few =
       let more = drop (length places) new_places in
-      let still = nat_le hi (length x.bytes) && (taken_by (is_kept counts) lo hi places == 0) in
+      let still = nat_le hi (length x.bytes) && (taken_by (is_kept counts) (min off (length x.bytes)) hi places == 0) in
       let node = cond {A = List ℕ} still [] (node_block g number ∷ []) in
       let none : cond (is_dir x.kind) more [] ≡ [] = ap (λ kind. cond (is_dir kind) more []) file in
-      omega (arith, length-append (alone (is_kept counts) (met lo hi places)) (cond (is_dir x.kind) more [] ++ node), kept_too (is_kept counts) lo hi places, ways_count counts places lo hi (length x.bytes) count, length-append (cond (is_dir x.kind) more []) node, ap (λ (xs : List ℕ). length xs) none, last_one still (node_block g number), met_places lo hi places, count, division (length x.bytes) lo hi)
+      omega (arith, length-append (alone (is_kept counts) (met (written_from x off) hi places)) (cond (is_dir x.kind) more [] ++ node), ap (λ n. length (alone (is_kept counts) (met n hi places))) from, kept_too (is_kept counts) lo hi places, ways_count counts places lo hi (length x.bytes) count, length-append (cond (is_dir x.kind) more []) node, ap (λ (xs : List ℕ). length xs) none, last_one still (node_block g number), met_places lo hi places, count, division (length x.bytes) lo hi)
 
   pub at_most : ChangesAtMost d (blocks_met (length x.bytes) lo hi - met_shared + 1) taken_now taken_now 0
   at_most = record {
-    blocks = written_blocks g (is_kept counts) number x places (drop (length places) new_places) lo hi;
-    only = only_these (written_blocks g (is_kept counts) number x places (drop (length places) new_places) lo hi) d among;
+    blocks = written_blocks g (is_kept counts) number x places (drop (length places) new_places) off hi;
+    only = only_these (written_blocks g (is_kept counts) number x places (drop (length places) new_places) off hi) d among;
     few_changed = few;
     few_fresh = omega (arith, grows.fresh, ap (λ kind. cond (is_dir kind) 0 (taken_by (is_kept counts) lo hi places)) file, taken_is counts places (length x.bytes) lo hi count);
     few_taken = omega (arith, ap (λ (xs : List ℕ). length xs) grows.taken, length-take (taken_by (is_kept counts) lo hi places) (reusable_blocks k), taken_is counts places (length x.bytes) lo hi count);
@@ -145,7 +152,7 @@ grown_uses s t d counts renewed number lo hi need freed x count is none here els
 
 -- A file that a path leads to, in a session: the node and the tree hold the same bytes, and it has as many blocks as these need.
 pub record AtFile (s : State) (f : Session) (path : List (List ℕ)) (number : ℕ) (x : FileNode) : Type 0 where
-  pub map : IsMapOf f.limit (inodes s) f.tree
+  pub map : IsMapOf f.limit.nodes (inodes s) f.tree
   pub leads : LeadsTo (inodes s) path number
   pub is : files_in s nothing_drafted number ≡ Some x
   pub file : x.kind ≡ File
@@ -153,19 +160,19 @@ pub record AtFile (s : State) (f : Session) (path : List (List ℕ)) (number : �
   pub count : length (places_of s number) ≡ blocks_for (length x.bytes)
 
 pub at_file : (s : State) (f : Session) (path : List (List ℕ)) (number : ℕ) (x : FileNode) → IsSession s f → MapLaw → EndsLaw
-    → ((files : Files) (path : List (List ℕ)) (k : ℕ) (x : FileNode) → LeadsTo (inodes_of files) path k → files k ≡ Some x → inode_at (inodes_of files) path ≡ inode_of x)
+    → ((l : Layout) (files : Files) (path : List (List ℕ)) (k : ℕ) (x : FileNode) → LeadsTo (inodes_of l files) path k → files k ≡ Some x → inode_at (inodes_of l files) path ≡ inode_of l x)
     → ((limit : ℕ) (m : Inodes) (t : Tree) (path : List (List ℕ)) → IsMapOf limit m t → content t path ≡ bytes_of (inode_at m path))
     → walk_on (inodes s) 1 path ≡ Ok number → files_in s nothing_drafted number ≡ Some x → x.kind ≡ File → length (places_of s number) ≡ blocks_for (length x.bytes) → AtFile s f path number x
 at_file s f path number x h map ends at bytes walk is file count =
     let leads = ends (inodes s) path number walk in
     let mine = session_map map s f h in
-    record { map = mine; leads = leads; is = is; file = file; holds = bytes f.limit (inodes s) f.tree path mine ∙ ap bytes_of (at (files_in s nothing_drafted) path number x leads is) ∙ file_bytes x file; count = count }
+    record { map = mine; leads = leads; is = is; file = file; holds = bytes f.limit.nodes (inodes s) f.tree path mine ∙ ap bytes_of (at s.books.geom.layout (files_in s nothing_drafted) path number x leads is) ∙ file_bytes _ x file; count = count }
 
 -- What a write left in its draft: the file with the bytes, and what was taken and changed.
 pub record Wrote (tells : Bool) (s t : State) (old new : DraftState) (number offset : ℕ) (bytes : List ℕ) (x : FileNode) : Type 0 where
   pub file : IsWithFile (files_in s old) (files_in t new) number (Some (with_bytes x (overwritten offset bytes x.bytes)))
   pub grows : Grows t.books x (places_in s old number) (places_in t new number) (min offset (length x.bytes)) (offset + length bytes) old new
-  pub among : ChangesAmong (written_blocks s.books.geom (is_kept old.kept) number x (places_in s old number) (drop (length (places_in s old number)) (places_in t new number)) (min offset (length x.bytes)) (offset + length bytes)) old new
+  pub among : ChangesAmong (written_blocks s.books.geom (is_kept old.kept) number x (places_in s old number) (drop (length (places_in s old number)) (places_in t new number)) offset (offset + length bytes)) old new
   pub others : (l : ℕ) → l ≢ number → places_in t new l ≡ places_in s old l
   pub looks : taken_by (is_kept old.kept) (min offset (length x.bytes)) (offset + length bytes) (places_in s old number) ≤ length (reusable_blocks s.books) → LooksOnly tells false s t
 
@@ -185,13 +192,14 @@ module _ (s : State) (f : Session) (cmd : Cmd) (path : List (List ℕ)) (number 
       ∙ ap (λ b. touched_by f.tree cmd (shared_on s f l) i && b) (ne_eqb number l (λ e. other (sym e))) ∙ and-false (touched_by f.tree cmd (shared_on s f l) i))
 
   -- the node has room for its runs, where its blocks are these
-  pub runs_there : (t : State) (need : ℕ) (x : FileNode) (new_places : List ℕ) (d : DraftState) → length (places_of s number) ≡ blocks_for (length x.bytes) → need ≡ taken_by (is_kept counts) lo hi (places_of s number)
+  pub runs_there : (t : State) → t.books.geom ≡ s.books.geom → (need : ℕ) (x : FileNode) (new_places : List ℕ) (d : DraftState) → length (places_of s number) ≡ blocks_for (length x.bytes) → need ≡ taken_by (is_kept counts) lo hi (places_of s number)
       → Grows t.books x (places_of s number) new_places lo hi (begun_beside counts) d → GrowsInRuns (renewed_on s f cmd number) s t.books number need
-  runs_there t need x new_places d count is grows = record {
+  runs_there t geom need x new_places d count is grows = record {
     enough = subst (λ n. n ≤ length (reusable_blocks t.books)) (sym is) grows.enough;
-    runs = subst (λ (places : List ℕ). stretches places ≤ 28)
+    runs = subst (λ (places : List ℕ). stretches places ≤ most_runs s.books.geom.layout)
         (grows.placed ∙ placed_is counts (places_of s number) (length x.bytes) lo hi count (reusable_blocks t.books)
-        ∙ ap₂ (λ (r : SharedPlaces) (n : ℕ). renew r 0 (places_of s number) (take n (reusable_blocks t.books))) (sym renewed_there) (sym is)) grows.runs;
+        ∙ ap₂ (λ (r : SharedPlaces) (n : ℕ). renew r 0 (places_of s number) (take n (reusable_blocks t.books))) (sym renewed_there) (sym is))
+        (subst (λ (g : Geometry). stretches new_places ≤ most_runs g.layout) geom grows.runs);
   }
 
 -- Bytes that a command puts into a file: the draft makes the command's tree.
@@ -227,25 +235,26 @@ module _ (s : State) (f : Session) (cmd : Cmd) (path : List (List ℕ)) (offset 
   need_is = ap (λ (n : Figures). n.need) figures_are ∙ sym (taken_is counts (places_of s number) (length x.bytes) lo hi a.count)
 
   pub puts_tree : (t : State) (d : DraftState) (tells failed settling : Bool) → KeptTooLaw → DivisionLaw → WritingLaw → LooksAndSettles tells failed settling s t → Wrote tells s t (begun_beside counts) d number offset bytes x
-      → StaysBeside d t → AreInodesOf (files_in s nothing_drafted) (inodes_in s nothing_drafted) → MakesTree cmd d cost s t f
+      → StaysBeside d t → AreInodesOf s.books.geom.layout (files_in s nothing_drafted) (inodes_in s nothing_drafted) → MakesTree cmd d cost s t f
   puts_tree t d tells failed settling kept_too division small settles w stays reads =
       let new : FileNode = with_bytes x (overwritten offset bytes x.bytes) in
-      let becomes : inode_of new ≡ Some (AFile x.links (written offset bytes x.bytes)) = file_reads new a.file ∙ ap (λ xs. Some (AFile x.links xs)) (cond-false (length bytes == 0) x.bytes (written offset bytes x.bytes) (ne_eqb (length bytes) 0 (λ e. absurd (omega (arith, e, some))))) in
-      let was : inodes_in s nothing_drafted number ≡ Some (AFile x.links x.bytes) = ap (option_and_then inode_of) a.is ∙ file_reads x a.file in
+      let becomes : inode_of s.books.geom.layout new ≡ Some (AFile x.links (written offset bytes x.bytes)) = file_reads _ new a.file ∙ ap (λ xs. Some (AFile x.links xs)) (cond-false (length bytes == 0) x.bytes (written offset bytes x.bytes) (ne_eqb (length bytes) 0 (λ e. absurd (omega (arith, e, some))))) in
+      let was : inodes_in s nothing_drafted number ≡ Some (AFile x.links x.bytes) = ap (option_and_then (inode_of s.books.geom.layout)) a.is ∙ file_reads _ x a.file in
       record {
         accepted = weighed.accepted;
         answer = so.answer f weighed.accepted ∙ ap (λ (p : Session × Reply). p.1) (cond-false (length bytes == 0) (f, Done) (changed_to f (edited f.tree path (written offset bytes))) (ne_eqb (length bytes) 0 (λ e. absurd (omega (arith, e, some)))));
         costs = weighed.costs;
         room = weighed.room;
         runs = λ k more grown. subst (λ n. GrowsInRuns (renewed_on s f cmd n) s t.books n (figures_on s f cmd).need) (same_Some number k (sym a.leads ∙ sym (grows_alike s cmd so.keeps ∙ so.grown (inodes s)) ∙ grown))
-            (runs_there s f cmd path number lo hi counts shared lies_there touches_there t (figures_on s f cmd).need x (places_in t d number) d a.count need_is w.grows);
-        reads = read_with (files_in s nothing_drafted) (files_in t d) number new (AFile x.links (written offset bytes x.bytes)) becomes w.file reads;
+            (runs_there s f cmd path number lo hi counts shared lies_there touches_there t settles.pipeline.geom (figures_on s f cmd).need x (places_in t d number) d a.count need_is w.grows);
+        reads = reads_laid s t settles.pipeline.geom d (read_with s.books.geom.layout (files_in s nothing_drafted) (files_in t d) number new (AFile x.links (written offset bytes x.bytes)) becomes w.file reads);
         map = so.maps f (inodes_in s nothing_drafted) (inodes_in t d) number x.links x.bytes a.map weighed.accepted some a.leads was
-            (sets_inode (files_in s nothing_drafted) (files_in t d) number new (AFile x.links (written offset bytes x.bytes)) becomes w.file);
+            (subst (λ m. Sets (inodes_in s nothing_drafted) m number (Some (AFile x.links (written offset bytes x.bytes)))) (sym (inodes_laid s t settles.pipeline.geom d))
+            (sets_inode s.books.geom.layout (files_in s nothing_drafted) (files_in t d) number new (AFile x.links (written offset bytes x.bytes)) becomes w.file));
         snapshots = makes_stay cmd d t f so.keeps stays;
         within = subst (λ n. IsWithinCost t.books.geom d n) (sym (ap (λ (n : Figures). n.cost) figures_are) ∙ weighed.costs)
             (subst (λ (g : Geometry). IsWithinCost t.books.geom d (writing_over (bitmap_blocks g) kept (length x.bytes) lo hi).cost) settles.pipeline.geom
-            (small t.books.geom d kept (length x.bytes) lo hi (at_most s.books.geom number x counts (places_of s number) (places_in t d number) t.books d lo hi a.file a.count kept_too division w.grows w.among)));
+            (small t.books.geom d kept (length x.bytes) lo hi (at_most s.books.geom number x counts (places_of s number) (places_in t d number) t.books d offset lo hi a.file refl a.count kept_too division w.grows w.among)));
         uses = grown_uses s t d counts (renewed_on s f cmd) number lo hi (figures_on s f cmd).need (figures_on s f cmd).freed x a.count need_is (ap (λ (n : Figures). n.freed) figures_are)
             (renewed_there s f cmd path number lo hi counts shared lies_there touches_there) (renewed_elsewhere s f cmd path number lo hi counts shared lies_there touches_there) w.grows w.others;
         enough = subst (λ n. n ≤ length (reusable_blocks t.books)) (sym need_is) w.grows.enough;
@@ -257,5 +266,5 @@ pub file_leaves : (s t : State) (d : DraftState) (number : ℕ) (x y : FileNode)
     → ((l : ℕ) → l ≢ number → places_in t d l ≡ places_of s l) → LeavesSnapshots (files_in s nothing_drafted) (files_in t d) (places_of s) (places_in t d)
 file_leaves s t d number x y is file still with others =
     leaves_but (files_in s nothing_drafted) (files_in t d) (places_of s) (places_in t d) number with.others others
-    (no_snapshot (files_in s nothing_drafted number) (AFile x.links x.bytes) (ap (option_and_then inode_of) is ∙ file_reads x file))
-    (no_snapshot (files_in t d number) (AFile y.links y.bytes) (ap (option_and_then inode_of) with.own ∙ file_reads y still))
+    (no_snapshot _ (files_in s nothing_drafted number) (AFile x.links x.bytes) (ap (option_and_then (inode_of s.books.geom.layout)) is ∙ file_reads _ x file))
+    (no_snapshot _ (files_in t d number) (AFile y.links y.bytes) (ap (option_and_then (inode_of s.books.geom.layout)) with.own ∙ file_reads _ y still))

@@ -9,6 +9,7 @@ use Rattle.lang_tree.specs.declared.command.Reply.TheVariants.{Refused}
 use Rattle.lang_tree.specs.Run.{is_of_disk}
 use Rattle.lang_tree.specs.Step.{Session, step}
 use Rattle.lang_tree.specs.Tree.{Tree}
+use Rattle.crash_stands.specs.Bounds.{bounds_of}
 use Rattle.crash_stands.specs.Stands.{IsTreeOf}
 use Rattle.engine_blocks.specs.Calls.{IsSound}
 use Rattle.engine_blocks.specs.State.{Bookkeeping, State}
@@ -88,7 +89,7 @@ module _ {S : Type 0} (tells : Bool) (state : S → State) (told : IsTrue tells)
 -- a tree that stands is that of a session
 pub session_of : (s : State) (t : Tree) → IsTreeOf s.books.geom s.map t → (f : Session) × IsSession s f
 session_of s t stands = (
-  record { tree = t; limit = s.books.geom.i; points = s.books.point; changed = nat_lt 0 s.books.running.weight; durable = 0 },
+  record { tree = t; limit = bounds_of s.books.geom; points = s.books.point; changed = nat_lt 0 s.books.running.weight; durable = 0 },
   record {
     tree = stands;
     limit = refl;

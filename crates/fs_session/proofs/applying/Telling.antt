@@ -9,7 +9,7 @@ use Rattle.lang_tree.specs.declared.command.Reply.{Reply}
 use Rattle.lang_tree.specs.declared.command.Reply.TheVariants.{Known, Refused}
 use Rattle.lang_tree.specs.Points.{Point, is_sync, asks_for_durability, is_refusal, made_by, may_have_written, promised_by}
 use Rattle.lang_tree.specs.Run.{Answers, is_of_disk}
-use Rattle.lang_tree.specs.Step.{Session, step, osync, dwait}
+use Rattle.lang_tree.specs.Step.{Session, step, osync, dsync, dwait}
 use Rattle.engine_blocks.specs.Running.{Running}
 use Rattle.engine_blocks.specs.State.{Bookkeeping, State}
 use Rattle.engine_blocks.specs.Calls.{if_changed}
@@ -17,6 +17,7 @@ use Rattle.fs_session.specs.Applying.{Ticks, Runs, Began, Applies, AnswersSessio
 use Rattle.fs_session.specs.Commands.{Carries, is_disk_fault}
 use Rattle.fs_session.specs.Points.{TellsPoints}
 use Rattle.fs_session.specs.Sessions.{IsSession}
+use Rattle.fs_session.specs.Staying.{session_ticks}
 use Rattle.fs_session.specs.Syncs.{SyncsSession, WaitsSession}
 use Rattle.fs_session.proofs.rooms.Answered.{bad_or_not}
 
@@ -32,7 +33,7 @@ abbrev is_done : Result Reply Refusal → Bool
 is_done (Ok x) = true
 is_done (Err e) = false
 
-fault_is : (result : Result Reply Refusal) → is_disk_fault result ≡ true → reply_for result ≡ Refused because.DiskFault
+pub fault_is : (result : Result Reply Refusal) → is_disk_fault result ≡ true → reply_for result ≡ Refused because.DiskFault
 fault_is result h1 = grind (arith, false≢true)
 
 -- So many points.
@@ -73,9 +74,13 @@ record CountsMade (f : Session) (cmd : Cmd) (reply : Reply) (begun : ℕ) (old n
 none_made : (f : Session) (cmd : Cmd) (reply : Reply) (begun : ℕ) → is_sync cmd ≡ false → made_by f cmd reply begun ≡ []
 none_made f cmd reply begun is = ap (λ c. point_where f begun (c && (f.changed && may_have_written reply))) is
 
--- the session is one of the blocks after a tick too
-pub session_ticks : (tells failed : Bool) → IsTrue tells → (s t : State) (f : Session) → s.books.stopped ≡ false → Ticks tells failed s t → IsSession s f → IsSession t f
-session_ticks tells failed told s t f going h is = grind (arith, t.map, f.tree, h.moves.pipeline.geom, s.books.geom, h.moves.map, is.tree, is.limit, is.points, h.moves.pipeline.point, is.changed, h.moves.pipeline.running, is.durable, h.moves.pipeline.floor)
+-- a sync makes one where the tree changed, if its reply says that it may have written
+one_made : (f : Session) (cmd : Cmd) (reply : Reply) (begun : ℕ) → is_sync cmd ≡ true → may_have_written reply ≡ true → length (made_by f cmd reply begun) ≡ one_where f.changed
+one_made f cmd reply begun is wrote =
+    ap (λ c. length (point_where f begun (c && (f.changed && may_have_written reply)))) is
+    ∙ ap (λ c. length (point_where f begun (true && (f.changed && c)))) wrote
+    ∙ ap (λ c. length (point_where f begun c)) (and_true f.changed)
+    ∙ one_if f.changed (record { tree = f.tree; begun = begun })
 
 module _ {S : Type 0} (tells : Bool) (state : S → State) (told : IsTrue tells) (never : (f : Session) (cmd : Cmd) → (step f cmd).1 ≡ Refused because.DiskFault → ⊥) (begun : ℕ) where
   none : (f : Session) (cmd : Cmd) (reply : Reply) (old new : State) → is_sync cmd ≡ false → new.books.point ≡ old.books.point → (reply ≡ Refused because.DiskFault → new.books.stopped ≡ true) → (new.books.stopped ≡ true → reply ≡ Refused because.DiskFault) → CountsMade f cmd reply begun old new
@@ -88,7 +93,8 @@ module _ {S : Type 0} (tells : Bool) (state : S → State) (told : IsTrue tells)
   -- a sync whose reply says that it may have written, and one that was out of memory
   written : (f : Session) (cmd : Cmd) (reply : Reply) (mid new : State) → is_sync cmd ≡ true → mid.books.stopped ≡ false → IsSession mid f → may_have_written reply ≡ true → new.books.point ≡ mid.books.point + if_changed mid.books.running 1 0
       → new.books.point ≡ mid.books.point + length (made_by f cmd reply begun)
-  written f cmd reply mid new is going h wrote point = grind (arith, weighed, mid.books.running, h.changed, one_if, f.changed, f.tree, and_true)
+  written f cmd reply mid new is going h wrote point =
+      point ∙ ap (λ n. mid.books.point + n) (weighed mid.books.running ∙ sym (one_made f cmd reply begun is wrote ∙ ap one_where (h.changed going)))
 
   unwritten : (f : Session) (cmd : Cmd) (reply : Reply) (mid new : State) → is_sync cmd ≡ true → may_have_written reply ≡ false → new.books.point ≡ mid.books.point → new.books.point ≡ mid.books.point + length (made_by f cmd reply begun)
   unwritten f cmd reply mid new is wrote same = grind (arith, one_if, f.changed, f.tree, and_false)
@@ -176,7 +182,7 @@ module _ {S : Type 0} (tells : Bool) (state : S → State) (told : IsTrue tells)
       }
       by (inr ran) =
           let counts : CountsMade f cmd reply begun (state began.mid) (state new) = subst (λ (r : Reply). CountsMade f cmd r begun (state began.mid) (state new)) (sym began.is)
-          (of_run f cmd began.result began.mid new ran.0.moves.disk.stopped (session_ticks tells false told (state old) (state began.mid) f going ran.0 h) ran.1) in
+          (of_run f cmd began.result began.mid new ran.0.moves.disk.stopped (session_ticks tells false (state old) (state began.mid) ran.0 f going told h) ran.1) in
           record {
             upto = omega (arith, counts.exact, ran.0.moves.pipeline.point);
             going = λ on. omega (arith, counts.exact, ran.0.moves.pipeline.point);
@@ -191,8 +197,15 @@ module _ {S : Type 0} (tells : Bool) (state : S → State) (told : IsTrue tells)
 
   -- What was promised is on the disk.
 
+  dsync_promised : (f : Session) (b : Bool) → promised_by (dsync f b).1 ≤ (dsync f b).0.durable
+  dsync_promised f b = omega arith
+
   dsync_promises : (f : Session) (reply : Reply) (next : Session) (new : State) → Answers is_of_disk f Dsync reply next → IsSession new next → promised_by reply ≤ new.books.floor
-  dsync_promises f reply next new h1 h2 = grind arith
+  dsync_promises f reply next new (inl is) h =
+      let all : dsync f f.changed ≡ (next, reply) = is in
+      omega (arith, dsync_promised f f.changed, ap (λ (p : Session × Reply). promised_by p.1) all, ap (λ (p : Session × Reply). p.0.durable) all, h.durable)
+  dsync_promises f reply next new (inr (inl (why, outside, is, same))) h = omega (arith, ap promised_by is)
+  dsync_promises f reply next new (inr (inr (outside, known))) h = let e : Dsync ≡ Durable = known.asked in cc
 
   dwait_promised : (f : Session) (n : ℕ) (b : Bool) → promised_by (dwait f n b).1 ≤ (dwait f n b).0.durable
   dwait_promised f n true = omega arith

@@ -3,6 +3,7 @@ use Rattle.std.proofs.lemmas.Bool.{lt-ltb, ltb-true, ltb-false, cases_Bool}
 use Rattle.std.proofs.Common.{⊎_elim, ◌≡◌, ◌⊎◌, inl, inr, ℕ, ◌+◌, nat_lt, Bool, false, not, ◌&&◌, ◌||◌, IsTrue, List, [], take, take_all, length, Option, None, Some, Ok, Err, refl, sym, subst, ap, ap₂, ◌∙◌, arith}
 use Rattle.disk_contract.specs.Disk.{writes_in}
 use Rattle.layout_geometry.specs.Geometry.{Geometry, bitmap_blocks}
+use Rattle.crash_stands.specs.Bounds.{bounds_of}
 use Rattle.layout_extent.specs.Renew.{renew}
 use Rattle.lang_tree.specs.declared.command.Cmd.{Cmd}
 use Rattle.lang_tree.specs.declared.command.Cmd.TheVariants.{Snap, Unsnap}
@@ -181,7 +182,7 @@ module _ (tells : Bool) (cmd : Cmd) (start mid new : State) (costs : (bitmap : �
         answer = sym made.answer;
         session = record {
           tree = subst (λ (g : Geometry). IsTreeOf g new.map (step f cmd).0.tree) (sym rest.geom) (makes told d cost f new.map at_mid draft made (drafted_so d mid new (carried.map told))).0;
-          limit = stay.limit ∙ at_mid.limit ∙ ap (λ (g : Geometry). g.i) (sym rest.geom);
+          limit = stay.limit ∙ at_mid.limit ∙ ap bounds_of (sym rest.geom);
           points = λ stopped. stay.points ∙ at_mid.points looks.stopped ∙ sym rest.point;
           changed = λ stopped. costs (bitmap_blocks start.books.geom) f ∙ ap₂ (λ b c. b || c) (at_mid.changed looks.stopped) (sym (shared_costs (bitmap_blocks start.books.geom) (shared_on start f) (alone_on start f) f cmd) ∙ ap (λ n. nat_lt 0 n) made.costs) ∙ weighed mid.books.running.weight cost ∙ ap (λ n. nat_lt 0 n) (sym carried.weight);
           durable = omega (arith, stay.durable, at_mid.durable, rest.floor);

@@ -36,22 +36,22 @@ use Rattle.fs_session.proofs.rooms.KeptBlocks.{tie}
 -- The tree's files have the blocks of the nodes that are files.
 
 module _ (g : Geometry) (m : Blocks) (t : Tree) (stands : IsTreeOf g m t) (used_kind : (k : ℕ) (node : Node) → used_node g m k ≡ Some node → node.kind ≢ Free) where
-  by_kind : (k : ℕ) (node : Node) (kind : NodeKind) (x : Option Inode) → used_node g m k ≡ Some node → node.kind ≡ kind → IsInodeOf (Some (file_of m node)) x
+  by_kind : (k : ℕ) (node : Node) (kind : NodeKind) (x : Option Inode) → used_node g m k ≡ Some node → node.kind ≡ kind → IsInodeOf g.layout (Some (file_of g.layout m node)) x
       → blocks_by_kind kind (run_places node.runs) ≡ (if is_file (option_map thing_of x) then run_places node.runs else [])
   by_kind k node Free x used of reads = absurd (used_kind k node used of)
   by_kind k node Dir None used of reads = let e : Dir ≡ Snapshot = sym of ∙ reads in cc
   by_kind k node Dir (Some (ADir slots)) used of reads = refl
   by_kind k node Dir (Some (AFile links bytes)) used of reads =
-      absurd (not_file _ _ links bytes (sym (ap (λ (kind : NodeKind). inode_by kind (file_of m node).links (file_of m node).bytes) of) ∙ reads))
+      absurd (not_file _ _ links bytes (sym (ap (λ (kind : NodeKind). inode_by g.layout kind (file_of g.layout m node).links (file_of g.layout m node).bytes) of) ∙ reads))
   by_kind k node File None used of reads = let e : File ≡ Snapshot = sym of ∙ reads in cc
   by_kind k node File (Some (ADir slots)) used of reads =
-      let e = sym (ap (λ (kind : NodeKind). inode_by kind (file_of m node).links (file_of m node).bytes) of) ∙ reads in cc
+      let e = sym (ap (λ (kind : NodeKind). inode_by g.layout kind (file_of g.layout m node).links (file_of g.layout m node).bytes) of) ∙ reads in cc
   by_kind k node File (Some (AFile links bytes)) used of reads = refl
   by_kind k node Snapshot None used of reads = refl
   by_kind k node Snapshot (Some x) used of reads =
-      absurd (none-some x (sym (ap (λ (kind : NodeKind). inode_by kind (file_of m node).links (file_of m node).bytes) of) ∙ reads))
+      absurd (none-some x (sym (ap (λ (kind : NodeKind). inode_by g.layout kind (file_of g.layout m node).links (file_of g.layout m node).bytes) of) ∙ reads))
 
-  by_node : (k : ℕ) (o : Option Node) (x : Option Inode) → used_node g m k ≡ o → IsInodeOf (option_map (file_of m) o) x → file_blocks o ≡ (if is_file (option_map thing_of x) then places_or_none o else [])
+  by_node : (k : ℕ) (o : Option Node) (x : Option Inode) → used_node g m k ≡ o → IsInodeOf g.layout (option_map (file_of g.layout m) o) x → file_blocks o ≡ (if is_file (option_map thing_of x) then places_or_none o else [])
   by_node k None None used reads = refl
   by_node k None (Some (ADir slots)) used reads = refl
   by_node k None (Some (AFile links bytes)) used reads = refl

@@ -10,6 +10,7 @@ use Rattle.layout_bytes.specs.declared.node.Node.{Node}
 use Rattle.layout_bytes.specs.declared.node.NodeKind.{NodeKind}
 use Rattle.layout_bytes.specs.declared.node.NodeKind.TheVariants.{Free, Dir, File, Snapshot}
 use Rattle.layout_bytes.specs.Bitmap.{is_set}
+use Rattle.layout_bytes.specs.Node.{content_of}
 use Rattle.lang_tree.specs.Tree.{Tree}
 use Rattle.crash_stands.specs.Files.{FileNode, file_of, files_of, joined, used_node}
 use Rattle.crash_stands.specs.Kept.{HaveSameSnapshot, kept_nodes}
@@ -59,25 +60,25 @@ unfilled bytes false (Some c) None e = absurd (true≢false e)
 unfilled bytes false None None e = refl
 
 -- the node of a file
-node_of_file : (g : Geometry) (w : Blocks) (k : ℕ) (x : FileNode) (o : Option Node) → used_node g w k ≡ o → option_map (file_of w) o ≡ Some x → (node : Node) × (used_node g w k ≡ Some node) × (file_of w node ≡ x)
+node_of_file : (g : Geometry) (w : Blocks) (k : ℕ) (x : FileNode) (o : Option Node) → used_node g w k ≡ o → option_map (file_of g.layout w) o ≡ Some x → (node : Node) × (used_node g w k ≡ Some node) × (file_of g.layout w node ≡ x)
 node_of_file g w k x None used e = absurd (none-some x e)
-node_of_file g w k x (Some node) used e = (node, used, same_Some (file_of w node) x e)
+node_of_file g w k x (Some node) used e = (node, used, same_Some (file_of g.layout w node) x e)
 
 module _ (now : State) (w : Blocks) (d : DraftState) (t : Tree) (told : IsTold now) (stands : IsTreeOf now.books.geom now.map t) (sound : IsSoundDraft now.books now.map d) (stays : StaysBeside d now) (fin : HasDrafted now d w)
     (used_kind : (g : Geometry) (m : Blocks) (k : ℕ) (node : Node) → used_node g m k ≡ Some node → node.kind ≢ Free) where
   -- One snapshot.
   module _ (k : ℕ) (node : Node) (used : used_node now.books.geom now.map k ≡ Some node) (kind : node.kind ≡ Snapshot) where
-    file_was : files_in now nothing_drafted k ≡ Some (file_of now.map node)
-    file_was = ap (option_map (file_of now.map)) used
+    file_was : files_in now nothing_drafted k ≡ Some (file_of now.books.geom.layout now.map node)
+    file_was = ap (option_map (file_of now.books.geom.layout now.map)) used
 
-    file_is : files_of now.books.geom w k ≡ Some (file_of now.map node)
-    file_is = fin.files k ∙ (stays.leaves.files k (file_of now.map node) kind).0 file_was
+    file_is : files_of now.books.geom w k ≡ Some (file_of now.books.geom.layout now.map node)
+    file_is = fin.files k ∙ (stays.leaves.files k (file_of now.books.geom.layout now.map node) kind).0 file_was
 
-    pub found : (other : Node) × (used_node now.books.geom w k ≡ Some other) × (file_of w other ≡ file_of now.map node)
-    found = node_of_file now.books.geom w k (file_of now.map node) (used_node now.books.geom w k) refl file_is
+    pub found : (other : Node) × (used_node now.books.geom w k ≡ Some other) × (file_of now.books.geom.layout w other ≡ file_of now.books.geom.layout now.map node)
+    found = node_of_file now.books.geom w k (file_of now.books.geom.layout now.map node) (used_node now.books.geom w k) refl file_is
 
     drafted_places : places_in now d k ≡ run_places node.runs
-    drafted_places = stays.leaves.places k (file_of now.map node) kind file_was ∙ ap places_or_none used
+    drafted_places = stays.leaves.places k (file_of now.books.geom.layout now.map node) kind file_was ∙ ap places_or_none used
 
     pub places_same : run_places found.0.runs ≡ run_places node.runs
     places_same = sym (ap places_or_none found.1) ∙ fin.places k ∙ drafted_places
@@ -112,17 +113,27 @@ module _ (now : State) (w : Blocks) (d : DraftState) (t : Tree) (told : IsTold n
         let same : held.node ≡ node = same_Some held.node node (sym held.is_node ∙ ap (used_node now.books.geom now.map) its.3 ∙ used) in
         ap (λ (n : Node). n.size) (sym same) ∙ held.size ∙ ap (λ (n : Node). 1024 * length (run_places n.runs)) same
 
+    -- all of a snapshot's bytes are its content
+    all_content : (n : Node) → n.kind ≡ Snapshot → content_of now.books.geom.layout n.kind n.size ≡ n.size
+    all_content n is = ap (λ (k : NodeKind). content_of now.books.geom.layout k n.size) is
+
+    found_content : content_of now.books.geom.layout found.0.kind found.0.size ≡ found.0.size
+    found_content = all_content found.0 (ap (λ (x : FileNode). x.kind) found.2 ∙ kind)
+
     pub other_size : found.0.size ≡ node.size
     other_size =
-        sym (content_length now.books.geom w found.0 (used_fits now.books.geom w k found.0 found.1) (λ b is. whole_is b (ap (λ (ps : List ℕ). has ps b) (sym places_same) ∙ is)))
+        sym found_content
+        ∙ sym (content_length now.books.geom w found.0 (used_fits now.books.geom w k found.0 found.1) (λ b is. whole_is b (ap (λ (ps : List ℕ). has ps b) (sym places_same) ∙ is)))
         ∙ ap (λ (x : FileNode). length x.bytes) found.2
         ∙ content_length now.books.geom now.map node (used_fits now.books.geom now.map k node used) whole_was
+        ∙ all_content node kind
 
     bytes_same : joined w (run_places node.runs) ≡ joined now.map (run_places node.runs)
     bytes_same =
         sym (take_all node.size (joined w (run_places node.runs)) (omega (arith, size_is, joined_length w (run_places node.runs) whole_is)))
-        ∙ ap₂ (λ n (ps : List ℕ). take n (joined w ps)) (sym other_size) (sym places_same)
+        ∙ ap₂ (λ n (ps : List ℕ). take n (joined w ps)) (sym (found_content ∙ other_size)) (sym places_same)
         ∙ ap (λ (x : FileNode). x.bytes) found.2
+        ∙ ap (λ n. take n (joined now.map (run_places node.runs))) (all_content node kind)
         ∙ take_all node.size (joined now.map (run_places node.runs)) (omega (arith, size_is, joined_length now.map (run_places node.runs) whole_was))
 
     pub own_same : (i b : ℕ) → slice_get (run_places node.runs) i ≡ Some b → w b ≡ now.map b
@@ -152,7 +163,7 @@ module _ (now : State) (w : Blocks) (d : DraftState) (t : Tree) (told : IsTold n
   -- A snapshot of the finished map was there before.
   pub was_there : (k : ℕ) (other : Node) → used_node now.books.geom w k ≡ Some other → other.kind ≡ Snapshot → (node : Node) × (used_node now.books.geom now.map k ≡ Some node) × (node.kind ≡ Snapshot)
   was_there k other used kind =
-      let x = file_of w other in
-      let file : files_in now d k ≡ Some x = sym (fin.files k) ∙ ap (option_map (file_of w)) used in
+      let x = file_of now.books.geom.layout w other in
+      let file : files_in now d k ≡ Some x = sym (fin.files k) ∙ ap (option_map (file_of now.books.geom.layout w)) used in
       let before = node_of_file now.books.geom now.map k x (used_node now.books.geom now.map k) refl ((stays.leaves.files k x kind).1 file) in
       (before.0, before.1, ap (λ (f : FileNode). f.kind) before.2 ∙ kind)

@@ -12,7 +12,8 @@ use Rattle.lang_tree.specs.declared.command.Refusal.{Refusal}
 use Rattle.lang_tree.specs.declared.command.Refusal.TheVariants.{Exists, NoNode}
 use Rattle.lang_tree.specs.Conditions.{first_reason, least_unused, refusal, when}
 use Rattle.lang_tree.specs.Step.{Session, answered, changes_snapshots, kept_of, snapped_by, step, unsnapped}
-use Rattle.lang_tree.specs.Tree.{Tree, Kept, Snapshots, HasSoundSnapshots}
+use Rattle.lang_tree.specs.Tree.{Tree, Bounds, Kept, Snapshots, HasSoundSnapshots}
+use Rattle.crash_stands.specs.Bounds.{bounds_of}
 use Rattle.crash_stands.specs.Inodes.{AreInodesOf, inodes_of}
 use Rattle.crash_stands.specs.Maps.{IsMapOf}
 use Rattle.crash_stands.specs.Stands.{IsTreeOf}
@@ -49,27 +50,27 @@ new_name : (o : Option Kept) (full : Bool) → first_reason (when (is_some o) Ex
 new_name None full e = refl
 new_name (Some k) full e = absurd (none-some Exists (sym e))
 
-module _ (laws : MadeLaws) (now : State) (fits : IsGeometry now.books.geom) (w : Blocks) (d : DraftState) (f : Session) (told : IsTold now) (stands : IsTreeOf now.books.geom now.map f.tree) (limit : f.limit ≡ now.books.geom.i)
+module _ (laws : MadeLaws) (now : State) (fits : IsGeometry now.books.geom) (w : Blocks) (d : DraftState) (f : Session) (told : IsTold now) (stands : IsTreeOf now.books.geom now.map f.tree) (limit : f.limit ≡ bounds_of now.books.geom)
     (sound : IsSoundDraft now.books now.map d) (fin : HasDrafted now d w) where
   -- the tree with the snapshot that comes
-  snapped_is : (name : List ℕ) (n : ℕ) → refusal f.limit f.tree (Snap name) ≡ None → least_unused f.limit f.tree ≡ Some n → (step f (Snap name)).0.tree ≡ record f.tree { snapshots = insert f.tree.snapshots name (kept_of n f.tree) }
+  snapped_is : (name : List ℕ) (n : ℕ) → refusal f.limit f.tree (Snap name) ≡ None → least_unused f.limit.nodes f.tree ≡ Some n → (step f (Snap name)).0.tree ≡ record f.tree { snapshots = insert f.tree.snapshots name (kept_of n f.tree) }
   snapped_is name n accepted least = ap (λ (r : Option Refusal). (answered f (Snap name) r).0.tree) accepted ∙ ap (snapped_by f.tree name) least
 
   unsnapped_is : (name : List ℕ) → refusal f.limit f.tree (Unsnap name) ≡ None → (step f (Unsnap name)).0.tree ≡ unsnapped f.tree name
   unsnapped_is name accepted = ap (λ (r : Option Refusal). (answered f (Unsnap name) r).0.tree) accepted
 
   comes_so : (name : List ℕ) → refusal f.limit f.tree (Snap name) ≡ None → (made : MakesSnapshot name d now f) → IsTreeOf now.books.geom w (record f.tree { snapshots = insert f.tree.snapshots name (kept_of made.number f.tree) })
-  comes_so name accepted made = laws.comes now.books.geom now.map w f.tree made.number name made.places fits stands (new_name (get f.tree.snapshots name) (is_none (least_unused f.limit f.tree)) accepted) (made.adds w fin)
+  comes_so name accepted made = laws.comes now.books.geom now.map w f.tree made.number name made.places fits stands (new_name (get f.tree.snapshots name) (is_none (least_unused f.limit.nodes f.tree)) accepted) (made.adds w fin)
 
   goes_so : (name : List ℕ) → LosesSnapshot name d now f → IsTreeOf now.books.geom w (unsnapped f.tree name)
   goes_so name lost = laws.goes now.books.geom now.map w f.tree name lost.kept fits stands lost.is (lost.takes w fin)
 
-  stays_so : (cmd : Cmd) → changes_snapshots cmd ≡ false → StaysBeside d now → AreInodesOf (files_in now d) (inodes_of (files_in now d)) → IsMapOf f.limit (inodes_of (files_in now d)) (step f cmd).0.tree → IsTreeOf now.books.geom w (step f cmd).0.tree
+  stays_so : (cmd : Cmd) → changes_snapshots cmd ≡ false → StaysBeside d now → AreInodesOf now.books.geom.layout (files_in now d) (inodes_of now.books.geom.layout (files_in now d)) → IsMapOf f.limit.nodes (inodes_of now.books.geom.layout (files_in now d)) (step f cmd).0.tree → IsTreeOf now.books.geom w (step f cmd).0.tree
   stays_so cmd leaves stays reads map =
-      stands_still laws.stays now fits w d f.tree told stands sound stays fin (step f cmd).0.tree (inodes_of (files_in now d)) (laws.same f cmd leaves) reads (subst (λ n. IsMapOf n (inodes_of (files_in now d)) (step f cmd).0.tree) limit map)
+      stands_still laws.stays now fits w d f.tree told stands sound stays fin (step f cmd).0.tree (inodes_of now.books.geom.layout (files_in now d)) (laws.same f cmd leaves) reads (subst (λ (b : Bounds). IsMapOf b.nodes (inodes_of now.books.geom.layout (files_in now d)) (step f cmd).0.tree) limit map)
 
   -- The finished map stands for the tree of the command.
-  pub tree_made : (cmd : Cmd) → refusal f.limit f.tree cmd ≡ None → MakesSnapshots cmd d now f → AreInodesOf (files_in now d) (inodes_of (files_in now d)) → IsMapOf f.limit (inodes_of (files_in now d)) (step f cmd).0.tree
+  pub tree_made : (cmd : Cmd) → refusal f.limit f.tree cmd ≡ None → MakesSnapshots cmd d now f → AreInodesOf now.books.geom.layout (files_in now d) (inodes_of now.books.geom.layout (files_in now d)) → IsMapOf f.limit.nodes (inodes_of now.books.geom.layout (files_in now d)) (step f cmd).0.tree
       → IsTreeOf now.books.geom w (step f cmd).0.tree
   tree_made (Snap name) accepted made reads map = subst (IsTreeOf now.books.geom w) (sym (snapped_is name made.number accepted made.least)) (comes_so name accepted made)
   tree_made (Unsnap name) accepted lost reads map = subst (IsTreeOf now.books.geom w) (sym (unsnapped_is name accepted)) (goes_so name lost)

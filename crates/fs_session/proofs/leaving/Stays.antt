@@ -117,10 +117,10 @@ module _ (laws : StayLaws) (now : State) (fits : IsGeometry now.books.geom) (w :
       }
 
   -- so it stands for the tree of the draft's inodes with these snapshots
-  pub stands_still : (u : Tree) (inodes : Inodes) → u.snapshots ≡ t.snapshots → AreInodesOf (files_in now d) inodes → IsMapOf now.books.geom.i inodes u → IsTreeOf now.books.geom w u
+  pub stands_still : (u : Tree) (inodes : Inodes) → u.snapshots ≡ t.snapshots → AreInodesOf now.books.geom.layout (files_in now d) inodes → IsMapOf now.books.geom.i inodes u → IsTreeOf now.books.geom w u
   stands_still u inodes same reads map = record {
     inodes = inodes;
-    read = λ k. subst (λ o. IsInodeOf o (inodes k)) (sym (fin.files k)) (reads k);
+    read = λ k. subst (λ o. IsInodeOf now.books.geom.layout o (inodes k)) (sym (fin.files k)) (reads k);
     map = map;
     sound = sound_still;
     keeps = λ name k at. holds_still name k (ap (λ (m : Snapshots). get m name) (sym same) ∙ at);

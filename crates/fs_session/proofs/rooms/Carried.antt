@@ -13,6 +13,7 @@ use Rattle.lang_tree.specs.Conditions.{least_unused}
 use Rattle.lang_tree.specs.Figures.{Figures}
 use Rattle.lang_tree.specs.Sharing.{SharedNodes}
 use Rattle.lang_tree.specs.Step.{Session, step}
+use Rattle.lang_tree.specs.Tree.{Bounds}
 use Rattle.engine_blocks.specs.Ranges.{same_from}
 use Rattle.engine_blocks.specs.Running.{has}
 use Rattle.engine_blocks.specs.State.{Bookkeeping, State, IsReusable, data_blocks, reusable_blocks}
@@ -47,7 +48,7 @@ module _ {S : Type 0} (tells : Bool) (state : S → State) (known : Known tells 
   lacks_in s f n why h lacks = in_room (λ left most. FailsToFit left (state s).books.running.weight most n why) s f h lacks
 
   grown_is : (s : S) (f : Session) (cmd : Cmd) → IsSession (state s) f → grown_in f cmd ≡ grown_on (state s) cmd
-  grown_is s f (Snap name) h = ap (λ n. least_unused n f.tree) h.limit ∙ known.least (state s).books.geom (state s).map f.tree h.tree
+  grown_is s f (Snap name) h = ap (λ (b : Bounds). least_unused b.nodes f.tree) h.limit ∙ known.least (state s).books.geom (state s).map f.tree h.tree
   grown_is s f cmd h = grown_same (inodes (state s)) f.tree (state s).books.geom.i (grown_path cmd) (known.map (state s).books.geom (state s).map f.tree h.tree)
 
   -- Done: in the room once the pipeline has settled.

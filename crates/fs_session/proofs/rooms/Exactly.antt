@@ -31,6 +31,7 @@ use Rattle.fs_session.proofs.applying.Cases.{answered_as}
 use Rattle.fs_session.proofs.applying.Causes.{same_reason}
 use Rattle.fs_session.proofs.applying.Passing.{of_run}
 use Rattle.fs_session.specs.Staying.{freed_alike, session_ticks, tree_stays}
+use Rattle.fs_session.proofs.applying.Telling.{fault_is}
 use Rattle.fs_session.proofs.applying.Waiting.{fits_still}
 use Rattle.fs_session.proofs.rooms.Answered.{known_in, polled_in}
 use Rattle.fs_session.proofs.rooms.Carried.{EndsOver, done_in, fits_in, refused_back, refused_over, settled_back}
@@ -377,7 +378,7 @@ module _ {S : Type 0} (tells : Bool) (state : S → State) (known : Known tells 
             same = session_ticks tells false (state old) (state s) ticks f going known.told h
 
             by : (is_disk_fault result ≡ true) ⊎ (is_disk_fault result ≡ false) → LeavesSession state old new (AnyOver s reply)
-            by (inl fault) = let refused : reply_for result ≡ Refused because.DiskFault = grind (arith, false≢true, fault) in faulted s (is ∙ refused)
+            by (inl fault) = faulted s (is ∙ fault_is result fault)
             by (inr well) =
                 let x = begins_at f cmd (reply_for result) old s new ticks same (run_at f result s new well same cmd good ticks.moves.disk.stopped runs) in
                 (x.0, x.1, x.2, subst (λ (r : Reply). AnyOver s r x.0) (sym is) (inr (inr x.3)))

@@ -34,8 +34,8 @@ pub record Known {S : Type 0} (tells : Bool) (state : S → State) : Type 0 wher
   pub told : IsTrue tells
   pub sound : (s : S) → IsSound (state s).books
   pub agrees : (s : S) → IsTold (state s)
-  pub live : (s : S) (f : Session) → IsSession (state s) f → f.tree.snapshots ≡ empty → length (live_blocks (state s).books) ≡ blocks f.tree
-  pub map : (g : Geometry) (m : Blocks) (t : Tree) → IsTreeOf g m t → IsMapOf g.i (inodes_of (files_of g m)) t
+  pub live : (s : S) (f : Session) → IsSession (state s) f → f.tree.snapshots ≡ empty → length (live_blocks (state s).books) ≡ blocks (state s).books.geom.layout f.tree
+  pub map : (g : Geometry) (m : Blocks) (t : Tree) → IsTreeOf g m t → IsMapOf g.i (inodes_of g.layout (files_of g m)) t
   pub slots : HasSlots
   pub bytes : HasItsBytes
   pub names : HasSlotsForNames

@@ -8,6 +8,8 @@ use Rattle.std.proofs.lemmas.Option.{none-some}
 use Rattle.base_types.specs.Seal.{Blocks}
 use Rattle.base_types.specs.declared.places.Run.{Run}
 use Rattle.base_types.specs.Runs.{run_places}
+use Rattle.base_types.specs.declared.layout.Layout.{Layout}
+use Rattle.base_types.specs.Layouts.{directory_blocks, most_runs}
 use Rattle.layout_geometry.specs.Geometry.{Geometry, data_start}
 use Rattle.layout_bytes.specs.declared.node.Node.{Node}
 use Rattle.layout_bytes.specs.declared.node.NodeKind.TheVariants.{Snapshot}
@@ -15,7 +17,7 @@ use Rattle.layout_bytes.specs.Bitmap.{is_set}
 use Rattle.layout_bytes.specs.Node.{runs_fit}
 use Rattle.layout_extent.specs.Runs.{AreTidy, runs_of, stretches}
 use Rattle.lang_tree.specs.Conditions.{is_snapshot, least_unused}
-use Rattle.lang_tree.specs.Figures.{blocks, blocks_for, directory_blocks}
+use Rattle.lang_tree.specs.Figures.{blocks, blocks_for}
 use Rattle.lang_tree.specs.Names.{names_in}
 use Rattle.lang_tree.specs.Tree.{Kept, Snapshots, Thing, Tree, Dir as DirThing, File as FileThing}
 use Rattle.lang_tree.specs.Walk.{bytes_in, is_dir}
@@ -61,11 +63,11 @@ HasItsRuns = (rs : List Run) → AreTidy rs → runs_of (run_places rs) ≡ rs
 abbrev pub HasAsManyRuns : Type 0
 HasAsManyRuns = (xs : List ℕ) → length (runs_of xs) ≡ stretches xs
 
--- the blocks of a node lie in at most 28 runs
-pub in_few_runs : HasItsRuns → HasAsManyRuns → (g : Geometry) (m : Blocks) (k : ℕ) → stretches (places_at g m k) ≤ 28
+-- the blocks of a node lie in at most as many runs as its layout has room for
+pub in_few_runs : HasItsRuns → HasAsManyRuns → (g : Geometry) (m : Blocks) (k : ℕ) → stretches (places_at g m k) ≤ most_runs g.layout
 in_few_runs back many g m k = by (used_node g m k) refl
   where
-    by : (o : Option Node) → used_node g m k ≡ o → stretches (places_or_none o) ≤ 28
+    by : (o : Option Node) → used_node g m k ≡ o → stretches (places_or_none o) ≤ most_runs g.layout
     by None none = omega arith
     by (Some node) used =
         let fits = used_fits g m k node used in
@@ -73,19 +75,19 @@ in_few_runs back many g m k = by (used_node g m k) refl
 
 -- How many blocks a node has.
 
-file_blocks : (x : Option Inode) (bytes : List ℕ) → option_map thing_of x ≡ Some (FileThing bytes) → inode_blocks x ≡ blocks_for (length bytes)
-file_blocks None bytes e = absurd (none-some (FileThing bytes) e)
-file_blocks (Some (ADir slots)) bytes e = absurd (true≢false (ap is_dir e))
-file_blocks (Some (AFile links own)) bytes e = ap (λ o. blocks_for (length (bytes_in o))) e
+file_blocks : (l : Layout) (x : Option Inode) (bytes : List ℕ) → option_map thing_of x ≡ Some (FileThing bytes) → inode_blocks l x ≡ blocks_for (length bytes)
+file_blocks l None bytes e = absurd (none-some (FileThing bytes) e)
+file_blocks l (Some (ADir slots)) bytes e = absurd (true≢false (ap is_dir e))
+file_blocks l (Some (AFile links own)) bytes e = ap (λ o. blocks_for (length (bytes_in o))) e
 
-dir_blocks : (x : Option Inode) → option_map thing_of x ≡ Some DirThing → inode_blocks x ≡ directory_blocks (length (slots_of x))
-dir_blocks None e = absurd (none-some DirThing e)
-dir_blocks (Some (ADir slots)) e = refl
-dir_blocks (Some (AFile links bytes)) e = absurd (false≢true (ap is_dir e))
+dir_blocks : (l : Layout) (x : Option Inode) → option_map thing_of x ≡ Some DirThing → inode_blocks l x ≡ directory_blocks l (length (slots_of x))
+dir_blocks l None e = absurd (none-some DirThing e)
+dir_blocks l (Some (ADir slots)) e = refl
+dir_blocks l (Some (AFile links bytes)) e = absurd (false≢true (ap is_dir e))
 
-no_blocks : (x : Option Inode) → option_map thing_of x ≡ None → inode_blocks x ≡ 0
-no_blocks None e = refl
-no_blocks (Some x) e = absurd (none-some (thing_of x) (sym e))
+no_blocks : (l : Layout) (x : Option Inode) → option_map thing_of x ≡ None → inode_blocks l x ≡ 0
+no_blocks l None e = refl
+no_blocks l (Some x) e = absurd (none-some (thing_of x) (sym e))
 
 -- what the law says of the names of a directory
 abbrev pub HasSlotsForNames : Type 0
@@ -96,9 +98,9 @@ abbrev pub HasNumbers : Type 0
 HasNumbers = (m : Snapshots) (name : List ℕ) (k : Kept) → get m name ≡ Some k → is_snapshot m k.number ≡ true
 
 -- a snapshot is nothing in the tree
-no_thing : (m : Blocks) (node : Node) (y : Option Inode) (x : Thing) → node.kind ≡ Snapshot → IsInodeOf (Some (file_of m node)) y → option_map thing_of y ≡ Some x → ⊥
-no_thing m node None x kind is e = none-some x e
-no_thing m node (Some i) x kind is e = none-some i (sym (ap (λ k. inode_by k node.links (content m node)) kind) ∙ is)
+no_thing : (l : Layout) (m : Blocks) (node : Node) (y : Option Inode) (x : Thing) → node.kind ≡ Snapshot → IsInodeOf l (Some (file_of l m node)) y → option_map thing_of y ≡ Some x → ⊥
+no_thing l m node None x kind is e = none-some x e
+no_thing l m node (Some i) x kind is e = none-some i (sym (ap (λ k. inode_by l k node.links (content l m node)) kind) ∙ is)
 
 module _ (slots_law : HasSlots) (bytes_law : HasItsBytes) (names_law : HasSlotsForNames) (numbers_law : HasNumbers) (s : State) (t : Tree) (stands : IsTreeOf s.books.geom s.map t) where
   -- no node with this number is a snapshot
@@ -107,24 +109,24 @@ module _ (slots_law : HasSlots) (bytes_law : HasItsBytes) (names_law : HasSlotsF
 
   thing_plain : (k : ℕ) (x : Thing) → get t.nodes k ≡ Some x → IsPlain k
   thing_plain k x at node used kind =
-      no_thing s.map node (stands.inodes k) x kind (subst (λ o. IsInodeOf (option_map (file_of s.map) o) (stands.inodes k)) used (stands.read k)) (sym (stands.map.shows.nodes k) ∙ at)
+      no_thing s.books.geom.layout s.map node (stands.inodes k) x kind (subst (λ o. IsInodeOf s.books.geom.layout (option_map (file_of s.books.geom.layout s.map) o) (stands.inodes k)) used (stands.read k)) (sym (stands.map.shows.nodes k) ∙ at)
 
   unused_plain : (k : ℕ) → is_snapshot t.snapshots k ≡ false → IsPlain k
   unused_plain k other node used kind =
       let its = stands.each k node used kind in
       true≢false (sym (numbers_law t.snapshots its.0 its.1 its.2) ∙ ap (is_snapshot t.snapshots) its.3 ∙ other)
 
-  as_many : (k : ℕ) → IsPlain k → length (places_of s k) ≡ inode_blocks (stands.inodes k)
+  as_many : (k : ℕ) → IsPlain k → length (places_of s k) ≡ inode_blocks s.books.geom.layout (stands.inodes k)
   as_many k plain = sym (inode_has slots_law bytes_law s.books.geom s.map stands.sound k (used_node s.books.geom s.map k) (stands.inodes k) plain refl (stands.read k))
 
   -- the room holds the tree, where as many blocks are in use as it has
-  pub holds : HasDirectories → HasWholeFiles → (t.snapshots ≡ empty → blocks_in_use s.books.geom t (room_of s) ≡ blocks t) → HoldsTree s.books.geom t (room_of s)
+  pub holds : HasDirectories → HasWholeFiles → (t.snapshots ≡ empty → blocks_in_use s.books.geom t (room_of s) ≡ blocks s.books.geom.layout t) → HoldsTree s.books.geom t (room_of s)
   holds directories whole count = record {
-    files = λ k bytes is. as_many k (thing_plain k (FileThing bytes) is) ∙ file_blocks (stands.inodes k) bytes (sym (stands.map.shows.nodes k) ∙ is);
+    files = λ k bytes is. as_many k (thing_plain k (FileThing bytes) is) ∙ file_blocks s.books.geom.layout (stands.inodes k) bytes (sym (stands.map.shows.nodes k) ∙ is);
     directories = λ path k at is.
-        as_many k (thing_plain k DirThing is) ∙ dir_blocks (stands.inodes k) (sym (stands.map.shows.nodes k) ∙ is)
-        ∙ ap directory_blocks (sym (names_law s.books.geom.i stands.inodes t path stands.map ∙ ap (λ o. length (slots_of (option_and_then stands.inodes o))) (sym (stands.map.shows.names path) ∙ at)));
-    unused = λ k is other. nil_from_length (places_of s k) (as_many k (unused_plain k other) ∙ no_blocks (stands.inodes k) (sym (stands.map.shows.nodes k) ∙ is));
+        as_many k (thing_plain k DirThing is) ∙ dir_blocks s.books.geom.layout (stands.inodes k) (sym (stands.map.shows.nodes k) ∙ is)
+        ∙ ap (directory_blocks s.books.geom.layout) (sym (names_law s.books.geom.i stands.inodes t path stands.map ∙ ap (λ o. length (slots_of (option_and_then stands.inodes o))) (sym (stands.map.shows.names path) ∙ at)));
+    unused = λ k is other. nil_from_length (places_of s k) (as_many k (unused_plain k other) ∙ no_blocks s.books.geom.layout (stands.inodes k) (sym (stands.map.shows.nodes k) ∙ is));
     snapshots = snapshot_has slots_law directories s.books.geom s.map t stands whole;
     alone = count;
   }

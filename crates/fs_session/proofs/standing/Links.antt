@@ -23,8 +23,8 @@ node_links g node fits = (
 pub file_links : (g : Geometry) (m : Blocks) (k : ℕ) (x : FileNode) → files_of g m k ≡ Some x → (1 ≤ x.links) × (x.kind ≡ File → x.links ≤ 65535)
 file_links g m k x e = by (used_node g m k) refl e
   where
-    by : (o : Option Node) → used_node g m k ≡ o → option_map (file_of m) o ≡ Some x → HasLinks x.kind x.links
+    by : (o : Option Node) → used_node g m k ≡ o → option_map (file_of g.layout m) o ≡ Some x → HasLinks x.kind x.links
     by None is none = absurd (none-some x none)
     by (Some node) is some =
-        subst (λ (f : FileNode). HasLinks f.kind f.links) (same_Some (file_of m node) x some)
+        subst (λ (f : FileNode). HasLinks f.kind f.links) (same_Some (file_of g.layout m node) x some)
         (node_links g node (used_fits g m k node is))

@@ -1,11 +1,14 @@
 -- As many data blocks are marked as the tree has, where it stands.
-use Rattle.std.proofs.Common.{◌≡◌, ◌≢◌, ◌⊎◌, inl, inr, ℕ, zero, suc, ◌+◌, ◌-◌, ◌*◌, ◌%◌, ◌<◌, ◌≤◌, ◌==◌, ◌&&◌, ◌||◌, nat_lt, Bool, true, false, List, length, filter, Option, Some, None, option_map, refl, sym, ap, ap₂, ◌∙◌, arith}
+use Rattle.std.proofs.Common.{◌≡◌, ◌≢◌, ◌⊎◌, inl, inr, ℕ, zero, suc, ◌+◌, ◌-◌, ◌<◌, ◌≤◌, ◌==◌, ◌&&◌, ◌||◌, nat_lt, Bool, true, false, List, length, filter, Option, Some, None, option_map, refl, sym, ap, ap₂, subst, ◌∙◌, arith}
 use Rattle.std.specs.List.{IsDistinct, range_with_len}
-use Rattle.std.proofs.lemmas.Bool.{eqb-true, false≢true, le-leb, lt-ltb, or_right}
+use Rattle.std.proofs.lemmas.Bool.{false≢true, le-leb, lt-ltb, or_right}
 use Rattle.std.proofs.lemmas.List.{length-append}
 use Rattle.std.proofs.lemmas.Option.{none-some, same_Some}
 use Rattle.base_types.specs.Seal.{Blocks}
 use Rattle.base_types.specs.Runs.{run_places}
+use Rattle.base_types.specs.declared.layout.Layout.{Layout}
+use Rattle.base_types.specs.Layouts.{directory_bytes}
+use Rattle.base_types.specs.LayoutLaws.{directory_needs}
 use Rattle.layout_geometry.specs.Geometry.{Geometry, IsGeometry, bitmap_start, data_start}
 use Rattle.layout_journal.specs.Run.{is_live}
 use Rattle.layout_bytes.specs.declared.node.Node.{Node}
@@ -13,7 +16,7 @@ use Rattle.layout_bytes.specs.declared.node.NodeKind.{NodeKind}
 use Rattle.layout_bytes.specs.declared.node.NodeKind.TheVariants.{Free, Dir, File, Snapshot}
 use Rattle.layout_bytes.specs.declared.slot.Slot.{Slot}
 use Rattle.layout_bytes.specs.Bitmap.{is_set}
-use Rattle.layout_bytes.specs.Node.{kind_fits}
+use Rattle.layout_bytes.specs.Node.{content_of}
 use Rattle.lang_tree.specs.Figures.{blocks_for}
 use Rattle.engine_blocks.specs.Running.{has}
 use Rattle.crash_stands.specs.Files.{FileNode, files_of, file_of, used_node, content}
@@ -22,6 +25,8 @@ use Rattle.crash_stands.specs.Sharing.{IsKeptBlock}
 use Rattle.crash_stands.specs.Stands.{AreSound, HasBlock, HasNoSnapshots}
 use Rattle.fs_inodes.specs.Figures.{inode_blocks, blocks_from}
 use Rattle.fs_files.specs.Calls.{places_or_none}
+use Rattle.fs_files.specs.Contents.{whole_content}
+use Rattle.fs_files.specs.Nodes.{AreWholeSlots}
 use Rattle.fs_snapshots.specs.Among.{kept_is, is_among, used_number}
 use Rattle.fs_snapshots.specs.Nodes.{Fits, used_fits}
 use Rattle.fs_session.proofs.standing.Lists.{place_of, has_place, as_long, distinct_kept, in_turn, turn_of, in_its_turn, distinct_turns}
@@ -84,12 +89,12 @@ module _ (g : Geometry) (m : Blocks) (sound : AreSound g m) where
 
 -- The blocks of an inode.
 
--- a directory's bytes are whole slots
-pub dir_whole : (node : Node) (kind : NodeKind) (links : ℕ) (bytes : List ℕ) (slots : List Slot) → kind_fits node kind ≡ true → inode_by kind links bytes ≡ Some (ADir slots) → node.size % 64 ≡ 0
-dir_whole node Free links bytes slots fits e = absurd (none-some (ADir slots) e)
-dir_whole node Snapshot links bytes slots fits e = absurd (none-some (ADir slots) e)
-dir_whole node Dir links bytes slots fits e = eqb-true (node.size % 64) 0 fits
-dir_whole node File links bytes slots fits e = absurd (false≢true (ap is_dir (same_Some (AFile links bytes) (ADir slots) e)))
+-- what reads as a directory is one
+pub dir_kind : (l : Layout) (kind : NodeKind) (links : ℕ) (bytes : List ℕ) (slots : List Slot) → inode_by l kind links bytes ≡ Some (ADir slots) → kind ≡ Dir
+dir_kind l Free links bytes slots e = absurd (none-some (ADir slots) e)
+dir_kind l Snapshot links bytes slots e = absurd (none-some (ADir slots) e)
+dir_kind l Dir links bytes slots e = refl
+dir_kind l File links bytes slots e = absurd (false≢true (ap is_dir (same_Some (AFile links bytes) (ADir slots) e)))
   where
     is_dir : Inode → Bool
     is_dir (ADir s) = true
@@ -97,40 +102,41 @@ dir_whole node File links bytes slots fits e = absurd (false≢true (ap is_dir (
 
 -- what the laws say of the bytes of a directory and a file
 abbrev pub HasSlots : Type 0
-HasSlots = (file : FileNode) (slots : List Slot) → inode_of file ≡ Some (ADir slots) → length file.bytes % 64 ≡ 0 → length file.bytes ≡ 64 * length slots
+HasSlots = (l : Layout) (file : FileNode) (slots : List Slot) → inode_of l file ≡ Some (ADir slots) → AreWholeSlots l (length file.bytes) → length file.bytes ≡ directory_bytes l (length slots)
 
 abbrev pub HasItsBytes : Type 0
-HasItsBytes = (file : FileNode) (links : ℕ) (bytes : List ℕ) → inode_of file ≡ Some (AFile links bytes) → (file.links ≡ links) × (file.bytes ≡ bytes)
+HasItsBytes = (l : Layout) (file : FileNode) (links : ℕ) (bytes : List ℕ) → inode_of l file ≡ Some (AFile links bytes) → (file.links ≡ links) × (file.bytes ≡ bytes)
 
 module _ (slots_law : HasSlots) (bytes_law : HasItsBytes) (g : Geometry) (m : Blocks) (sound : AreSound g m) where
   -- a node in use has as many blocks as the inode that it reads as
-  used_blocks : (k : ℕ) (node : Node) (x : Inode) → used_node g m k ≡ Some node → inode_of (file_of m node) ≡ Some x → inode_blocks (Some x) ≡ length (run_places node.runs)
+  used_blocks : (k : ℕ) (node : Node) (x : Inode) → used_node g m k ≡ Some node → inode_of g.layout (file_of g.layout m node) ≡ Some x → inode_blocks g.layout (Some x) ≡ length (run_places node.runs)
   used_blocks k node x used reads = by x reads
     where
       fits : Fits g node
       fits = used_fits g m k node used
 
-      long : length (content m node) ≡ node.size
+      long : length (content g.layout m node) ≡ content_of g.layout node.kind node.size
       long = content_length g m node fits (λ b is. place_whole g m sound k b (ap (λ o. has (places_or_none o) b) used ∙ is))
 
-      by : (y : Inode) → inode_of (file_of m node) ≡ Some y → inode_blocks (Some y) ≡ length (run_places node.runs)
+      by : (y : Inode) → inode_of g.layout (file_of g.layout m node) ≡ Some y → inode_blocks g.layout (Some y) ≡ length (run_places node.runs)
       by (ADir slots) e =
-          let whole = dir_whole node node.kind node.links (content m node) slots fits.kind e in
-          let count = slots_law (file_of m node) slots e (ap (λ n. n % 64) long ∙ whole) in
-          ap blocks_for (sym count ∙ long) ∙ sym (node_count g node fits)
+          let whole : AreWholeSlots g.layout (length (content g.layout m node)) =
+          subst (AreWholeSlots g.layout) (sym long) (whole_content g.layout node.kind node.size (dir_kind g.layout node.kind node.links (content g.layout m node) slots e)) in
+          let count = slots_law g.layout (file_of g.layout m node) slots e whole in
+          sym (directory_needs g.layout (length slots)) ∙ ap blocks_for (sym count ∙ long) ∙ sym (node_count g node fits)
       by (AFile links bytes) e =
-          ap (λ (xs : List ℕ). blocks_for (length xs)) (sym (bytes_law (file_of m node) links bytes e).1) ∙ (ap blocks_for long ∙ sym (node_count g node fits))
+          ap (λ (xs : List ℕ). blocks_for (length xs)) (sym (bytes_law g.layout (file_of g.layout m node) links bytes e).1) ∙ (ap blocks_for long ∙ sym (node_count g node fits))
 
   -- and so has what is no snapshot
-  pub inode_has : (k : ℕ) (o : Option Node) (y : Option Inode) → ((node : Node) → used_node g m k ≡ Some node → node.kind ≢ Snapshot) → used_node g m k ≡ o → IsInodeOf (option_map (file_of m) o) y → inode_blocks y ≡ length (places_or_none o)
-  inode_has k None y plain used is = ap inode_blocks is
+  pub inode_has : (k : ℕ) (o : Option Node) (y : Option Inode) → ((node : Node) → used_node g m k ≡ Some node → node.kind ≢ Snapshot) → used_node g m k ≡ o → IsInodeOf g.layout (option_map (file_of g.layout m) o) y → inode_blocks g.layout y ≡ length (places_or_none o)
+  inode_has k None y plain used is = ap (inode_blocks g.layout) is
   inode_has k (Some node) None plain used is = absurd (plain node used is)
   inode_has k (Some node) (Some x) plain used is = used_blocks k node x used is
 
-  turns_count : HasNoSnapshots g m → (f : Inodes) → AreInodesOf (files_of g m) f → (k n : ℕ) → blocks_from f k n ≡ length (in_turn (places_at g m) k n)
+  turns_count : HasNoSnapshots g m → (f : Inodes) → AreInodesOf g.layout (files_of g m) f → (k n : ℕ) → blocks_from g.layout f k n ≡ length (in_turn (places_at g m) k n)
   turns_count none f read k zero = refl
   turns_count none f read k (suc n) = omega (arith, length-append (places_at g m k) (in_turn (places_at g m) (k + 1) n), inode_has k (used_node g m k) (f k) (none k) refl (read k), turns_count none f read (k + 1) n)
 
   -- as many data blocks are marked as the inodes have, where no node is a snapshot
-  pub inodes_count : HasNoSnapshots g m → (f : Inodes) → AreInodesOf (files_of g m) f → (p : ℕ → Bool) → ((b : ℕ) → b < g.n → p b ≡ is_set g m b) → length (filter p (range_with_len (data_start g) (g.n - data_start g))) ≡ blocks_from f 1 g.i
+  pub inodes_count : HasNoSnapshots g m → (f : Inodes) → AreInodesOf g.layout (files_of g m) f → (p : ℕ → Bool) → ((b : ℕ) → b < g.n → p b ≡ is_set g m b) → length (filter p (range_with_len (data_start g) (g.n - data_start g))) ≡ blocks_from g.layout f 1 g.i
   inodes_count none f read p same = marked_count g m sound none p same ∙ sym (turns_count none f read 1 g.i)

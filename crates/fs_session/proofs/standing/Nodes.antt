@@ -1,11 +1,12 @@
--- What a node in use has: data blocks, as many as its bytes need.
-use Rattle.std.proofs.Common.{◌≡◌, ℕ, ◌+◌, ◌/◌, ◌<◌, ◌≤◌, ◌==◌, ◌&&◌, true, List, length, slice_get, Option, Some, None, refl, sym, ap, ◌∙◌, arith}
+-- What a node in use has: data blocks, as many as its content needs.
+use Rattle.std.proofs.Common.{◌≡◌, ℕ, ◌+◌, ◌<◌, ◌≤◌, ◌==◌, ◌&&◌, true, List, length, slice_get, Option, Some, None, refl, sym, ap, ◌∙◌, arith}
 use Rattle.std.proofs.lemmas.List.{length-take-le}
 use Rattle.std.proofs.lemmas.Option.{none-some}
 use Rattle.base_types.specs.Seal.{Blocks}
 use Rattle.base_types.specs.Runs.{run_places}
 use Rattle.layout_geometry.specs.Geometry.{Geometry}
 use Rattle.layout_bytes.specs.declared.node.Node.{Node}
+use Rattle.layout_bytes.specs.Node.{content_blocks, content_of}
 use Rattle.engine_blocks.specs.Puts.{IsData}
 use Rattle.engine_blocks.specs.Running.{has}
 use Rattle.crash_stands.specs.Files.{joined, content, used_node}
@@ -17,15 +18,15 @@ use Rattle.fs_snapshots.specs.Nodes.{Fits, used_fits}
 
 -- Its blocks are data blocks.
 
--- They are as many as its bytes need.
+-- They are as many as its content needs.
 
-pub node_count : (g : Geometry) (node : Node) → Fits g node → length (run_places node.runs) ≡ (node.size + 1023) / 1024
+pub node_count : (g : Geometry) (node : Node) → Fits g node → length (run_places node.runs) ≡ content_blocks g.layout node.kind node.size
 node_count g node fits = places_count node.runs ∙ fits.count
 
--- its content has as many bytes as its size says, where its blocks are whole
-pub content_length : (g : Geometry) (m : Blocks) (node : Node) → Fits g node → ((b : ℕ) → has (run_places node.runs) b ≡ true → length (m b) ≡ 1024) → length (content m node) ≡ node.size
+-- its content has as many bytes as its size tells, where its blocks are whole
+pub content_length : (g : Geometry) (m : Blocks) (node : Node) → Fits g node → ((b : ℕ) → has (run_places node.runs) b ≡ true → length (m b) ≡ 1024) → length (content g.layout m node) ≡ content_of g.layout node.kind node.size
 content_length g m node fits whole =
-    length-take-le node.size (joined m (run_places node.runs)) (omega (arith, node_count g node fits, joined_length m (run_places node.runs) whole))
+    length-take-le (content_of g.layout node.kind node.size) (joined m (run_places node.runs)) (omega (arith, node_count g node fits, joined_length m (run_places node.runs) whole))
 
 -- Which node has a block.
 

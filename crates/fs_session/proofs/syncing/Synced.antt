@@ -2,7 +2,7 @@
 use Rattle.std.proofs.lemmas.Bool.{ltb-true, ltb-false, eq-eqb, ne_eqb, cond-true, cond-false, cases_eq, true≢false, false≢true}
 use Rattle.std.proofs.Common.{◌≡◌, inl, inr, ⊎_elim, ℕ, ◌+◌, ◌^◌, ◌≤◌, ◌<◌, ◌==◌, nat_lt, Bool, true, false, IsTrue, zero, suc, is_err, Result, Ok, Err, refl, sym, subst, ap, ◌∙◌, arith}
 use Rattle.disk_contract.specs.Disk.{GrowsByWrites}
-use Rattle.layout_geometry.specs.Geometry.{Geometry}
+use Rattle.crash_stands.specs.Bounds.{bounds_of}
 use Rattle.lang_tree.specs.declared.command.Cmd.{Cmd}
 use Rattle.lang_tree.specs.declared.command.Cmd.TheVariants.{Osync, Dsync}
 use Rattle.lang_tree.specs.declared.command.Refusal.{Refusal}
@@ -42,7 +42,7 @@ module _ (tells : Bool) (old new : State) (f : Session) (p : ℕ) (told : IsTrue
         ap (λ n. Synced n) (syncs.point ∙ next),
         record {
           tree = tree_stays old new f.tree syncs.after.geom (syncs.map told) h.tree;
-          limit = h.limit ∙ ap (λ (k : Geometry). k.i) (sym syncs.after.geom);
+          limit = h.limit ∙ ap bounds_of (sym syncs.after.geom);
           points = λ stopped. sym next;
           changed = λ stopped. sym (ap (λ (r : Running). nat_lt 0 r.weight) (syncs.ends.running ∙ cond-false (old.books.running.weight == 0) old.books.running nothing_running (ne_eqb old.books.running.weight 0 (λ e. absurd (omega (arith, e, some))))));
           durable = omega (arith, h.durable, syncs.after.floor);
@@ -76,7 +76,7 @@ module _ (tells : Bool) (old new : State) (f : Session) (p : ℕ) (told : IsTrue
 pub sync_refused : (tells : Bool) (old new : State) (f : Session) (why : SyncRefusal) → IsTrue tells → old.books.stopped ≡ false → Syncs tells (Err why) old new → IsSession old f → IsSession new f
 sync_refused tells old new f sync.DiskFault told going syncs h = record {
   tree = tree_stays old new f.tree syncs.after.geom (syncs.map told) h.tree;
-  limit = h.limit ∙ ap (λ (k : Geometry). k.i) (sym syncs.after.geom);
+  limit = h.limit ∙ ap bounds_of (sym syncs.after.geom);
   points = λ stopped. absurd (true≢false (sym syncs.disk.stopped ∙ stopped));
   changed = λ stopped. absurd (true≢false (sym syncs.disk.stopped ∙ stopped));
   durable = omega (arith, h.durable, syncs.after.floor);

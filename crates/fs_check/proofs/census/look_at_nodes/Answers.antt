@@ -3,6 +3,7 @@ use Rattle.std.proofs.lemmas.Result.{err_from_is_err_and}
 use Rattle.std.proofs.lemmas.List.{length_push}
 use Rattle.layout_geometry.specs.Geometry.{Geometry}
 use Rattle.engine_blocks.specs.State.{Bookkeeping}
+use Rattle.crash_stands.specs.Bounds.{bounds_of}
 use Rattle.fs_files.specs.Calls.{facts_of}
 use Rattle.fs_check.specs.declared.looked.Looked.TheVariants.{Unused}
 use Rattle.fs_check.specs.Looked.{seen, IsSeen}
@@ -38,7 +39,7 @@ returns-in_err-look_of-clause-broken g c = λ tells.
     let node = c.loop-node.node in
     let facts = c.in_ok-found.ensures.facts tells ∙ ap (λ f. option_map facts_of (f node)) (same_files _ _ (c.laws.ensures.same false c.args.blocks.now c.loop-node.blocks c.loop-node.invariant.looks tells)) in
     let p = err_from_is_err_and c.from_residual-in_err-look_of.result c.from_residual-in_err-look_of.ensures.1 in
-    rw (p.1, p.2) (link_broken s.books.geom.i node (g.N.Nodes.nodes s c.args.files.now).files c.in_ok-found.found c.in_err-look_of.field-0.0 facts c.in_err-look_of.ensures.broken)
+    rw (p.1, p.2) (link_broken (bounds_of s.books.geom) node (g.N.Nodes.nodes s c.args.files.now).files c.in_ok-found.found c.in_err-look_of.field-0.0 facts c.in_err-look_of.ensures.broken)
 
 pub loop-node-preserved : goal.loop-node-preserved
 loop-node-preserved g c =

@@ -1,5 +1,6 @@
 use Rattle.std.proofs.Common.{false}
 use Rattle.std.proofs.lemmas.Result.{err_from_is_err_and}
+use Rattle.crash_stands.specs.Bounds.{bounds_of}
 use Rattle.crash_stands.specs.Files.{files_of}
 use Rattle.crash_stands.specs.Stands.{AreSound}
 use Rattle.fs_files.specs.Places.{looks_more}
@@ -30,8 +31,8 @@ check_tree-requires-clause-kept g c = λ tells.
 pub returns-clause-tree : goal.returns-clause-tree
 returns-clause-tree g c = λ tells.
     let s = g.S.Blocks.state c.args.blocks.now in
-    let read = tree_read c.files_have_one_map.ensures.read c.the_rules_make_a_tree.ensures.tree s.books.geom.i (files_of s.books.geom s.map)
-    (held_before (λ h m. AreTreeFiles h.i (files_of h m)) s (g.S.Blocks.state c.check_blocks.new.blocks)
+    let read = tree_read c.files_have_one_map.ensures.read c.the_rules_make_a_tree.ensures.tree (bounds_of s.books.geom) (files_of s.books.geom s.map)
+    (held_before (λ h m. AreTreeFiles (bounds_of h) (files_of h m)) s (g.S.Blocks.state c.check_blocks.new.blocks)
     c.in_ok-found.ensures.looks.books (c.in_ok-found.ensures.looks.map tells) (c.in_ok-check_tree.ensures.rules tells)) in
     let tree = stands s.books.geom s.map (numbers_in c.in_ok-found.found.numbers.entries) c.in_ok-found.found.shared read (c.in_ok-found.ensures.sound tells) (c.in_ok-found.ensures.known tells) in
     (tree.0, tree.1)
@@ -39,8 +40,8 @@ returns-clause-tree g c = λ tells.
 pub returns-clause-known : goal.returns-clause-known
 returns-clause-known g c = λ tells.
     let s = g.S.Blocks.state c.args.blocks.now in
-    let read = tree_read c.files_have_one_map.ensures.read c.the_rules_make_a_tree.ensures.tree s.books.geom.i (files_of s.books.geom s.map)
-    (held_before (λ h m. AreTreeFiles h.i (files_of h m)) s (g.S.Blocks.state c.check_blocks.new.blocks)
+    let read = tree_read c.files_have_one_map.ensures.read c.the_rules_make_a_tree.ensures.tree (bounds_of s.books.geom) (files_of s.books.geom s.map)
+    (held_before (λ h m. AreTreeFiles (bounds_of h) (files_of h m)) s (g.S.Blocks.state c.check_blocks.new.blocks)
     c.in_ok-found.ensures.looks.books (c.in_ok-found.ensures.looks.map tells) (c.in_ok-check_tree.ensures.rules tells)) in
     knows c.what_is_known_of_snapshots_is_so.ensures.named s.books.geom s.map (numbers_in c.in_ok-found.found.numbers.entries) c.in_ok-found.found.shared
     read (c.in_ok-found.ensures.sound tells) (c.in_ok-found.ensures.known tells) c.in_ok-found.ensures.room

@@ -1,4 +1,5 @@
 use Rattle.std.proofs.Common.{◌+◌, false, length, sym, ap, ◌∙◌, subst}
+use Rattle.engine_blocks.specs.State.{Bookkeeping}
 use Rattle.crash_stands.specs.Inodes.{inodes_of}
 use Rattle.fs_check.specs.Looked.{AreSeen, seen}
 use Rattle.fs_check.specs.Slots.{WentBy, WentUpTo}
@@ -31,8 +32,9 @@ loop-dir-preserved g c =
       looks = looks_more g.S.Blocks.tells false s t u c.loop-dir.invariant.looks c.in_ok-check_node.ensures.looks;
       count = ap length whole ∙ same ∙ c.loop-dir.invariant.count;
       went = λ tells.
-          subst (λ xs. WentUpTo nodes (inodes_of (g.N.Nodes.nodes s c.args.files.now).files) (dir + 1) xs) (sym whole)
-          (went_more (g.N.Nodes.nodes s c.args.files.now).files nodes dir items new (c.requires.seen tells) c.loop-dir.auto.dir same (c.loop-dir.invariant.went tells)
-          (subst (λ f. WentBy nodes (inodes_of f) dir (seen nodes dir) items new) (same_files _ _ (c.laws.ensures.same false c.args.blocks.now c.loop-dir.blocks c.loop-dir.invariant.looks tells))
-          (subst (λ xs. WentBy nodes (inodes_of (g.N.Nodes.nodes t c.args.files.now).files) dir (seen nodes dir) xs new) c.deref_mut.ensures.value (c.in_ok-check_node.ensures.went tells))));
+          subst (λ xs. WentUpTo nodes (inodes_of s.books.geom.layout (g.N.Nodes.nodes s c.args.files.now).files) (dir + 1) xs) (sym whole)
+          (went_more s.books.geom.layout (g.N.Nodes.nodes s c.args.files.now).files nodes dir items new (c.requires.seen tells) c.loop-dir.auto.dir same (c.loop-dir.invariant.went tells)
+          (subst (λ f. WentBy nodes (inodes_of s.books.geom.layout f) dir (seen nodes dir) items new) (same_files _ _ (c.laws.ensures.same false c.args.blocks.now c.loop-dir.blocks c.loop-dir.invariant.looks tells))
+          (subst (λ (b : Bookkeeping). WentBy nodes (inodes_of b.geom.layout (g.N.Nodes.nodes t c.args.files.now).files) dir (seen nodes dir) items new) c.loop-dir.invariant.looks.books
+          (subst (λ xs. WentBy nodes (inodes_of t.books.geom.layout (g.N.Nodes.nodes t c.args.files.now).files) dir (seen nodes dir) xs new) c.deref_mut.ensures.value (c.in_ok-check_node.ensures.went tells)))));
     }

@@ -1,5 +1,6 @@
 use Rattle.std.proofs.Common.{◌≡◌, ◌+◌, ◌<◌, false, [], ◌∷◌, length, replicate, slice_get, Some, refl, sym, ap, ◌∙◌, subst, arith}
 use Rattle.std.proofs.lemmas.Option.{slice_get-get_or}
+use Rattle.engine_blocks.specs.State.{Bookkeeping}
 use Rattle.crash_stands.specs.Inodes.{inodes_of}
 use Rattle.fs_check.specs.Looked.{AreSeen}
 use Rattle.fs_check.specs.Marks.{Marks, Searches, IsQueue}
@@ -24,7 +25,7 @@ loop-at-init g c =
     record {
       looks = looks_none g.S.Blocks.tells s;
       queued = subst (λ xs. IsQueue nodes xs queue) (sym whole) (queue_first nodes n new queue refl first);
-      search = λ tells. subst (λ xs. Searches nodes (inodes_of (g.N.Nodes.nodes s c.args.files.now).files) xs queue 0) (sym whole) (searches_first nodes (inodes_of (g.N.Nodes.nodes s c.args.files.now).files) n new queue refl c.requires.root first);
+      search = λ tells. subst (λ xs. Searches nodes (inodes_of s.books.geom.layout (g.N.Nodes.nodes s c.args.files.now).files) xs queue 0) (sym whole) (searches_first nodes (inodes_of s.books.geom.layout (g.N.Nodes.nodes s c.args.files.now).files) n new queue refl c.requires.root first);
     }
 
 pub mark_directory-requires-clause-read : goal.mark_directory-requires-clause-read
@@ -71,9 +72,10 @@ loop-at-preserved g c =
       looks = looks_more g.S.Blocks.tells false s t u c.loop-at.invariant.looks c.in_ok-mark_directory.ensures.looks;
       queued = subst (λ xs. IsQueue nodes xs next) (sym whole) (queue_more nodes m.named items new queue next sets c.loop-at.invariant.queued);
       search = λ tells.
-          let w = inodes_of (g.N.Nodes.nodes s c.args.files.now).files in
+          let w = inodes_of s.books.geom.layout (g.N.Nodes.nodes s c.args.files.now).files in
           let good = good_slots nodes w dir was (c.requires.good tells dir) in
-          let is = ap (λ f. inodes_of f dir) (same_files _ _ (c.laws.ensures.same false c.args.blocks.now c.loop-at.blocks c.loop-at.invariant.looks tells)) ∙ good.is_dir in
+          let is = ap (λ (b : Bookkeeping). inodes_of b.geom.layout (g.N.Nodes.nodes t c.args.files.now).files dir) c.loop-at.invariant.looks.books
+          ∙ ap (λ f. inodes_of s.books.geom.layout f dir) (same_files _ _ (c.laws.ensures.same false c.args.blocks.now c.loop-at.blocks c.loop-at.invariant.looks tells)) ∙ good.is_dir in
           subst (λ xs. Searches nodes w xs next (at + 1)) (sym whole)
           (searches_more c.a_walk_goes_on.ensures.last c.a_name_stands_at_its_place.ensures.only nodes w items new queue next at dir good.slots (c.loop-at.invariant.search tells) c.loop-at.invariant.queued here good.is_dir good.distinct good.names
           (subst (λ ns. Marks nodes ns items new queue next) (m.those tells good.slots is) sets));
@@ -81,5 +83,5 @@ loop-at-preserved g c =
 
 pub returns-clause-reached : goal.returns-clause-reached
 returns-clause-reached g c = λ tells.
-    all_reached (g.N.Nodes.nodes (g.S.Blocks.state c.args.blocks.now) c.args.files.now).files c.args.nodes.now c.loop-at.marks.items c.loop-at.queue.items c.loop-at.at (c.requires.seen tells) (c.loop-at.invariant.search tells)
+    all_reached (g.S.Blocks.state c.args.blocks.now).books.geom.layout (g.N.Nodes.nodes (g.S.Blocks.state c.args.blocks.now) c.args.files.now).files c.args.nodes.now c.loop-at.marks.items c.loop-at.queue.items c.loop-at.at (c.requires.seen tells) (c.loop-at.invariant.search tells)
     (omega (arith, c.loop-at-test.false, c.len.ensures, c.loop-at.queue.ok.0))

@@ -1,6 +1,7 @@
 use Rattle.std.proofs.Common.{◌+◌, false, sym, subst, ◌∙◌}
 use Rattle.std.proofs.lemmas.Result.{err_from_is_err_and}
 use Rattle.base_types.specs.Seal.{Blocks, blocks_of}
+use Rattle.crash_stands.specs.Bounds.{bounds_of}
 use Rattle.crash_stands.specs.Kept.{kept_files}
 use Rattle.fs_check.specs.declared.kept_table.SnapshotIn.{SnapshotIn}
 use Rattle.fs_check.specs.declared.snapshots.Found.{Found}
@@ -65,7 +66,7 @@ returns-clause-known g c = λ tells.
     let named = subst (λ (m : Blocks). IsNamed m snapshot (numbers_in c.args.found.now.numbers.entries) (numbers_in c.add_name.new.numbers.entries)) first
     (c.in_ok-add_name.ensures.named tells (subst (λ (m : Blocks). AreWhole m c.args.file.blocks) (sym first) are_whole)) in
     let sound = subst (λ (m : Blocks). IsKeptTo h m c.args.maps.now c.check_kept.new.tally snapshot (h.i + 1)) same (c.in_ok-check_kept.ensures.sound tells) in
-    let rules = subst (λ (m : Blocks). AreTreeFiles h.i (kept_files h m c.args.file.blocks)) same (c.in_ok-check_kept.ensures.rules tells) in
+    let rules = subst (λ (m : Blocks). AreTreeFiles (bounds_of h) (kept_files h m c.args.file.blocks)) same (c.in_ok-check_kept.ensures.rules tells) in
     known_more c.what_is_known_of_snapshots_is_so.ensures.each c.files_have_one_map.ensures.read c.the_rules_make_a_tree.ensures.tree h s.map c.args.maps.now c.args.number c.args.found.now later c.args.file c.check_kept.new.tally.dirs
     (blocks_of c.check_kept.new.tally.met.items) (c.requires.node tells) c.requires.kind
     (record { parts = c.in_ok-kept.ensures.parts tells; below = sound.below; rules = rules; links = c.in_ok-kept.ensures.links; size = c.in_ok-kept.ensures.size }) named c.in_ok-check_kept.ensures.counts (c.requires.known tells)

@@ -25,4 +25,4 @@ returns-in-File-clause-known g c = λ tells.
 
 pub check_snapshot-requires-clause-node : goal.check_snapshot-requires-clause-node
 check_snapshot-requires-clause-node g c = λ tells.
-    node_read c.args.geom.now (g.S.Blocks.state c.args.blocks.now).map c.args.number c.args.bytes.now c.node_in.result c.requires.above_zero c.requires.in_table (c.requires.there tells) c.node_in.ensures.node ∙ ap (option_map node_of_file) c.in-Some.is
+    node_read c.args.geom.now (g.S.Blocks.state c.args.blocks.now).map c.args.number c.args.bytes.now c.node_in.result c.requires.above_zero c.requires.in_table (c.requires.there tells) c.node_in.ensures.node ∙ ap (option_map (node_of_file c.args.geom.now.layout)) c.in-Some.is

@@ -1,5 +1,7 @@
-use Rattle.std.proofs.Common.{◌+◌, ◌*◌, true, false, IsTrue, refl, sym, ap, subst, ◌∙◌, arith}
+use Rattle.std.proofs.Common.{◌+◌, true, false, IsTrue, refl, sym, ap, subst, ◌∙◌, arith, ap₂}
 use Rattle.std.proofs.lemmas.Result.{err_from_is_err_and}
+use Rattle.base_types.specs.Layouts.{nodes_before, table_blocks}
+use Rattle.base_types.specs.LayoutLaws.{all_nodes_before, no_nodes_before}
 use Rattle.base_types.specs.Seal.{Blocks}
 use Rattle.layout_geometry.specs.Geometry.{table_start}
 use Rattle.fs_check.specs.SnapshotCalls.{HoldsCounts, IsKnownBelow}
@@ -9,7 +11,7 @@ use Rattle.fs_check.proofs.keeping.Finding.{finds_begins, finds_broken, finds_he
 use Rattle.fs_check.proofs.snapshots.check_snapshots.Goals as goal
 
 pub loop-t-init : goal.loop-t-init
-loop-t-init g c = finds_begins (IsTrue g.S.Blocks.tells) g.S.Blocks.tells c.args.geom.now (g.S.Blocks.state c.args.blocks.now) c.args.maps.now c.args.found.now 1 1 refl c.requires.counts
+loop-t-init g c = finds_begins (IsTrue g.S.Blocks.tells) g.S.Blocks.tells c.args.geom.now (g.S.Blocks.state c.args.blocks.now) c.args.maps.now c.args.found.now 1 (nodes_before c.args.geom.now.layout 0 + 1) (omega (arith, no_nodes_before c.args.geom.now.layout)) c.requires.counts
 
 pub returns-in_err-read_table_block-clause-looks : goal.returns-in_err-read_table_block-clause-looks
 returns-in_err-read_table_block-clause-looks g c =
@@ -35,7 +37,7 @@ check_block-requires-clause-known g c = λ tells.
     let s = g.S.Blocks.state c.args.blocks.now in
     let t = g.S.Blocks.state c.loop-t.blocks in
     let r = g.S.Blocks.state c.read_table_block.new.blocks in
-    let at = 4 * c.loop-t.t + 1 in
+    let at = nodes_before c.args.geom.now.layout c.loop-t.t + 1 in
     finds_here g.S.Blocks.tells c.args.geom.now s r c.args.maps.now c.loop-t.found at at (looks_more g.S.Blocks.tells false s t r c.loop-t.invariant.looks c.in_ok-read_table_block.ensures.looks) refl tells
     (c.loop-t.invariant.known tells (c.requires.known tells))
 
@@ -44,7 +46,7 @@ returns-in_err-check_block-clause-damage g c = λ tells.
     let s = g.S.Blocks.state c.args.blocks.now in
     let t = g.S.Blocks.state c.loop-t.blocks in
     let r = g.S.Blocks.state c.read_table_block.new.blocks in
-    let at = 4 * c.loop-t.t + 1 in
+    let at = nodes_before c.args.geom.now.layout c.loop-t.t + 1 in
     let so_far = finds_read (IsTrue g.S.Blocks.tells) g.S.Blocks.tells c.args.geom.now s t r c.args.maps.now c.args.found.now c.loop-t.found 1 at c.in_ok-read_table_block.ensures.looks c.loop-t.invariant in
     let p = err_from_is_err_and c.from_residual-in_err-check_block.result c.from_residual-in_err-check_block.ensures.1 in
     rw (p.1, p.2) (finds_broken (IsTrue g.S.Blocks.tells) g.S.Blocks.tells c.args.geom.now s r c.args.maps.now c.args.found.now c.loop-t.found 1 at at c.in_err-check_block.field-0.0 (λ q. q) refl so_far
@@ -64,18 +66,26 @@ loop-t-preserved g c =
     let s = g.S.Blocks.state c.args.blocks.now in
     let t = g.S.Blocks.state c.loop-t.blocks in
     let r = g.S.Blocks.state c.read_table_block.new.blocks in
-    let at = 4 * c.loop-t.t + 1 in
+    let at = nodes_before c.args.geom.now.layout c.loop-t.t + 1 in
     let so_far = finds_read (IsTrue g.S.Blocks.tells) g.S.Blocks.tells c.args.geom.now s t r c.args.maps.now c.args.found.now c.loop-t.found 1 at c.in_ok-read_table_block.ensures.looks c.loop-t.invariant in
     finds_more (IsTrue g.S.Blocks.tells) g.S.Blocks.tells c.args.geom.now s r (g.S.Blocks.state c.check_block.new.blocks) c.args.maps.now c.args.found.now c.loop-t.found c.check_block.new.found
-    1 at at (4 * c.loop-t.t + 5) (4 * (c.loop-t.t + 1) + 1) (λ q. q) refl (omega arith) so_far c.in_ok-check_block.ensures.looks c.in_ok-check_block.ensures.counts
+    1 at at (nodes_before c.args.geom.now.layout (c.loop-t.t + 1) + 1) (nodes_before c.args.geom.now.layout (c.loop-t.t + 1) + 1) (λ q. q) refl refl so_far c.in_ok-check_block.ensures.looks c.in_ok-check_block.ensures.counts
     (λ q here. c.in_ok-check_block.ensures.known q)
 
 pub returns-clause-counts : goal.returns-clause-counts
 returns-clause-counts g c =
-    let whole = c.lawful.ensures.limits.whole_blocks in
-    subst (HoldsCounts c.args.geom.now c.loop-t.found) (omega (arith, whole, c.loop-t-test.false, c.loop-t.auto.t-end, c.i-t-end.ensures)) c.loop-t.invariant.counts
+    subst (HoldsCounts c.args.geom.now c.loop-t.found) (omega (
+      arith,
+      all_nodes_before c.args.geom.now.layout c.args.geom.now.i c.lawful.ensures.limits.whole_blocks,
+      ap (nodes_before c.args.geom.now.layout) {x = c.loop-t.t} {y = table_blocks c.args.geom.now.layout c.args.geom.now.i}
+          (omega (arith, c.loop-t-test.false, c.loop-t.auto.t-end, c.table_blocks-t-end.ensures ∙ ap₂ table_blocks c.layout.ensures c.i.ensures)),
+    )) c.loop-t.invariant.counts
 
 pub returns-clause-known : goal.returns-clause-known
 returns-clause-known g c = λ tells.
-    let whole = c.lawful.ensures.limits.whole_blocks in
-    subst (λ k. IsKnownBelow c.args.geom.now (g.S.Blocks.state c.args.blocks.now).map c.args.maps.now k c.loop-t.found) (omega (arith, whole, c.loop-t-test.false, c.loop-t.auto.t-end, c.i-t-end.ensures)) (c.loop-t.invariant.known tells (c.requires.known tells))
+    subst (λ k. IsKnownBelow c.args.geom.now (g.S.Blocks.state c.args.blocks.now).map c.args.maps.now k c.loop-t.found) (omega (
+      arith,
+      all_nodes_before c.args.geom.now.layout c.args.geom.now.i c.lawful.ensures.limits.whole_blocks,
+      ap (nodes_before c.args.geom.now.layout) {x = c.loop-t.t} {y = table_blocks c.args.geom.now.layout c.args.geom.now.i}
+          (omega (arith, c.loop-t-test.false, c.loop-t.auto.t-end, c.table_blocks-t-end.ensures ∙ ap₂ table_blocks c.layout.ensures c.i.ensures)),
+    )) (c.loop-t.invariant.known tells (c.requires.known tells))

@@ -1,7 +1,8 @@
-use Rattle.std.proofs.Common.{◌+◌, ◌*◌, IsTrue}
+use Rattle.std.proofs.Common.{◌+◌, IsTrue}
+use Rattle.base_types.specs.Layouts.{nodes_before}
 use Rattle.fs_check.proofs.sound.Steps.{Goes}
 use Rattle.fs_check.proofs.table.check_table.Given as goal
 
 abbrev pub invariant-loop-t : goal.invariant-loop-t
 invariant-loop-t g l =
-    Goes (IsTrue g.S.Blocks.tells) g.S.Blocks.tells l.geom (g.S.Blocks.state l.fn.blocks) (g.S.Blocks.state l.blocks) l.bits l.fn.met l.met l.fn.found l.found 1 (4 * l.t + 1)
+    Goes (IsTrue g.S.Blocks.tells) g.S.Blocks.tells l.geom (g.S.Blocks.state l.fn.blocks) (g.S.Blocks.state l.blocks) l.bits l.fn.met l.met l.fn.found l.found 1 (nodes_before l.geom.layout l.t + 1)

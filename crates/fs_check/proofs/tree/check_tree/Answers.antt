@@ -1,5 +1,6 @@
 use Rattle.std.proofs.Common.{ap, ◌∙◌, sym, subst}
 use Rattle.std.proofs.lemmas.Result.{err_from_is_err_and}
+use Rattle.crash_stands.specs.Bounds.{bounds_of}
 use Rattle.crash_stands.specs.Files.{files_of}
 use Rattle.fs_files.specs.Calls.{files_in}
 use Rattle.fs_files.specs.Shared.{is_kept}
@@ -25,11 +26,11 @@ pub returns-clause-rules : goal.returns-clause-rules
 returns-clause-rules g c = λ tells.
     let s = g.S.Blocks.state c.args.blocks.now in
     let same = same_function (files_in s c.beside-draft.result) (files_of s.books.geom s.map) (λ k. ap (λ d. files_in s d k) c.beside-draft.ensures ∙ c.a_draft_begins.ensures.beside_files c.args.shared.now k) in
-    subst (AreTreeFiles s.books.geom.i) same (c.in_ok-find_tree.ensures.rules tells)
+    subst (AreTreeFiles (bounds_of s.books.geom)) same (c.in_ok-find_tree.ensures.rules tells)
 
 pub returns-in_err-find_tree-clause-broken : goal.returns-in_err-find_tree-clause-broken
 returns-in_err-find_tree-clause-broken g c = λ tells.
     let s = g.S.Blocks.state c.args.blocks.now in
     let same = same_function (files_in s c.beside-draft.result) (files_of s.books.geom s.map) (λ k. ap (λ d. files_in s d k) c.beside-draft.ensures ∙ c.a_draft_begins.ensures.beside_files c.args.shared.now k) in
     let p = err_from_is_err_and c.from_residual.result c.from_residual.ensures.1 in
-    rw (p.1, p.2) (subst (λ f. IfDamaged c.in_err-find_tree.field-0.0 (IsBroken s.books.geom.i f)) same (c.in_err-find_tree.ensures.broken tells))
+    rw (p.1, p.2) (subst (λ f. IfDamaged c.in_err-find_tree.field-0.0 (IsBroken (bounds_of s.books.geom) f)) same (c.in_err-find_tree.ensures.broken tells))

@@ -99,7 +99,7 @@ returns-in-Ok-clause-plans g c = λ cmd path may.
     let at = goal.at.returns-in-Ok-clause-plans g c in
     record {
       is = λ told f h. puts_tree (g.S.Blocks.state c.args.blocks.now) f cmd path c.args.offset c.args.number c.args.cost c.args.bytes.now (c.requires.file told).0 (here g at.After-write_at path told (may.walk told) f h) c.args.shared.now (shared g at.After-write_at told f h) (puts_so cmd path c.args.offset c.args.bytes.now may.puts c.new_bytes_are_mapped.ensures.write c.new_bytes_are_mapped.ensures.fill) (may.weighed told f h) c.requires.some
-          (g.S.Blocks.state c.write_at.new.blocks) c.write_at.new.self g.S.Blocks.tells false false c.bytes_lie_in_blocks.ensures.kept_too c.touched_blocks_are_counted_by_division.ensures c.small_drafts_are_within_the_cost.ensures.writing c.in-Ok.ensures.settles (wrote g at.In-Ok told) (stays g at.In-Ok told) (all_read (files_in (g.S.Blocks.state c.args.blocks.now) nothing_drafted) h.tree.inodes h.tree.read);
+          (g.S.Blocks.state c.write_at.new.blocks) c.write_at.new.self g.S.Blocks.tells false false c.bytes_lie_in_blocks.ensures.kept_too c.touched_blocks_are_counted_by_division.ensures c.small_drafts_are_within_the_cost.ensures.writing c.in-Ok.ensures.settles (wrote g at.In-Ok told) (stays g at.In-Ok told) (all_read (g.S.Blocks.state c.args.blocks.now).books.geom.layout (files_in (g.S.Blocks.state c.args.blocks.now) nothing_drafted) h.tree.inodes h.tree.read);
       going = c.requires.may.begin.going;
       quiet = λ told f h enough. looked_calmly g.S.Blocks.tells _ _ _ ((wrote g at.In-Ok told).looks (omega (arith, enough, needs g at.After-write_at cmd path may told f h))) told;
       settles = c.in-Ok.ensures.settles;

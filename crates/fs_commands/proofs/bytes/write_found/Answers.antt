@@ -26,12 +26,12 @@ write_over-requires-clause-met g c = λ told.
 pub returns-then-is_too_large-clause-plans : goal.returns-then-is_too_large-clause-plans
 returns-then-is_too_large-clause-plans g c = λ path walk.
     refusal_plan g.S.Blocks.tells g.S.Blocks.state c.calls_compose.ensures.rests g.met.S.Blocks.is_sound (Write path c.args.offset c.args.bytes.now) c.args.blocks.now c.args.blocks.now TooLarge c.requires.may.begin.going
-    (λ told f h. refusal_is (inodes (g.S.Blocks.state c.args.blocks.now)) f (Write path c.args.offset c.args.bytes.now) path c.args.offset (length c.args.bytes.now) c.the_map_gives_the_refusal.ensures.refusal (λ least kept. refl) c.args.found.now (c.a_file_is_at_its_path.ensures told f path c.args.found.now h (c.requires.file told) (walk told)) true (sym c.is_too_large.ensures ∙ c.if-is_too_large.true)) (no_look g.S.Blocks.tells (g.S.Blocks.state c.args.blocks.now))
+    (λ told f h. refusal_is (inodes (g.S.Blocks.state c.args.blocks.now)) f (Write path c.args.offset c.args.bytes.now) path c.args.offset (length c.args.bytes.now) c.the_map_gives_the_refusal.ensures.refusal (λ l least kept. refl) c.args.found.now (c.a_file_is_at_its_path.ensures told f path c.args.found.now h (c.requires.file told) (walk told)) true (sym c.is_too_large.ensures ∙ c.if-is_too_large.true)) (no_look g.S.Blocks.tells (g.S.Blocks.state c.args.blocks.now))
 
 pub returns-then-is_empty-clause-plans : goal.returns-then-is_empty-clause-plans
 returns-then-is_empty-clause-plans g c = λ path walk.
     done_plan g.S.Blocks.tells g.S.Blocks.state c.calls_compose.ensures.rests g.met.S.Blocks.is_sound (Write path c.args.offset c.args.bytes.now) c.args.blocks.now c.args.blocks.now c.requires.may.begin.going
-    (λ told f h. let same = nothing_put (g.S.Blocks.state c.args.blocks.now) f path c.args.offset c.args.bytes.now (refusal_is (inodes (g.S.Blocks.state c.args.blocks.now)) f (Write path c.args.offset c.args.bytes.now) path c.args.offset (length c.args.bytes.now) c.the_map_gives_the_refusal.ensures.refusal (λ least kept. refl) c.args.found.now (c.a_file_is_at_its_path.ensures told f path c.args.found.now h (c.requires.file told) (walk told)) false (sym c.is_too_large.ensures ∙ c.if-is_too_large.false))
+    (λ told f h. let same = nothing_put (g.S.Blocks.state c.args.blocks.now) f path c.args.offset c.args.bytes.now (refusal_is (inodes (g.S.Blocks.state c.args.blocks.now)) f (Write path c.args.offset c.args.bytes.now) path c.args.offset (length c.args.bytes.now) c.the_map_gives_the_refusal.ensures.refusal (λ l least kept. refl) c.args.found.now (c.a_file_is_at_its_path.ensures told f path c.args.found.now h (c.requires.file told) (walk told)) false (sym c.is_too_large.ensures ∙ c.if-is_too_large.false))
     (sym c.is_empty.ensures ∙ c.if-is_empty.true) in
     same) (no_look g.S.Blocks.tells (g.S.Blocks.state c.args.blocks.now))
 

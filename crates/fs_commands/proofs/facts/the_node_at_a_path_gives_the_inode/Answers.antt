@@ -4,7 +4,7 @@ use Rattle.fs_commands.proofs.facts.the_node_at_a_path_gives_the_inode.Goals as 
 pub returns : goal.returns
 returns c = record {
   inode = inode_is;
-  facts = λ limit files t path k x map leads is whole.
+  facts = λ l limit files t path k x map leads is whole.
       let used = map.shows.used path k leads in
-      facts_shown files path k x used.0 leads is used.1 (c.slots_follow_the_bytes.ensures.count x) whole;
+      facts_shown l files path k x used.0 leads is used.1 (c.slots_follow_the_bytes.ensures.count l x) whole;
 }

@@ -27,12 +27,12 @@ fill_over-requires-clause-met g c = λ told.
 pub returns-then-is_too_large-clause-plans : goal.returns-then-is_too_large-clause-plans
 returns-then-is_too_large-clause-plans g c = λ path walk.
     refusal_plan g.S.Blocks.tells g.S.Blocks.state c.calls_compose.ensures.rests g.met.S.Blocks.is_sound (Fill path c.args.offset c.args.count c.args.byte) c.args.blocks.now c.args.blocks.now TooLarge c.requires.may.begin.going
-    (λ told f h. refusal_is (inodes (g.S.Blocks.state c.args.blocks.now)) f (Fill path c.args.offset c.args.count c.args.byte) path c.args.offset c.args.count c.the_map_gives_the_refusal.ensures.refusal (λ least kept. refl) c.args.found.now (c.a_file_is_at_its_path.ensures told f path c.args.found.now h (c.requires.file told) (walk told)) true (ends_past c.args.offset c.from.result c.args.count c.is_too_large.result true c.from.ensures c.is_too_large.ensures c.if-is_too_large.true)) (no_look g.S.Blocks.tells (g.S.Blocks.state c.args.blocks.now))
+    (λ told f h. refusal_is (inodes (g.S.Blocks.state c.args.blocks.now)) f (Fill path c.args.offset c.args.count c.args.byte) path c.args.offset c.args.count c.the_map_gives_the_refusal.ensures.refusal (λ l least kept. refl) c.args.found.now (c.a_file_is_at_its_path.ensures told f path c.args.found.now h (c.requires.file told) (walk told)) true (ends_past c.args.offset c.from.result c.args.count c.is_too_large.result true c.from.ensures c.is_too_large.ensures c.if-is_too_large.true)) (no_look g.S.Blocks.tells (g.S.Blocks.state c.args.blocks.now))
 
 pub returns-then-count-eq0-clause-plans : goal.returns-then-count-eq0-clause-plans
 returns-then-count-eq0-clause-plans g c = λ path walk.
     done_plan g.S.Blocks.tells g.S.Blocks.state c.calls_compose.ensures.rests g.met.S.Blocks.is_sound (Fill path c.args.offset c.args.count c.args.byte) c.args.blocks.now c.args.blocks.now c.requires.may.begin.going
-    (λ told f h. let same = nothing_filled (g.S.Blocks.state c.args.blocks.now) f path c.args.offset c.args.count c.args.byte (refusal_is (inodes (g.S.Blocks.state c.args.blocks.now)) f (Fill path c.args.offset c.args.count c.args.byte) path c.args.offset c.args.count c.the_map_gives_the_refusal.ensures.refusal (λ least kept. refl) c.args.found.now (c.a_file_is_at_its_path.ensures told f path c.args.found.now h (c.requires.file told) (walk told)) false (ends_past c.args.offset c.from.result c.args.count c.is_too_large.result false c.from.ensures c.is_too_large.ensures c.if-is_too_large.false)) c.if-count-eq0.true in
+    (λ told f h. let same = nothing_filled (g.S.Blocks.state c.args.blocks.now) f path c.args.offset c.args.count c.args.byte (refusal_is (inodes (g.S.Blocks.state c.args.blocks.now)) f (Fill path c.args.offset c.args.count c.args.byte) path c.args.offset c.args.count c.the_map_gives_the_refusal.ensures.refusal (λ l least kept. refl) c.args.found.now (c.a_file_is_at_its_path.ensures told f path c.args.found.now h (c.requires.file told) (walk told)) false (ends_past c.args.offset c.from.result c.args.count c.is_too_large.result false c.from.ensures c.is_too_large.ensures c.if-is_too_large.false)) c.if-count-eq0.true in
     same) (no_look g.S.Blocks.tells (g.S.Blocks.state c.args.blocks.now))
 
 pub returns-in-Ok-clause-plans : goal.returns-in-Ok-clause-plans

@@ -27,9 +27,9 @@ weighed g c path told walk f h =
     let hi = c.args.offset + c.args.count in
     let lo = min c.args.offset c.size_of.result in
     let k = c.a_file_is_at_its_path.ensures told f path c.args.found.now h (c.requires.file told) walk in
-    let accepted = refusal_is (inodes (g.S.Blocks.state c.args.blocks.now)) f (Fill path c.args.offset c.args.count c.args.byte) path c.args.offset c.args.count c.the_map_gives_the_refusal.ensures.refusal (λ least kept. refl) c.args.found.now k false (not_too_large c.args.offset c.args.count c.requires.fits) in (
+    let accepted = refusal_is (inodes (g.S.Blocks.state c.args.blocks.now)) f (Fill path c.args.offset c.args.count c.args.byte) path c.args.offset c.args.count c.the_map_gives_the_refusal.ensures.refusal (λ l least kept. refl) c.args.found.now k false (not_too_large c.args.offset c.args.count c.requires.fits) in (
       accepted,
-      figures_as s f (Fill path c.args.offset c.args.count c.args.byte) _ (inodes s) _ (c.bitmap_blocks-bitmap.ensures ∙ ap bitmap_blocks c.geom.ensures) (c.overwrite_figures-figures.ensures.fill (shared_on s f) (inodes s) path c.args.byte (c.size_of.ensures ∙ omega (arith, k.size, k.most))
+      figures_as s f (Fill path c.args.offset c.args.count c.args.byte) _ (inodes s) _ f.limit.layout refl (c.bitmap_blocks-bitmap.ensures ∙ ap bitmap_blocks c.geom.ensures) (c.overwrite_figures-figures.ensures.fill f.limit.layout (shared_on s f) (inodes s) path c.args.byte (c.size_of.ensures ∙ omega (arith, k.size, k.most))
           (meets_shared s f path c.args.found.now.number c.args.shared.now (λ k i. c.counts_tell_what_is_shared.ensures.shared c.args.blocks.now f c.args.shared.now k i h (c.requires.may.begin.kept told)) k.leads lo hi c.args.met x.0 x.1 (k.size ∙ ap (λ (q : FileFacts). q.size) x.2)
           (subst (λ n. MeetsKept s c.args.shared.now c.args.found.now.number n hi c.args.met) (sym (ap (min c.args.offset) c.size_of.ensures)) (c.requires.met told)))) k.map accepted,
     )

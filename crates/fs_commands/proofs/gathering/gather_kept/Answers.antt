@@ -1,4 +1,5 @@
 use Rattle.std.proofs.Common.{◌≡◌, ◌+◌, ◌-◌, ◌<◌, ◌≤◌, ◌++◌, All, false, ap, ap₂, subst, sym, ◌∙◌, arith, rules}
+use Rattle.base_types.specs.Layouts.{nodes_in_block}
 use Rattle.base_types.specs.Seal.{Blocks}
 use Rattle.layout_geometry.specs.Geometry.{Geometry, IsGeometry, table_start, data_start}
 use Rattle.crash_stands.specs.Places.{kept_table, table_blocks}
@@ -33,8 +34,8 @@ loop-slot-preserved g c =
     let low : c.loop-slot.slot < table_blocks s.books.geom = omega (arith, count, c.loop-slot-test.true) in
     gathers_more (IsThere g.S.Blocks.tells s c.args.places.now) g.S.Blocks.tells s t u (kept_table s.map c.args.places.now s.books.geom) c.loop-slot.slot c.loop-slot.found c.gather_block.new.found c.read_block_at.new.into limits c.loop-slot.invariant low looks
     (λ there. kept_read g.S.Blocks.tells s t c.args.places.now c.loop-slot.slot (1 + c.loop-slot.slot) c.read_block_at.new.into c.loop-slot.invariant.looks there (omega arith) low (c.in_ok-read_block_at.ensures.block there.0))
-    (c.in_ok-gather_block.ensures.files ∙ ap (λ (x : Geometry). c.loop-slot.found.files.items ++ node_blocks (λ r. file_blocks (nodes_in x c.read_block_at.new.into r)) 4) e)
-    (c.in_ok-gather_block.ensures.dirs ∙ ap (λ (x : Geometry). c.loop-slot.found.dirs.items ++ node_blocks (λ r. places_of_dir (nodes_in x c.read_block_at.new.into r)) 4) e)
+    (c.in_ok-gather_block.ensures.files ∙ ap (λ (x : Geometry). c.loop-slot.found.files.items ++ node_blocks (λ r. file_blocks (nodes_in x c.read_block_at.new.into r)) (nodes_in_block x.layout)) e)
+    (c.in_ok-gather_block.ensures.dirs ∙ ap (λ (x : Geometry). c.loop-slot.found.dirs.items ++ node_blocks (λ r. places_of_dir (nodes_in x c.read_block_at.new.into r)) (nodes_in_block x.layout)) e)
     (subst (λ (x : Geometry). All (IsData x) c.loop-slot.found.files.items → All (IsData x) c.gather_block.new.found.files.items) e c.in_ok-gather_block.ensures.«data»)
     (subst (λ (x : Geometry). All (IsData x) c.loop-slot.found.dirs.items → All (IsData x) c.gather_block.new.found.dirs.items) e c.in_ok-gather_block.ensures.dirs_data)
 

@@ -34,7 +34,7 @@ returns-in-Some-clause-all g c = λ told.
     let places : v.places ≡ places_of s c.args.number = ap (λ (v : KeptState). v.places) (same_Some v found.0 (sym c.in-Some.is ∙ found.1)) ∙ found.2 in
     on_ok_more c.list_from_root.result (λ h k keeps.
     Appends-trans _ _ _ (codes "snap " ++ c.args.name.now ++ codes "\n") (path_lines k.names k.nodes) c.in_ok-write_snapshot.ensures.all
-    (h (inodes_of (kept_map t.books.geom t.map v.places).files) (kept_tree k) (record {
+    (h (inodes_of t.books.geom.layout (kept_map t.books.geom t.map v.places).files) (kept_tree k) (record {
       same = search rules;
       map = c.kept_nodes_have_the_map_of_their_tree.ensures t.books.geom t.map v.places k
           (still g.S.Blocks.tells s t c.in_ok-kept.ensures.looks (λ g m. KeepsTree g m v.places k) told (subst (λ ps. KeepsTree s.books.geom s.map ps k) (sym places) keeps));
@@ -49,7 +49,7 @@ returns-in-Some-clause-front g c = λ told.
     let places : v.places ≡ places_of s c.args.number = ap (λ (v : KeptState). v.places) (same_Some v found.0 (sym c.in-Some.is ∙ found.1)) ∙ found.2 in
     on_err_more c.list_from_root.result (λ h k keeps.
     c.prefixes_join.ensures.second _ _ _ (codes "snap " ++ c.args.name.now ++ codes "\n") (path_lines k.names k.nodes) c.in_ok-write_snapshot.ensures.all
-    (h (inodes_of (kept_map t.books.geom t.map v.places).files) (kept_tree k) (record {
+    (h (inodes_of t.books.geom.layout (kept_map t.books.geom t.map v.places).files) (kept_tree k) (record {
       same = search rules;
       map = c.kept_nodes_have_the_map_of_their_tree.ensures t.books.geom t.map v.places k
           (still g.S.Blocks.tells s t c.in_ok-kept.ensures.looks (λ g m. KeepsTree g m v.places k) told (subst (λ ps. KeepsTree s.books.geom s.map ps k) (sym places) keeps));

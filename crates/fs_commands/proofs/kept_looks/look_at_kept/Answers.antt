@@ -1,4 +1,5 @@
 use Rattle.std.proofs.Common.{◌≡◌, Some, IfSome, sym, subst, ap, ◌∙◌}
+use Rattle.crash_stands.specs.Bounds.{bounds_of}
 use Rattle.std.proofs.lemmas.Option.{none-some, same_Some}
 use Rattle.lang_tree.specs.Step.{look_command, step}
 use Rattle.crash_stands.specs.Inodes.{inodes_of}
@@ -36,11 +37,11 @@ returns-in-Some-clause-answer g c = λ told.
     let found = c.in_ok-hold.ensures.there told in
     let number : kept.number ≡ c.args.number = ap (λ (h : HeldNodes). h.number) (same_Some kept found.0 (sym c.in-Some.is ∙ found.1)) ∙ found.2 in
     let places : v.places ≡ places_of t c.args.number = places_at t kept.number v.places (are.there told) ∙ ap (places_of t) number in
-    ok_more (λ reply. (f : Session) → IsMapOfSession t.books.geom.i (inodes_of (kept_map t.books.geom t.map v.places).files) f → reply ≡ (step f (look_command c.args.look.now)).1) _ c.look_in.result
-    (λ reply h k f keeps is. h f (subst (λ f. IsMapOfSession t.books.geom.i (inodes_of (kept_map t.books.geom t.map v.places).files) f) (sym is) (record {
+    ok_more (λ reply. (f : Session) → IsMapOfSession (bounds_of t.books.geom) (inodes_of t.books.geom.layout (kept_map t.books.geom t.map v.places).files) f → reply ≡ (step f (look_command c.args.look.now)).1) _ c.look_in.result
+    (λ reply h k f keeps is. h f (subst (λ f. IsMapOfSession (bounds_of t.books.geom) (inodes_of t.books.geom.layout (kept_map t.books.geom t.map v.places).files) f) (sym is) (record {
       map = c.kept_nodes_have_the_map_of_their_tree.ensures t.books.geom t.map v.places k
           (subst (λ ps. KeepsTree t.books.geom t.map ps k) (sym places) (still g.S.Blocks.tells s t c.in_ok-hold.ensures.looks (λ g m. KeepsTree g m (fc.places_of g m c.args.number) k) told keeps));
-      limit_is = ap (λ (b : Bookkeeping). b.geom.i) (sym c.in_ok-hold.ensures.looks.books);
+      limit_is = ap (λ (b : Bookkeeping). bounds_of b.geom) (sym c.in_ok-hold.ensures.looks.books);
     }))) (c.look_in.ensures.answer told)
 
 pub returns-in-Some-clause-looks : goal.returns-in-Some-clause-looks

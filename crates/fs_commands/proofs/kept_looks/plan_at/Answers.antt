@@ -1,9 +1,10 @@
 use Rattle.std.proofs.Common.{◌≡◌, Ok, None, refl, sym, subst, ap, ◌∙◌, rules}
+use Rattle.crash_stands.specs.Bounds.{bounds_of}
 use Rattle.lang_tree.specs.declared.command.Cmd.TheVariants.{At}
 use Rattle.lang_tree.specs.declared.command.Refusal.TheVariants.{NoSnap}
 use Rattle.lang_tree.specs.Conditions.{at_refusal}
 use Rattle.lang_tree.specs.Step.{look_command, session_on, step}
-use Rattle.lang_tree.specs.Tree.{kept_tree}
+use Rattle.lang_tree.specs.Tree.{kept_tree, Bounds}
 use Rattle.crash_stands.specs.Stands.{KeepsTree}
 use Rattle.fs_files.specs.Calls.{places_of}
 use Rattle.fs_commands.specs.Known.{number_in}
@@ -34,8 +35,8 @@ returns-in-Ok-clause-plans g c =
     look_plan g.S.Blocks.tells g.S.Blocks.state c.calls_compose.ensures.rests g.met.S.Blocks.is_sound (At name look) c.args.blocks.now c.look_at_kept.new.blocks (Ok c.in-Ok.reply) _ refl (at_looks name look) c.requires.may.begin.going
     (λ told f h.
     let r = one_named s.books.geom s.map f.tree name h.tree c.what_is_known_of_snapshots_is_so.ensures.named c.in-Some.number (sym ((c.requires.knows told).named name) ∙ sym c.in-Some.ensures) in
-    c.in-Ok.ensures.answer told r.0 (session_on s.books.geom.i (kept_tree r.0)) (subst (λ n. KeepsTree s.books.geom s.map (places_of s.books.geom s.map n) r.0) r.2 (keeps_there s.books.geom s.map f.tree name r.0 h.tree r.1)) refl
-    ∙ ap (λ n. (step (session_on n (kept_tree r.0)) (look_command look)).1) (sym h.limit) ∙ sym (c.a_snapshot_keeps_its_tree.ensures.looks f name r.0 look r.1))
+    c.in-Ok.ensures.answer told r.0 (session_on (bounds_of s.books.geom) (kept_tree r.0)) (subst (λ n. KeepsTree s.books.geom s.map (places_of s.books.geom s.map n) r.0) r.2 (keeps_there s.books.geom s.map f.tree name r.0 h.tree r.1)) refl
+    ∙ ap (λ (b : Bounds). (step (session_on b (kept_tree r.0)) (look_command look)).1) (sym h.limit) ∙ sym (c.a_snapshot_keeps_its_tree.ensures.looks f name r.0 look r.1))
     tt c.in-Ok.ensures.looks
 
 pub returns-in-Err-clause-plans : goal.returns-in-Err-clause-plans

@@ -15,14 +15,14 @@ pub returns-in-Err-clause-answer : goal.returns-in-Err-clause-answer
 returns-in-Err-clause-answer g c = λ told f h.
     let files = (g.N.Nodes.nodes (g.S.Blocks.state c.args.blocks.now) c.args.files.now).files in
     let map = session_maps _ _ f h in
-    read_nowhere files f map c.the_map_gives_the_reply.ensures.reply c.args.path.now c.args.offset c.args.len c.in-Err.why (subst (λ r. LeadsToFound files c.args.path.now r) c.in-Err.is (c.in_ok-found.ensures.found told f.tree h.map))
+    read_nowhere (g.S.Blocks.state c.args.blocks.now).books.geom.layout files f map c.the_map_gives_the_reply.ensures.reply c.args.path.now c.args.offset c.args.len c.in-Err.why (subst (λ r. LeadsToFound (g.S.Blocks.state c.args.blocks.now).books.geom.layout files c.args.path.now r) c.in-Err.is (c.in_ok-found.ensures.found told f.tree h.map))
 
 pub returns-then-is_dir-clause-answer : goal.returns-then-is_dir-clause-answer
 returns-then-is_dir-clause-answer g c = λ told f h.
     let files = (g.N.Nodes.nodes (g.S.Blocks.state c.args.blocks.now) c.args.files.now).files in
     let map = session_maps _ _ f h in
-    let led = subst (λ r. LeadsToFound files c.args.path.now r) c.in-Ok.is (c.in_ok-found.ensures.found told f.tree h.map) in
-    (read_there files f map c.the_map_gives_the_reply.ensures.reply c.args.path.now c.walks_are_the_same.ensures.ends c.in-Ok.found led c.args.offset c.args.len).0 (sym c.is_dir.ensures ∙ c.if-is_dir.true)
+    let led = subst (λ r. LeadsToFound (g.S.Blocks.state c.args.blocks.now).books.geom.layout files c.args.path.now r) c.in-Ok.is (c.in_ok-found.ensures.found told f.tree h.map) in
+    (read_there (g.S.Blocks.state c.args.blocks.now).books.geom.layout files f map c.the_map_gives_the_reply.ensures.reply c.args.path.now c.walks_are_the_same.ensures.ends c.in-Ok.found led c.args.offset c.args.len).0 (sym c.is_dir.ensures ∙ c.if-is_dir.true)
 
 pub read_at-requires-clause-look : goal.read_at-requires-clause-look
 read_at-requires-clause-look g c =
@@ -41,12 +41,12 @@ pub returns-in-Ok-read_at-clause-answer : goal.returns-in-Ok-read_at-clause-answ
 returns-in-Ok-read_at-clause-answer g c = λ told f h.
     let files = (g.N.Nodes.nodes (g.S.Blocks.state c.args.blocks.now) c.args.files.now).files in
     let map = session_maps _ _ f h in
-    let led = subst (λ r. LeadsToFound files c.args.path.now r) c.in-Ok.is (c.in_ok-found.ensures.found told f.tree h.map) in
+    let led = subst (λ r. LeadsToFound (g.S.Blocks.state c.args.blocks.now).books.geom.layout files c.args.path.now r) c.in-Ok.is (c.in_ok-found.ensures.found told f.tree h.map) in
     let same = c.laws.ensures.same false c.args.blocks.now c.find_in.new.blocks c.in_ok-found.ensures.looks told in
     let at = ap (λ (n : NodeMap). n.files c.in-Ok.found.number) same ∙ led.1.1 in
     let later = (g.N.Nodes.nodes (g.S.Blocks.state c.find_in.new.blocks) c.args.files.now).files in
     ap Bytes ((subst (λ r. IfOk r (λ (bytes : List ℕ). (x : FileNode) → later c.in-Ok.found.number ≡ Some x → bytes ≡ take c.args.len (drop c.from.result x.bytes))) c.in-Ok-read_at.is (c.read_at.ensures.bytes told)) led.1.0 at ∙ ap (λ n. take c.args.len (drop n led.1.0.bytes)) c.from.ensures)
-    ∙ (read_there files f map c.the_map_gives_the_reply.ensures.reply c.args.path.now c.walks_are_the_same.ensures.ends c.in-Ok.found led c.args.offset c.args.len).1 (sym c.is_dir.ensures ∙ c.if-is_dir.false)
+    ∙ (read_there (g.S.Blocks.state c.args.blocks.now).books.geom.layout files f map c.the_map_gives_the_reply.ensures.reply c.args.path.now c.walks_are_the_same.ensures.ends c.in-Ok.found led c.args.offset c.args.len).1 (sym c.is_dir.ensures ∙ c.if-is_dir.false)
 
 pub returns-in-Ok-read_at-clause-looks : goal.returns-in-Ok-read_at-clause-looks
 returns-in-Ok-read_at-clause-looks g c =

@@ -1,3 +1,4 @@
+use Rattle.base_types.specs.Layouts.{most_runs}
 use Rattle.std.proofs.Common.{◌≡◌, ◌≢◌, ◌≤◌, ◌++◌, ◌∷◌, ℕ, false, Some, IfSome, [], option_and_then, sym, subst, ap, ◌∙◌, arith, length, take, refl}
 use Rattle.std.proofs.lemmas.Option.{none-some}
 use Rattle.layout_geometry.specs.Geometry.{Geometry}
@@ -25,7 +26,7 @@ pub returns-in-Err-clause-refused : goal.returns-in-Err-clause-refused
 returns-in-Err-clause-refused g c = λ told slots at.
     let s = g.S.Blocks.state c.args.blocks.now in
     let mid = g.S.Blocks.state c.add_slot.new.blocks in
-    subst (λ d. inodes_in s d c.args.dir ≡ Some (ADir slots) → GrowthRefused (growth (length slots)) (λ more. places_in s d c.args.dir ++ more) s.books mid.books c.in-Err.why) c.beside-draft.ensures (c.in-Err.ensures.refused told slots) at
+    subst (λ d. inodes_in s d c.args.dir ≡ Some (ADir slots) → GrowthRefused (growth s.books.geom.layout (length slots)) (λ more. places_in s d c.args.dir ++ more) s.books mid.books c.in-Err.why) c.beside-draft.ensures (c.in-Err.ensures.refused told slots) at
 
 pub new_node-requires-clause-below : goal.new_node-requires-clause-below
 new_node-requires-clause-below g c = λ told l above below.
@@ -54,10 +55,10 @@ returns-in-Ok-new_node-clause-leaves g c = λ told.
     let e = c.new_node.new.self in
     let there = c.requires.there told in
     let slots = there.0 in
-    let slotted = subst (λ b. inodes_in s b c.args.dir ≡ Some (ADir slots) → IsWithSlots (files_in s b) (files_in mid d) c.args.dir (slots ++ c.args.slot.now ∷ [])) c.beside-draft.ensures (c.in-Ok.ensures.slots told slots) there.1 in
-    let grown = subst (λ b. inodes_in s b c.args.dir ≡ Some (ADir slots) → IsWithPlaces (places_in s b) (places_in mid d) c.args.dir (places_in s b c.args.dir ++ take (growth (length slots)) (reusable_blocks mid.books))) c.beside-draft.ensures (c.in-Ok.ensures.places told slots) there.1 in
+    let slotted = subst (λ b. inodes_in s b c.args.dir ≡ Some (ADir slots) → IsWithSlots s.books.geom.layout (files_in s b) (files_in mid d) c.args.dir (slots ++ c.args.slot.now ∷ [])) c.beside-draft.ensures (c.in-Ok.ensures.slots told slots) there.1 in
+    let grown = subst (λ b. inodes_in s b c.args.dir ≡ Some (ADir slots) → IsWithPlaces (places_in s b) (places_in mid d) c.args.dir (places_in s b c.args.dir ++ take (growth s.books.geom.layout (length slots)) (reusable_blocks mid.books))) c.beside-draft.ensures (c.in-Ok.ensures.places told slots) there.1 in
     leaves_then (files_in s nothing_drafted) (files_in mid d) (files_in new e) (places_of s) (places_in mid d) (places_in new e)
-    (slots_leave (files_in s nothing_drafted) (files_in mid d) (places_of s) (places_in mid d) c.args.dir _ grown slots (slots ++ c.args.slot.now ∷ []) there.1 slotted)
+    (slots_leave s.books.geom.layout (files_in s nothing_drafted) (files_in mid d) (places_of s) (places_in mid d) c.args.dir _ grown slots (slots ++ c.args.slot.now ∷ []) there.1 slotted)
     (sought_leaves g.S.Blocks.tells mid new d e c.in-Ok-new_node.ensures.looks told (record { kind = c.node_kind.result; links = 1; bytes = [] }) (λ same. plain_kind c.args.kind (sym c.node_kind.ensures.value ∙ same))
     mid.books.geom.i _ c.in-Ok-new_node.field-0 (c.in-Ok-new_node.ensures.node told) (c.in-Ok-new_node.ensures.places told) (c.in-Ok-new_node.ensures.none told))
 
@@ -69,23 +70,23 @@ returns-in-Ok-new_node-clause-names g c = λ told t slots h unused at.
     let d = c.add_slot.new.draft in
     let e = c.new_node.new.self in
     let node = c.args.slot.now.node in
-    let reads : DoesRead (files_in s nothing_drafted) = λ k file is plain. c.blocks_have_a_map.ensures.reads s.books.geom s.map t k file h is plain in
-    let apart : c.args.dir ≢ node = λ same. none-some (ADir slots) (sym (ap (option_and_then inode_of) unused) ∙ ap (inodes s) (sym same) ∙ at) in
-    let slotted = subst (λ b. inodes_in s b c.args.dir ≡ Some (ADir slots) → IsWithSlots (files_in s b) (files_in mid d) c.args.dir (slots ++ c.args.slot.now ∷ [])) c.beside-draft.ensures (c.in-Ok.ensures.slots told slots) at in
-    let altered = subst (λ b. inodes_in s b c.args.dir ≡ Some (ADir slots) → Alters 2 (take (growth (length slots)) (reusable_blocks mid.books)) 0 b d) c.beside-draft.ensures (c.in-Ok.ensures.alters told slots) at in
-    let grown = subst (λ b. inodes_in s b c.args.dir ≡ Some (ADir slots) → IsWithPlaces (places_in s b) (places_in mid d) c.args.dir (places_in s b c.args.dir ++ take (growth (length slots)) (reusable_blocks mid.books))) c.beside-draft.ensures (c.in-Ok.ensures.places told slots) at in
+    let reads : DoesRead s.books.geom.layout (files_in s nothing_drafted) = λ k file is plain. c.blocks_have_a_map.ensures.reads s.books.geom s.map t k file h is plain in
+    let apart : c.args.dir ≢ node = λ same. none-some (ADir slots) (sym (ap (option_and_then (inode_of s.books.geom.layout)) unused) ∙ ap (inodes s) (sym same) ∙ at) in
+    let slotted = subst (λ b. inodes_in s b c.args.dir ≡ Some (ADir slots) → IsWithSlots s.books.geom.layout (files_in s b) (files_in mid d) c.args.dir (slots ++ c.args.slot.now ∷ [])) c.beside-draft.ensures (c.in-Ok.ensures.slots told slots) at in
+    let altered = subst (λ b. inodes_in s b c.args.dir ≡ Some (ADir slots) → Alters 2 (take (growth s.books.geom.layout (length slots)) (reusable_blocks mid.books)) 0 b d) c.beside-draft.ensures (c.in-Ok.ensures.alters told slots) at in
+    let grown = subst (λ b. inodes_in s b c.args.dir ≡ Some (ADir slots) → IsWithPlaces (places_in s b) (places_in mid d) c.args.dir (places_in s b c.args.dir ++ take (growth s.books.geom.layout (length slots)) (reusable_blocks mid.books))) c.beside-draft.ensures (c.in-Ok.ensures.places told slots) at in
     let at_first = subst (λ b. inodes_in s b c.args.dir ≡ Some (ADir slots)) (sym c.beside-draft.ensures) at in
     let found = found_is mid.books.geom.i node (files_in mid d) _ _ c.in-Ok-new_node.field-0 c.requires.node.from (omega (arith, c.requires.node.upto, ap (λ (h : Geometry). h.i) c.in-Ok.ensures.settles.pipeline.geom))
     (slotted.others node (λ same. apart (sym same)) ∙ unused)
     (λ l above below. c.in-Ok.ensures.used told l (subst (λ b. IsUsed (files_in s b) l) (sym c.beside-draft.ensures) (c.requires.below told l above below)))
     (c.in-Ok-new_node.ensures.node told) (c.in-Ok-new_node.ensures.none told) in
     name_added g.S.Blocks.tells s mid new d e c.args.dir node c.args.slot.now.name slots (new_inode (first_thing c.args.kind)) (record { kind = c.node_kind.result; links = 1; bytes = [] }) at apart reads slotted found.1
-    (subst (λ q. inode_of (record { kind = q; links = 1; bytes = [] }) ≡ Some (new_inode (first_thing c.args.kind))) (sym c.node_kind.ensures.value) (first_read c.a_file_reads_as_itself.ensures.directory c.a_file_reads_as_itself.ensures.file c.args.kind))
+    (subst (λ q. inode_of s.books.geom.layout (record { kind = q; links = 1; bytes = [] }) ≡ Some (new_inode (first_thing c.args.kind))) (sym c.node_kind.ensures.value) (first_read s.books.geom.layout (c.a_file_reads_as_itself.ensures.directory s.books.geom.layout) (c.a_file_reads_as_itself.ensures.file s.books.geom.layout) c.args.kind))
     c.args.shared.now altered
     (c.alterations_add_up.ensures.node mid.books.geom node [] d e (subst (λ o. IfSome o (λ k. SetsNode mid.books.geom k [] d e)) found.0 c.in-Ok-new_node.ensures.among) (subst (λ o. IfSome o (λ k. ChangesSome e)) found.0 c.in-Ok-new_node.ensures.changes))
     c.in-Ok.ensures.settles c.in-Ok-new_node.ensures.looks (λ few. c.in-Ok.ensures.looks told slots at_first few) grown
     (placed_by (places_in mid d) (places_in new e) node [] [] (subst (λ o. IfSome o (λ k. IsWithPlaces (places_in mid d) (places_in new e) k [])) found.0 (c.in-Ok-new_node.ensures.places told)) refl) (c.in-Ok.ensures.room told slots at_first)
-    (subst (λ b. inodes_in s b c.args.dir ≡ Some (ADir slots) → stretches (places_in s b c.args.dir ++ take (growth (length slots)) (reusable_blocks mid.books)) ≤ 28) c.beside-draft.ensures (c.in-Ok.ensures.runs told slots) at)
+    (subst (λ b. inodes_in s b c.args.dir ≡ Some (ADir slots) → stretches (places_in s b c.args.dir ++ take (growth s.books.geom.layout (length slots)) (reusable_blocks mid.books)) ≤ most_runs s.books.geom.layout) c.beside-draft.ensures (c.in-Ok.ensures.runs told slots) at)
     c.alterations_add_up.ensures.both c.alterations_add_up.ensures.price c.files_have_one_map.ensures.read
 
 pub returns-in-Ok-new_node-clause-kept : goal.returns-in-Ok-new_node-clause-kept

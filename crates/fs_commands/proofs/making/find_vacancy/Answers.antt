@@ -14,13 +14,13 @@ pub returns-in-Err-clause-vacancy : goal.returns-in-Err-clause-vacancy
 returns-in-Err-clause-vacancy g c = λ told t h.
     let s = g.S.Blocks.state c.args.blocks.now in
     let m = inodes_in s nothing_drafted in
-    ap (λ r. first_reason (r ∷ when (is_some (number_at m c.args.path.now)) Exists ∷ [])) (subst (λ r. ComesTo (files_in s nothing_drafted) c.args.path.now r) c.in-Err.is (c.in_ok-spot.ensures.comes told t h))
+    ap (λ r. first_reason (r ∷ when (is_some (number_at m c.args.path.now)) Exists ∷ [])) (subst (λ r. ComesTo s.books.geom.layout (files_in s nothing_drafted) c.args.path.now r) c.in-Err.is (c.in_ok-spot.ensures.comes told t h))
 
 pub returns-clause-vacancy : goal.returns-clause-vacancy
 returns-clause-vacancy g c = λ told t h.
     let s = g.S.Blocks.state c.args.blocks.now in
     let path = c.args.path.now in
-    c.vacancy_in.ensures.appears (files_in s nothing_drafted) path (parent path) (subst (λ r. ComesTo (files_in s nothing_drafted) path r) c.in-Ok.is (c.in_ok-spot.ensures.comes told t h))
+    c.vacancy_in.ensures.appears s.books.geom.layout (files_in s nothing_drafted) path (parent path) (subst (λ r. ComesTo s.books.geom.layout (files_in s nothing_drafted) path r) c.in-Ok.is (c.in_ok-spot.ensures.comes told t h))
     (last_name path c.names.result.now c.in-Some.name.now c.names.ensures (ap option_copied (sym c.in-Some.is) ∙ c.last.ensures.value))
 
 pub returns-clause-dir : goal.returns-clause-dir

@@ -1,4 +1,5 @@
-use Rattle.std.proofs.Common.{false, Err, sym, subst, ap, ◌∙◌, arith}
+use Rattle.std.proofs.Common.{false, Err, sym, subst, ap, ap₂, ◌∙◌, arith}
+use Rattle.layout_geometry.specs.Geometry.{Geometry}
 use Rattle.lang_tree.specs.Figures.{adding, growth}
 use Rattle.lang_tree.specs.Values.{value_of}
 use Rattle.crash_stands.specs.Inodes.{AFile}
@@ -15,7 +16,7 @@ use Rattle.fs_commands.proofs.making.link_file.Goals as goal
 pub returns-in-Err-clause-plans : goal.returns-in-Err-clause-plans
 returns-in-Err-clause-plans g c = λ cmd may.
     full_plan g.S.Blocks.tells g.S.Blocks.state c.calls_compose.ensures.rests (cmd) c.args.blocks.now (value_of c.new_name_figures-figures.result) c.in-Err.why c.requires.may.begin.going c.in-Err.ensures.refused
-    (λ told f h. let a = (may told f h).accepts in (a.accepted, a.figures ∙ sym (c.new_name_figures-figures.ensures.value ∙ ap (λ n. adding (growth n)) c.from.ensures)))
+    (λ told f h. let a = (may told f h).accepts in (a.accepted, a.figures ∙ sym (c.new_name_figures-figures.ensures.value ∙ ap₂ (λ l n. adding (growth l n)) (c.layout.ensures ∙ ap (λ (k : Geometry). k.layout) c.geom.ensures) c.from.ensures)))
 
 pub returns-in-Ok-draft_link-clause-plans : goal.returns-in-Ok-draft_link-clause-plans
 returns-in-Ok-draft_link-clause-plans g c = λ cmd may.
@@ -24,7 +25,7 @@ returns-in-Ok-draft_link-clause-plans g c = λ cmd may.
     let v = c.args.vacancy.now in
     let slot = c.args.slot.now in
     let d = c.in-Ok-draft_link.draft in
-    named_plan g.S.Blocks.tells cmd s new v.dir v.count (value_of c.new_name_figures-figures.result) c.requires.may.begin.going (c.new_name_figures-figures.ensures.value ∙ ap (λ n. adding (growth n)) c.from.ensures)
+    named_plan g.S.Blocks.tells cmd s new v.dir v.count (value_of c.new_name_figures-figures.result) c.requires.may.begin.going (c.new_name_figures-figures.ensures.value ∙ ap₂ (λ l n. adding (growth l n)) (c.layout.ensures ∙ ap (λ (k : Geometry). k.layout) c.geom.ensures) c.from.ensures)
     c.in-Ok.ensures.room (λ told f h. (may told f h).accepts) c.in-Ok-draft_link.ensures.quiet d Stays c.in-Ok-draft_link.ensures.settles
     (λ told f h.
     let m = may told f h in
@@ -53,6 +54,6 @@ returns-in-Err-draft_link-clause-plans g c = λ cmd may.
     let new = g.S.Blocks.state c.draft_link.new.blocks in
     let v = c.args.vacancy.now in
     subst (λ why. Plans g.S.Blocks.tells cmd (Err why) s new) (sym c.refusal_of.ensures)
-    (name_refused g.S.Blocks.tells cmd s new v.dir v.count (value_of c.new_name_figures-figures.result) c.requires.may.begin.going (c.new_name_figures-figures.ensures.value ∙ ap (λ n. adding (growth n)) c.from.ensures)
+    (name_refused g.S.Blocks.tells cmd s new v.dir v.count (value_of c.new_name_figures-figures.result) c.requires.may.begin.going (c.new_name_figures-figures.ensures.value ∙ ap₂ (λ l n. adding (growth l n)) (c.layout.ensures ∙ ap (λ (k : Geometry). k.layout) c.geom.ensures) c.from.ensures)
     c.in-Ok.ensures.room (λ told f h. (may told f h).accepts) c.in-Err-draft_link.ensures.quiet
     (g.met.S.Blocks.is_sound c.draft_link.new.blocks) c.a_disk_is_small.ensures.disk (λ told. c.a_disk_is_small.ensures.places told c.args.shared.now c.requires.may.begin v.dir) c.in-Err-draft_link.why c.in-Err-draft_link.ensures.settles c.in-Err-draft_link.ensures.refused)

@@ -1,5 +1,10 @@
-use Rattle.std.proofs.Common.{IfSome, Ok, sym, subst, ◌∙◌}
-use Rattle.lang_tree.specs.declared.command.Refusal.TheVariants.{NoNode}
+use Rattle.std.proofs.Common.{◌≤◌, ◌<◌, length, IfSome, Ok, sym, subst, ap, ◌∙◌}
+use Rattle.std.proofs.lemmas.Bool.{ltb-false, ltb-true}
+use Rattle.base_types.specs.declared.layout.Layout.{Layout}
+use Rattle.base_types.specs.Layouts.{longest_name}
+use Rattle.layout_geometry.specs.Geometry.{Geometry}
+use Rattle.engine_blocks.specs.State.{Bookkeeping}
+use Rattle.lang_tree.specs.declared.command.Refusal.TheVariants.{NameTooLong, NoNode}
 use Rattle.fs_files.specs.Calls.{files_in}
 use Rattle.fs_files.specs.Drafts.{nothing_drafted}
 use Rattle.fs_commands.specs.Making.{make_cmd}
@@ -20,8 +25,20 @@ make_node-requires-clause-below g c = λ told.
     below_still g.S.Blocks.tells _ _ c.in-Ok-Some.ensures.looks told c.in-Ok-Some.node
     (subst (λ o. IfSome o (AreUsedBelow (files_in (g.S.Blocks.state c.args.blocks.now) nothing_drafted))) c.in-Ok-Some.field-0-is (c.in-Ok-Some.ensures.used told))
 
-pub returns-in-Ok-Some-clause-plans : goal.returns-in-Ok-Some-clause-plans
-returns-in-Ok-Some-clause-plans g c = λ path appears.
+-- its name isn't too long
+pub make_node-requires-clause-short : goal.make_node-requires-clause-short
+make_node-requires-clause-short g c =
+    subst (λ (l : Layout). length c.args.vacancy.now.name ≤ longest_name l) (c.layout-layout.ensures ∙ ap (λ (k : Geometry). k.layout) c.geom.ensures ∙ ap (λ (k : Bookkeeping). k.geom.layout) (sym (c.in-Ok-Some.ensures.looks.books)))
+    (ltb-false (longest_name c.layout-layout.result) (length c.args.vacancy.now.name) (sym c.is_long.ensures ∙ c.if-is_long.false))
+
+pub returns-then-is_long-clause-plans : goal.returns-then-is_long-clause-plans
+returns-then-is_long-clause-plans g c = λ path appears.
+    refusal_plan g.S.Blocks.tells g.S.Blocks.state c.calls_compose.ensures.rests g.met.S.Blocks.is_sound (make_cmd c.args.kind path) c.args.blocks.now c.least_unused.new.blocks NameTooLong c.requires.may.begin.going
+    (λ told f h. c.the_tree_makes_nodes.ensures.long c.args.blocks.now f c.args.kind path c.args.vacancy.now c.in-Ok-Some.node h (appears told) (sym (c.in-Ok-Some.ensures.least told) ∙ c.in-Ok-Some.field-0-is)
+    (subst (λ (l : Layout). longest_name l < length c.args.vacancy.now.name) (c.layout-layout.ensures ∙ ap (λ (k : Geometry). k.layout) c.geom.ensures) (ltb-true (longest_name c.layout-layout.result) (length c.args.vacancy.now.name) (sym c.is_long.ensures ∙ c.if-is_long.true)))) c.in-Ok-Some.ensures.looks
+
+pub returns-else-is_long-clause-plans : goal.returns-else-is_long-clause-plans
+returns-else-is_long-clause-plans g c = λ path appears.
     let looks = c.in-Ok-Some.ensures.looks in
     looked_first g.S.Blocks.tells g.S.Blocks.state c.calls_compose.ensures.rests c.calls_compose.ensures.advances (make_cmd c.args.kind path) _ c.args.blocks.now c.least_unused.new.blocks _ c.requires.may.begin.going looks
     (c.make_node.ensures.plans path (λ told. may_appear_still g.S.Blocks.tells _ _ looks told path (Ok c.args.vacancy.now) (appears told))

@@ -1,4 +1,5 @@
-use Rattle.std.proofs.Common.{false, IsTrue, Err, sym, subst, ap, ◌∙◌, arith}
+use Rattle.std.proofs.Common.{false, IsTrue, Err, sym, subst, ap, ap₂, ◌∙◌, arith}
+use Rattle.layout_geometry.specs.Geometry.{Geometry}
 use Rattle.lang_tree.specs.Figures.{adding, growth}
 use Rattle.lang_tree.specs.Step.{Session}
 use Rattle.lang_tree.specs.Values.{value_of}
@@ -21,8 +22,8 @@ use Rattle.fs_commands.proofs.making.make_node.Goals as goal
 pub returns-in-Err-clause-plans : goal.returns-in-Err-clause-plans
 returns-in-Err-clause-plans g c = λ path appears least.
     full_plan g.S.Blocks.tells g.S.Blocks.state c.calls_compose.ensures.rests (make_cmd c.args.kind path) c.args.blocks.now (value_of c.new_name_figures-figures.result) c.in-Err.why c.requires.may.begin.going c.in-Err.ensures.refused
-    (λ told f h. let a = c.the_tree_makes_nodes.ensures.accepted c.args.blocks.now f c.args.kind path c.args.vacancy.now c.args.node h (appears told) (least told) in
-    (a.accepted, a.figures ∙ sym (c.new_name_figures-figures.ensures.value ∙ ap (λ n. adding (growth n)) c.from.ensures)))
+    (λ told f h. let a = c.the_tree_makes_nodes.ensures.accepted c.args.blocks.now f c.args.kind path c.args.vacancy.now c.args.node h (appears told) (least told) c.requires.short in
+    (a.accepted, a.figures ∙ sym (c.new_name_figures-figures.ensures.value ∙ ap₂ (λ l n. adding (growth l n)) (c.layout.ensures ∙ ap (λ (k : Geometry). k.layout) c.geom.ensures) c.from.ensures)))
 
 pub returns-in-Ok-draft_node-clause-plans : goal.returns-in-Ok-draft_node-clause-plans
 returns-in-Ok-draft_node-clause-plans g c = λ path appears least.
@@ -32,8 +33,8 @@ returns-in-Ok-draft_node-clause-plans g c = λ path appears least.
     let node = c.args.node in
     let d = c.in-Ok-draft_node.draft in
     let accepts : IsTrue g.S.Blocks.tells → (f : Session) → IsSession s f → AcceptsName s f (make_cmd c.args.kind path) v.dir v.count =
-    λ told f h. c.the_tree_makes_nodes.ensures.accepted c.args.blocks.now f c.args.kind path v node h (appears told) (least told) in
-    named_plan g.S.Blocks.tells (make_cmd c.args.kind path) s new v.dir v.count (value_of c.new_name_figures-figures.result) c.requires.may.begin.going (c.new_name_figures-figures.ensures.value ∙ ap (λ n. adding (growth n)) c.from.ensures)
+    λ told f h. c.the_tree_makes_nodes.ensures.accepted c.args.blocks.now f c.args.kind path v node h (appears told) (least told) c.requires.short in
+    named_plan g.S.Blocks.tells (make_cmd c.args.kind path) s new v.dir v.count (value_of c.new_name_figures-figures.result) c.requires.may.begin.going (c.new_name_figures-figures.ensures.value ∙ ap₂ (λ l n. adding (growth l n)) (c.layout.ensures ∙ ap (λ (k : Geometry). k.layout) c.geom.ensures) c.from.ensures)
     c.in-Ok.ensures.room accepts c.in-Ok-draft_node.ensures.quiet d (Taken node) c.in-Ok-draft_node.ensures.settles
     (λ told f h.
     let slots = (accepts told f h).slots in
@@ -44,7 +45,7 @@ returns-in-Ok-draft_node-clause-plans g c = λ path appears least.
       name = v.name;
       inode = new_inode (first_thing c.args.kind);
       adds = adds;
-      map = c.the_tree_makes_nodes.ensures.map c.args.blocks.now (inodes_in new d) f c.args.kind path v node h (appears told) (least told) adds.adds;
+      map = c.the_tree_makes_nodes.ensures.map c.args.blocks.now (inodes_in new d) f c.args.kind path v node h (appears told) (least told) c.requires.short adds.adds;
       stays = stays_beside g.S.Blocks.tells false false s new d c.args.shared.now c.in-Ok-draft_node.ensures.settles c.requires.may.begin c.in-Ok-draft_node.ensures.kept told (c.in-Ok-draft_node.ensures.leaves told);
     })
 
@@ -70,6 +71,6 @@ returns-in-Err-draft_node-clause-plans g c = λ path appears least.
     let new = g.S.Blocks.state c.draft_node.new.blocks in
     let v = c.args.vacancy.now in
     subst (λ why. Plans g.S.Blocks.tells (make_cmd c.args.kind path) (Err why) s new) (sym c.refusal_of.ensures)
-    (name_refused g.S.Blocks.tells (make_cmd c.args.kind path) s new v.dir v.count (value_of c.new_name_figures-figures.result) c.requires.may.begin.going (c.new_name_figures-figures.ensures.value ∙ ap (λ n. adding (growth n)) c.from.ensures)
-    c.in-Ok.ensures.room (λ told f h. c.the_tree_makes_nodes.ensures.accepted c.args.blocks.now f c.args.kind path v c.args.node h (appears told) (least told)) c.in-Err-draft_node.ensures.quiet
+    (name_refused g.S.Blocks.tells (make_cmd c.args.kind path) s new v.dir v.count (value_of c.new_name_figures-figures.result) c.requires.may.begin.going (c.new_name_figures-figures.ensures.value ∙ ap₂ (λ l n. adding (growth l n)) (c.layout.ensures ∙ ap (λ (k : Geometry). k.layout) c.geom.ensures) c.from.ensures)
+    c.in-Ok.ensures.room (λ told f h. c.the_tree_makes_nodes.ensures.accepted c.args.blocks.now f c.args.kind path v c.args.node h (appears told) (least told) c.requires.short) c.in-Err-draft_node.ensures.quiet
     (g.met.S.Blocks.is_sound c.draft_node.new.blocks) c.a_disk_is_small.ensures.disk (λ told. c.a_disk_is_small.ensures.places told c.args.shared.now c.requires.may.begin v.dir) c.in-Err-draft_node.why c.in-Err-draft_node.ensures.settles c.in-Err-draft_node.ensures.refused)

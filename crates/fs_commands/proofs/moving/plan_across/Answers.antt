@@ -1,4 +1,6 @@
-use Rattle.std.proofs.Common.{◌++◌, false, take, None, Err, refl, sym, subst, ap, ◌∙◌, arith, IsTrue, ℕ, List}
+use Rattle.std.proofs.Common.{◌++◌, false, take, None, Err, refl, sym, subst, ap, ap₂, ◌∙◌, arith, IsTrue, ℕ, List, ◌≡◌}
+use Rattle.fs_inodes.specs.Refusals.{rename_reason}
+use Rattle.lang_tree.specs.Tree.{Bounds}
 use Rattle.std.proofs.lemmas.Option.{same_Some}
 use Rattle.layout_geometry.specs.Geometry.{Geometry, bitmap_blocks}
 use Rattle.layout_extent.specs.Renew.{renew}
@@ -11,7 +13,7 @@ use Rattle.engine_blocks.specs.State.{reusable_blocks}
 use Rattle.fs_files.specs.Calls.{GrowthRefused, files_in}
 use Rattle.fs_session.specs.Commands.{GrowsInRuns, IsCalm, figures_on, places_of, renewed_on}
 use Rattle.fs_session.specs.Plans.{Plans, StaysBeside}
-use Rattle.fs_session.specs.Sessions.{IsSession}
+use Rattle.fs_session.specs.Sessions.{IsSession, inodes}
 use Rattle.fs_commands.proofs.keeping.Looked.{settled_sound, settled_stays}
 use Rattle.fs_commands.proofs.growing.Refused.{growth_refused, refused_alike}
 use Rattle.fs_commands.proofs.moved.Planned.{across_counted, counted_as, grown_into, may_move_away, move_made, move_renews, move_stands, planned_move, MoveIs, move_is}
@@ -30,16 +32,18 @@ use Rattle.lang_tree.specs.Sharing.{none_shared}
 use Rattle.fs_session.specs.NothingKept.{grows_unrenewed}
 
 -- what is known of the rename, and that it is weighed by its figures
-weighed : (g : given.Over) (c : goal.After-moving-figures g) (from to : List (List ℕ)) → IsTrue g.S.Blocks.tells → IsMove (files_in (g.S.Blocks.state c.args.blocks.now) nothing_drafted) from to c.args.source.now c.args.into c.args.count None c.args.other.now → (f : Session) → IsSession (g.S.Blocks.state c.args.blocks.now) f
-    → MoveIs (g.S.Blocks.state c.args.blocks.now) f from to c.args.source.now c.args.into c.args.count None c.args.other.now (growth c.args.count) (release c.args.source.now.count) (value_of c.moving-figures.result)
+weighed : (g : given.Over) (c : goal.After-moving-figures g) (from to : List (List ℕ)) → IsTrue g.S.Blocks.tells → IsMove (g.S.Blocks.state c.args.blocks.now).books.geom.layout (files_in (g.S.Blocks.state c.args.blocks.now) nothing_drafted) from to c.args.source.now c.args.into c.args.count None c.args.other.now → (f : Session) → IsSession (g.S.Blocks.state c.args.blocks.now) f
+    → MoveIs (g.S.Blocks.state c.args.blocks.now) f from to c.args.source.now c.args.into c.args.count None c.args.other.now (growth (g.S.Blocks.state c.args.blocks.now).books.geom.layout c.args.count) (release (g.S.Blocks.state c.args.blocks.now).books.geom.layout c.args.source.now.count) (value_of c.moving-figures.result)
 weighed g c from to told move f h =
     let s = g.S.Blocks.state c.args.blocks.now in
     let map = session_map c.blocks_have_the_map_of_their_tree.ensures.map s f h in
+    let same : f.limit.layout ≡ s.books.geom.layout = ap (λ (b : Bounds). b.layout) h.limit in
+    let none = subst (λ l. rename_reason l (inodes s) from to ≡ None) (sym same) move.accepted in
     let known = c.a_move_is_known.ensures.knows told from to c.args.source.now c.args.into c.args.count None c.args.other.now move in
-    move_is s f from to c.args.source.now c.args.into c.args.count None c.args.other.now (growth c.args.count) (release c.args.source.now.count) _ known map move.accepted c.the_map_gives_the_refusal.ensures.refusal
-    (across_counted s f from to c.args.source.now c.args.other.now map move.accepted c.the_map_gives_the_figures.ensures.over c.args.into c.args.count known c.paths_lead_to_inodes.ensures.in_one c.requires.apart)
-    (counted_as c.bitmap_blocks-bitmap.result c.growth.result c.release.result (bitmap_blocks s.books.geom) (growth c.args.count) (release c.args.source.now.count) _ c.moving-figures.ensures
-    (c.bitmap_blocks-bitmap.ensures ∙ ap (λ (k : Geometry). bitmap_blocks k) c.geom.ensures) (c.growth.ensures.value ∙ ap growth c.from.ensures) (c.release.ensures.value ∙ ap release c.from-2.ensures))
+    move_is s f from to c.args.source.now c.args.into c.args.count None c.args.other.now (growth s.books.geom.layout c.args.count) (release s.books.geom.layout c.args.source.now.count) _ known map none c.the_map_gives_the_refusal.ensures.refusal
+    (across_counted s f from to c.args.source.now c.args.other.now map none same c.the_map_gives_the_figures.ensures.over c.args.into c.args.count known c.paths_lead_to_inodes.ensures.in_one c.requires.apart)
+    (counted_as c.bitmap_blocks.result c.growth.result c.release.result (bitmap_blocks s.books.geom) (growth s.books.geom.layout c.args.count) (release s.books.geom.layout c.args.source.now.count) _ c.moving-figures.ensures
+    (c.bitmap_blocks.ensures ∙ ap (λ (k : Geometry). bitmap_blocks k) c.geom-geom.ensures) (c.growth.ensures.value ∙ ap₂ growth (c.layout.ensures ∙ ap (λ (k : Geometry). k.layout) c.geom-geom.ensures) c.from.ensures) (c.release.ensures.value ∙ ap₂ release (c.layout-2.ensures ∙ ap (λ (k : Geometry). k.layout) c.geom-geom.ensures) c.from-2.ensures))
 
 pub draft_across-requires-clause-moves : goal.draft_across-requires-clause-moves
 draft_across-requires-clause-moves g c = λ told.
@@ -71,11 +75,11 @@ returns-in-Ok-draft_across-clause-plans g c = λ from to move.
           let a = weighs told f h in
           let may = may_move_away s from to source c.args.into c.args.count c.args.other.now c.requires.apart a.known in
           let grows = c.in-Ok-draft_across.ensures.grows told a.known.name may in
-          planned_move s now f from to source c.args.into c.args.count None c.args.other.now 5 (release source.count) (growth c.args.count) fs (take (growth c.args.count) (reusable_blocks now.books)) c.in-Ok-draft_across.draft Stays a
+          planned_move s now f from to source c.args.into c.args.count None c.args.other.now 5 (release s.books.geom.layout source.count) (growth s.books.geom.layout c.args.count) fs (take (growth s.books.geom.layout c.args.count) (reusable_blocks now.books)) c.in-Ok-draft_across.draft Stays a
           (c.in-Ok-draft_across.ensures.moves told a.known.name may) (stays g at.In-Ok-draft_across told) c.in-Ok.ensures.room
           (omega arith) refl grows.enough (c.in-Ok-draft_across.ensures.rests told a.known.name may) settles.pipeline.geom
           (λ k some grown. grows_unrenewed s f (Rename from to) (move_renews s f from to) now.books k _ (subst (λ n. GrowsInRuns none_shared s now.books k n) (sym (ap (λ (n : Figures). n.need) a.counted))
-          (subst (λ l. GrowsInRuns none_shared s now.books l (growth c.args.count)) (same_Some c.args.into k (sym (grown_into s from to source.dir c.args.into a.known.name c.args.other.now a.known.paths) ∙ grown)) grows)))
+          (subst (λ l. GrowsInRuns none_shared s now.books l (growth s.books.geom.layout c.args.count)) (same_Some c.args.into k (sym (grown_into s from to source.dir c.args.into a.known.name c.args.other.now a.known.paths) ∙ grown)) grows)))
           c.a_move_is_mapped.ensures.rename c.the_map_gives_the_reply.ensures.reply c.alterations_add_up.ensures.price;
       going = c.requires.may.begin.going;
       quiet = λ told f h.

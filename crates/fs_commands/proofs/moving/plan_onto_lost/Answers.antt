@@ -1,4 +1,6 @@
-use Rattle.std.proofs.Common.{◌+◌, [], Some, refl, sym, ap, ap₂, ◌∙◌, arith, IsTrue, ℕ, List}
+use Rattle.std.proofs.Common.{◌+◌, [], Some, refl, sym, ap, ap₂, ◌∙◌, arith, IsTrue, ℕ, List, subst, ◌≡◌, None}
+use Rattle.fs_inodes.specs.Refusals.{rename_reason}
+use Rattle.lang_tree.specs.Tree.{Bounds}
 use Rattle.layout_geometry.specs.Geometry.{Geometry, bitmap_blocks}
 use Rattle.lang_tree.specs.declared.command.Cmd.TheVariants.{Rename}
 use Rattle.lang_tree.specs.Figures.{blocks_for, release}
@@ -6,7 +8,7 @@ use Rattle.lang_tree.specs.Values.{value_of}
 use Rattle.engine_blocks.specs.State.{Bookkeeping}
 use Rattle.fs_commands.specs.Removing.{blocks_gone, use_after}
 use Rattle.fs_session.specs.Plans.{StaysBeside}
-use Rattle.fs_session.specs.Sessions.{IsSession}
+use Rattle.fs_session.specs.Sessions.{IsSession, inodes}
 use Rattle.fs_commands.proofs.keeping.Looked.{looks_settle, settled_sound, settled_stays}
 use Rattle.fs_commands.proofs.moved.Planned.{counted_as, no_growth, onto_counted, planned_move, MoveIs, move_is}
 use Rattle.fs_commands.proofs.planning.Looking.{full_plan, looked_change, cut_short}
@@ -24,9 +26,9 @@ use Rattle.fs_commands.proofs.moving.plan_onto_lost.Goals as goal
 use Rattle.fs_commands.proofs.moving.plan_onto_lost.Goals.{After-moving-figures, In-Ok-draft_onto}
 
 -- what is known of the rename, and that it is weighed by its figures
-weighed : (g : given.Over) (c : goal.After-moving-figures g) (from to : List (List ℕ)) → IsTrue g.S.Blocks.tells → IsMove (files_in (g.S.Blocks.state c.args.blocks.now) nothing_drafted) from to c.args.source.now c.args.target.now.dir c.args.target.now.count (Some c.args.target.now.entry) c.args.other.now → (f : Session) → IsSession (g.S.Blocks.state c.args.blocks.now) f
+weighed : (g : given.Over) (c : goal.After-moving-figures g) (from to : List (List ℕ)) → IsTrue g.S.Blocks.tells → IsMove (g.S.Blocks.state c.args.blocks.now).books.geom.layout (files_in (g.S.Blocks.state c.args.blocks.now) nothing_drafted) from to c.args.source.now c.args.target.now.dir c.args.target.now.count (Some c.args.target.now.entry) c.args.other.now → (f : Session) → IsSession (g.S.Blocks.state c.args.blocks.now) f
     → MoveIs (g.S.Blocks.state c.args.blocks.now) f from to c.args.source.now c.args.target.now.dir c.args.target.now.count (Some c.args.target.now.entry) c.args.other.now 0
-    (release c.args.source.now.count + blocks_gone (is_kept c.args.shared.now) c.args.target.now.entry.node.facts (places_of (g.S.Blocks.state c.args.blocks.now) c.args.target.now.entry.node.number)) (value_of c.moving-figures.result)
+    (release (g.S.Blocks.state c.args.blocks.now).books.geom.layout c.args.source.now.count + blocks_gone (is_kept c.args.shared.now) c.args.target.now.entry.node.facts (places_of (g.S.Blocks.state c.args.blocks.now) c.args.target.now.entry.node.number)) (value_of c.moving-figures.result)
 weighed g c from to told move f h =
     let s = g.S.Blocks.state c.args.blocks.now in
     let counts = c.args.shared.now in
@@ -34,6 +36,8 @@ weighed g c from to told move f h =
     let target = c.args.target.now in
     let node = target.entry.node in
     let map = session_map c.blocks_have_the_map_of_their_tree.ensures.map s f h in
+    let same : f.limit.layout ≡ s.books.geom.layout = ap (λ (b : Bounds). b.layout) h.limit in
+    let none = subst (λ l. rename_reason l (inodes s) from to ≡ None) (sym same) move.accepted in
     let known = c.a_move_is_known.ensures.knows told from to source target.dir target.count (Some target.entry) c.args.other.now move in
     let onto = c.a_move_is_known.ensures.onto told f.tree from to source target c.args.other.now h.tree move known in
     let found = onto.0.found in
@@ -41,10 +45,10 @@ weighed g c from to told move f h =
     let with_path = lost_with_path s counts node c.args.gone (c.requires.gone told) f to (λ k i. c.counts_tell_what_is_shared.ensures.shared c.args.blocks.now f counts k i h (c.requires.may.begin.kept told)) onto.3 onto.1 in
     let alone = lost_alone s counts node c.args.gone (c.requires.gone told) many in
     let gone : ℕ = blocks_gone (is_kept counts) node.facts (places_of s node.number) in
-    move_is s f from to source target.dir target.count (Some target.entry) c.args.other.now 0 (release source.count + gone) _ known map move.accepted c.the_map_gives_the_refusal.ensures.refusal
-    (onto_counted s f from to source c.args.other.now map move.accepted c.the_map_gives_the_figures.ensures.over target known gone (sym with_path ∙ alone))
-    (counted_as c.bitmap_blocks-bitmap.result 0 (c.release.result + c.args.gone) (bitmap_blocks s.books.geom) 0 (release source.count + gone) _ c.moving-figures.ensures
-    (c.bitmap_blocks-bitmap.ensures ∙ ap (λ (k : Geometry). bitmap_blocks k) c.geom.ensures) refl (ap₂ (λ a b. a + b) (c.release.ensures.value ∙ ap release c.from.ensures) alone))
+    move_is s f from to source target.dir target.count (Some target.entry) c.args.other.now 0 (release s.books.geom.layout source.count + gone) _ known map none c.the_map_gives_the_refusal.ensures.refusal
+    (onto_counted s f from to source c.args.other.now map none same c.the_map_gives_the_figures.ensures.over target known gone (sym with_path ∙ alone))
+    (counted_as c.bitmap_blocks-bitmap.result 0 (c.release.result + c.args.gone) (bitmap_blocks s.books.geom) 0 (release s.books.geom.layout source.count + gone) _ c.moving-figures.ensures
+    (c.bitmap_blocks-bitmap.ensures ∙ ap (λ (k : Geometry). bitmap_blocks k) c.geom-geom.ensures) refl (ap₂ (λ a b. a + b) (c.release.ensures.value ∙ ap₂ release (c.layout.ensures ∙ ap (λ (k : Geometry). k.layout) c.geom-geom.ensures) c.from.ensures) alone))
 
 pub draft_onto-requires-clause-moves : goal.draft_onto-requires-clause-moves
 draft_onto-requires-clause-moves g c = λ told.
@@ -69,7 +73,7 @@ returns-in-Ok-draft_onto-clause-plans g c = λ from to move.
     let now = g.S.Blocks.state c.draft_onto.new.blocks in
     let source = c.args.source.now in
     let target = c.args.target.now in
-    let freed : ℕ = release source.count + blocks_gone (is_kept c.args.shared.now) target.entry.node.facts (places_of s target.entry.node.number) in
+    let freed : ℕ = release s.books.geom.layout source.count + blocks_gone (is_kept c.args.shared.now) target.entry.node.facts (places_of s target.entry.node.number) in
     let at = goal.at.returns-in-Ok-draft_onto-clause-plans g c in
     let fs = value_of c.moving-figures.result in
     let looks = c.in-Ok-draft_onto.ensures.looks in

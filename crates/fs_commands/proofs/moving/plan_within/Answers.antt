@@ -1,10 +1,12 @@
-use Rattle.std.proofs.Common.{false, [], None, refl, ap, ◌∙◌, arith, IsTrue, ℕ, List}
+use Rattle.std.proofs.Common.{false, [], None, refl, ap, ◌∙◌, arith, IsTrue, ℕ, List, subst, sym, ◌≡◌}
+use Rattle.fs_inodes.specs.Refusals.{rename_reason}
+use Rattle.lang_tree.specs.Tree.{Bounds}
 use Rattle.layout_geometry.specs.Geometry.{Geometry, bitmap_blocks}
 use Rattle.lang_tree.specs.declared.command.Cmd.TheVariants.{Rename}
 use Rattle.lang_tree.specs.Values.{value_of}
 use Rattle.engine_blocks.specs.State.{Bookkeeping}
 use Rattle.fs_session.specs.Plans.{StaysBeside}
-use Rattle.fs_session.specs.Sessions.{IsSession}
+use Rattle.fs_session.specs.Sessions.{IsSession, inodes}
 use Rattle.fs_commands.proofs.keeping.Looked.{looks_settle, settled_sound, settled_stays}
 use Rattle.fs_commands.proofs.moved.Planned.{counted_as, may_rename, move_made, no_growth, planned_move, within_counted, MoveIs, move_is}
 use Rattle.fs_session.specs.declared.unused.NodeUse.TheVariants.{Stays}
@@ -20,14 +22,16 @@ use Rattle.fs_commands.proofs.moving.plan_within.Goals as goal
 use Rattle.fs_commands.proofs.moving.plan_within.Goals.{After-moving-figures, In-Ok-draft_within}
 
 -- what is known of the rename, and that it is weighed by its figures
-weighed : (g : given.Over) (c : goal.After-moving-figures g) (from to : List (List ℕ)) → IsTrue g.S.Blocks.tells → IsMove (files_in (g.S.Blocks.state c.args.blocks.now) nothing_drafted) from to c.args.source.now c.args.source.now.dir c.args.source.now.count None c.args.other.now → (f : Session) → IsSession (g.S.Blocks.state c.args.blocks.now) f
+weighed : (g : given.Over) (c : goal.After-moving-figures g) (from to : List (List ℕ)) → IsTrue g.S.Blocks.tells → IsMove (g.S.Blocks.state c.args.blocks.now).books.geom.layout (files_in (g.S.Blocks.state c.args.blocks.now) nothing_drafted) from to c.args.source.now c.args.source.now.dir c.args.source.now.count None c.args.other.now → (f : Session) → IsSession (g.S.Blocks.state c.args.blocks.now) f
     → MoveIs (g.S.Blocks.state c.args.blocks.now) f from to c.args.source.now c.args.source.now.dir c.args.source.now.count None c.args.other.now 0 0 (value_of c.moving-figures.result)
 weighed g c from to told move f h =
     let s = g.S.Blocks.state c.args.blocks.now in
     let map = session_map c.blocks_have_the_map_of_their_tree.ensures.map s f h in
+    let same : f.limit.layout ≡ s.books.geom.layout = ap (λ (b : Bounds). b.layout) h.limit in
+    let none = subst (λ l. rename_reason l (inodes s) from to ≡ None) (sym same) move.accepted in
     let known = c.a_move_is_known.ensures.knows told from to c.args.source.now c.args.source.now.dir c.args.source.now.count None c.args.other.now move in
-    move_is s f from to c.args.source.now c.args.source.now.dir c.args.source.now.count None c.args.other.now 0 0 _ known map move.accepted c.the_map_gives_the_refusal.ensures.refusal
-    (within_counted s f from to c.args.source.now c.args.other.now map move.accepted c.the_map_gives_the_figures.ensures.over c.args.source.now.dir c.args.source.now.count known c.paths_lead_to_inodes.ensures.in_one refl)
+    move_is s f from to c.args.source.now c.args.source.now.dir c.args.source.now.count None c.args.other.now 0 0 _ known map none c.the_map_gives_the_refusal.ensures.refusal
+    (within_counted s f from to c.args.source.now c.args.other.now map none same c.the_map_gives_the_figures.ensures.over c.args.source.now.dir c.args.source.now.count known c.paths_lead_to_inodes.ensures.in_one refl)
     (counted_as c.bitmap_blocks.result 0 0 (bitmap_blocks s.books.geom) 0 0 _ c.moving-figures.ensures (c.bitmap_blocks.ensures ∙ ap (λ (k : Geometry). bitmap_blocks k) c.geom.ensures) refl refl)
 
 pub draft_within-requires-clause-moves : goal.draft_within-requires-clause-moves

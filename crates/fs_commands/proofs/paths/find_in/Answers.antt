@@ -33,9 +33,9 @@ pub returns-in-None-clause-found : goal.returns-in-None-clause-found
 returns-in-None-clause-found g c = λ told t map.
     let v = g.N.Nodes.nodes (g.S.Blocks.state c.args.blocks.now) c.args.files.now in
     let same = c.laws.ensures.same false c.args.blocks.now c.walk.new.blocks c.in_ok-number.ensures.looks told in
-    let leads = c.walks_are_the_same.ensures.ends (inodes_of v.files) c.args.path.now c.in-Ok.number (sym (sym c.in-Ok.is ∙ c.in_ok-number.ensures.end told t map)) in
+    let leads = c.walks_are_the_same.ensures.ends (inodes_of (g.S.Blocks.state c.args.blocks.now).books.geom.layout v.files) c.args.path.now c.in-Ok.number (sym (sym c.in-Ok.is ∙ c.in_ok-number.ensures.end told t map)) in
     let used = map.shows.used c.args.path.now c.in-Ok.number leads in
-    absurd (is_used (v.files c.in-Ok.number) used.0 used.1 (sym c.in-None.is ∙ c.in_ok-facts.ensures.facts told ∙ ap (λ (n : NodeMap). option_map facts_of (n.files c.in-Ok.number)) same))
+    absurd (is_used _ (v.files c.in-Ok.number) used.0 used.1 (sym c.in-None.is ∙ c.in_ok-facts.ensures.facts told ∙ ap (λ (n : NodeMap). option_map facts_of (n.files c.in-Ok.number)) same))
 
 pub returns-in-None-clause-looks : goal.returns-in-None-clause-looks
 returns-in-None-clause-looks g c =

@@ -51,5 +51,5 @@ returns-clause-comes g c = λ told t h.
     let d = c.beside-draft.result in
     let map = c.blocks_have_the_map_of_their_tree.ensures.map s.books.geom s.map t h in
     let ends = above_as s d c.args.path.now c.in_ok-above.field-0 (Ok (Some c.in-Ok-Some.above)) c.beside-draft.ensures (c.in-Ok-Some.is ∙ ap Ok c.in-Ok-Some.field-0-is) (c.in_ok-above.ensures.end told) t map in
-    comes_inside (files_in s nothing_drafted) c.args.path.now c.names.result.now c.in-Some.name.now c.in-Ok-Some.above c.in_ok-entry.entry c.names.ensures (ap option_copied (sym c.in-Some.is) ∙ c.last.ensures.value) ends
+    comes_inside s.books.geom.layout (files_in s nothing_drafted) c.args.path.now c.names.result.now c.in-Some.name.now c.in-Ok-Some.above c.in_ok-entry.entry c.names.ensures (ap option_copied (sym c.in-Some.is) ∙ c.last.ensures.value) ends
     (entry_stays g.S.Blocks.tells s mid d c.beside-draft.ensures told c.in_ok-above.ensures.looks c.in-Ok-Some.above.number c.in-Some.name.now c.in_ok-entry.entry t map (c.in_ok-entry.ensures.entry told))

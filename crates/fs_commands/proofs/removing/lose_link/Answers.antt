@@ -23,7 +23,7 @@ returns-then-links-eq1-clause-leaves g c = λ told.
     let d = c.args.draft.now in
     let e = c.drop_node.new.self in
     on_both c.drop_node.result (c.drop_node.ensures.file told) (c.drop_node.ensures.places told)
-    (λ set placed plain. file_leaves (files_in s d) (files_in t e) (places_in s d) (places_in t e) c.args.node.now.number [] placed None set plain none_is_none)
+    (λ set placed plain. file_leaves s.books.geom.layout (files_in s d) (files_in t e) (places_in s d) (places_in t e) c.args.node.now.number [] placed None set plain none_is_none)
 
 pub returns-then-links-eq1-clause-alters : goal.returns-then-links-eq1-clause-alters
 returns-then-links-eq1-clause-alters g c = λ told.
@@ -48,7 +48,7 @@ returns-clause-link g c = λ told.
     let node = c.args.node.now in
     let found = c.requires.found told in
     on_one c.set_links.result (c.set_links.ensures.file told) (λ set inode reads.
-    link_kept (files_in s d) (files_in (g.S.Blocks.state c.set_links.new.blocks) c.set_links.new.self) node found inode c.one_less.result reads c.if-links-eq1.false
+    link_kept s.books.geom.layout (files_in s d) (files_in (g.S.Blocks.state c.set_links.new.blocks) c.set_links.new.self) node found inode c.one_less.result reads c.if-links-eq1.false
     (keeps_links c.a_node_in_use_has_links.ensures s.books.geom (drafted d s.map) node found inode c.one_less.result reads c.if-links-eq1.false c.one_less.ensures.value) (set found.file found.is))
 
 pub returns-clause-leaves : goal.returns-clause-leaves
@@ -60,7 +60,7 @@ returns-clause-leaves g c = λ told.
     let number = c.args.node.now.number in
     let found = c.requires.found told in
     on_both c.set_links.result (c.set_links.ensures.file told) (c.set_links.ensures.places told)
-    (λ set placed plain. links_leave (files_in s d) (files_in t e) (places_in s d) (places_in t e) number (places_in s d number) placed found.file c.one_less.result found.is (set found.file found.is) plain)
+    (λ set placed plain. links_leave s.books.geom.layout (files_in s d) (files_in t e) (places_in s d) (places_in t e) number (places_in s d number) placed found.file c.one_less.result found.is (set found.file found.is) plain)
 
 pub returns-clause-alters : goal.returns-clause-alters
 returns-clause-alters g c = λ told.

@@ -7,8 +7,8 @@ use Rattle.fs_commands.proofs.removing.loss_figures.Goals as goal
 
 pub returns-in-File : goal.returns-in-File
 returns-in-File c = λ shared m path above gone.
-    subst (λ (k : Kind). AreFiguresOf c.args.bitmap shared m (lose_cmd k path) (value_of c.unlink_figures.result)) (sym c.in-File.is) (c.unlink_figures.ensures shared m path (c.from.ensures ∙ above) gone)
+    subst (λ (k : Kind). AreFiguresOf c.args.layout c.args.bitmap shared m (lose_cmd k path) (value_of c.unlink_figures.result)) (sym c.in-File.is) (c.unlink_figures.ensures shared m path (c.from.ensures ∙ above) gone)
 
 pub returns-in-Dir : goal.returns-in-Dir
 returns-in-Dir c = λ shared m path above gone.
-    subst (λ (k : Kind). AreFiguresOf c.args.bitmap shared m (lose_cmd k path) (value_of c.rmdir_figures.result)) (sym c.in-Dir.is) (c.rmdir_figures.ensures shared m path (c.from-in-Dir.ensures ∙ above))
+    subst (λ (k : Kind). AreFiguresOf c.args.layout c.args.bitmap shared m (lose_cmd k path) (value_of c.rmdir_figures.result)) (sym c.in-Dir.is) (c.rmdir_figures.ensures shared m path (c.from-in-Dir.ensures ∙ above))

@@ -21,7 +21,7 @@ plan_loss_at-requires-clause-may g c = may_plan_still g.S.Blocks.tells _ _ c.in-
 pub plan_loss_at-requires-clause-comes : goal.plan_loss_at-requires-clause-comes
 plan_loss_at-requires-clause-comes g c = λ told.
     let tree = c.requires.may.stands told in
-    comes_still g.S.Blocks.tells _ _ c.in-Ok.ensures.looks told c.args.path.now (Ok c.in-Ok-spot.spot) (subst (ComesTo (files_in (g.S.Blocks.state c.args.blocks.now) nothing_drafted) c.args.path.now) c.in-Ok-spot.is (c.in-Ok.ensures.comes told tree.0 tree.1))
+    comes_still g.S.Blocks.tells _ _ c.in-Ok.ensures.looks told c.args.path.now (Ok c.in-Ok-spot.spot) (subst (ComesTo (g.S.Blocks.state c.args.blocks.now).books.geom.layout (files_in (g.S.Blocks.state c.args.blocks.now) nothing_drafted) c.args.path.now) c.in-Ok-spot.is (c.in-Ok.ensures.comes told tree.0 tree.1))
 
 pub returns-in-Ok-spot-clause-plans : goal.returns-in-Ok-spot-clause-plans
 returns-in-Ok-spot-clause-plans g c = looked_first g.S.Blocks.tells g.S.Blocks.state c.calls_compose.ensures.rests c.calls_compose.ensures.advances (lose_cmd c.args.kind c.args.path.now) _ c.args.blocks.now c.look_up.new.blocks _ c.requires.may.begin.going c.in-Ok.ensures.looks c.plan_loss_at.ensures.plans
@@ -29,5 +29,5 @@ returns-in-Ok-spot-clause-plans g c = looked_first g.S.Blocks.tells g.S.Blocks.s
 pub returns-in-Err-spot-clause-plans : goal.returns-in-Err-spot-clause-plans
 returns-in-Err-spot-clause-plans g c =
     refused_loss g.S.Blocks.tells g.S.Blocks.state c.calls_compose.ensures.rests g.met.S.Blocks.is_sound c.blocks_have_the_map_of_their_tree.ensures.map c.the_map_gives_the_refusal.ensures.refusal c.args.kind c.args.path.now c.args.blocks.now c.look_up.new.blocks c.in-Err-spot.why c.requires.may.begin.going
-    (λ told tree h. walk_why c.args.kind (inodes (g.S.Blocks.state c.args.blocks.now)) c.args.path.now c.in-Err-spot.why (c.what_a_path_comes_to_gives_the_walk.ensures.walk (files_in (g.S.Blocks.state c.args.blocks.now) nothing_drafted) c.args.path.now c.in-Ok.spot (c.in-Ok.ensures.comes told tree h) ∙ ap walk_of c.in-Err-spot.is))
+    (λ told tree h. walk_why c.args.kind (inodes (g.S.Blocks.state c.args.blocks.now)) c.args.path.now c.in-Err-spot.why (c.what_a_path_comes_to_gives_the_walk.ensures.walk (g.S.Blocks.state c.args.blocks.now).books.geom.layout (files_in (g.S.Blocks.state c.args.blocks.now) nothing_drafted) c.args.path.now c.in-Ok.spot (c.in-Ok.ensures.comes told tree h) ∙ ap walk_of c.in-Err-spot.is))
     c.in-Ok.ensures.looks

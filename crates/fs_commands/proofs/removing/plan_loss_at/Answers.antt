@@ -19,18 +19,18 @@ pub returns-in-Root-clause-plans : goal.returns-in-Root-clause-plans
 returns-in-Root-clause-plans g c =
     let s = g.S.Blocks.state c.args.blocks.now in
     plans_as g.S.Blocks.tells (lose_cmd c.args.kind []) (lose_cmd c.args.kind c.args.path.now) c.plan_root_loss.result s (g.S.Blocks.state c.plan_root_loss.new.blocks)
-    (λ told. ap (lose_cmd c.args.kind) (sym (subst (λ (p : Spot). ComesTo (files_in s nothing_drafted) c.args.path.now (Ok p)) c.in-Root.is (c.requires.comes told))))
+    (λ told. ap (lose_cmd c.args.kind) (sym (subst (λ (p : Spot). ComesTo s.books.geom.layout (files_in s nothing_drafted) c.args.path.now (Ok p)) c.in-Root.is (c.requires.comes told))))
     c.plan_root_loss.ensures.plans
 
 -- where the path comes to an entry, what may be lost there is decided
 decided : (g : given.Over) (c : goal.After-entry_to_lose g) (r : Result Entry Refusal) → LosesLaw c.args.kind c.in-Inside.entry r → IsTrue g.S.Blocks.tells → (t : Tree) → IsTreeOf (g.S.Blocks.state c.args.blocks.now).books.geom (g.S.Blocks.state c.args.blocks.now).map t
-    → Decides c.args.kind (files_in (g.S.Blocks.state c.args.blocks.now) nothing_drafted) c.args.path.now c.in-Inside.dir c.in-Inside.count r
+    → Decides c.args.kind (g.S.Blocks.state c.args.blocks.now).books.geom.layout (files_in (g.S.Blocks.state c.args.blocks.now) nothing_drafted) c.args.path.now c.in-Inside.dir c.in-Inside.count r
 decided g c r law told t h =
     let here = c.in-Inside in
     let files = files_in (g.S.Blocks.state c.args.blocks.now) nothing_drafted in
-    decides c.args.kind files c.args.path.now here.dir here.count here.entry
-    (subst (λ (p : Spot). ComesTo files c.args.path.now (Ok p)) here.is (c.requires.comes told))
-    (c.what_a_path_comes_to_gives_the_walk.ensures.walk files c.args.path.now (Ok c.args.spot.now) (c.requires.comes told) ∙ ap (λ (p : Spot). walk_of (Ok p)) here.is)
+    decides c.args.kind (g.S.Blocks.state c.args.blocks.now).books.geom.layout files c.args.path.now here.dir here.count here.entry
+    (subst (λ (p : Spot). ComesTo (g.S.Blocks.state c.args.blocks.now).books.geom.layout files c.args.path.now (Ok p)) here.is (c.requires.comes told))
+    (c.what_a_path_comes_to_gives_the_walk.ensures.walk (g.S.Blocks.state c.args.blocks.now).books.geom.layout files c.args.path.now (Ok c.args.spot.now) (c.requires.comes told) ∙ ap (λ (p : Spot). walk_of (Ok p)) here.is)
     (λ e k. c.what_stands_there_is_shown.ensures told t c.args.path.now here.dir here.count e h k) r law
 
 pub plan_name_loss-requires-clause-loss : goal.plan_name_loss-requires-clause-loss

@@ -1,7 +1,9 @@
-use Rattle.std.proofs.Common.{sym, ap, ◌∙◌, IsTrue, ℕ, List}
+use Rattle.std.proofs.Common.{sym, subst, ap, ◌∙◌, IsTrue, ℕ, List}
 use Rattle.layout_geometry.specs.Geometry.{Geometry, bitmap_blocks}
 use Rattle.lang_tree.specs.Figures.{blocks_for}
+use Rattle.lang_tree.specs.Tree.{Bounds}
 use Rattle.lang_tree.specs.Values.{value_of}
+use Rattle.fs_commands.specs.Figures.{AreFiguresOf}
 use Rattle.fs_commands.specs.Removing.{lose_cmd, IsLoss}
 use Rattle.fs_session.specs.Plans.{StaysBeside}
 use Rattle.fs_session.specs.Sessions.{inodes, IsSession}
@@ -20,7 +22,7 @@ use Rattle.fs_commands.proofs.removing.plan_loss_of.Goals as goal
 use Rattle.fs_commands.proofs.removing.plan_loss_of.Goals.{After-loss_figures-figures, In-Ok-draft_loss}
 
 -- what goes, and that the command is weighed by its figures
-weighed : (g : given.Over) (c : goal.After-loss_figures-figures g) (path : List (List ℕ)) → IsTrue g.S.Blocks.tells → IsLoss c.args.kind (files_in (g.S.Blocks.state c.args.blocks.now) nothing_drafted) path c.args.named.now → (f : Session) → IsSession (g.S.Blocks.state c.args.blocks.now) f
+weighed : (g : given.Over) (c : goal.After-loss_figures-figures g) (path : List (List ℕ)) → IsTrue g.S.Blocks.tells → IsLoss c.args.kind (g.S.Blocks.state c.args.blocks.now).books.geom.layout (files_in (g.S.Blocks.state c.args.blocks.now) nothing_drafted) path c.args.named.now → (f : Session) → IsSession (g.S.Blocks.state c.args.blocks.now) f
     → LossIs c.args.kind (g.S.Blocks.state c.args.blocks.now) path c.args.named.now c.args.shared.now f (value_of c.loss_figures-figures.result)
 weighed g c path told loss f h =
     let s = g.S.Blocks.state c.args.blocks.now in
@@ -31,7 +33,9 @@ weighed g c path told loss f h =
     loss_is c.args.kind s path n counts c.args.gone f _ c.bitmap_blocks-bitmap.result known (session_map c.blocks_have_the_map_of_their_tree.ensures.map s f h) c.the_map_gives_the_refusal.ensures.refusal c.the_map_gives_the_figures.ensures.over
     (λ k i. c.counts_tell_what_is_shared.ensures.shared c.args.blocks.now f counts k i h (c.requires.may.begin.kept told)) (c.requires.gone told)
     (c.a_file_has_its_blocks.ensures c.args.blocks.now (begun_beside counts) n.entry.node.number file.file told (c.a_draft_may_begin.ensures counts c.requires.may.begin) file.is ∙ ap blocks_for (sym (ap (λ (q : FileFacts). q.size) file.facts)))
-    (c.bitmap_blocks-bitmap.ensures ∙ ap (λ (k : Geometry). bitmap_blocks k) c.geom.ensures) (c.loss_figures-figures.ensures (shared_on s f) (inodes s) path)
+    (c.bitmap_blocks-bitmap.ensures ∙ ap (λ (k : Geometry). bitmap_blocks k) c.geom.ensures) (λ above gone. subst (λ l. AreFiguresOf l c.bitmap_blocks-bitmap.result (shared_on s f) (inodes s) (lose_cmd c.args.kind path) (value_of c.loss_figures-figures.result))
+    (c.layout.ensures ∙ ap (λ (k : Geometry). k.layout) c.geom-2.ensures) (c.loss_figures-figures.ensures (shared_on s f) (inodes s) path above gone))
+    (ap (λ (b : Bounds). b.layout) h.limit)
 
 pub draft_loss-requires-clause-named : goal.draft_loss-requires-clause-named
 draft_loss-requires-clause-named g c = λ told.

@@ -18,7 +18,7 @@ returns-in_default-clause-plans g c =
     refused_rename g.S.Blocks.tells g.S.Blocks.state c.calls_compose.ensures.rests g.met.S.Blocks.is_sound c.blocks_have_the_map_of_their_tree.ensures.map c.the_map_gives_the_refusal.ensures.refusal c.args.from.now c.args.to.now c.args.blocks.now c.args.blocks.now c.onto_root_refusal.result c.requires.may.begin.going
     (λ told tree h.
     let shown = c.what_is_found_is_shown.ensures.entry told tree c.args.from.now c.args.source.now.dir c.args.source.now.count (Some c.args.source.now.entry) h (c.requires.comes told) in
-    onto_root_refuses (inodes (g.S.Blocks.state c.args.blocks.now)) c.args.from.now c.args.to.now c.args.source.now.entry.node.number c.onto_root_refusal.result (sym c.names.ensures ∙ no_last c.names.result.now c.in_default.ensures.value) (c.what_a_path_comes_to_gives_the_walk.ensures.walk (files_in (g.S.Blocks.state c.args.blocks.now) nothing_drafted) c.args.from.now (Ok (Inside c.args.source.now.dir c.args.source.now.count (Some c.args.source.now.entry))) (c.requires.comes told)) shown.0.0 shown.1.0
+    onto_root_refuses (g.S.Blocks.state c.args.blocks.now).books.geom.layout (inodes (g.S.Blocks.state c.args.blocks.now)) c.args.from.now c.args.to.now c.args.source.now.entry.node.number c.onto_root_refusal.result (sym c.names.ensures ∙ no_last c.names.result.now c.in_default.ensures.value) (c.what_a_path_comes_to_gives_the_walk.ensures.walk (g.S.Blocks.state c.args.blocks.now).books.geom.layout (files_in (g.S.Blocks.state c.args.blocks.now) nothing_drafted) c.args.from.now (Ok (Inside c.args.source.now.dir c.args.source.now.count (Some c.args.source.now.entry))) (c.requires.comes told)) shown.0.0 shown.1.0
     (c.onto_root_refusal.ensures (inodes (g.S.Blocks.state c.args.blocks.now)) c.args.from.now (c.what_is_found_is_shown.ensures.root tree h) shown.1.1 shown.0.1))
     (no_look g.S.Blocks.tells (g.S.Blocks.state c.args.blocks.now))
 
@@ -33,14 +33,14 @@ pub plan_entry_move-requires-clause-target : goal.plan_entry_move-requires-claus
 plan_entry_move-requires-clause-target g c = λ told.
     let here = c.in-Inside in
     let tree = c.requires.may.stands told in
-    comes_still g.S.Blocks.tells _ _ c.in-Ok.ensures.looks told c.args.to.now (Ok (Inside here.dir here.count here.entry)) (subst (ComesTo _ _) (c.in-Ok-spot.is ∙ ap Ok here.is) (c.in-Ok.ensures.comes told tree.0 tree.1))
+    comes_still g.S.Blocks.tells _ _ c.in-Ok.ensures.looks told c.args.to.now (Ok (Inside here.dir here.count here.entry)) (subst (ComesTo _ _ _) (c.in-Ok-spot.is ∙ ap Ok here.is) (c.in-Ok.ensures.comes told tree.0 tree.1))
 
 pub returns-in-Root-clause-plans : goal.returns-in-Root-clause-plans
 returns-in-Root-clause-plans g c =
     refused_rename g.S.Blocks.tells g.S.Blocks.state c.calls_compose.ensures.rests g.met.S.Blocks.is_sound c.blocks_have_the_map_of_their_tree.ensures.map c.the_map_gives_the_refusal.ensures.refusal c.args.from.now c.args.to.now c.args.blocks.now c.look_up.new.blocks c.onto_root_refusal-in-Root.result c.requires.may.begin.going
     (λ told tree h.
     let shown = c.what_is_found_is_shown.ensures.entry told tree c.args.from.now c.args.source.now.dir c.args.source.now.count (Some c.args.source.now.entry) h (c.requires.comes told) in
-    onto_root_refuses (inodes (g.S.Blocks.state c.args.blocks.now)) c.args.from.now c.args.to.now c.args.source.now.entry.node.number c.onto_root_refusal-in-Root.result (subst (ComesTo (files_in (g.S.Blocks.state c.args.blocks.now) nothing_drafted) c.args.to.now) (c.in-Ok-spot.is ∙ ap Ok c.in-Root.is) (c.in-Ok.ensures.comes told tree h)) (c.what_a_path_comes_to_gives_the_walk.ensures.walk (files_in (g.S.Blocks.state c.args.blocks.now) nothing_drafted) c.args.from.now (Ok (Inside c.args.source.now.dir c.args.source.now.count (Some c.args.source.now.entry))) (c.requires.comes told)) shown.0.0 shown.1.0
+    onto_root_refuses (g.S.Blocks.state c.args.blocks.now).books.geom.layout (inodes (g.S.Blocks.state c.args.blocks.now)) c.args.from.now c.args.to.now c.args.source.now.entry.node.number c.onto_root_refusal-in-Root.result (subst (ComesTo (g.S.Blocks.state c.args.blocks.now).books.geom.layout (files_in (g.S.Blocks.state c.args.blocks.now) nothing_drafted) c.args.to.now) (c.in-Ok-spot.is ∙ ap Ok c.in-Root.is) (c.in-Ok.ensures.comes told tree h)) (c.what_a_path_comes_to_gives_the_walk.ensures.walk (g.S.Blocks.state c.args.blocks.now).books.geom.layout (files_in (g.S.Blocks.state c.args.blocks.now) nothing_drafted) c.args.from.now (Ok (Inside c.args.source.now.dir c.args.source.now.count (Some c.args.source.now.entry))) (c.requires.comes told)) shown.0.0 shown.1.0
     (c.onto_root_refusal-in-Root.ensures (inodes (g.S.Blocks.state c.args.blocks.now)) c.args.from.now (c.what_is_found_is_shown.ensures.root tree h) shown.1.1 shown.0.1))
     c.in-Ok.ensures.looks
 
@@ -50,6 +50,6 @@ returns-in-Inside-clause-plans g c = looked_first g.S.Blocks.tells g.S.Blocks.st
 pub returns-in-Err-spot-clause-plans : goal.returns-in-Err-spot-clause-plans
 returns-in-Err-spot-clause-plans g c =
     refused_rename g.S.Blocks.tells g.S.Blocks.state c.calls_compose.ensures.rests g.met.S.Blocks.is_sound c.blocks_have_the_map_of_their_tree.ensures.map c.the_map_gives_the_refusal.ensures.refusal c.args.from.now c.args.to.now c.args.blocks.now c.look_up.new.blocks c.in-Err-spot.why c.requires.may.begin.going
-    (λ told tree h. parent_refuses (inodes (g.S.Blocks.state c.args.blocks.now)) c.args.from.now c.args.to.now c.args.source.now.entry.node.number c.in-Err-spot.why (c.what_a_path_comes_to_gives_the_walk.ensures.walk (files_in (g.S.Blocks.state c.args.blocks.now) nothing_drafted) c.args.from.now (Ok (Inside c.args.source.now.dir c.args.source.now.count (Some c.args.source.now.entry))) (c.requires.comes told))
-    (subst (ComesTo (files_in (g.S.Blocks.state c.args.blocks.now) nothing_drafted) c.args.to.now) c.in-Err-spot.is (c.in-Ok.ensures.comes told tree h)))
+    (λ told tree h. parent_refuses (g.S.Blocks.state c.args.blocks.now).books.geom.layout (inodes (g.S.Blocks.state c.args.blocks.now)) c.args.from.now c.args.to.now c.args.source.now.entry.node.number c.in-Err-spot.why (c.what_a_path_comes_to_gives_the_walk.ensures.walk (g.S.Blocks.state c.args.blocks.now).books.geom.layout (files_in (g.S.Blocks.state c.args.blocks.now) nothing_drafted) c.args.from.now (Ok (Inside c.args.source.now.dir c.args.source.now.count (Some c.args.source.now.entry))) (c.requires.comes told))
+    (subst (ComesTo (g.S.Blocks.state c.args.blocks.now).books.geom.layout (files_in (g.S.Blocks.state c.args.blocks.now) nothing_drafted) c.args.to.now) c.in-Err-spot.is (c.in-Ok.ensures.comes told tree h)))
     c.in-Ok.ensures.looks

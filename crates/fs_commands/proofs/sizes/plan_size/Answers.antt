@@ -109,7 +109,7 @@ returns-in-Ok-clause-plans g c = λ path may.
     let at = goal.at.returns-in-Ok-clause-plans g c in
     record {
       is = λ told f h. resized_tree (g.S.Blocks.state c.args.blocks.now) (g.S.Blocks.state c.resize.new.blocks) f path c.args.number c.args.size c.args.cost (c.requires.file told).0 (here g at.After-resize path told (may.walk told) f h) c.args.shared.now (shared g at.After-resize told f h) (may.weighed told f h) (may.other told (c.requires.file told).0 (c.requires.file told).1)
-          c.resize.new.self g.S.Blocks.tells false false c.in-Ok.ensures.settles (sized g at.In-Ok told) (stays g at.In-Ok told) (all_read (files_in (g.S.Blocks.state c.args.blocks.now) nothing_drafted) h.tree.inodes h.tree.read) c.new_bytes_are_mapped.ensures.truncate
+          c.resize.new.self g.S.Blocks.tells false false c.in-Ok.ensures.settles (sized g at.In-Ok told) (stays g at.In-Ok told) (all_read (g.S.Blocks.state c.args.blocks.now).books.geom.layout (files_in (g.S.Blocks.state c.args.blocks.now) nothing_drafted) h.tree.inodes h.tree.read) c.new_bytes_are_mapped.ensures.truncate
           c.bytes_lie_in_blocks.ensures.kept_too c.touched_blocks_are_counted_by_division.ensures c.small_drafts_are_within_the_cost.ensures.writing c.small_drafts_are_within_the_cost.ensures.shrinking;
       going = c.requires.may.begin.going;
       quiet = λ told f h enough. looked_calmly g.S.Blocks.tells _ _ _ ((sized g at.In-Ok told).looks (λ more. omega (arith, enough, needs g at.After-resize path may told f h more))) told;

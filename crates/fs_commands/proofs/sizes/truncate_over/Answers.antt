@@ -1,4 +1,4 @@
-use Rattle.std.proofs.Common.{false, ◌-◌, ap₂, length, sym, ap, ◌∙◌, arith, IsTrue, Ok, None, ℕ, List, ◌≡◌}
+use Rattle.std.proofs.Common.{false, ◌-◌, ap₂, length, sym, ap, ◌∙◌, arith, IsTrue, Ok, None, ℕ, List, ◌≡◌, refl}
 use Rattle.std.proofs.lemmas.Option.{same_Some}
 use Rattle.layout_geometry.specs.Geometry.{bitmap_blocks}
 use Rattle.lang_tree.specs.declared.command.Cmd.TheVariants.{Truncate}
@@ -36,7 +36,7 @@ weighed g c path told walk f h =
     let here = shared_here s f path c.args.found.now.number c.args.shared.now (λ l i. c.counts_tell_what_is_shared.ensures.shared c.args.blocks.now f c.args.shared.now l i h (c.requires.may.begin.kept told)) k.leads in
     let accepted = refusal_is (inodes (g.S.Blocks.state c.args.blocks.now)) f path c.args.size c.the_map_gives_the_refusal.ensures.refusal c.args.found.now k false (le-ltb 1073741824 c.args.size c.requires.fits) in (
       accepted,
-      figures_as s f (Truncate path c.args.size) _ (inodes s) _ (c.bitmap_blocks-bitmap.ensures ∙ ap bitmap_blocks c.geom.ensures) (c.resize_figures-figures.ensures (shared_on s f) (inodes s) path (c.size_of.ensures ∙ omega (arith, k.size, k.most))
+      figures_as s f (Truncate path c.args.size) _ (inodes s) _ f.limit.layout refl (c.bitmap_blocks-bitmap.ensures ∙ ap bitmap_blocks c.geom.ensures) (c.resize_figures-figures.ensures f.limit.layout (shared_on s f) (inodes s) path (c.size_of.ensures ∙ omega (arith, k.size, k.most))
           (λ more. kept.grows x.0 x.1 (omega (arith, more, c.size_of.ensures, k.most, size)) ∙ sym (ap₂ (λ (sh : SharedPlaces) (n : ℕ). shared_met sh n c.size_of.result c.args.size) here (k.size ∙ size) ∙ ap (λ lo. shared_met at (length x.0.bytes) lo c.args.size) held))
           (λ less. ap (λ n. blocks_for n - blocks_for c.args.size - c.args.kept) held ∙ kept.cuts x.0 x.1 (omega (arith, less, c.size_of.ensures, k.most, size))
           ∙ sym (ap₂ (λ (sh : SharedPlaces) (n : ℕ). alone_from sh (blocks_for c.args.size) (blocks_for n - blocks_for c.args.size)) here held))) k.map accepted,

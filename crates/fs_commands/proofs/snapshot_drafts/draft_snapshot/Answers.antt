@@ -132,7 +132,7 @@ returns-clause-drafts g c = λ told.
     let there = (bare g m told).file.own in
     let size = ap length c.deref.ensures.value ∙ long g m told in
     let some : 0 < length c.deref.result.now = omega (arith, size) in
-    drafts_snapshot s u v c.args.number 0 (0 + length c.deref.result.now) c.args.shared.now c.deref.result.now c.args.name.now c.new_node.new.self c.write_at.new.self (bare g m told) (ap (λ (b : Bookkeeping). b.geom) (read g m).books)
+    drafts_snapshot s u v c.args.number 0 (0 + length c.deref.result.now) c.args.shared.now c.deref.result.now c.args.name.now c.new_node.new.self c.write_at.new.self (bare g m told) (ap (λ (b : Bookkeeping). b.geom) (read g m).books) c.in_ok-write_at.ensures.settles.pipeline.geom
     (c.deref.ensures.value ∙ bytes_are g m told) (omega (arith, size)) some (wrote.file told bare_snapshot there) (wrote.places told bare_snapshot there some) (wrote.grows told bare_snapshot there some) (wrote.among told bare_snapshot there some) (wrote.changes told some)
 
 pub returns-clause-quiet : goal.returns-clause-quiet

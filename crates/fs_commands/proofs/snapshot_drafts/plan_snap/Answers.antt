@@ -1,4 +1,5 @@
 use Rattle.std.proofs.Common.{◌≡◌, ◌≤◌, false, IsTrue, None, Err, length, take, sym, subst, ap, ◌∙◌, arith}
+use Rattle.lang_tree.specs.Tree.{Bounds}
 use Rattle.base_types.specs.Seal.{Blocks}
 use Rattle.layout_geometry.specs.Geometry.{Geometry, IsGeometry}
 use Rattle.lang_tree.specs.declared.command.Cmd.TheVariants.{Snap}
@@ -54,9 +55,9 @@ returns-in-Ok-clause-plans g c =
     let at = (goal.at.returns-in-Ok-clause-plans g c).After-draft_snapshot in
     record {
       is = λ told f h.
-          let reads : DoesRead (files_in s nothing_drafted) = λ k file is plain. c.blocks_have_a_map.ensures.reads s.books.geom s.map f.tree k file h.tree is plain in
+          let reads : DoesRead s.books.geom.layout (files_in s nothing_drafted) = λ k file is plain. c.blocks_have_a_map.ensures.reads s.books.geom s.map f.tree k file h.tree is plain in
           makes s v f c.args.name.now c.args.new.now.number c.args.new.now.cost c.in-Ok.draft h (accepts g at told f h) (c.in-Ok.ensures.drafts told) (unused g at told) (new.least told) c.in-Ok.ensures.settles.pipeline.geom (new.cost told) (new.room told)
-          (subst (λ n. IsMapOf n (inodes s) f.tree) (sym h.limit) (c.blocks_have_a_map.ensures.map s.books.geom s.map (inodes s) f.tree (c.files_have_one_map.ensures.read (files_in s nothing_drafted) reads) h.tree))
+          (subst (λ (b : Bounds). IsMapOf b.nodes (inodes s) f.tree) (sym h.limit) (c.blocks_have_a_map.ensures.map s.books.geom s.map (inodes s) f.tree (c.files_have_one_map.ensures.read s.books.geom.layout (files_in s nothing_drafted) reads) h.tree))
           reads c.files_have_one_map.ensures.read (more g c told) (λ few. (c.in-Ok.ensures.quiet told few).0);
       going = c.requires.may.begin.going;
       quiet = λ told f h enough. c.in-Ok.ensures.quiet told (subst (λ n. n ≤ length (reusable_blocks s.books)) (ap (λ n. n.need) (accepts g at told f h).figures) enough);

@@ -40,7 +40,7 @@ returns-in-Ok-clause-plans g c =
     (λ k at. c.counts_tell_what_is_shared.ensures.alone c.args.blocks.now f may.counts c.args.name.now k h (may.known told) at)
     (λ k at. c.counts_tell_what_is_shared.ensures.blocks c.args.blocks.now f c.args.name.now k h at) (may.goes.named told)
     (may.goes.alone told ∙ ap (alone_among may.counts (live_files s.books.geom s.map)) (may.goes.kept told)) in
-    makes_unsnap s (g.S.Blocks.state c.draft_loss.new.blocks) c.args.name.now gone f is c.in-Ok.draft (c.in-Ok.ensures.loss told) (file_of s.map it.0) (ap (option_map (file_of s.map)) it.1) it.2 h.tree.inodes h.tree.read
+    makes_unsnap s (g.S.Blocks.state c.draft_loss.new.blocks) c.args.name.now gone f is c.in-Ok.draft (c.in-Ok.ensures.loss told) (file_of s.books.geom.layout s.map it.0) (ap (option_map (file_of s.books.geom.layout s.map)) it.1) it.2 h.tree.inodes h.tree.read
     (session_map c.blocks_have_the_map_of_their_tree.ensures.map s f h) (may.goes.cost told) (may.goes.room told) looks.books (taken g (goal.at.returns-in-Ok-clause-plans g c).After-a_node_that_a_draft_leaves_stays told))
     looks
 

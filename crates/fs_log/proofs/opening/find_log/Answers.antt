@@ -93,7 +93,7 @@ returns-in_ok-found-in-None-clause-mirrors g c = λ told.
 
 pub returns-in_ok-found-in-None-clause-range : goal.returns-in_ok-found-in-None-clause-range
 returns-in_ok-found-in-None-clause-range g c = λ told f session.
-    range_nothing f.tree c.in_ok-found-in-None.found.firsts.items c.in_ok-found-in-None.found.next c.in_ok-found-in-None.ensures.empty.0 c.in_ok-found-in-None.ensures.empty.2 (c.a_log_begins_empty.ensures.before f.limit f.tree (session_sound c.a_tree_that_stands_is_sound.ensures.sound (g.S.Blocks.state (blocks_in c.args.fs.now)) f session) (subst (λ kind. HasAtLog f.tree kind) c.in-None.is (c.in_ok-at_log.ensures.there told f session))) c.segments_make_a_log.ensures.none
+    range_nothing f.tree c.in_ok-found-in-None.found.firsts.items c.in_ok-found-in-None.found.next c.in_ok-found-in-None.ensures.empty.0 c.in_ok-found-in-None.ensures.empty.2 (c.a_log_begins_empty.ensures.before f.limit.nodes f.tree (session_sound c.a_tree_that_stands_is_sound.ensures.sound (g.S.Blocks.state (blocks_in c.args.fs.now)) f session) (subst (λ kind. HasAtLog f.tree kind) c.in-None.is (c.in_ok-at_log.ensures.there told f session))) c.segments_make_a_log.ensures.none
 
 pub returns-in_ok-found-in-Some-clause-asked : goal.returns-in_ok-found-in-Some-clause-asked
 returns-in_ok-found-in-Some-clause-asked g c = λ told.

@@ -1,6 +1,7 @@
 use Rattle.std.proofs.Common.{◌+◌, length, slice_get, sym, ap, ◌∙◌}
 use Rattle.lang_tree.specs.Conditions.{least_unused}
 use Rattle.lang_tree.specs.Figures.{snapshot_blocks}
+use Rattle.lang_tree.specs.Tree.{Bounds}
 use Rattle.crash_stands.specs.Files.{used_node}
 use Rattle.crash_stands.specs.Places.{table_blocks}
 use Rattle.crash_snapshots.specs.Places.{all_dirs}
@@ -23,17 +24,17 @@ returns-clause-alone g c = λ s f counts name k h known at.
 pub returns-clause-least : goal.returns-clause-least
 returns-clause-least g c = λ s f h.
     let state = g.S.Blocks.state s in
-    ap (λ n. least_unused n f.tree) h.limit ∙ c.unused_numbers_are_those_of_no_node.ensures.least state.books.geom state.map f.tree h.tree
+    ap (λ (b : Bounds). least_unused b.nodes f.tree) h.limit ∙ c.unused_numbers_are_those_of_no_node.ensures.least state.books.geom state.map f.tree h.tree
 
 pub returns-clause-blocks : goal.returns-clause-blocks
 returns-clause-blocks g c = λ s f name k h at.
     let state = g.S.Blocks.state s in
     snapshot_has c.slots_follow_the_bytes.ensures.count c.the_map_gives_the_figures.ensures.directories state.books.geom state.map f.tree h.tree c.a_sound_snapshot_is_whole.ensures.bytes name k at
-    ∙ ap (λ n. snapshot_blocks n k.names) (sym h.limit)
+    ∙ ap (λ (b : Bounds). snapshot_blocks b k.names) (sym h.limit)
 
 pub returns-clause-live : goal.returns-clause-live
 returns-clause-live g c = λ s f h.
     let state = g.S.Blocks.state s in
-    ap (λ n. snapshot_blocks n f.tree.names) h.limit
+    ap (λ (b : Bounds). snapshot_blocks b f.tree.names) h.limit
     ∙ snapshot_needs c.slots_follow_the_bytes.ensures.count c.the_map_gives_the_figures.ensures.directories state.books.geom state.map f.tree h.tree
-    ∙ ap (λ n. 1 + (table_blocks state.books.geom + length (all_dirs (used_node state.books.geom state.map) 1 n))) (sym h.limit)
+    ∙ ap (λ (b : Bounds). 1 + (table_blocks state.books.geom + length (all_dirs (used_node state.books.geom state.map) 1 b.nodes))) (sym h.limit)
