@@ -16,6 +16,7 @@ use Rattle.layout_journal.specs.declared.header.Header.{Header}
 use Rattle.layout_journal.specs.Run.{Newest, HeldIs, Record, live_part}
 use Rattle.lang_tree.specs.Step.{start, session_on}
 use Rattle.lang_tree.specs.Tree.{Tree}
+use Rattle.crash_stands.specs.Bounds.{bounds_of}
 use Rattle.crash_stands.specs.Stands.{IsTreeOf, StandsFor}
 use Rattle.crash_argument.specs.Ledger.{HoldsUnder}
 use Rattle.crash_argument.specs.Opening.{StopsAtOne, WritesOne}
@@ -41,7 +42,7 @@ use Rattle.cmd_host.proofs.Sureness.{starts_then, sure_then}
 -- what laws of other crates say of the formatted disk's live blocks, and of each image that has them
 pub record HasRoot (g : Geometry) : Type 0 where
   pub held : (img : Blocks) → ((b : ℕ) → b < g.n → img b ≡ formatted g b) → HoldsUnder g.n g img (live_part g (formatted g))
-  pub tree : IsTreeOf g (live_part g (formatted g)) (start g.i).tree
+  pub tree : IsTreeOf g (live_part g (formatted g)) (start (bounds_of g)).tree
   pub one : (n : ℕ) (img : Blocks) (t u : Tree) → StandsFor n img t → StandsFor n img u → t ≡ u
 
 -- from the law of the formatted disk, whose blocks before the data are among those of the disk
@@ -72,17 +73,17 @@ pub stands_by : (g : Geometry) (img m : Blocks) (t : Tree) → HoldsUnder g.n g 
 stands_by g img m t h tree = record { map = m; held = h.held; tree = subst (λ (k : Geometry). IsTreeOf k m t) (sym h.geom) tree }
 
 module _ (g : Geometry) (root : HasRoot g) where
-  pub all_stand : (base : Blocks) (log : List Event) → Window g.n base log 0 (λ img. HoldsUnder g.n g img (live_part g (formatted g))) → Window g.n base log 0 (λ img. StandsFor g.n img (start g.i).tree)
-  all_stand base log w = record { each = λ k img from upto honest. stands_by g img (live_part g (formatted g)) (start g.i).tree (w.each k img from upto honest) root.tree }
+  pub all_stand : (base : Blocks) (log : List Event) → Window g.n base log 0 (λ img. HoldsUnder g.n g img (live_part g (formatted g))) → Window g.n base log 0 (λ img. StandsFor g.n img (start (bounds_of g)).tree)
+  all_stand base log w = record { each = λ k img from upto honest. stands_by g img (live_part g (formatted g)) (start (bounds_of g)).tree (w.each k img from upto honest) root.tree }
 
   -- so a run of no commands is crash consistent
-  pub consistent_by : (base : Blocks) (log : List Event) → ((b : ℕ) → b < g.n → base b ≡ formatted g b) → Window g.n base log 0 (λ img. StandsFor g.n img (start g.i).tree) → IsCrashConsistent g.n g.i (formatted g) log (length log) [] [] []
-  consistent_by base log same w = record { points = points; none = λ none. absurd (none (start g.i).tree first) }
+  pub consistent_by : (base : Blocks) (log : List Event) → ((b : ℕ) → b < g.n → base b ≡ formatted g b) → Window g.n base log 0 (λ img. StandsFor g.n img (start (bounds_of g)).tree) → IsCrashConsistent g.n (bounds_of g) (formatted g) log (length log) [] [] []
+  consistent_by base log same w = record { points = points; none = λ none. absurd (none (start (bounds_of g)).tree first) }
     where
-      first : StandsFor g.n (formatted g) (start g.i).tree
-      first = stands_by g (formatted g) (live_part g (formatted g)) (start g.i).tree (root.held (formatted g) (λ b low. refl)) root.tree
+      first : StandsFor g.n (formatted g) (start (bounds_of g)).tree
+      first = stands_by g (formatted g) (live_part g (formatted g)) (start (bounds_of g)).tree (root.held (formatted g) (λ b low. refl)) root.tree
 
-      points : (t : Tree) → StandsFor g.n (formatted g) t → LeavesPoints g.n (formatted g) (session_on g.i t) log (length log) [] [] []
+      points : (t : Tree) → StandsFor g.n (formatted g) t → LeavesPoints g.n (formatted g) (session_on (bounds_of g) t) log (length log) [] [] []
       points t stands = record {
         each = λ k img upto honest. ∣ record {
           number = 0;
@@ -90,7 +91,7 @@ module _ (g : Geometry) (root : HasRoot g) where
           from = omega arith;
           upto = omega arith;
           is = refl;
-          stands = subst (λ (u : Tree). StandsFor g.n img u) (root.one g.n (formatted g) (start g.i).tree t first stands) (w.each k img (omega arith) upto (honest_alike g.n (formatted g) base (take k log) img (λ b low. sym (same b low)) honest));
+          stands = subst (λ (u : Tree). StandsFor g.n img u) (root.one g.n (formatted g) (start (bounds_of g)).tree t first stands) (w.each k img (omega arith) upto (honest_alike g.n (formatted g) base (take k log) img (λ b low. sym (same b low)) honest));
         } ∣₁;
       }
 

@@ -17,6 +17,7 @@ use Rattle.layout_journal.specs.declared.header.Header.{Header}
 use Rattle.layout_journal.specs.Layout.{header_of}
 use Rattle.layout_journal.specs.Run.{is_live, live_part}
 use Rattle.lang_tree.specs.Step.{start}
+use Rattle.crash_stands.specs.Bounds.{bounds_of}
 use Rattle.crash_stands.specs.Stands.{IsTreeOf}
 use Rattle.crash_argument.specs.Ledger.{HoldsUnder}
 use Rattle.crash_argument.specs.Opening.{WritesOne}
@@ -70,8 +71,8 @@ module _ (g : Geometry) (s : State) (is : IsMounted g s) where
   mounted_with = record { geom = is.begins.geom; map = is.begins.map; only = is.begins.only; images = is.shows.images }
 
   -- the root alone stands in them
-  pub root_stands : IsTreeOf g (live_part g (formatted g)) (start g.i).tree → IsTreeOf s.books.geom s.map (start g.i).tree
-  root_stands tree = subst (λ (k : Geometry). IsTreeOf k s.map (start g.i).tree) (sym is.begins.geom) (subst (λ (m : Blocks). IsTreeOf g m (start g.i).tree) (sym is.begins.map) tree)
+  pub root_stands : IsTreeOf g (live_part g (formatted g)) (start (bounds_of g)).tree → IsTreeOf s.books.geom s.map (start (bounds_of g)).tree
+  root_stands tree = subst (λ (k : Geometry). IsTreeOf k s.map (start (bounds_of g)).tree) (sym is.begins.geom) (subst (λ (m : Blocks). IsTreeOf g m (start (bounds_of g)).tree) (sym is.begins.map) tree)
 
   -- a disk that was only looked at shows the same
   pub still_shows : (failed : Bool) (t : State) → LooksOnly true failed s t → ShowsRoot g t
@@ -89,7 +90,7 @@ module _ (g : Geometry) (s : State) (is : IsMounted g s) where
   nothing_waits t looks = ap (λ (k : Bookkeeping). k.waiting) looks.books ∙ is.begins.waiting
 
   -- all that is known of the file system
-  pub opened_with : (t : State) → LooksOnly true false s t → HasServed g (start g.i).tree (length s.crash.log) [] [] [] t → KeepsBudget s.books.geom (start g.i).tree (writes_in s.crash.log + s.books.owed) [] [] t
+  pub opened_with : (t : State) → LooksOnly true false s t → HasServed g (start (bounds_of g)).tree (length s.crash.log) [] [] [] t → KeepsBudget s.books.geom (start (bounds_of g)).tree (writes_in s.crash.log + s.books.owed) [] [] t
       → IsFirstRoom t.books.geom (room_of t) → IsLogOf t.books.geom.n t.crash.log → length t.crash.log < 2 ^ 64 → GoesBy t.counts.ticks.manner t.crash.log → t.books.floor ≤ t.books.point → IsOpened (record { shape = g; manner = s.counts.ticks.manner }) t
   opened_with t looks served budget room lawful events goes low =
       let crash = looks.crash refl in
@@ -106,8 +107,8 @@ module _ (g : Geometry) (s : State) (is : IsMounted g s) where
       let mount_now : IsOfMount (session_by g (length t.crash.log)) (formatted g) s = subst (λ (n : ℕ). IsOfMount (session_by g n) (formatted g) s) (ap (λ (es : List Event). length es) (sym crash.log)) is.of_mount in
       let writes : writes_in s.crash.log + s.books.owed ≡ writes_in t.crash.log = omega (arith, is.begins.owed, ap (λ (es : List Event). writes_in es) crash.log) in
       record {
-        served = subst (λ (n : ℕ). HasServed g (start g.i).tree n [] [] [] t) (ap (λ (es : List Event). length es) (sym crash.log)) served;
-        budget = subst (λ (k : Geometry). KeepsBudget k (start g.i).tree (writes_in t.crash.log) [] [] t) is.begins.geom (subst (λ (n : ℕ). KeepsBudget s.books.geom (start g.i).tree n [] [] t) writes budget);
+        served = subst (λ (n : ℕ). HasServed g (start (bounds_of g)).tree n [] [] [] t) (ap (λ (es : List Event). length es) (sym crash.log)) served;
+        budget = subst (λ (k : Geometry). KeepsBudget k (start (bounds_of g)).tree (writes_in t.crash.log) [] [] t) is.begins.geom (subst (λ (n : ℕ). KeepsBudget s.books.geom (start (bounds_of g)).tree n [] [] t) writes budget);
         room = subst (λ (k : Geometry). IsFirstRoom k (room_of t)) geom room;
         base = λ b low. ap (λ (x : Blocks). x b) crash.base ∙ is.shows.base b low;
         lawful = subst (λ (k : Geometry). IsLogOf k.n t.crash.log) geom lawful;

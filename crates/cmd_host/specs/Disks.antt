@@ -14,6 +14,7 @@ use Rattle.layout_journal.specs.Run.{live_part}
 use Rattle.disk_memory.specs.Choice.{AreBlocksOf}
 use Rattle.disk_memory.specs.MemDisk.{MemDiskState, begun, by_rule, manner_by}
 use Rattle.disk_contract.specs.Manner.{GoesBy}
+use Rattle.crash_stands.specs.Bounds.{bounds_of}
 use Rattle.crash_stands.specs.Stands.{StandsFor}
 use Rattle.lang_tree.specs.Step.{start}
 use Rattle.crash_argument.specs.Ledger.{HoldsUnder}
@@ -93,8 +94,8 @@ pub record IsMounted (g : Geometry) (s : State) : Type 0 where
 
 -- A file system that was opened on such blocks: it has answered no command, its writes so far are those of the mount, and nothing is taken.
 pub record IsOpened (set : Setting) (s : State) : Type 0 where
-  pub served : HasServed set.shape (start set.shape.i).tree (length s.crash.log) [] [] [] s
-  pub budget : KeepsBudget set.shape (start set.shape.i).tree (writes_in s.crash.log) [] [] s
+  pub served : HasServed set.shape (start (bounds_of set.shape)).tree (length s.crash.log) [] [] [] s
+  pub budget : KeepsBudget set.shape (start (bounds_of set.shape)).tree (writes_in s.crash.log) [] [] s
   pub room : IsFirstRoom set.shape (room_of s)
   pub base : (b : ℕ) → b < set.shape.n → s.crash.base b ≡ formatted set.shape b
   pub lawful : IsLogOf set.shape.n s.crash.log
@@ -121,8 +122,8 @@ HasFault d = (0 < d.read_faults) ⊎ (disk.HasFailed d × StopsAtOne d.manner []
 -- A disk whose mount failed: each honest image of each moment stands for the root alone, so that it is crash consistent with a run of no commands. It went by its manner.
 pub record FailedToMount (set : Setting) (d : disk.State) : Type 0 where
   pub began : BeganFormatted set.shape d
-  pub images : Window set.shape.n d.base d.log 0 (λ img. StandsFor set.shape.n img (start set.shape.i).tree)
-  pub consistent : IsCrashConsistent set.shape.n set.shape.i (formatted set.shape) d.log (length d.log) [] [] []
+  pub images : Window set.shape.n d.base d.log 0 (λ img. StandsFor set.shape.n img (start (bounds_of set.shape)).tree)
+  pub consistent : IsCrashConsistent set.shape.n (bounds_of set.shape) (formatted set.shape) d.log (length d.log) [] [] []
   pub lawful : IsLogOf set.shape.n d.log
   pub events : length d.log < 2 ^ 64
   pub writes : GoesBy set.manner d.log

@@ -12,6 +12,7 @@ use Rattle.layout_geometry.specs.Geometry.{Geometry, IsGeometry}
 use Rattle.crash_argument.specs.Points.{MountedSession}
 use Rattle.lang_tree.specs.Step.{Session, session_on}
 use Rattle.lang_tree.specs.Tree.{Tree}
+use Rattle.crash_stands.specs.Bounds.{bounds_of}
 use Rattle.crash_stands.specs.Stands.{IsTreeOf}
 use Rattle.engine_blocks.specs.Calls.{IsSound}
 use Rattle.engine_blocks.specs.Crashes.{HasLiveBlocks, HasMapOfPoint, IsBegun}
@@ -36,13 +37,13 @@ use Rattle.cmd_image.specs.Steps.{IsJustMounted, KnownSoFar, SoFar, mark_in}
 use Rattle.cmd_image.proofs.Rooms.{mount_stays}
 
 -- The room of a session that begins over such a store is that of its tree.
-module _ (tells : Bool) (told : IsTrue tells) (first : disk.State) (s : State) (h : IsJustMounted tells first s) (u : State) (t : Tree) (begun : IsBegun s) (looks : LooksOnly tells false s u) (session : IsSession u (session_on s.books.geom.i t))
+module _ (tells : Bool) (told : IsTrue tells) (first : disk.State) (s : State) (h : IsJustMounted tells first s) (u : State) (t : Tree) (begun : IsBegun s) (looks : LooksOnly tells false s u) (session : IsSession u (session_on (bounds_of s.books.geom) t))
     (room : (f : Session) → IsSession u f → IsRoomOf u.books.geom f (room_of u)) (left : (f : Session) → IsSession u f → left_of u.books ≡ left_in u.books.geom f (room_of u)) (takeable : left_of u.books ≡ length (reusable_blocks u.books) + u.books.waiting) where
   abbrev shape : Geometry
   shape = s.books.geom
 
   abbrev root : Session
-  root = session_on shape.i t
+  root = session_on (bounds_of shape) t
 
   -- no block waits, so that as many may be taken as the tree leaves
   all : length (reusable_blocks u.books) ≡ left_in shape root (room_of u)
@@ -65,12 +66,12 @@ module _ (tells : Bool) (told : IsTrue tells) (first : disk.State) (s : State) (
   module _ (u : State) (t : Tree) (mark : Mark) (begun : IsBegun s) (looks : LooksOnly tells false s u) (tree : IsTreeOf s.books.geom s.map t)
       (served : HasServed s.books.geom t (length s.crash.log) [] [] [] u) (budget : KeepsBudget s.books.geom t (writes_in s.crash.log + s.books.owed) [] [] u)
       (room : (f : Session) → IsSession u f → IsRoomOf u.books.geom f (room_of u)) (left : (f : Session) → IsSession u f → left_of u.books ≡ left_in u.books.geom f (room_of u)) (takeable : left_of u.books ≡ length (reusable_blocks u.books) + u.books.waiting)
-      (sound : IsSound u.books) (limits : IsGeometry s.books.geom) (goes : (m : MountedSession) (base : Blocks) (how : Manner) (tree : Tree) → BeginsByLog m base how u → GoesByLog m base how (pace_of (nothing_taken (session_at m tree)) u) tree [] [] [] u) (counted : s.counts.ticks.manner.waits_alone ≡ true → s.counts.faults ≡ 0 → has_lost s.crash.log ≡ false) (is_mark : mark ≡ mark_in s) (spends : SpendsByMarks s.books.geom (session_on s.books.geom.i t) (length u.crash.log) u.crash.log [] [] []) where
+      (sound : IsSound u.books) (limits : IsGeometry s.books.geom) (goes : (m : MountedSession) (base : Blocks) (how : Manner) (tree : Tree) → BeginsByLog m base how u → GoesByLog m base how (pace_of (nothing_taken (session_at m tree)) u) tree [] [] [] u) (counted : s.counts.ticks.manner.waits_alone ≡ true → s.counts.faults ≡ 0 → has_lost s.crash.log ≡ false) (is_mark : mark ≡ mark_in s) (spends : SpendsByMarks s.books.geom (session_on (bounds_of s.books.geom) t) (length u.crash.log) u.crash.log [] [] []) where
     abbrev g : Geometry
     g = s.books.geom
 
     abbrev f : Session
-    f = session_on g.i t
+    f = session_on (bounds_of g) t
 
     room_first : IsRoomAtMount g s.map f (room_of u)
     room_first = begins_room tells told first s h u t begun looks served.goes_on.session room left takeable
@@ -96,7 +97,7 @@ module _ (tells : Bool) (told : IsTrue tells) (first : disk.State) (s : State) (
     pace_first =
         ap₂ (λ (polls events : ℕ). record { polls = polls; events = events; over = u.books.stopped; durable = u.books.floor; taken = nothing_taken (session_at mount t); room = room_on u }) (ap (λ (k : Ticking). k.polls) looks.counts.ticks ∙ h.on.polls) (ap (λ (es : List Event). length es) same_log)
         ∙ ap₂ (λ (over : Bool) (since : ℕ → Option ℕ). record { polls = first.polls; events = length s.crash.log; over = over; durable = u.books.floor; taken = nothing_taken (session_at mount t); room = record { room = room_of u; since = since } }) (ap (λ (k : Bookkeeping). k.stopped) looks.books ∙ h.on.going) (fun_ext (λ b. ap (λ (k : Bookkeeping). k.since b) looks.books ∙ (h.begins told).since b))
-        ∙ ap₂ (λ (durable : ℕ) (k : Geometry). record { polls = first.polls; events = length s.crash.log; over = false; durable = durable; taken = nothing_taken (session_on k.i t); room = record { room = room_of u; since = λ b. None } }) low (h.numbers told).geom
+        ∙ ap₂ (λ (durable : ℕ) (k : Geometry). record { polls = first.polls; events = length s.crash.log; over = false; durable = durable; taken = nothing_taken (session_on (bounds_of k) t); room = record { room = room_of u; since = λ b. None } }) low (h.numbers told).geom
 
     -- the map is that of point 0
     only : HasMapOfPoint u 0

@@ -1,6 +1,7 @@
 -- What one command does to the counts of the blocks and to their geometry, by how it was answered.
 use Rattle.std.proofs.Common.{◌≡◌, ◌≢◌, ◌⊎◌, inl, inr, ℕ, ◌<◌, Bool, true, false, IsTrue, Result, Ok, Err, IfErr, nat_lt, refl, sym, ap, ◌∙◌, subst, arith}
 use Rattle.std.proofs.lemmas.Bool.{cases_Bool, false≢true}
+use Rattle.crash_stands.specs.Bounds.{bounds_of}
 use Rattle.base_types.specs.Counts.{after_call}
 use Rattle.base_types.specs.Seal.{Blocks}
 use Rattle.layout_geometry.specs.Geometry.{Geometry}
@@ -82,6 +83,7 @@ calm_refusal because.DiskFault (inr memory) = absurd (false≢true (ap (λ (w : 
 calm_refusal because.Stopped of = (refl, refl)
 calm_refusal because.Spent of = (refl, refl)
 calm_refusal because.NoMemory of = (refl, refl)
+calm_refusal because.NameTooLong of = (refl, refl)
 calm_refusal (because.NoPoint last) of = (refl, refl)
 calm_refusal because.NoSnap of = (refl, refl)
 
@@ -100,7 +102,7 @@ calm_reply (replies.Refused why) of = calm_refusal why (of why refl)
 session_ticks : (tells : Bool) → IsTrue tells → (s t : State) → Ticks tells false s t → (f : Session) → s.books.stopped ≡ false → IsSession s f → IsSession t f
 session_ticks tells told s t ticks f going h = record {
   tree = subst (λ (g : Geometry). IsTreeOf g t.map f.tree) (sym ticks.moves.pipeline.geom) (subst (λ (m : Blocks). IsTreeOf s.books.geom m f.tree) (sym (ticks.moves.map told)) h.tree);
-  limit = h.limit ∙ ap (λ (g : Geometry). g.i) (sym ticks.moves.pipeline.geom);
+  limit = h.limit ∙ ap bounds_of (sym ticks.moves.pipeline.geom);
   points = λ _. h.points going ∙ sym ticks.moves.pipeline.point;
   changed = λ _. h.changed going ∙ ap (λ (r : Running). nat_lt 0 r.weight) (sym ticks.moves.pipeline.running);
   durable = omega (arith, h.durable, ticks.moves.pipeline.floor);

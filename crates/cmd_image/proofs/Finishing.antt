@@ -6,6 +6,7 @@ use Rattle.disk_contract.specs.declared.disk.Disk.{Ghosts}
 use Rattle.disk_contract.specs.Disk as disk
 use Rattle.disk_contract.specs.Disk.{writes_in}
 use Rattle.layout_geometry.specs.Geometry.{Geometry, bitmap_blocks}
+use Rattle.crash_stands.specs.Bounds.{bounds_of}
 use Rattle.crash_argument.specs.Counts.{AreAtMost}
 use Rattle.lang_tree.specs.declared.command.Cmd.{Cmd}
 use Rattle.lang_tree.specs.declared.command.Reply.{Reply}
@@ -36,7 +37,7 @@ use Rattle.cmd_image.proofs.Rooms.{rooms_by}
 
 module _ {D : Type 0} {k : Ghosts D} (known : D → disk.State) (tells : Bool) (first : disk.State) (store : Store D k) (marks : List Mark)
     (budget : (g : Geometry) (t : Tree) (begun owed mounted : ℕ) (cmds : List Cmd) (replies : List Reply) → KeepsBudget g t begun cmds replies (state_of known store)
-    → begun ≡ writes_in (take mounted (state_of known store).crash.log) + owed → AreAtMost mounted (state_of known store).crash.log (owed + budget_of (bitmap_blocks g) (session_on g.i t) 0 cmds replies))
+    → begun ≡ writes_in (take mounted (state_of known store).crash.log) + owed → AreAtMost mounted (state_of known store).crash.log (owed + budget_of (bitmap_blocks g) (session_on (bounds_of g) t) 0 cmds replies))
     (size : (known (disk_in store)).blocks ≡ (state_of known store).books.geom.n) where
   runs_disk : (cmds : List Cmd) (replies : List Reply) → KnownSoFar first cmds replies marks (state_of known store) → RunsDisk first (known (disk_in store)) marks cmds replies
   runs_disk cmds replies h = record {
@@ -51,8 +52,8 @@ module _ {D : Type 0} {k : Ghosts D} (known : D → disk.State) (tells : Bool) (
     first_room = h.first_room;
     begins = h.begins;
     end = pace_of h.goes.taken (state_of known store);
-    rooms = subst (λ (g : Geometry). RunsOn g (session_on h.geom.i h.tree) h.first_room cmds replies h.goes.taken.session (room_of (state_of known store))) h.is_mount.geom
-        (rooms_by h.mount first.base first.manner (state_of known store).crash.log cmds replies h.moments (pace_at_mount first h.mounted (session_on h.geom.i h.tree) h.first_room) (pace_of h.goes.taken (state_of known store)) h.goes.paces);
+    rooms = subst (λ (g : Geometry). RunsOn g (session_on (bounds_of h.geom) h.tree) h.first_room cmds replies h.goes.taken.session (room_of (state_of known store))) h.is_mount.geom
+        (rooms_by h.mount first.base first.manner (state_of known store).crash.log cmds replies h.moments (pace_at_mount first h.mounted (session_on (bounds_of h.geom) h.tree) h.first_room) (pace_of h.goes.taken (state_of known store)) h.goes.paces);
     mount = h.mount;
     is_mount = h.is_mount;
     serves = h.goes.paces;
@@ -85,7 +86,7 @@ module _ {D : Type 0} {k : Ghosts D} (known : D → disk.State) (tells : Bool) (
 -- the same of the disk, the marks and the answer as the function has them
 pub ran_back : {D : Type 0} {k : Ghosts D} (known : D → disk.State) (tells : Bool) (first : disk.State) (store other : Store D k) (marks given : List Mark) (last : D) (ended : Result Ending Stop) (answer : Result Ending RunRefusal) (before after : Streams)
     → ((g : Geometry) (t : Tree) (begun owed mounted : ℕ) (cmds : List Cmd) (replies : List Reply) → KeepsBudget g t begun cmds replies (state_of known store)
-    → begun ≡ writes_in (take mounted (state_of known store).crash.log) + owed → AreAtMost mounted (state_of known store).crash.log (owed + budget_of (bitmap_blocks g) (session_on g.i t) 0 cmds replies))
+    → begun ≡ writes_in (take mounted (state_of known store).crash.log) + owed → AreAtMost mounted (state_of known store).crash.log (owed + budget_of (bitmap_blocks g) (session_on (bounds_of g) t) 0 cmds replies))
     → (known (disk_in store)).blocks ≡ (state_of known store).books.geom.n → last ≡ disk_in store → store ≡ other → marks ≡ given → answer ≡ answer_for ended → RunsTo tells first given (state_of known other) (answer_for ended) before after → ComesOfDisk tells first (known last) marks answer before after
 ran_back {D = D} {k = k} known tells first store other marks given last ended answer before after budget size last_is store_is marks_are answer_is h =
     subst (λ (x : D). ComesOfDisk tells first (known x) marks answer before after) (sym last_is)

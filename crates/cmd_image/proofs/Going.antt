@@ -10,6 +10,7 @@ use Rattle.disk_contract.specs.Disk as disk
 use Rattle.disk_contract.specs.Disk.{writes_in}
 use Rattle.disk_contract.specs.Manner.{Manner, HasFailedBy}
 use Rattle.layout_geometry.specs.Geometry.{Geometry}
+use Rattle.crash_stands.specs.Bounds.{bounds_of}
 use Rattle.crash_argument.specs.Points.{MountedSession}
 use Rattle.lang_tree.specs.declared.command.Cmd.{Cmd}
 use Rattle.lang_tree.specs.declared.command.Refusal.TheVariants as because
@@ -63,7 +64,7 @@ pub record Stepped (cmd : Cmd) (reply : Reply) (mark : Mark) (s u : State) : Typ
   pub serves : (g : Geometry) (t : Tree) (mounted : ℕ) (cmds : List Cmd) (replies : List Reply) (moments : List ℕ) → HasServed g t mounted cmds replies moments s → HasServed g t mounted (cmds ++ cmd ∷ []) (replies ++ reply ∷ []) (moments ++ length u.crash.log ∷ []) u
   pub budget : (g : Geometry) (t : Tree) (mounted begun : ℕ) (cmds : List Cmd) (replies : List Reply) (moments : List ℕ) → HasServed g t mounted cmds replies moments s → KeepsBudget g t begun cmds replies s → KeepsBudget g t begun (cmds ++ cmd ∷ []) (replies ++ reply ∷ []) u
   pub spends : (g : Geometry) (t : Tree) (mounted : ℕ) (cmds : List Cmd) (replies : List Reply) (moments : List ℕ) → HasServed g t mounted cmds replies moments s → KeepsBudget g t (writes_in (take mounted u.crash.log)) (cmds ++ cmd ∷ []) (replies ++ reply ∷ []) u
-      → SpendsByMarks g (session_on g.i t) mounted s.crash.log cmds replies moments → SpendsByMarks g (session_on g.i t) mounted u.crash.log (cmds ++ cmd ∷ []) (replies ++ reply ∷ []) (moments ++ length u.crash.log ∷ [])
+      → SpendsByMarks g (session_on (bounds_of g) t) mounted s.crash.log cmds replies moments → SpendsByMarks g (session_on (bounds_of g) t) mounted u.crash.log (cmds ++ cmd ∷ []) (replies ++ reply ∷ []) (moments ++ length u.crash.log ∷ [])
   pub goes : (mount : MountedSession) (base : Blocks) (m : Manner) (first : Pace) (t : Tree) (cmds : List Cmd) (replies : List Reply) (moments : List ℕ) → HasServed mount.geom t mount.mounted cmds replies moments s → GoesByLog mount base m first t cmds replies moments s → GoesByLog mount base m first t (cmds ++ cmd ∷ []) (replies ++ reply ∷ []) (moments ++ length u.crash.log ∷ []) u
   pub advances : Advances s u
   pub turns : u.books.turns ≤ s.books.turns + 2 ^ 20
@@ -77,7 +78,7 @@ pub record Stepped (cmd : Cmd) (reply : Reply) (mark : Mark) (s u : State) : Typ
 module _ (first : disk.State) (cmd : Cmd) (reply : Reply) (mark : Mark) (s u : State) (cmds : List Cmd) (replies : List Reply) (marks : List Mark) (step : Stepped cmd reply mark s u) (h : KnownSoFar first cmds replies marks s) where
   -- the session so far
   abbrev f : Session
-  f = session_after (session_on h.geom.i h.tree) cmds replies
+  f = session_after (session_on (bounds_of h.geom) h.tree) cmds replies
 
   session : IsSession s f
   session = h.served.goes_on.session
@@ -86,8 +87,8 @@ module _ (first : disk.State) (cmd : Cmd) (reply : Reply) (mark : Mark) (s u : S
   at_mount : HasServed h.mount.geom h.tree h.mount.mounted cmds replies h.moments s
   at_mount = subst (λ (g : Geometry). HasServed g h.tree h.mount.mounted cmds replies h.moments s) (sym h.is_mount.geom) (subst (λ (n : ℕ). HasServed h.geom h.tree n cmds replies h.moments s) (sym h.is_mount.mounted) h.served)
 
-  goes_now : GoesByLog h.mount first.base first.manner (pace_at_mount first h.mounted (session_on h.geom.i h.tree) h.first_room) h.tree (cmds ++ cmd ∷ []) (replies ++ reply ∷ []) (h.moments ++ length u.crash.log ∷ []) u
-  goes_now = step.goes h.mount first.base first.manner (pace_at_mount first h.mounted (session_on h.geom.i h.tree) h.first_room) h.tree cmds replies h.moments at_mount h.goes
+  goes_now : GoesByLog h.mount first.base first.manner (pace_at_mount first h.mounted (session_on (bounds_of h.geom) h.tree) h.first_room) h.tree (cmds ++ cmd ∷ []) (replies ++ reply ∷ []) (h.moments ++ length u.crash.log ∷ []) u
+  goes_now = step.goes h.mount first.base first.manner (pace_at_mount first h.mounted (session_on (bounds_of h.geom) h.tree) h.first_room) h.tree cmds replies h.moments at_mount h.goes
 
   -- the first events are the same
   front : take h.mounted u.crash.log ≡ take h.mounted s.crash.log

@@ -11,6 +11,7 @@ use Rattle.disk_contract.specs.Disk.{State}
 use Rattle.layout_geometry.specs.Geometry.{Geometry, data_start, geometry_fits}
 use Rattle.layout_journal.specs.Formatted.{formatted}
 use Rattle.lang_tree.specs.Step.{start}
+use Rattle.crash_stands.specs.Bounds.{bounds_of}
 use Rattle.crash_stands.specs.Stands.{StandsFor}
 use Rattle.engine_mount.specs.Mount.{IsIdle, settled_on}
 use Rattle.engine_store.specs.Formatting.{IsFormattedOver}
@@ -21,7 +22,7 @@ use Rattle.cmd_image.specs.Makes.{IsFormattedImage}
 -- What layout_journal says of the data of the formatted disk, crash_stands and a law here of images that have its blocks, and crash_argument of what is accepted where nothing is pending.
 pub record FormattedLaws : Type 0 where
   pub zeros : (g : Geometry) (b : ℕ) → geometry_fits g ≡ true → data_start g ≤ b → formatted g b ≡ replicate 1024 0
-  pub alike : (g : Geometry) (img : Blocks) → geometry_fits g ≡ true → ((b : ℕ) → b < g.n → img b ≡ formatted g b) → StandsFor g.n img (start g.i).tree
+  pub alike : (g : Geometry) (img : Blocks) → geometry_fits g ≡ true → ((b : ℕ) → b < g.n → img b ≡ formatted g b) → StandsFor g.n img (start (bounds_of g)).tree
   pub mountable : (g : Geometry) (at : Blocks) → geometry_fits g ≡ true → ((b : ℕ) → b < data_start g → at b ≡ formatted g b) → CanBeMounted g.n at
   pub idle : (base : Blocks) (log : List Event) (b : ℕ) → (cell_of base log b).pending ≡ [] → (is_lost b log ≡ false) × (accepted base log b ≡ (cell_of base log b).settled)
 
@@ -50,7 +51,7 @@ module _ (laws : FormattedLaws) (g : Geometry) (fits : geometry_fits g ≡ true)
     size = size;
     blocks = each;
     zeros = λ b from low. each b low ∙ laws.zeros g b fits from;
-    stands = subst (λ (n : ℕ). StandsMounted n (blocks_of image) (start g.i).tree) (sym size) mounted;
+    stands = subst (λ (n : ℕ). StandsMounted n (blocks_of image) (start (bounds_of g)).tree) (sym size) mounted;
   }
     where
       size : length image ≡ g.n
@@ -62,7 +63,7 @@ module _ (laws : FormattedLaws) (g : Geometry) (fits : geometry_fits g ≡ true)
       formatted_below : (b : ℕ) → b < g.n → blocks_of image b ≡ formatted g b
       formatted_below b low = each b (omega (arith, low, size))
 
-      mounted : StandsMounted g.n (blocks_of image) (start g.i).tree
+      mounted : StandsMounted g.n (blocks_of image) (start (bounds_of g)).tree
       mounted = record {
         mountable = laws.mountable g (blocks_of image) fits (λ b low. formatted_below b (omega (arith, low, room)));
         stands = laws.alike g (blocks_of image) fits formatted_below;

@@ -8,6 +8,7 @@ use Rattle.disk_contract.specs.Disk.{State}
 use Rattle.layout_geometry.specs.Geometry.{Geometry, data_start}
 use Rattle.layout_journal.specs.Formatted.{formatted}
 use Rattle.lang_tree.specs.Step.{start}
+use Rattle.crash_stands.specs.Bounds.{bounds_of}
 use Rattle.engine_store.specs.declared.formatting.MkfsRefusal.{MkfsRefusal}
 use Rattle.engine_store.specs.declared.formatting.MkfsRefusal.TheVariants as mkfs
 use Rattle.engine_store.specs.Formatting.{AddsFormatting, MkfsSpends, WritesBelow}
@@ -23,7 +24,7 @@ pub record IsFormattedImage (g : Geometry) (n : ℕ) (at : Blocks) : Type 0 wher
   pub size : n ≡ g.n
   pub blocks : (b : ℕ) → b < n → at b ≡ formatted g b
   pub zeros : (b : ℕ) → data_start g ≤ b → b < n → at b ≡ replicate 1024 0
-  pub stands : StandsMounted n at (start g.i).tree
+  pub stands : StandsMounted n at (start (bounds_of g)).tree
 
 -- The refusals.
 

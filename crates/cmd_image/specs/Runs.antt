@@ -12,6 +12,7 @@ use Rattle.disk_contract.specs.Cell.{has_lost}
 use Rattle.disk_contract.specs.Disk.{State, HasFailed}
 use Rattle.disk_contract.specs.Manner.{Manner, HasFailedBy}
 use Rattle.layout_geometry.specs.Geometry.{Geometry, bitmap_blocks}
+use Rattle.crash_stands.specs.Bounds.{bounds_of}
 use Rattle.engine_recover.specs.Search.{last_number}
 use Rattle.engine_mount.specs.Mount.{FoundDisk, IsFoundOn, IsUsedUp}
 use Rattle.lang_tree.specs.declared.command.Cmd.{Cmd}
@@ -145,16 +146,16 @@ pub record RunsDisk (first last : State) (marks : List Mark) (cmds : List Cmd) (
   pub moments : List ℕ
   pub run : HasRun geom tree last.base last.log mounted cmds replies moments
   pub first_room : Room
-  pub begins : IsRoomAtMount geom image.stands.map (session_on geom.i tree) first_room
+  pub begins : IsRoomAtMount geom image.stands.map (session_on (bounds_of geom) tree) first_room
   pub end : Pace
-  pub rooms : RunsOn geom (session_on geom.i tree) first_room cmds replies end.taken.session end.room.room
+  pub rooms : RunsOn geom (session_on (bounds_of geom) tree) first_room cmds replies end.taken.session end.room.room
   pub mount : MountedSession
   pub is_mount : IsMountOf first geom mounted mount
-  pub serves : PacesBy mount first.base first.manner last.log (pace_at_mount first mounted (session_on geom.i tree) first_room) cmds replies moments end
+  pub serves : PacesBy mount first.base first.manner last.log (pace_at_mount first mounted (session_on (bounds_of geom) tree) first_room) cmds replies moments end
   -- the mount loses no write
   pub mounts : first.manner.waits_alone ≡ true → has_lost (take mounted last.log) ≡ false
-  pub writes : AreAtMost mounted last.log (budget_of (bitmap_blocks geom) (session_on geom.i tree) 0 cmds replies)
-  pub spends : SpendsByMarks geom (session_on geom.i tree) mounted last.log cmds replies moments
+  pub writes : AreAtMost mounted last.log (budget_of (bitmap_blocks geom) (session_on (bounds_of geom) tree) 0 cmds replies)
+  pub spends : SpendsByMarks geom (session_on (bounds_of geom) tree) mounted last.log cmds replies moments
   pub marked : AreMarks mounted replies moments marks (mark_on last)
   pub manner : last.manner ≡ first.manner
   pub reasons : HaveReasons first.manner last.log replies moments

@@ -11,6 +11,7 @@ use Rattle.lang_tree.specs.declared.command.Cmd.{Cmd}
 use Rattle.lang_tree.specs.declared.command.Reply.{Reply}
 use Rattle.lang_tree.specs.Step.{session_on}
 use Rattle.lang_tree.specs.Tree.{Tree}
+use Rattle.crash_stands.specs.Bounds.{bounds_of}
 use Rattle.crash_argument.specs.Points.{MountedSession}
 use Rattle.engine_blocks.specs.State.{State}
 use Rattle.fs_session.specs.Room.{Room}
@@ -76,14 +77,14 @@ pub record KnownSoFar (first : disk.State) (cmds : List Cmd) (replies : List Rep
   pub moments : List ℕ
   pub served : HasServed geom tree mounted cmds replies moments s
   pub first_room : Room
-  pub begins : IsRoomAtMount geom image.stands.map (session_on geom.i tree) first_room
+  pub begins : IsRoomAtMount geom image.stands.map (session_on (bounds_of geom) tree) first_room
   pub mount : MountedSession
   pub is_mount : IsMountOf first geom mounted mount
-  pub goes : GoesByLog mount first.base first.manner (pace_at_mount first mounted (session_on geom.i tree) first_room) tree cmds replies moments s
+  pub goes : GoesByLog mount first.base first.manner (pace_at_mount first mounted (session_on (bounds_of geom) tree) first_room) tree cmds replies moments s
   pub mounts : first.manner.waits_alone ≡ true → has_lost (take mounted s.crash.log) ≡ false
   -- no write was owed as the mount ended
   pub budget : KeepsBudget geom tree (writes_in (take mounted s.crash.log)) cmds replies s
-  pub spends : SpendsByMarks geom (session_on geom.i tree) mounted s.crash.log cmds replies moments
+  pub spends : SpendsByMarks geom (session_on (bounds_of geom) tree) mounted s.crash.log cmds replies moments
   pub within : mounted ≤ length s.crash.log
   pub marked : AreMarks mounted replies moments marks (mark_in s)
   pub manner : s.counts.ticks.manner ≡ first.manner

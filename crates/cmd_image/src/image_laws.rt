@@ -1,6 +1,7 @@
 //! Laws of mounted blocks and of runs, empty functions whose clauses say them.
 
 ghost use Rattle.std.specs.Prelude.{◌≡◌, Bool, false, true, IsTrue, List};
+ghost use Rattle.crash_stands.specs.Bounds.{bounds_of};
 ghost use Rattle.disk_contract.specs.declared.bay.Mark.{Mark};
 ghost use Rattle.disk_contract.specs.Disk.{State};
 ghost use Rattle.lang_tree.specs.declared.command.Cmd.{Cmd};
@@ -35,8 +36,8 @@ pub fn what_is_read_stays_mounted<S: Blocks>()
 /// held, and as many data blocks may be taken as the tree leaves.
 pub fn a_session_begins_in_the_room_of_its_tree<S: Blocks>()
     ensures { IsTrue S.tells → (first : State) (old new : S) (t : Tree) → IsJustMounted S.tells first (S.state old) → IsBegun (S.state old)
-        → LooksOnly S.tells false (S.state old) (S.state new) → IsSession (S.state new) (session_on (S.state old).books.geom.i t)
-        → IsRoomAtMount (S.state old).books.geom (S.state old).map (session_on (S.state old).books.geom.i t) (room_of (S.state new)) }
+        → LooksOnly S.tells false (S.state old) (S.state new) → IsSession (S.state new) (session_on (bounds_of (S.state old).books.geom) t)
+        → IsRoomAtMount (S.state old).books.geom (S.state old).map (session_on (bounds_of (S.state old).books.geom) t) (room_of (S.state new)) }
 {
     a_command_is_answered_in_a_room_that_came_back::<S>();
     as_many_blocks_are_marked_as_the_tree_has::<S>();
@@ -47,7 +48,7 @@ pub fn a_session_begins_in_the_room_of_its_tree<S: Blocks>()
 pub fn a_run_stands_where_accepted_writes_do()
     ensures { (first last : State) (marks : List Mark) (cmds : List Cmd) (replies : List Reply) (r : RunsDisk first last marks cmds replies)
         → first.manner.waits_alone ≡ true
-        → AcceptsLast r.geom.n last.base (session_on r.geom.i r.tree) last.log r.mounted cmds replies r.moments }
+        → AcceptsLast r.geom.n last.base (session_on (bounds_of r.geom) r.tree) last.log r.mounted cmds replies r.moments }
 {
     what_was_issued_was_accepted();
 }

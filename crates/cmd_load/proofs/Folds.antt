@@ -2,6 +2,7 @@
 use Rattle.std.proofs.Common.{◌≡◌, ◌⊎◌, inl, inr, sym, refl, ap, ◌∙◌, subst, arith, ℕ, ◌+◌, ◌-◌, ◌≤◌, ◌==◌, nat_lt, Bool, true, false, if◌then◌else◌, List, [], ◌∷◌, Option, Some, None, length, min}
 use Rattle.std.proofs.lemmas.Bool.{cases_eq, cond-true, cond-false, eq-eqb, false≢true, le-ltb, lt-ltb, ne_eqb}
 use Rattle.std.specs.FinMap.{empty}
+use Rattle.base_types.specs.declared.layout.Layout.{Layout}
 use Rattle.layout_geometry.specs.Geometry.{bitmap_blocks, data_start}
 use Rattle.lang_tree.specs.declared.command.Cmd.{Cmd}
 use Rattle.lang_tree.specs.declared.command.Cmd.TheVariants.{Read, Stat, List as ListNames, Osync, Dsync, Durable, Dwait, Poll, Bad, Write, Fill, Truncate, Rename}
@@ -13,7 +14,7 @@ use Rattle.lang_tree.specs.Conditions.{first_reason, refusal, when}
 use Rattle.lang_tree.specs.Figures.{Figures, accepted_figures, blocks, figures_by, move_figures, nothing, truncate_figures, write_figures, are_in_one, blocks_for, blocks_gone, growth, moving, release, shrinking, siblings, writing}
 use Rattle.lang_tree.specs.Points.{is_refusal, is_sync}
 use Rattle.lang_tree.specs.Step.{Session, accepted, answered}
-use Rattle.lang_tree.specs.Tree.{Tree}
+use Rattle.lang_tree.specs.Tree.{Bounds, Tree}
 use Rattle.fs_session.specs.Commands.{is_on_tree}
 use Rattle.fs_session.specs.DiskRoom.{AnswersOn, BeginsOver, ClearsRoom, SyncsOver}
 use Rattle.fs_session.specs.NothingKept.{CostsAsAlone, alone_costs, alone_left}
@@ -47,27 +48,27 @@ truncate_frees bitmap old new = by (nat_lt old new) (nat_lt new old)
     by false true none = absurd (omega (arith, none))
     by false false none = refl
 
-move_frees : (bitmap : ℕ) (t : Tree) (from to : List (List ℕ)) → (move_figures bitmap t from to).cost ≡ 0 → (move_figures bitmap t from to).freed ≡ 0
-move_frees bitmap t from to = by (is_there t to) (are_in_one from to)
+move_frees : (bitmap : ℕ) (l : Layout) (t : Tree) (from to : List (List ℕ)) → (move_figures bitmap l t from to).cost ≡ 0 → (move_figures bitmap l t from to).freed ≡ 0
+move_frees bitmap l t from to = by (is_there t to) (are_in_one from to)
   where
-    by : (b d : Bool) → (if b then moving bitmap 0 (release (siblings t.names from) + blocks_gone t to) else if d then moving bitmap 0 0 else moving bitmap (growth (siblings t.names to)) (release (siblings t.names from))).cost ≡ 0
-        → (if b then moving bitmap 0 (release (siblings t.names from) + blocks_gone t to) else if d then moving bitmap 0 0 else moving bitmap (growth (siblings t.names to)) (release (siblings t.names from))).freed ≡ 0
+    by : (b d : Bool) → (if b then moving bitmap 0 (release l (siblings t.names from) + blocks_gone t to) else if d then moving bitmap 0 0 else moving bitmap (growth l (siblings t.names to)) (release l (siblings t.names from))).cost ≡ 0
+        → (if b then moving bitmap 0 (release l (siblings t.names from) + blocks_gone t to) else if d then moving bitmap 0 0 else moving bitmap (growth l (siblings t.names to)) (release l (siblings t.names from))).freed ≡ 0
     by true d none = absurd (omega (arith, none))
     by false true none = absurd (omega (arith, none))
     by false false none = absurd (omega (arith, none))
 
-rename_frees : (bitmap : ℕ) (t : Tree) (from to : List (List ℕ)) (b : Bool) → (if b then nothing else move_figures bitmap t from to).cost ≡ 0 → (if b then nothing else move_figures bitmap t from to).freed ≡ 0
-rename_frees bitmap t from to true none = refl
-rename_frees bitmap t from to false none = move_frees bitmap t from to none
+rename_frees : (bitmap : ℕ) (l : Layout) (t : Tree) (from to : List (List ℕ)) (b : Bool) → (if b then nothing else move_figures bitmap l t from to).cost ≡ 0 → (if b then nothing else move_figures bitmap l t from to).freed ≡ 0
+rename_frees bitmap l t from to true none = refl
+rename_frees bitmap l t from to false none = move_frees bitmap l t from to none
 
-accepted_frees : (bitmap limit : ℕ) (t : Tree) (cmd : Cmd) → IsLoadCommand cmd → (accepted_figures bitmap limit t cmd).cost ≡ 0 → (accepted_figures bitmap limit t cmd).freed ≡ 0
+accepted_frees : (bitmap : ℕ) (limit : Bounds) (t : Tree) (cmd : Cmd) → IsLoadCommand cmd → (accepted_figures bitmap limit t cmd).cost ≡ 0 → (accepted_figures bitmap limit t cmd).freed ≡ 0
 accepted_frees bitmap limit t (Write path offset bytes) is none = write_frees bitmap (length (content t path)) offset (length bytes)
 accepted_frees bitmap limit t (Fill path offset count byte) is none = write_frees bitmap (length (content t path)) offset count
 accepted_frees bitmap limit t (Truncate path size) is none = truncate_frees bitmap (length (content t path)) size none
-accepted_frees bitmap limit t (Rename from to) is none = rename_frees bitmap t from to (is_same_node t from to) none
+accepted_frees bitmap limit t (Rename from to) is none = rename_frees bitmap limit.layout t from to (is_same_node t from to) none
 accepted_frees bitmap limit t other is none = grind arith
 
-pub frees_by : (bitmap limit : ℕ) (t : Tree) (cmd : Cmd) (o : Option Refusal) → IsLoadCommand cmd → (figures_by bitmap limit t cmd o).cost ≡ 0 → (figures_by bitmap limit t cmd o).freed ≡ 0
+pub frees_by : (bitmap : ℕ) (limit : Bounds) (t : Tree) (cmd : Cmd) (o : Option Refusal) → IsLoadCommand cmd → (figures_by bitmap limit t cmd o).cost ≡ 0 → (figures_by bitmap limit t cmd o).freed ≡ 0
 frees_by bitmap limit t cmd (Some why) is none = refl
 frees_by bitmap limit t cmd None is none = accepted_frees bitmap limit t cmd is none
 
@@ -129,7 +130,7 @@ module _ (p : Progress) (cmd : Cmd) (law : IsLoadCommand cmd) (alone : p.session
 
   module _ (back : Room) (holds : HoldsTree shape f.tree back) (weight : back.weight ≡ p.weight) (held : back.held ≡ p.held) where
     left_same : left_in shape f back ≡ blocks_left p
-    left_same = alone_left shape f back alone holds ∙ ap (λ h. (shape.n - data_start shape) - blocks f.tree - h) held
+    left_same = alone_left shape f back alone holds ∙ ap (λ h. (shape.n - data_start shape) - blocks shape.layout f.tree - h) held
 
     figures_same : figures_in shape f back cmd ≡ figures_of p cmd
     figures_same = alone_costs shape f back alone unshared cmd

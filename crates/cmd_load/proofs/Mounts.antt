@@ -13,6 +13,7 @@ use Rattle.cmd_host.specs.declared.disk.Behaviour.{Behaviour}
 use Rattle.cmd_host.specs.Behaving.{MountFails, Setting, rule_of}
 use Rattle.cmd_host.specs.Disks.{FailedToMount, IsOpened, setting_on}
 use Rattle.cmd_load.specs.Serving.{Serves, behaviour_of, room}
+use Rattle.crash_stands.specs.Bounds.{bounds_of}
 use Rattle.cmd_load.specs.Summary.{at_first, shape}
 use Rattle.cmd_load.proofs.Trees.{start_tree}
 
@@ -35,7 +36,7 @@ begins seed s is = record {
   held = is.room.held;
   going = is.served.goes_on.going (λ i fault. absurd (omega (arith, slice_get_within [] i _ fault)));
   readable = ap (λ (m : Manner). m.reads_fail) is.manner;
-  tree = start_tree shape.i;
+  tree = start_tree (bounds_of shape);
   none = λ e. refl;
   refused = omega arith;
   turns = omega (arith, is.turns);

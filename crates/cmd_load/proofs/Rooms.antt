@@ -6,15 +6,19 @@ use Rattle.std.specs.List.{zip}
 use Rattle.std.proofs.lemmas.List.{length-append, length-take}
 use Rattle.std.proofs.lemmas.List.Sums.{count_by-le-length}
 use Rattle.std.proofs.lemmas.Slice.Zip.{length-zip}
+use Rattle.base_types.specs.declared.layout.Layout.{Layout}
+use Rattle.base_types.specs.declared.layout.Layout.TheVariants.{One}
+use Rattle.base_types.specs.Layouts.{directory_blocks}
+use Rattle.base_types.specs.LayoutLaws.{directory_grows}
 use Rattle.layout_extent.specs.Runs.{is_break, stretches}
 use Rattle.lang_tree.specs.declared.command.Cmd.{Cmd}
-use Rattle.lang_tree.specs.declared.command.Cmd.TheVariants.{Write, Fill, Truncate, Rename, Snap}
+use Rattle.lang_tree.specs.declared.command.Cmd.TheVariants.{Mkdir, Create, Write, Fill, Truncate, Link, Rename, Snap}
 use Rattle.lang_tree.specs.declared.command.Refusal.{Refusal}
 use Rattle.lang_tree.specs.Conditions.{refusal}
-use Rattle.lang_tree.specs.Figures.{Figures, accepted_figures, blocks_for, directory_blocks, figures_by, growth, move_figures, nothing, truncate_figures, write_figures, are_in_one, blocks_gone, moving, release, shrinking, siblings, writing}
+use Rattle.lang_tree.specs.Figures.{Figures, accepted_figures, blocks_for, figures_by, growth, move_figures, nothing, truncate_figures, write_figures, are_in_one, blocks_gone, moving, release, shrinking, siblings, writing}
 use Rattle.lang_tree.specs.Names.{names_in}
 use Rattle.lang_tree.specs.Step.{Session}
-use Rattle.lang_tree.specs.Tree.{Tree, Thing, Dir, File}
+use Rattle.lang_tree.specs.Tree.{Bounds, Tree, Thing, Dir, File}
 use Rattle.layout_geometry.specs.Geometry.{bitmap_blocks}
 use Rattle.fs_session.specs.NothingKept.{CostsAsAlone, alone_costs, alone_runs, no_snapshot}
 use Rattle.fs_session.specs.Room.{HoldsTree, Room, Scatters, figures_in}
@@ -36,7 +40,7 @@ few_stretches (x ∷ xs) = omega (arith, count_by-le-length is_break (zip (x ∷
 file_low : (size : ℕ) → size ≤ 12288 → blocks_for size ≤ 12
 file_low size low = omega (arith, low)
 
-directory_low : (count : ℕ) → count ≤ 8 → directory_blocks count ≤ 12
+directory_low : (count : ℕ) → count ≤ 8 → directory_blocks One count ≤ 12
 directory_low count low = omega (arith, low)
 
 few_places : (t : Tree) (r : Room) (path : List (List ℕ)) (k : ℕ) → IsLoadTree t → t.snapshots ≡ empty → HoldsTree shape t r → get t.names path ≡ Some k → length (r.places k) ≤ 12
@@ -49,8 +53,8 @@ few_places t r path k is alone holds at = by (get t.nodes k) refl
 
 -- A command of a load needs at most 13 blocks.
 
-growth_low : (count : ℕ) → growth count ≤ 13
-growth_low count = omega arith
+growth_low : (l : Layout) (count : ℕ) → growth l count ≤ 13
+growth_low l count = omega (arith, directory_grows l count)
 
 wider : (a b : ℕ) → max a b ≤ a + b
 wider a b = grind arith
@@ -73,26 +77,29 @@ truncate_need bitmap old new low = by (nat_lt old new) (nat_lt new old)
     by false true = omega arith
     by false false = omega arith
 
-move_need : (bitmap : ℕ) (t : Tree) (from to : List (List ℕ)) → (move_figures bitmap t from to).need ≤ 13
-move_need bitmap t from to = by (is_there t to) (are_in_one from to)
+move_need : (bitmap : ℕ) (l : Layout) (t : Tree) (from to : List (List ℕ)) → (move_figures bitmap l t from to).need ≤ 13
+move_need bitmap l t from to = by (is_there t to) (are_in_one from to)
   where
-    by : (b d : Bool) → (if b then moving bitmap 0 (release (siblings t.names from) + blocks_gone t to) else if d then moving bitmap 0 0 else moving bitmap (growth (siblings t.names to)) (release (siblings t.names from))).need ≤ 13
+    by : (b d : Bool) → (if b then moving bitmap 0 (release l (siblings t.names from) + blocks_gone t to) else if d then moving bitmap 0 0 else moving bitmap (growth l (siblings t.names to)) (release l (siblings t.names from))).need ≤ 13
     by true d = omega arith
     by false true = omega arith
-    by false false = growth_low (siblings t.names to)
+    by false false = growth_low l (siblings t.names to)
 
-rename_need : (bitmap : ℕ) (t : Tree) (from to : List (List ℕ)) (b : Bool) → (if b then nothing else move_figures bitmap t from to).need ≤ 13
-rename_need bitmap t from to true = omega arith
-rename_need bitmap t from to false = move_need bitmap t from to
+rename_need : (bitmap : ℕ) (l : Layout) (t : Tree) (from to : List (List ℕ)) (b : Bool) → (if b then nothing else move_figures bitmap l t from to).need ≤ 13
+rename_need bitmap l t from to true = omega arith
+rename_need bitmap l t from to false = move_need bitmap l t from to
 
-accepted_need : (bitmap limit : ℕ) (t : Tree) (cmd : Cmd) → IsLoadCommand cmd → (accepted_figures bitmap limit t cmd).need ≤ 13
+accepted_need : (bitmap : ℕ) (limit : Bounds) (t : Tree) (cmd : Cmd) → IsLoadCommand cmd → (accepted_figures bitmap limit t cmd).need ≤ 13
+accepted_need bitmap limit t (Mkdir path) is = growth_low limit.layout (siblings t.names path)
+accepted_need bitmap limit t (Create path) is = growth_low limit.layout (siblings t.names path)
+accepted_need bitmap limit t (Link path other) is = growth_low limit.layout (siblings t.names other)
 accepted_need bitmap limit t (Write path offset bytes) is = write_need bitmap (length (content t path)) offset (length bytes) is
 accepted_need bitmap limit t (Fill path offset count byte) is = write_need bitmap (length (content t path)) offset count is
 accepted_need bitmap limit t (Truncate path size) is = truncate_need bitmap (length (content t path)) size is
-accepted_need bitmap limit t (Rename from to) is = rename_need bitmap t from to (is_same_node t from to)
+accepted_need bitmap limit t (Rename from to) is = rename_need bitmap limit.layout t from to (is_same_node t from to)
 accepted_need bitmap limit t other is = grind arith
 
-need_by : (bitmap limit : ℕ) (t : Tree) (cmd : Cmd) (o : Option Refusal) → IsLoadCommand cmd → (figures_by bitmap limit t cmd o).need ≤ 13
+need_by : (bitmap : ℕ) (limit : Bounds) (t : Tree) (cmd : Cmd) (o : Option Refusal) → IsLoadCommand cmd → (figures_by bitmap limit t cmd o).need ≤ 13
 need_by bitmap limit t cmd (Some why) is = omega arith
 need_by bitmap limit t cmd None is = accepted_need bitmap limit t cmd is
 

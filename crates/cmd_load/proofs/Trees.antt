@@ -23,7 +23,7 @@ use Rattle.lang_tree.specs.Conditions.{least_unused}
 use Rattle.lang_tree.specs.Names.{path_count, renamed}
 use Rattle.lang_tree.specs.Paths.{strip, moved_by, moved_path}
 use Rattle.lang_tree.specs.Step.{Session, start, answered, accepted, osync, write, truncate, rename, written, resized, with_node, added, with_bytes, edited_at, edited, linked_by, linked, removed_by, removed, moved, changed_to}
-use Rattle.lang_tree.specs.Tree.{Tree, Names, Nodes, Thing, Dir, File, path_cmp}
+use Rattle.lang_tree.specs.Tree.{Bounds, Tree, Names, Nodes, Thing, Dir, File, path_cmp}
 use Rattle.lang_tree.specs.Walk.{content, is_same_node}
 use Rattle.cmd_load.specs.Trees.{IsLoadTree, digit_of, is_load_name, largest}
 use Rattle.cmd_load.proofs.Entries.{each_of, entry_each, Each}
@@ -304,8 +304,8 @@ module _ (P : Tree → Type 0) (kept : IsKept P) where
   sync_keeps s false h = h
 
   accepted_keeps : (s : Session) (cmd : Cmd) → IsLoadCommand cmd → P s.tree → P (accepted s cmd).0.tree
-  accepted_keeps s (Mkdir path) law h = kept.made s.limit s.tree path Dir law tt h
-  accepted_keeps s (Create path) law h = kept.made s.limit s.tree path (File []) law (omega arith) h
+  accepted_keeps s (Mkdir path) law h = kept.made s.limit.nodes s.tree path Dir law tt h
+  accepted_keeps s (Create path) law h = kept.made s.limit.nodes s.tree path (File []) law (omega arith) h
   accepted_keeps s (Write path offset bytes) law h = write_keeps s path offset bytes law h
   accepted_keeps s (Fill path offset count byte) law h = write_keeps s path offset (replicate count byte) (omega (arith, law, length-replicate count byte)) h
   accepted_keeps s (Truncate path size) law h = truncate_keeps s path size law h
@@ -332,7 +332,7 @@ answered_tree s cmd o law h = record {
   alone = answered_keeps (λ t. t.snapshots ≡ empty) alone_kept s cmd o law h.alone;
 }
 
-pub start_tree : (limit : ℕ) → IsLoadTree (start limit).tree
+pub start_tree : (limit : Bounds) → IsLoadTree (start limit).tree
 start_tree limit = record {
   files = nodes_put empty 1 Dir tt (λ n bytes e. absurd (none-some (File bytes) (sym (get-empty nat_cmp n) ∙ e)));
   names = names_put empty [] 1 refl (λ p n e. absurd (none-some n (sym (get-empty path_cmp p) ∙ e)));

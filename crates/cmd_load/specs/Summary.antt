@@ -1,6 +1,8 @@
 -- The summary of a load: what its commands come to by the tree and the room of the disk alone, whatever notices come. It is described in docs/LOADS.md.
 use Rattle.std.specs.Prelude.{ℕ, ◌+◌, ◌-◌, nat_lt, if◌then◌else◌, List, [], ◌∷◌, ◌++◌, codes, decimal, Option}
 use Rattle.hex.specs.Hex.{encode_lower}
+use Rattle.crash_stands.specs.Bounds.{bounds_of}
+use Rattle.base_types.specs.declared.layout.Layout.TheVariants.{One}
 use Rattle.base_types.specs.Seal.{sha256}
 use Rattle.layout_geometry.specs.Geometry.{Geometry, bitmap_blocks, data_start}
 use Rattle.lang_tree.specs.declared.command.Cmd.{Cmd}
@@ -17,7 +19,7 @@ use Rattle.lang_load.specs.Load.{load_commands}
 
 -- the geometry of the disk
 abbrev pub shape : Geometry
-shape = record { n = 4096; j = 256; i = 256 }
+shape = record { n = 4096; j = 256; i = 256; layout = One }
 
 -- how far a load has come: its session, what its transaction weighs, how many blocks that freed, and how many commands were refused
 pub record Progress : Type 0 where
@@ -28,7 +30,7 @@ pub record Progress : Type 0 where
 
 -- at first the root stands alone, and nothing is weighed, held or refused
 abbrev pub at_first : Progress
-at_first = record { session = start shape.i; weight = 0; held = 0; refused = 0 }
+at_first = record { session = start (bounds_of shape); weight = 0; held = 0; refused = 0 }
 
 -- need, cost and blocks freed of a command
 abbrev pub figures_of : Progress → Cmd → Figures
@@ -36,7 +38,7 @@ figures_of p cmd = figures (bitmap_blocks shape) p.session cmd
 
 -- how many data blocks neither the tree has nor the transaction holds
 abbrev pub blocks_left : Progress → ℕ
-blocks_left p = (shape.n - data_start shape) - blocks p.session.tree - p.held
+blocks_left p = (shape.n - data_start shape) - blocks shape.layout p.session.tree - p.held
 
 -- why a command of these figures has no room: it needs more blocks than are left; or its cost and the weight are above the most that a transaction may weigh
 abbrev pub room_refusals : Progress → Figures → List (Option Refusal)

@@ -63,6 +63,7 @@ pub(crate) fn refusals_in(reply: &Reply) -> Result<u32, NoMemory>
             | Refusal::ReadFault
             | Refusal::Stopped
             | Refusal::Spent
+            | Refusal::NameTooLong
             | Refusal::NoPoint { .. }
             | Refusal::NoSnap,
         ) => Ok(1),

@@ -158,6 +158,7 @@ of_room_fs counted because.Stopped = of_room_counted counted
 of_room_fs counted because.Spent = tt
 of_room_fs counted because.NoMemory = tt
 of_room_fs counted (because.NoPoint point) = of_room_counted counted
+of_room_fs counted because.NameTooLong = of_room_counted counted
 of_room_fs counted because.NoSnap = of_room_counted counted
 
 of_room : (counted : Bool) (e : OpenRefusal) → OfRoom (log_refusal_of counted e)
@@ -188,6 +189,7 @@ silent_fs counted because.Stopped = silent_counted counted
 silent_fs counted because.Spent = refl
 silent_fs counted because.NoMemory = refl
 silent_fs counted (because.NoPoint point) = silent_counted counted
+silent_fs counted because.NameTooLong = silent_counted counted
 silent_fs counted because.NoSnap = silent_counted counted
 
 pub silent_open : (counted : Bool) (e : OpenRefusal) → log_fails_pushing (Err (log_refusal_of counted e)) ≡ false
@@ -222,6 +224,7 @@ module _ (tells : Bool) (first last : disk.State) (before after : Streams) where
   goes_fs counted because.Spent h = inr h
   goes_fs counted because.NoMemory h = inr (inl h)
   goes_fs counted (because.NoPoint point) h = goes_counted counted h
+  goes_fs counted because.NameTooLong h = goes_counted counted h
   goes_fs counted because.NoSnap h = goes_counted counted h
 
   goes : (counted : Bool) (e : OpenRefusal) → Goes (log_refusal_of counted e)
@@ -299,6 +302,7 @@ module _ {D : Type 0} {k : Ghosts D} (known : D → disk.State) (tells : Bool) (
   says_fs because.Spent cause = tt
   says_fs because.NoMemory cause = tt
   says_fs (because.NoPoint point) cause = absurd (omega (arith, (cause.cause.late told).1))
+  says_fs because.NameTooLong cause = absurd (omega (arith, (cause.cause.late told).1))
   says_fs because.NoSnap cause = absurd (omega (arith, (cause.cause.late told).1))
 
   -- the making of `/log` was refused so, in the mount's room
@@ -334,6 +338,7 @@ module _ {D : Type 0} {k : Ghosts D} (known : D → disk.State) (tells : Bool) (
   room_fs because.Spent cause = tt
   room_fs because.NoMemory cause = tt
   room_fs (because.NoPoint point) cause = tt
+  room_fs because.NameTooLong cause = tt
   room_fs because.NoSnap cause = tt
 
   pub has_room_cause : (e : OpenRefusal) → IsNotOpened tells (state_of known) e old new → RoomCause (log_refusal_of counted e)

@@ -78,6 +78,7 @@ reason_for because.Stopped u h keeps = keeps.fails (h.stopped refl)
 reason_for because.Spent u h keeps = tt
 reason_for because.NoMemory u h keeps = tt
 reason_for (because.NoPoint last) u h keeps = tt
+reason_for because.NameTooLong u h keeps = tt
 reason_for because.NoSnap u h keeps = tt
 
 -- What is known of the disk behind an answer.

@@ -10,6 +10,7 @@ use Rattle.disk_contract.specs.Crash.{IsHonest}
 use Rattle.disk_contract.specs.Disk as disk
 use Rattle.layout_geometry.specs.Geometry.{Geometry}
 use Rattle.crash_argument.specs.Ledger.{HoldsUnder}
+use Rattle.crash_stands.specs.Bounds.{bounds_of}
 use Rattle.crash_stands.specs.Stands.{IsTreeOf, StandsFor}
 use Rattle.lang_tree.specs.Points.{Point, points_of}
 use Rattle.lang_tree.specs.Step.{session_on}
@@ -36,7 +37,7 @@ use Rattle.cmd_log.proofs.Causes.{LeadsOpen}
 module _ (tells : Bool) (told : IsTrue tells) (first : disk.State) (s : State) (h : IsJustMounted tells first s) where
   -- what is said of the blocks once the file system was opened
   pub known_opened : (u : State) (t : Tree) → IsBegun s → LooksOnly tells false s u → IsTreeOf s.books.geom s.map t → HasServed s.books.geom t (length s.crash.log) [] [] [] u
-      → IsRoomAtMount s.books.geom s.map (session_on s.books.geom.i t) (room_of u) → KnownOpened first u
+      → IsRoomAtMount s.books.geom s.map (session_on (bounds_of s.books.geom) t) (room_of u) → KnownOpened first u
   known_opened u t begun looks tree served room =
       let held = h.on.held told in
       let geom = ap (λ (k : Bookkeeping). k.geom) looks.books in
@@ -49,10 +50,10 @@ module _ (tells : Bool) (told : IsTrue tells) (first : disk.State) (s : State) (
         manner = ap (λ (k : Ticking). k.manner) looks.counts.ticks ∙ h.on.manner;
         weight = ap (λ (k : Bookkeeping). k.running.weight) looks.books ∙ begun.weight;
         going = ap (λ (k : Bookkeeping). k.stopped) looks.books ∙ h.on.going;
-        mounted = record { session = session_on s.books.geom.i t; room = room_of u; numbers = s.books.turns };
+        mounted = record { session = session_on (bounds_of s.books.geom) t; room = room_of u; numbers = s.books.turns };
         at_mount = record {
-          session = ap (λ (k : Geometry). session_on k.i t) (sym geom);
-          room = subst (λ (k : Geometry). IsRoomAtMount k s.map (session_on k.i t) (room_of u)) (sym geom) room;
+          session = ap (λ (k : Geometry). session_on (bounds_of k) t) (sym geom);
+          room = subst (λ (k : Geometry). IsRoomAtMount k s.map (session_on (bounds_of k) t) (room_of u)) (sym geom) room;
           numbers = record { found = (h.numbers told).found; is_found = (h.numbers told).is_found; most = (h.numbers told).most };
         };
         at = record { session = served.goes_on.session; room = refl; numbers = omega (arith, ap (λ (k : Bookkeeping). k.turns) looks.books) };
@@ -144,7 +145,7 @@ module _ (first : disk.State) (s u : State) (h : KnownOpened first s) (time : Ma
       }
 
   -- and one of an earlier moment stands for it as the mount left it
-  stands_before : (img : Blocks) (low high : ℕ) → StandsForOne g.n img (points_of (session_on g.i h.tree) (length s.crash.log) [] [] []) low high → StandsFor g.n img h.tree
+  stands_before : (img : Blocks) (low high : ℕ) → StandsForOne g.n img (points_of (session_on (bounds_of g) h.tree) (length s.crash.log) [] [] []) low high → StandsFor g.n img h.tree
   stands_before img low high one = subst (λ (t : Tree). StandsFor g.n img t) (ap (λ (q : Point). q.tree) (one_point root one.point one.number one.is)) one.stands
 
   -- each image still stands for the tree

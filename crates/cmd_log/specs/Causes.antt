@@ -19,6 +19,7 @@ use Rattle.lang_log.specs.Answers.{AnswersLog}
 use Rattle.lang_log.specs.History.{History, opened_with}
 use Rattle.lang_log.specs.Log.{IsLogOf, Log, next_of}
 use Rattle.lang_log.specs.Segments.{Segment}
+use Rattle.crash_stands.specs.Bounds.{bounds_of}
 use Rattle.fs_session.specs.DiskRoom.{ComesBack, RunsOn}
 use Rattle.fs_session.specs.Room.{Room, figures_in, left_in}
 use Rattle.fs_log.specs.Causes.{IsOfLog, RemovesSegments, WritesAppend, is_too_big}
@@ -99,8 +100,8 @@ pub record LacksBlocks (g : Geometry) (cmds : Cmd → Type 0) (old : Situation) 
 
 -- The situation as this disk was mounted with a map in which the tree stands.
 pub record IsAtMount (first : State) (g : Geometry) (map : Blocks) (t : Tree) (at : Situation) : Type 0 where
-  pub session : at.session ≡ session_on g.i t
-  pub room : IsRoomAtMount g map (session_on g.i t) at.room
+  pub session : at.session ≡ session_on (bounds_of g) t
+  pub room : IsRoomAtMount g map (session_on (bounds_of g) t) at.room
   pub numbers : HasNumbers first at.numbers
 
 -- From the situation at the mount on, a log was opened by commands of an opening, and then each call was answered by its own. A segment comes to have 1,048,576 bytes at most.

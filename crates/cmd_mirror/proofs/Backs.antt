@@ -15,6 +15,7 @@ use Rattle.lang_tree.specs.declared.command.Cmd.{Cmd}
 use Rattle.lang_tree.specs.declared.command.Reply.{Reply}
 use Rattle.lang_tree.specs.Step.{session_on}
 use Rattle.lang_tree.specs.Tree.{Tree}
+use Rattle.crash_stands.specs.Bounds.{bounds_of}
 use Rattle.crash_stands.specs.Stands.{StandsFor}
 use Rattle.cmd_session.specs.Crashes.{IsCrashConsistent, LeavesPoints}
 use Rattle.cmd_image.specs.Runs.{RunsDisk}
@@ -73,21 +74,21 @@ sized keeps first last marks cmds replies r =
 
 -- a run over commands is crash consistent
 pub consistent_run : Keeps → OneTree → (first last : State) (marks : List Mark) (cmds : List Cmd) (replies : List Reply) (r : RunsDisk first last marks cmds replies) → last.blocks ≡ first.blocks
-    → IsCrashConsistent last.blocks r.geom.i last.base last.log r.mounted cmds replies r.moments
+    → IsCrashConsistent last.blocks (bounds_of r.geom) last.base last.log r.mounted cmds replies r.moments
 consistent_run keeps one first last marks cmds replies r same =
     let size : r.geom.n ≡ last.blocks = sized keeps first last marks cmds replies r ∙ sym same in
     let stands : StandsFor last.blocks last.base r.tree = subst (λ (n : ℕ). StandsFor n last.base r.tree) (sym same) (subst (λ (b : Blocks). StandsFor first.blocks b r.tree) (sym r.base) r.image.stands) in
-    let leaves : LeavesPoints last.blocks last.base (session_on r.geom.i r.tree) last.log r.mounted cmds replies r.moments =
-    subst (λ (n : ℕ). LeavesPoints n last.base (session_on r.geom.i r.tree) last.log r.mounted cmds replies r.moments) size r.run.crashes in
+    let leaves : LeavesPoints last.blocks last.base (session_on (bounds_of r.geom) r.tree) last.log r.mounted cmds replies r.moments =
+    subst (λ (n : ℕ). LeavesPoints n last.base (session_on (bounds_of r.geom) r.tree) last.log r.mounted cmds replies r.moments) size r.run.crashes in
     record {
-      points = λ u other. subst (λ (t : Tree). LeavesPoints last.blocks last.base (session_on r.geom.i t) last.log r.mounted cmds replies r.moments) (one last.blocks last.base r.tree u stands other) leaves;
+      points = λ u other. subst (λ (t : Tree). LeavesPoints last.blocks last.base (session_on (bounds_of r.geom) t) last.log r.mounted cmds replies r.moments) (one last.blocks last.base r.tree u stands other) leaves;
       none = λ none. absurd (none r.tree stands);
     }
 
 pub leaves_of_run : Comes → Alike → OneTree → Keeps → (c : Course) (mirror disk : State) (marks : List Mark) → IsSideOf c mirror disk → LeavesOfRun c mirror marks disk
 leaves_of_run law alike one keeps c mirror disk marks side = record {
-  served = λ first cmds replies r same. subst (λ (n : ℕ). IsConsistentAlong c n r.geom.i disk.base disk.log r.mounted cmds replies r.moments) (sym side.blocks)
-      (consistent_along law alike mirror.blocks r.geom.i mirror.base disk.base mirror.log disk.log c r.mounted cmds replies r.moments side.leaves r.run.ascend
+  served = λ first cmds replies r same. subst (λ (n : ℕ). IsConsistentAlong c n (bounds_of r.geom) disk.base disk.log r.mounted cmds replies r.moments) (sym side.blocks)
+      (consistent_along law alike mirror.blocks (bounds_of r.geom) mirror.base disk.base mirror.log disk.log c r.mounted cmds replies r.moments side.leaves r.run.ascend
       (consistent_run keeps one first mirror marks cmds replies r same));
   unopened = λ stands. subst (λ (n : ℕ). Window n disk.base disk.log 0 (λ img. ∥ ((t : Tree) → StandsFor n img t ↔ StandsFor n disk.base t) ∥₁)) (sym side.blocks)
       (stands_along alike mirror.blocks mirror.base disk.base mirror.log disk.log c side.leaves stands);

@@ -9,7 +9,7 @@ use Rattle.lang_tree.specs.declared.command.Cmd.{Cmd}
 use Rattle.lang_tree.specs.declared.command.Reply.{Reply}
 use Rattle.lang_tree.specs.Points.{floor, points_of, top}
 use Rattle.lang_tree.specs.Step.{Session, session_on}
-use Rattle.lang_tree.specs.Tree.{Tree}
+use Rattle.lang_tree.specs.Tree.{Bounds, Tree}
 use Rattle.crash_stands.specs.Stands.{StandsFor}
 use Rattle.cmd_trace.specs.Trace.{Ascend}
 use Rattle.cmd_session.specs.Crashes.{IsCrashConsistent, LeavesNoTree, LeavesPoints, StandsForOne}
@@ -63,7 +63,7 @@ none_along n base began log events c l none = record {
       none.each (mirror_moment c k) img (within n base log c began events l k) h t stands);
 }
 
-pub consistent_along : Comes → Alike → (n limit : ℕ) (base began : Blocks) (log events : List Event) (c : Course) (mounted : ℕ) (cmds : List Cmd) (replies : List Reply) (moments : List ℕ) → Leaves n base log c began events → Ascend mounted moments (length log)
+pub consistent_along : Comes → Alike → (n : ℕ) (limit : Bounds) (base began : Blocks) (log events : List Event) (c : Course) (mounted : ℕ) (cmds : List Cmd) (replies : List Reply) (moments : List ℕ) → Leaves n base log c began events → Ascend mounted moments (length log)
     → IsCrashConsistent n limit base log mounted cmds replies moments → IsConsistentAlong c n limit began events mounted cmds replies moments
 consistent_along law alike n limit base began log events c mounted cmds replies moments l up is = record {
   points = λ t stands. points_along law n base began log events c (session_on limit t) mounted cmds replies moments l up (is.points t (alike n began base t l.alike stands));

@@ -1,5 +1,6 @@
 -- One disk of a mirror over which a run was made: how its moments go along with those of the mirror, which marks go along with it, and what crashes leave of it. It is described in docs/MIRROR.md.
 use Rattle.std.specs.Prelude.{◌≡◌, ◌↔◌, ℕ, ◌+◌, nat_le, nat_lt, ◌||◌, Bool, true, false, if◌then◌else◌, List, [], length, map}
+use Rattle.crash_stands.specs.Bounds.{bounds_of}
 use Rattle.base_types.specs.Seal.{Blocks}
 use Rattle.disk_contract.specs.declared.bay.Mark.{Mark}
 use Rattle.disk_contract.specs.declared.disk.Disk.{Ghosts}
@@ -13,7 +14,7 @@ use Rattle.disk_mirror.specs.MirrorOf.{first_end, first_is_live, order_in, secon
 use Rattle.disk_mirror.specs.Times.{LeavesAtMoments, life_of, mark_on, moment_of, moment_on, times_on}
 use Rattle.lang_tree.specs.declared.command.Cmd.{Cmd}
 use Rattle.lang_tree.specs.declared.command.Reply.{Reply}
-use Rattle.lang_tree.specs.Tree.{Tree}
+use Rattle.lang_tree.specs.Tree.{Bounds, Tree}
 use Rattle.crash_stands.specs.Stands.{StandsFor}
 use Rattle.cmd_session.specs.Crashes.{IsCrashConsistent}
 use Rattle.cmd_image.specs.Runs.{RunsDisk}
@@ -59,7 +60,7 @@ told_moment events mark = if nat_lt 0 mark.read_faults || nat_lt 0 mark.faults t
 -- Crashes.
 
 -- Each disk of a mirror is crash consistent by its own moments, where these are the mirror's: its images stand for sync points, none older than the last one that was promised by then while the disk was live, and none newer than the last one that was begun by then.
-abbrev pub IsConsistentAlong : Course → ℕ → ℕ → Blocks → List Event → ℕ → List Cmd → List Reply → List ℕ → Type 0
+abbrev pub IsConsistentAlong : Course → ℕ → Bounds → Blocks → List Event → ℕ → List Cmd → List Reply → List ℕ → Type 0
 IsConsistentAlong c n limit began events mounted cmds replies moments = IsCrashConsistent n limit began events (own_moment c (length events) mounted) cmds replies (map (own_moment c (length events)) moments)
 
 -- each honest image of each moment of the disk stands for the tree for which the disk stood as it began, and for none where it stood for none
@@ -69,7 +70,7 @@ StandsAlong d = Window d.blocks d.base d.log 0 (λ img. ∥ ((t : Tree) → Stan
 -- What crashes leave of a disk of a mirror that is so after a run, with these marks: where commands were run over the mirror, the disk is crash consistent by its own moments; where no file system was opened, each of its images stands for the tree for which it stood as it began, or for none.
 pub record LeavesOfRun (c : Course) (mirror : State) (marks : List Mark) (disk : State) : Type 0 where
   pub served : (first : State) (cmds : List Cmd) (replies : List Reply) (r : RunsDisk first mirror marks cmds replies) → mirror.blocks ≡ first.blocks
-      → IsConsistentAlong c disk.blocks r.geom.i disk.base disk.log r.mounted cmds replies r.moments
+      → IsConsistentAlong c disk.blocks (bounds_of r.geom) disk.base disk.log r.mounted cmds replies r.moments
   pub unopened : StandsThroughout mirror → StandsAlong disk
 
 -- The disk.

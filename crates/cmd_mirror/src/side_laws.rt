@@ -2,6 +2,7 @@
 //! run. Each is an empty function whose clauses say it. Nothing here runs.
 
 ghost use Rattle.std.specs.Prelude.{◌≡◌, ℕ, ◌≤◌, Bool, List, length, map};
+ghost use Rattle.lang_tree.specs.Tree.{Bounds};
 ghost use Rattle.base_types.specs.Seal.{Blocks};
 ghost use Rattle.disk_contract.specs.declared.bay.Mark.{Mark};
 ghost use Rattle.disk_contract.specs.declared.event.Event.{Event};
@@ -22,7 +23,7 @@ use layout_journal::journal_blocks_keep_to_their_bounds;
 /// Where a mirror is crash consistent, so is each of its disks by its own moments. The sync points between which its
 /// images at a moment stand are those between which the mirror's stand at the moment that stands for it.
 pub fn crashes_of_a_mirror_are_of_its_disks()
-    ensures consistent { (n limit : ℕ) (base began : Blocks) (log events : List Event) (c : Course) (mounted : ℕ) (cmds : List Cmd) (replies : List Reply)
+    ensures consistent { (n : ℕ) (limit : Bounds) (base began : Blocks) (log events : List Event) (c : Course) (mounted : ℕ) (cmds : List Cmd) (replies : List Reply)
         (moments : List ℕ) → LeavesAtMoments n base log c.times c.live c.end began events → Ascend mounted moments (length log)
         → IsCrashConsistent n limit base log mounted cmds replies moments → IsConsistentAlong c n limit began events mounted cmds replies moments }
     ensures floor { (n : ℕ) (base began : Blocks) (log events : List Event) (c : Course) (mounted : ℕ) (replies : List Reply) (moments : List ℕ) (k : ℕ)

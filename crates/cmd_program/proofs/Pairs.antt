@@ -1,6 +1,8 @@
 -- What is left under the two names behind a run on both that ended as it should, and under the other name behind a copy.
 use Rattle.std.proofs.Common.{◌≡◌, ◌≢◌, ℕ, ◌<◌, Bool, true, false, IsTrue, List, [], ◌∷◌, length, map, Option, None, Some, Result, Ok, Err, OnOk, inl, inr, refl, sym, ap, ap₂, ◌∙◌, subst}
 use Rattle.std.specs.Io.KnownBytes.{Appends}
+use Rattle.crash_stands.specs.Bounds.{bounds_of}
+use Rattle.lang_tree.specs.Tree.{Bounds}
 use Rattle.base_types.specs.Seal.{blocks_of}
 use Rattle.disk_contract.specs.declared.bay.BayFault.{BayFault}
 use Rattle.disk_contract.specs.declared.bay.Mark.{Mark}
@@ -108,7 +110,7 @@ along f before now other moments marks go = absurd go
 
 -- crashes of a disk that went back from a mirror leave sync points by its own marks
 by_marks : (c : Course) (known : Bool) (first mirror disk : State) (marks own : List Mark) (cmds : List Cmd) (replies : List Reply) → known ≡ true → GoesBack known c mirror disk marks own
-    → (r : RunsDisk first mirror marks cmds replies) → mirror.blocks ≡ first.blocks → LeavesByMarks disk.blocks r.geom.i cmds replies disk.base disk.log own
+    → (r : RunsDisk first mirror marks cmds replies) → mirror.blocks ≡ first.blocks → LeavesByMarks disk.blocks (bounds_of r.geom) cmds replies disk.base disk.log own
 by_marks c known first mirror disk marks own cmds replies is g r same = record {
   mounted = own_moment c (length disk.log) r.mounted;
   moments = map (own_moment c (length disk.log)) r.moments;
@@ -134,7 +136,7 @@ taken_back disk marks (Some before) None old is t = absurd t
 taken_back disk marks (Some before) (Some new) old is t = (new, refl, t)
 
 -- a disk that is kept leaves sync points as it did when it went back
-kept_points : (n limit : ℕ) (cmds : List Cmd) (replies : List Reply) (disk : State) (own : List Mark) (new : Kept) → IsKeptOf disk own new → disk.blocks ≡ n → LeavesByMarks disk.blocks limit cmds replies disk.base disk.log own
+kept_points : (n : ℕ) (limit : Bounds) (cmds : List Cmd) (replies : List Reply) (disk : State) (own : List Mark) (new : Kept) → IsKeptOf disk own new → disk.blocks ≡ n → LeavesByMarks disk.blocks limit cmds replies disk.base disk.log own
     → LeavesByMarks n limit cmds replies new.base new.log new.marks
 kept_points n limit cmds replies disk own new k size l =
     subst (λ base. LeavesByMarks n limit cmds replies base new.log new.marks) (sym k.base)
@@ -147,7 +149,7 @@ pub on_ok : (back : Result (Unit {0}) BayFault) (x : Unit {0}) (P : Type 0) → 
 on_ok back x P is on = subst (λ (b : Result (Unit {0}) BayFault). OnOk b P) is on
 
 -- what is under a name after a disk went back that began with what was there
-left_under : (n limit : ℕ) (cmds : List Cmd) (replies : List Reply) (disk : State) (own : List Mark) (old new : Kept) (before now : Option Kept) → before ≡ Some old → now ≡ Some new → IsKeptOf disk own new → disk.blocks ≡ n
+left_under : (n : ℕ) (limit : Bounds) (cmds : List Cmd) (replies : List Reply) (disk : State) (own : List Mark) (old new : Kept) (before now : Option Kept) → before ≡ Some old → now ≡ Some new → IsKeptOf disk own new → disk.blocks ≡ n
     → ((b : ℕ) → b < n → disk.base b ≡ blocks_of old.image b) → LeavesByMarks disk.blocks limit cmds replies disk.base disk.log own → LeavesPoints n limit cmds replies before now
 left_under n limit cmds replies disk own old new before now is_old is_new k size began l = record {
   old = old;
@@ -166,21 +168,21 @@ module _ (tells : Bool) (image other : List ℕ) (old new : BayState) (t : IsTru
   base : b.runs.mirror_last.base ≡ b.first.base
   base = runs.base ∙ b.runs.base t
 
-  first_left : LeavesPoints b.runs.mirror_last.blocks runs.geom.i ran.cmds ran.replies (old.kept image) (new.kept image)
+  first_left : LeavesPoints b.runs.mirror_last.blocks (bounds_of runs.geom) ran.cmds ran.replies (old.kept image) (new.kept image)
   first_left =
       let o = began_with (old.kept image) b.first (b.opens.opens_first.disk t) in
       let opened : b.opened.kept image ≡ Some o.0 = b.opens.opens_second.kept t image ∙ b.opens.opens_first.kept t image ∙ o.1 in
       let k = taken_back b.first_last b.first_marks (b.opened.kept image) (b.closes.between.kept image) o.0 opened (on_ok b.closes.back r.first _ r.is_first (b.closes.closes_first.kept t)) in
-      left_under b.runs.mirror_last.blocks runs.geom.i ran.cmds ran.replies b.first_last b.first_marks o.0 k.0 (old.kept image) (new.kept image) o.1 (b.closes.closes_second.others t image apart ∙ k.1) k.2 b.runs.goes.blocks.0
+      left_under b.runs.mirror_last.blocks (bounds_of runs.geom) ran.cmds ran.replies b.first_last b.first_marks o.0 k.0 (old.kept image) (new.kept image) o.1 (b.closes.closes_second.others t image apart ∙ k.1) k.2 b.runs.goes.blocks.0
       (λ i there. (b.runs.goes.goes_first t).side.leaves.alike i there ∙ ap (λ (f : ℕ → List ℕ). f i) (base ∙ o.2))
       (by_marks b.runs.goes.first_course b.runs.goes.known b.runs.mirror b.runs.mirror_last b.first_last b.runs.marks b.first_marks ran.cmds ran.replies known (b.runs.goes.goes_first t) runs ran.blocks)
 
-  second_left : LeavesPoints b.runs.mirror_last.blocks runs.geom.i ran.cmds ran.replies (old.kept other) (new.kept other)
+  second_left : LeavesPoints b.runs.mirror_last.blocks (bounds_of runs.geom) ran.cmds ran.replies (old.kept other) (new.kept other)
   second_left =
       let o = began_with (b.opens.between.kept other) b.second (b.opens.opens_second.disk t) in
       let opened : b.closes.between.kept other ≡ Some o.0 = b.closes.closes_first.others t other (λ is. apart (sym is)) ∙ b.opens.opens_second.kept t other ∙ o.1 in
       let k = taken_back b.second_last b.second_marks (b.closes.between.kept other) (new.kept other) o.0 opened (on_ok b.closes.other_back r.second _ r.is_second (b.closes.closes_second.kept t)) in
-      left_under b.runs.mirror_last.blocks runs.geom.i ran.cmds ran.replies b.second_last b.second_marks o.0 k.0 (old.kept other) (new.kept other) (sym (b.opens.opens_first.kept t other) ∙ o.1) k.1 k.2 b.runs.goes.blocks.1
+      left_under b.runs.mirror_last.blocks (bounds_of runs.geom) ran.cmds ran.replies b.second_last b.second_marks o.0 k.0 (old.kept other) (new.kept other) (sym (b.opens.opens_first.kept t other) ∙ o.1) k.1 k.2 b.runs.goes.blocks.1
       (λ i there. (b.runs.goes.goes_second t).side.leaves.alike i there ∙ ap (λ (f : ℕ → List ℕ). f i) base
       ∙ sym (b.alike.same t i (subst (λ (n : ℕ). i < n) (ran.blocks ∙ b.runs.blocks) there)) ∙ ap (λ (f : ℕ → List ℕ). f i) o.2)
       (by_marks b.runs.goes.second_course b.runs.goes.known b.runs.mirror b.runs.mirror_last b.second_last b.runs.marks b.second_marks ran.cmds ran.replies known (b.runs.goes.goes_second t) runs ran.blocks)
@@ -198,7 +200,7 @@ pair_of tells image other m between sink_between t apart same b =
     let known = marked b.runs.goes.known b.runs.ended (r.before ∙ b.runs.goes.answered) in
     let ran : IsRun tells b.runs.mirror b.runs.mirror_last b.runs.marks (Ok script.End) before after =
     subst (λ (a : Result Ending RunRefusal). ComesOfDisk tells b.runs.mirror b.runs.mirror_last b.runs.marks a before after) known.1 b.runs.comes in
-    let limit = (ran.runs t).geom.i in
+    let limit = bounds_of (ran.runs t).geom in
     record {
       seen = ran.reads.0;
       read = ran.reads.1;

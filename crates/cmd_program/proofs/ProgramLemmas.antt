@@ -7,6 +7,7 @@ use Rattle.disk_contract.specs.declared.event.Event.{Event}
 use Rattle.layout_geometry.specs.Geometry.{Geometry, IsGeometry}
 use Rattle.lang_script.specs.Grammar.{command_of}
 use Rattle.lang_script.specs.Values.{IsCommand}
+use Rattle.crash_stands.specs.Bounds.{bounds_of}
 use Rattle.crash_stands.specs.Stands.{StandsFor}
 use Rattle.layout_journal.specs.Formatted.{formatted}
 use Rattle.disk_memory.specs.MemDisk.{MemDiskState, state_of as disk_state}
@@ -180,7 +181,7 @@ never_begun set left told source source_now = record {
 abbrev pub head_of : Geometry → MemDiskState → List ℕ
 head_of g d = (geometry_line g ++ event_lines d.log) ++ end_line
 
-fails_so : (set : Setting) (d : MemDiskState) → IsGeometry set.shape → StandsFor set.shape.n (formatted set.shape) (start set.shape.i).tree → FailedToMount set (disk_state d) → FailsToMount set (head_of set.shape d ++ disk_line)
+fails_so : (set : Setting) (d : MemDiskState) → IsGeometry set.shape → StandsFor set.shape.n (formatted set.shape) (start (bounds_of set.shape)).tree → FailedToMount set (disk_state d) → FailsToMount set (head_of set.shape d ++ disk_line)
 fails_so set d low root failed =
     let blocks : set.shape.n < 2 ^ 64 = omega (arith, low.most_blocks) in
     let journal : set.shape.j < 2 ^ 64 = omega (arith, low.most_journal) in
@@ -196,7 +197,7 @@ fails_so set d low root failed =
       is = ap (λ (xs : List ℕ). (xs ++ end_line) ++ disk_line) (sym (append-nil (geometry_line set.shape ++ event_lines (take (length d.log) d.log)) ∙ ap (λ (es : List Event). geometry_line set.shape ++ event_lines es) (take_all (length d.log) d.log (omega arith))));
     }
 
-pub tells_disk : (set : Setting) (d : MemDiskState) (result : Status) (left told mid out : Option (List ℕ)) (source sink sink_now : ℕ) (line : List ℕ) → IsGeometry set.shape → StandsFor set.shape.n (formatted set.shape) (start set.shape.i).tree → FailedToMount set (disk_state d)
+pub tells_disk : (set : Setting) (d : MemDiskState) (result : Status) (left told mid out : Option (List ℕ)) (source sink sink_now : ℕ) (line : List ℕ) → IsGeometry set.shape → StandsFor set.shape.n (formatted set.shape) (start (bounds_of set.shape)).tree → FailedToMount set (disk_state d)
     → line ≡ disk_line → Appends told mid (head_of set.shape d) → Tells DiskFault result line mid out sink sink_now → RecordsTo set result left left told out source source
 tells_disk set d result left told mid out source sink sink_now line low root failed is wrote t =
     let fails = fails_so set d low root failed in
@@ -204,7 +205,7 @@ tells_disk set d result left told mid out source sink sink_now line low root fai
     told_line set DiskFault result left left told mid out source source sink sink_now [] (head_of set.shape d) disk_line line is wrote (refl, none) (inl none) fails
     (λ n. inr (inr (taken_front (FailsToMount set) (head_of set.shape d) disk_line n fails))) t
 
-pub head_broke : (set : Setting) (d : MemDiskState) (left told out : Option (List ℕ)) (source n : ℕ) → IsGeometry set.shape → StandsFor set.shape.n (formatted set.shape) (start set.shape.i).tree → FailedToMount set (disk_state d)
+pub head_broke : (set : Setting) (d : MemDiskState) (left told out : Option (List ℕ)) (source n : ℕ) → IsGeometry set.shape → StandsFor set.shape.n (formatted set.shape) (start (bounds_of set.shape)).tree → FailedToMount set (disk_state d)
     → Appends told out (take n (head_of set.shape d)) → RecordsTo set SinkFault left left told out source source
 head_broke set d left told out source n low root failed wrote = record {
   seen = [];

@@ -124,10 +124,10 @@ unlogged answer is other = cc
 pub does_memory : (tells : Bool) (request : Option Request) (left told : Option (List ℕ)) (source sink : ℕ) (bay : BayState)
     → Does tells request NoMemory (met left left told told source source sink sink bay bay)
 does_memory tells None left told source sink bay = inr (refl, refl)
-does_memory tells (Some (Record blocks journal nodes notices room fail)) left told source sink bay = by (geometry_fits (shape_of blocks journal nodes))
+does_memory tells (Some (Record blocks journal nodes layout notices room fail)) left told source sink bay = by (geometry_fits (shape_of blocks journal nodes layout))
   where
-    by : (fits : Bool) → RecordsWhere fits (setting_of blocks journal nodes notices room fail) NoMemory left left told told source source
-    by true = never_begun (setting_of blocks journal nodes notices room fail) left told source source
+    by : (fits : Bool) → RecordsWhere fits (setting_of blocks journal nodes layout notices room fail) NoMemory left left told told source source
+    by true = never_begun (setting_of blocks journal nodes layout notices room fail) left told source source
     by false = inr (refl, refl)
 does_memory tells (Some (Replay moment choice)) left told source sink bay = record {
   told = Err reading.NoMemory;
@@ -145,10 +145,10 @@ does_memory tells (Some (Tree image)) left told source sink bay = record {
   reason = λ known fault. absurd (unshown (Err show.NoMemory) refl fault);
   ends = (refl, refl);
 }
-does_memory tells (Some (Make image blocks journal nodes)) left told source sink bay = by (geometry_fits (shape_of blocks journal nodes))
+does_memory tells (Some (Make image blocks journal nodes layout)) left told source sink bay = by (geometry_fits (shape_of blocks journal nodes layout))
   where
     g : Geometry
-    g = shape_of blocks journal nodes
+    g = shape_of blocks journal nodes layout
 
     by : (fits : Bool) → MakesWhere fits tells image g NoMemory (met left left told told source source sink sink bay bay)
     by true = record {
@@ -259,9 +259,9 @@ does_memory tells (Some (AppLog image)) left told source sink bay = record {
 
 pub completes_memory : (request : Option Request) (m : Met) → Completes request NoMemory m
 completes_memory None m = tt
-completes_memory (Some (Record blocks journal nodes notices room fail)) m = λ fits no_source no_sink. tt
+completes_memory (Some (Record blocks journal nodes layout notices room fail)) m = λ fits no_source no_sink. tt
 completes_memory (Some (Tree image)) m = λ no_sink. tt
-completes_memory (Some (Make image blocks journal nodes)) m = λ fits no_sink. tt
+completes_memory (Some (Make image blocks journal nodes layout)) m = λ fits no_sink. tt
 completes_memory (Some (Copy image other)) m = λ no_sink. tt
 completes_memory (Some (Load seed count)) m = λ no_sink. tt
 completes_memory other m = λ no_source no_sink. tt

@@ -3,6 +3,7 @@ use Rattle.std.specs.Prelude.{◌≡◌, ℕ, ◌^◌, ◌⊎◌, List, [], ◌+
 use Rattle.disk_contract.specs.declared.event.Event.{Event}
 use Rattle.disk_contract.specs.Manner.{GoesBy}
 use Rattle.layout_journal.specs.Formatted.{formatted}
+use Rattle.crash_stands.specs.Bounds.{bounds_of}
 use Rattle.crash_stands.specs.Stands.{StandsFor}
 use Rattle.cmd_trace.specs.Line.{end_line}
 use Rattle.cmd_trace.specs.Contents.{AreLawful, front_of}
@@ -29,8 +30,8 @@ pub record IsCutShort (S : List Cmd → List ℕ → Type 0) (seen last text : L
 pub record FailsToMount (set : Setting) (text : List ℕ) : Type 0 where
   pub log : List Event
   pub lawful : AreLawful (says set.shape log (length log) [] [] [])
-  pub begins : StandsFor set.shape.n (formatted set.shape) (start set.shape.i).tree
-  pub consistent : IsCrashConsistent set.shape.n set.shape.i (formatted set.shape) log (length log) [] [] []
+  pub begins : StandsFor set.shape.n (formatted set.shape) (start (bounds_of set.shape)).tree
+  pub consistent : IsCrashConsistent set.shape.n (bounds_of set.shape) (formatted set.shape) log (length log) [] [] []
   pub writes : GoesBy set.manner log
   pub cause : MountFails set.manner log
   pub most : MountsAtMost log

@@ -2,6 +2,7 @@
 use Rattle.std.specs.Prelude.{◌≡◌, ℕ, ◌^◌, ◌≤◌, ◌⊎◌, ⊤, Bool, true, false, List, [], ◌∷◌, ◌++◌, length, Option, Some, None}
 use Rattle.std.specs.Io.KnownBytes.{Appends, Consumes, IsAtEnd}
 use Rattle.base_types.specs.Counts.{Rose}
+use Rattle.base_types.specs.declared.layout.Layout.{Layout}
 use Rattle.layout_geometry.specs.Geometry.{Geometry, geometry_fits}
 use Rattle.cmd_words.specs.declared.request.Notices.{Notices}
 use Rattle.cmd_words.specs.declared.request.Request.{Request}
@@ -62,21 +63,21 @@ MakesWhere true tells image g status m = MakesTo tells image g status m
 MakesWhere false tells image g status m = Refuses BadShape shape_line status m.taken m.taken_now
 
 -- the geometry that the words ask for
-abbrev pub shape_of : ℕ → ℕ → ℕ → Geometry
-shape_of blocks journal nodes = record { n = blocks; j = journal; i = nodes }
+abbrev pub shape_of : ℕ → ℕ → ℕ → Layout → Geometry
+shape_of blocks journal nodes layout = record { n = blocks; j = journal; i = nodes; layout = layout }
 
 -- the disk that they ask for: of this geometry, with its room, its rule of notices, and the write that is to be lost
-abbrev pub setting_of : ℕ → ℕ → ℕ → Notices → ℕ → Option ℕ → Setting
-setting_of blocks journal nodes notices room fail = record { shape = shape_of blocks journal nodes; manner = manner_by room (fails_of fail) (rule_of notices) }
+abbrev pub setting_of : ℕ → ℕ → ℕ → Layout → Notices → ℕ → Option ℕ → Setting
+setting_of blocks journal nodes layout notices room fail = record { shape = shape_of blocks journal nodes layout; manner = manner_by room (fails_of fail) (rule_of notices) }
 
 -- What the program does for what its words ask, over a bay that tells or doesn't. It records on a disk of the geometry, where that fits, and else says so. It replays a crash of the trace that is its input. It shows the tree of an image of the bay. It makes an image under a name of the bay, where its geometry fits. It serves the load of a seed. It runs the script that is its input on an image of the bay, or on two that are kept alike. It copies an image to another name. It serves the log of an application that an image of the bay keeps. Words that ask for nothing are told the usage.
 abbrev pub Does : Bool → Option Request → Status → Met → Type 0
 Does tells None status m = Refuses Usage usage_line status m.taken m.taken_now
-Does tells (Some (Record blocks journal nodes notices room fail)) status m =
-    RecordsWhere (geometry_fits (shape_of blocks journal nodes)) (setting_of blocks journal nodes notices room fail) status m.left m.left_now m.taken m.taken_now m.source m.source_now
+Does tells (Some (Record blocks journal nodes layout notices room fail)) status m =
+    RecordsWhere (geometry_fits (shape_of blocks journal nodes layout)) (setting_of blocks journal nodes layout notices room fail) status m.left m.left_now m.taken m.taken_now m.source m.source_now
 Does tells (Some (Replay moment choice)) status m = ReplaysTo moment choice status m
 Does tells (Some (Tree image)) status m = ShowsTo tells image status m
-Does tells (Some (Make image blocks journal nodes)) status m = MakesWhere (geometry_fits (shape_of blocks journal nodes)) tells image (shape_of blocks journal nodes) status m
+Does tells (Some (Make image blocks journal nodes layout)) status m = MakesWhere (geometry_fits (shape_of blocks journal nodes layout)) tells image (shape_of blocks journal nodes layout) status m
 Does tells (Some (Run image)) status m = RunsTo tells image status m
 Does tells (Some (RunMirrored image other)) status m = RunsMirroredTo tells image other status m
 Does tells (Some (Copy image other)) status m = CopiesTo tells image other status m
@@ -86,10 +87,10 @@ Does tells (Some (AppLog image)) status m = LogsTo tells image status m
 -- the words ask for something that reads the input: a recording on a disk of a geometry that fits, a replay, a run, or a log
 abbrev pub reads_input : Option Request → Bool
 reads_input None = false
-reads_input (Some (Record blocks journal nodes notices room fail)) = geometry_fits (shape_of blocks journal nodes)
+reads_input (Some (Record blocks journal nodes layout notices room fail)) = geometry_fits (shape_of blocks journal nodes layout)
 reads_input (Some (Replay moment choice)) = true
 reads_input (Some (Tree image)) = false
-reads_input (Some (Make image blocks journal nodes)) = false
+reads_input (Some (Make image blocks journal nodes layout)) = false
 reads_input (Some (Run image)) = true
 reads_input (Some (RunMirrored image other)) = true
 reads_input (Some (Copy image other)) = false
@@ -99,10 +100,10 @@ reads_input (Some (AppLog image)) = true
 -- they ask for something that opens the bay: they name an image of it, with a geometry that fits where one is to be made
 abbrev pub opens_bay : Option Request → Bool
 opens_bay None = false
-opens_bay (Some (Record blocks journal nodes notices room fail)) = false
+opens_bay (Some (Record blocks journal nodes layout notices room fail)) = false
 opens_bay (Some (Replay moment choice)) = false
 opens_bay (Some (Tree image)) = true
-opens_bay (Some (Make image blocks journal nodes)) = geometry_fits (shape_of blocks journal nodes)
+opens_bay (Some (Make image blocks journal nodes layout)) = geometry_fits (shape_of blocks journal nodes layout)
 opens_bay (Some (Run image)) = true
 opens_bay (Some (RunMirrored image other)) = true
 opens_bay (Some (Copy image other)) = true
@@ -175,12 +176,12 @@ EndsLog other = EndsRun ⊤ other
 -- Completeness: unless the source or the sink failed, a recording on a disk of a geometry that fits ends so, and so do a replay, a showing, a making of such a geometry, a copying, a load, a run on an image or on two, and a log.
 abbrev pub Completes : Option Request → Status → Met → Type 0
 Completes None status m = ⊤
-Completes (Some (Record blocks journal nodes notices room fail)) status m =
-    geometry_fits (shape_of blocks journal nodes) ≡ true → ¬ Rose m.source m.source_now → ¬ Rose m.sink m.sink_now → EndsSo fail status
+Completes (Some (Record blocks journal nodes layout notices room fail)) status m =
+    geometry_fits (shape_of blocks journal nodes layout) ≡ true → ¬ Rose m.source m.source_now → ¬ Rose m.sink m.sink_now → EndsSo fail status
 Completes (Some (Replay moment choice)) status m = ¬ Rose m.source m.source_now → ¬ Rose m.sink m.sink_now → EndsReplay status
 Completes (Some (Tree image)) status m = ¬ Rose m.sink m.sink_now → EndsShow (CountsFault m.bay m.bay_now) status
-Completes (Some (Make image blocks journal nodes)) status m =
-    geometry_fits (shape_of blocks journal nodes) ≡ true → ¬ Rose m.sink m.sink_now → EndsMake (CountsFault m.bay m.bay_now) status
+Completes (Some (Make image blocks journal nodes layout)) status m =
+    geometry_fits (shape_of blocks journal nodes layout) ≡ true → ¬ Rose m.sink m.sink_now → EndsMake (CountsFault m.bay m.bay_now) status
 Completes (Some (Run image)) status m = ¬ Rose m.source m.source_now → ¬ Rose m.sink m.sink_now → EndsRun (CountsFault m.bay m.bay_now) status
 Completes (Some (RunMirrored image other)) status m = ¬ Rose m.source m.source_now → ¬ Rose m.sink m.sink_now → EndsRunOnTwo status
 Completes (Some (Copy image other)) status m = ¬ Rose m.sink m.sink_now → EndsMake (CountsFault m.bay m.bay_now) status

@@ -26,7 +26,7 @@ use crate::showing::show;
 use crate::status::Status;
 use crate::telling::{DISK, END, LONG, SHAPE, SOURCE, USAGE, tell};
 use base_io::{Sink, SinkFault, Source};
-use base_types::NoMemory;
+use base_types::{Layout, NoMemory};
 use cmd_host::{Behaviour, Mounted, System, begin};
 use cmd_record::{Ending, Stop, record_lines, write_failed_mount};
 use cmd_words::{Request, read_words};
@@ -107,6 +107,7 @@ fn serve<S: Source, K: Sink, Y: Bay>(
             blocks,
             journal,
             nodes,
+            layout,
             notices,
             room,
             fail,
@@ -116,7 +117,14 @@ fn serve<S: Source, K: Sink, Y: Bay>(
                 room: *room,
                 fail: *fail,
             };
-            record_asked(alloc, (*blocks, *journal, *nodes), &behaviour, input, out)
+            record_asked(
+                alloc,
+                (*blocks, *journal, *nodes),
+                *layout,
+                &behaviour,
+                input,
+                out,
+            )
         }
         Request::Replay { moment, choice } => replay(alloc, u64::from(*moment), choice, input, out),
         Request::Tree { image } => show(alloc, image.as_str(), out, bay),
@@ -125,7 +133,15 @@ fn serve<S: Source, K: Sink, Y: Bay>(
             blocks,
             journal,
             nodes,
-        } => make(alloc, image.as_str(), (*blocks, *journal, *nodes), out, bay),
+            layout,
+        } => make(
+            alloc,
+            image.as_str(),
+            (*blocks, *journal, *nodes),
+            *layout,
+            out,
+            bay,
+        ),
         Request::Run { image } => run(alloc, image.as_str(), input, out, bay),
         Request::RunMirrored { image, other } => {
             run_mirrored(alloc, image.as_str(), other.as_str(), input, out, bay)
@@ -136,24 +152,26 @@ fn serve<S: Source, K: Sink, Y: Bay>(
     }
 }
 
-/// Makes a recording on a disk with so many blocks, journal blocks and nodes, where they fit together.
+/// Makes a recording on a disk with so many blocks, journal blocks and nodes in this layout, where they fit together.
 fn record_asked<S: Source, K: Sink>(
     alloc: Global,
     shape: (u32, u32, u32),
+    layout: Layout,
     behaviour: &Behaviour,
     input: &mut S,
     out: &mut K,
 ) -> Status
-    ensures does { RecordsWhere (geometry_fits (shape_of shape.0 shape.1 shape.2)) (setting_on (shape_of shape.0 shape.1 shape.2) behaviour.now) result
+    ensures does { RecordsWhere (geometry_fits (shape_of shape.0 shape.1 shape.2 layout))
+        (setting_on (shape_of shape.0 shape.1 shape.2 layout) behaviour.now) result
         (S.remaining input.old) (S.remaining input.new) (K.taken out.old) (K.taken out.new) (S.faults input.old) (S.faults input.new) }
-    ensures untouched { geometry_fits (shape_of shape.0 shape.1 shape.2) ≡ false → input.new ≡ input.old }
+    ensures untouched { geometry_fits (shape_of shape.0 shape.1 shape.2 layout) ≡ false → input.new ≡ input.old }
     ensures faults { HasFault result (S.faults input.old) (S.faults input.new) (K.faults out.old) (K.faults out.new) }
     ensures counts { (S.faults input.old ≤ S.faults input.new) × (K.faults out.old ≤ K.faults out.new) }
-    ensures completes { 1 ≤ behaviour.now.room → geometry_fits (shape_of shape.0 shape.1 shape.2) ≡ true
+    ensures completes { 1 ≤ behaviour.now.room → geometry_fits (shape_of shape.0 shape.1 shape.2 layout) ≡ true
         → ¬ Rose (S.faults input.old) (S.faults input.new) → ¬ Rose (K.faults out.old) (K.faults out.new) → EndsSo behaviour.now.fail result }
 {
     let (blocks, journal, nodes) = shape;
-    match Geom::new(blocks, journal, nodes) {
+    match Geom::new_in(blocks, journal, nodes, layout) {
         Err(BadShape) => tell(out, SHAPE, Status::BadShape),
         Ok(geom) => record(alloc, &geom, behaviour, input, out),
     }

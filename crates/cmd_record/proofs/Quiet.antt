@@ -9,7 +9,7 @@ use Rattle.crash_stands.specs.Stands.{StandsFor}
 use Rattle.lang_tree.specs.declared.command.Cmd.{Cmd}
 use Rattle.lang_tree.specs.declared.command.Reply.{Reply}
 use Rattle.lang_tree.specs.Points.{floor}
-use Rattle.lang_tree.specs.Tree.{Tree}
+use Rattle.lang_tree.specs.Tree.{Bounds, Tree}
 
 -- images that are alike below the number of blocks stand for the same
 abbrev pub StandsAlike : Type 0
@@ -28,7 +28,7 @@ untouched n base img honest b below = left (honest.leaves b below)
 at_rest : (n k : ℕ) (base img : Blocks) → IsHonest n base (take k []) img → IsHonest n base [] img
 at_rest n k base img honest = subst (λ (l : List Event). IsHonest n base l img) (take_all k [] (omega arith)) honest
 
-pub consistent : StandsAlike → (n limit : ℕ) (base : Blocks) (cmds : List Cmd) (replies : List Reply) (marks : List ℕ)
+pub consistent : StandsAlike → (n : ℕ) (limit : Bounds) (base : Blocks) (cmds : List Cmd) (replies : List Reply) (marks : List ℕ)
     → ((k : ℕ) → floor k replies marks ≡ 0) → IsCrashConsistent n limit base [] 0 cmds replies marks
 consistent alike n limit base cmds replies marks low = record {
   points = λ t stands. record {

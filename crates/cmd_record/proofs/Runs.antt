@@ -16,6 +16,7 @@ use Rattle.disk_contract.specs.Lawful.{IsLogOf}
 use Rattle.disk_contract.specs.Manner.{Manner, GoesBy}
 use Rattle.layout_geometry.specs.Geometry.{Geometry, geometry_fits, bitmap_blocks}
 use Rattle.layout_journal.specs.Formatted.{formatted}
+use Rattle.crash_stands.specs.Bounds.{bounds_of}
 use Rattle.crash_argument.specs.Counts.{AreAtMost}
 use Rattle.crash_argument.specs.Ledger.{issued}
 use Rattle.lang_script.specs.Text.{command_text}
@@ -152,14 +153,14 @@ small g fits =
 
 -- A run on a disk that began with these blocks, which are the formatted disk's, in its room.
 pub record RunsOf (g : Geometry) (base : Blocks) (log : List Event) (mounted : ℕ) (cmds : List Cmd) (replies : List Reply) (marks : List ℕ) : Type 0 where
-  pub run : HasRun g (start g.i).tree base log mounted cmds replies marks
+  pub run : HasRun g (start (bounds_of g)).tree base log mounted cmds replies marks
   pub first : Room
   pub empty : IsFirstRoom g first
   pub after : Session
   pub room : Room
-  pub rooms : RunsOn g (start g.i) first cmds replies after room
-  pub most : AreAtMost mounted log (budget_of (bitmap_blocks g) (start g.i) 0 cmds replies)
-  pub spends : SpendsByMarks g (start g.i) mounted log cmds replies marks
+  pub rooms : RunsOn g (start (bounds_of g)) first cmds replies after room
+  pub most : AreAtMost mounted log (budget_of (bitmap_blocks g) (start (bounds_of g)) 0 cmds replies)
+  pub spends : SpendsByMarks g (start (bounds_of g)) mounted log cmds replies marks
   pub same : (b : ℕ) → b < g.n → base b ≡ formatted g b
   pub fits : geometry_fits g ≡ true
   pub lawful : IsLogOf g.n log
@@ -172,7 +173,7 @@ module _ (g : Geometry) (laws : RunLaws g) (base : Blocks) (log : List Event) (m
   cell_alike k b low = ap (λ (x : List ℕ). cell_of (λ _. x) (take k log) b) (r.same b low)
 
   -- so an image that a crash of the formatted disk may leave is one that a crash of the disk may leave
-  points_left : LeavesPoints g.n (formatted g) (start g.i) log mounted cmds replies marks
+  points_left : LeavesPoints g.n (formatted g) (start (bounds_of g)) log mounted cmds replies marks
   points_left = record {
     each = λ k img upto honest. r.run.crashes.each k img upto (record {
       leaves = λ b low. subst (λ (c : Cell). MayHold c (img b)) (sym (cell_alike k b low)) (honest.leaves b low);
@@ -182,16 +183,16 @@ module _ (g : Geometry) (laws : RunLaws g) (base : Blocks) (log : List Event) (m
     });
   }
 
-  consistent : IsCrashConsistent g.n g.i (formatted g) log mounted cmds replies marks
+  consistent : IsCrashConsistent g.n (bounds_of g) (formatted g) log mounted cmds replies marks
   consistent = record {
-    points = λ t stands. subst (λ (x : Tree). LeavesPoints g.n (formatted g) (session_on g.i x) log mounted cmds replies marks) (laws.one g.n (formatted g) (start g.i).tree t laws.root stands) points_left;
-    none = λ none. absurd (none (start g.i).tree laws.root);
+    points = λ t stands. subst (λ (x : Tree). LeavesPoints g.n (formatted g) (session_on (bounds_of g) x) log mounted cmds replies marks) (laws.one g.n (formatted g) (start (bounds_of g)).tree t laws.root stands) points_left;
+    none = λ none. absurd (none (start (bounds_of g)).tree laws.root);
   }
 
   issued_alike : (es : List Event) (b : ℕ) → b < g.n → issued base es b ≡ issued (formatted g) es b
   issued_alike es b low = ap (λ (x : List ℕ). issued (λ _. x) es b) (r.same b low)
 
-  issued_last : IssuesLast g.n (formatted g) (start g.i) log mounted cmds replies marks
+  issued_last : IssuesLast g.n (formatted g) (start (bounds_of g)) log mounted cmds replies marks
   issued_last = record {
     each = λ i upto none. ∥∥₁_map (r.run.issued.each i upto none) (λ one. record {
       point = one.point;
@@ -248,7 +249,7 @@ module _ (set : Setting) (laws : RunLaws set.shape) (s : State) (mounted : ℕ) 
     empty = ran.empty;
     after = ran.after;
     room = room_of s;
-    rooms = runs_on g (start g.i) ran.after ran.after ran.first (room_of s) (room_of s) cmds replies more (later more) ran.rooms (all_end g ran.after (room_of s) (known.room ran.after ran.session) s.books.stopped more);
+    rooms = runs_on g (start (bounds_of g)) ran.after ran.after ran.first (room_of s) (room_of s) cmds replies more (later more) ran.rooms (all_end g ran.after (room_of s) (known.room ran.after ran.session) s.books.stopped more);
     most = record { each = λ k from upto. omega (arith, known.most.each k from upto, laws.budget cmds replies more (later more) ran.served.answered) };
     spends = known.spends more;
     same = ran.base;
@@ -313,23 +314,23 @@ module _ (cmd : Cmd) (reply : Reply) (old new : State) (a : IsAnswered cmd reply
       take_front : (n : ℕ) (xs ys : List Event) → n ≤ length xs → take n (xs ++ ys) ≡ take n xs
       take_front n xs ys le = take-append-le n xs ys le
 
-  budget_on : KeepsBudget g (start g.i).tree (writes_in (take mounted new.crash.log)) (cmds ++ cmd ∷ []) (replies ++ reply ∷ []) new
-  budget_on = subst (λ (es : List Event). KeepsBudget g (start g.i).tree (writes_in es) (cmds ++ cmd ∷ []) (replies ++ reply ∷ []) new) (sym mount_same)
-      (a.budget g (start g.i).tree mounted (writes_in (take mounted old.crash.log)) cmds replies marks ran.served ran.budget)
+  budget_on : KeepsBudget g (start (bounds_of g)).tree (writes_in (take mounted new.crash.log)) (cmds ++ cmd ∷ []) (replies ++ reply ∷ []) new
+  budget_on = subst (λ (es : List Event). KeepsBudget g (start (bounds_of g)).tree (writes_in es) (cmds ++ cmd ∷ []) (replies ++ reply ∷ []) new) (sym mount_same)
+      (a.budget g (start (bounds_of g)).tree mounted (writes_in (take mounted old.crash.log)) cmds replies marks ran.served ran.budget)
 
   pub ran_on : Ran g mounted (cmds ++ cmd ∷ []) (replies ++ reply ∷ []) (marks ++ length new.crash.log ∷ []) new
   ran_on =
       let answered = a.room ran.after ran.session in
       record {
-        served = a.serves g (start g.i).tree mounted cmds replies marks ran.served;
+        served = a.serves g (start (bounds_of g)).tree mounted cmds replies marks ran.served;
         first = ran.first;
         empty = ran.empty;
         after = answered.0;
         session = answered.1;
-        rooms = runs_on g (start g.i) ran.after answered.0 ran.first (room_of old) (room_of new) cmds replies (cmd ∷ []) (reply ∷ []) ran.rooms
+        rooms = runs_on g (start (bounds_of g)) ran.after answered.0 ran.first (room_of old) (room_of new) cmds replies (cmd ∷ []) (reply ∷ []) ran.rooms
             (answered.0, room_of new, subst (λ (k : Geometry). AnswersOn k ran.after (room_of old) cmd reply answered.0 (room_of new)) ran.served.geom answered.3, (refl, refl));
         budget = budget_on;
-        spends = a.spends g (start g.i).tree mounted cmds replies marks ran.served budget_on ran.spends;
+        spends = a.spends g (start (bounds_of g)).tree mounted cmds replies marks ran.served budget_on ran.spends;
         base = λ b low. ap (λ (m : Blocks). m b) a.base ∙ ran.base b low;
         fits = ran.fits;
         lawful = subst (λ (k : Geometry). IsLogOf k.n new.crash.log) geom_is a.lawful;
@@ -344,7 +345,7 @@ spent_far : (k : Bookkeeping) → is_spent k ≡ true → 2 ^ 63 - 8 ≤ k.turns
 spent_far k is = leb-true (2 ^ 63 - 8) k.turns is
 
 module _ (cmd : Cmd) (reply : Reply) (old new : State) (a : IsAnswered cmd reply old new) (g : Geometry) (m : Manner) (f : Session) (mounted : ℕ) (cmds : List Cmd) (replies : List Reply) (marks : List ℕ) (session : IsSession old f) (run : PacedRun g m mounted cmds replies marks old)
-    (goes : GoesByLog (session_by g mounted) (formatted g) m (pace_at_first g mounted) (start g.i).tree (cmds ++ cmd ∷ []) (replies ++ reply ∷ []) (marks ++ length new.crash.log ∷ []) new) where
+    (goes : GoesByLog (session_by g mounted) (formatted g) m (pace_at_first g mounted) (start (bounds_of g)).tree (cmds ++ cmd ∷ []) (replies ++ reply ∷ []) (marks ++ length new.crash.log ∷ []) new) where
   -- so many commands don't use the numbers up
   unspent_on : (i : ℕ) → i < 2 ^ 40 → slice_get (replies ++ reply ∷ []) i ≡ Some (Refused Spent) → ⊥
   unspent_on i few at = by (get_split_at replies reply (Refused Spent) i at)
@@ -383,7 +384,7 @@ pub records_on : (cmd : Cmd) (reply : Reply) (old new : State) → IsAnswered cm
 records_on cmd reply old new a laws known lawful set past text r =
     let g = set.shape in
     let ran = ran_on cmd reply old new a lawful g r.mounted past r.replies r.marks r.ran in
-    let goes = a.goes (session_by g r.mounted) (formatted g) set.manner (pace_at_first g r.mounted) (start g.i).tree past r.replies r.marks r.ran.served r.paced.goes in
+    let goes = a.goes (session_by g r.mounted) (formatted g) set.manner (pace_at_first g r.mounted) (start (bounds_of g)).tree past r.replies r.marks r.ran.served r.paced.goes in
     let paced = paced_on cmd reply old new a g set.manner r.ran.after r.mounted past r.replies r.marks r.ran.session r.paced goes in
     subst (λ (xs : List ℕ). Records set (past ++ cmd ∷ []) xs new)
     (text_on g old.crash.log new.crash.log r.mounted past r.replies r.marks cmd reply a.grows r.ran.served.answered r.ran.served.marked r.ran.served.ascend
@@ -416,10 +417,10 @@ at_first set s fits opened laws known begins =
       served = opened.served;
       first = room_of s;
       empty = opened.room;
-      after = start g.i;
+      after = start (bounds_of g);
       session = opened.served.goes_on.session;
       rooms = (refl, refl);
-      budget = subst (λ (es : List Event). KeepsBudget g (start g.i).tree (writes_in es) [] [] s) (sym (take_all (length s.crash.log) s.crash.log (omega arith))) opened.budget;
+      budget = subst (λ (es : List Event). KeepsBudget g (start (bounds_of g)).tree (writes_in es) [] [] s) (sym (take_all (length s.crash.log) s.crash.log (omega arith))) opened.budget;
       spends = (laws g fits).spends s.crash.log;
       base = opened.base;
       fits = fits;
@@ -427,12 +428,12 @@ at_first set s fits opened laws known begins =
       events = opened.events;
       answers = tt;
     } in
-    let pace : pace_of (nothing_taken (start g.i)) s ≡ pace_at_first g (length s.crash.log) =
-    ap₂ (λ (n : ℕ) (over : Bool). record { polls = n; events = length s.crash.log; over = over; durable = s.books.floor; taken = nothing_taken (start g.i); room = room_on s }) opened.polls going
-    ∙ ap₂ (λ (n : ℕ) (r : RoomOn). record { polls = 0; events = length s.crash.log; over = false; durable = n; taken = nothing_taken (start g.i); room = r }) opened.floor (room_first g s opened.room opened.since) in
+    let pace : pace_of (nothing_taken (start (bounds_of g))) s ≡ pace_at_first g (length s.crash.log) =
+    ap₂ (λ (n : ℕ) (over : Bool). record { polls = n; events = length s.crash.log; over = over; durable = s.books.floor; taken = nothing_taken (start (bounds_of g)); room = room_on s }) opened.polls going
+    ∙ ap₂ (λ (n : ℕ) (r : RoomOn). record { polls = 0; events = length s.crash.log; over = false; durable = n; taken = nothing_taken (start (bounds_of g)); room = r }) opened.floor (room_first g s opened.room opened.since) in
     let paced : PacedRun g set.manner (length s.crash.log) [] [] [] s = record {
       writes = opened.writes;
-      goes = subst (λ (p : Pace). GoesByLog ses (formatted g) set.manner p (start g.i).tree [] [] [] s) pace (begins ses (formatted g) set.manner (start g.i).tree (record {
+      goes = subst (λ (p : Pace). GoesByLog ses (formatted g) set.manner p (start (bounds_of g)).tree [] [] [] s) pace (begins ses (formatted g) set.manner (start (bounds_of g)).tree (record {
         limits = (laws g fits).limits;
         of_mount = opened.of_mount;
         manner = opened.manner;

@@ -19,6 +19,7 @@ use Rattle.layout_journal.specs.Formatted.{formatted}
 use Rattle.layout_journal.specs.declared.header.Header.{Header}
 use Rattle.layout_journal.specs.declared.record.Commit.{Commit}
 use Rattle.layout_journal.specs.Run.{places_from, places_told}
+use Rattle.crash_stands.specs.Bounds.{bounds_of}
 use Rattle.crash_argument.specs.Points.{MountedSession, commits_told}
 use Rattle.engine_checkpoint.specs.Serving.{IsNewestAtRest}
 use Rattle.lang_tree.specs.declared.command.Cmd.{Cmd}
@@ -211,7 +212,7 @@ module _ (g : Geometry) (m : Manner) (log : List Event) (mounted : ℕ) where
       )
 
   pub finds_places : MostWeight → (cmds : List Cmd) (replies : List Reply) (marks : List ℕ) (last next : Pace) (cmd : Cmd) (reply : Reply) → PacesBy ses (formatted g) m log (pace_at_first g mounted) cmds replies marks last → (step : StepsBy ses (formatted g) m log cmd reply last next)
-      → is_sync cmd ≡ true → last.over ≡ false → reply ≢ Refused Spent → m.waits_alone ≡ true → places_by_weight g (start g.i) 0 cmds replies + sync_places last.room.room.weight ≤ g.j
+      → is_sync cmd ≡ true → last.over ≡ false → reply ≢ Refused Spent → m.waits_alone ≡ true → places_by_weight g (start (bounds_of g)) 0 cmds replies + sync_places last.room.room.weight ≤ g.j
       → OrdersAtOnce ses (formatted g) (take step.room.behind log) last.room.room.weight (places_wanted reply last.room.room.weight (own_records ses log step.room.behind next.events)) ⊎ ((next.events ≡ step.room.behind) × (reply ≡ Refused DiskFault))
   finds_places most cmds replies marks last next cmd reply paces step sync going unspent alone fits =
       orders ses (formatted g) m log cmd reply last next step going sync unspent alone (omega (arith, fits, places_within most cmds replies marks (pace_at_first g mounted) last 0 paces going (omega arith)))
@@ -248,7 +249,7 @@ module _ (g : Geometry) (m : Manner) (log : List Event) (mounted : ℕ) where
       )
 
   pub finds_enough : TakesFew → NeedsAtMost → (cmds : List Cmd) (replies : List Reply) (marks : List ℕ) (last : Pace) (need : ℕ) → PacesBy ses (formatted g) m log (pace_at_first g mounted) cmds replies marks last
-      → blocks_needed g (start g.i) cmds replies + need ≤ g.n - data_start g → need ≤ length last.room.room.takeable
+      → blocks_needed g (start (bounds_of g)) cmds replies + need ≤ g.n - data_start g → need ≤ length last.room.room.takeable
   finds_enough few most cmds replies marks last need paces enough =
       omega (arith, enough, blocks_within few most cmds replies marks (pace_at_first g mounted) last paces all_data, length-range_with_len (data_start g) (g.n - data_start g))
     where

@@ -29,7 +29,7 @@ use Rattle.lang_tree.specs.declared.command.Reply.TheVariants.{Known, Refused, S
 use Rattle.lang_tree.specs.Conditions.{refusal}
 use Rattle.lang_tree.specs.Sharing.{BlocksAlone, SharedNodes, figures_over_by}
 use Rattle.lang_tree.specs.Points.{is_refusal, is_sync}
-use Rattle.lang_tree.specs.Tree.{Tree}
+use Rattle.lang_tree.specs.Tree.{Bounds, Tree}
 use Rattle.cmd_session.specs.Budget.{commits, sync_budget}
 use Rattle.fs_session.specs.Room.{alone_by, shared_by}
 use Rattle.cmd_session.specs.Pacing.{FailsSince, OrdersAtOnce, Pace, StepsBy, TellsRing}
@@ -107,7 +107,7 @@ module _ (s : MountedSession) (base : Blocks) (m : Manner) (log : List Event) (r
   pub waits_to_look : (path : List (List ℕ)) → StepsBy s base m log (Stat path) reply old new → Goes m reply old → WaitsForNothing m log old new
   waits_to_look path step goes = step.does.calm (λ is. cc) goes.going goes.unspent goes.alone (omega (arith, none (shared_by s.geom old.taken.session.tree old.room.room) (alone_by s.geom old.taken.session.tree old.room.room) old.taken.session.limit old.taken.session.tree (refusal old.taken.session.limit old.taken.session.tree (Stat path))))
     where
-      none : (shared : SharedNodes) (alone : BlocksAlone) (limit : ℕ) (t : Tree) (why : Option Refusal) → (figures_over_by (bitmap_blocks s.geom) shared alone limit t (Stat path) why).need ≡ 0
+      none : (shared : SharedNodes) (alone : BlocksAlone) (limit : Bounds) (t : Tree) (why : Option Refusal) → (figures_over_by (bitmap_blocks s.geom) shared alone limit t (Stat path) why).need ≡ 0
       none shared alone limit t None = refl
       none shared alone limit t (Some why) = refl
 

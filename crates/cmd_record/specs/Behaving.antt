@@ -6,6 +6,7 @@ use Rattle.disk_contract.specs.Manner.{Manner, GoesBy}
 use Rattle.layout_geometry.specs.Geometry.{Geometry}
 use Rattle.layout_journal.specs.declared.header.Header.{Header}
 use Rattle.layout_journal.specs.Formatted.{formatted}
+use Rattle.crash_stands.specs.Bounds.{bounds_of}
 use Rattle.engine_checkpoint.specs.Serving.{IsNewestAtRest}
 use Rattle.engine_blocks.specs.State.{data_blocks}
 use Rattle.lang_tree.specs.declared.command.Cmd.{Cmd}
@@ -38,7 +39,7 @@ room_at_first g = record { room = record { weight = 0; held = 0; takeable = data
 
 -- as a mount ends that brought so many events: no poll was made yet, nothing is taken, and the room is that of a formatted disk
 abbrev pub pace_at_first : Geometry → ℕ → Pace
-pace_at_first g mounted = record { polls = 0; events = mounted; over = false; durable = 0; taken = nothing_taken (start g.i); room = room_at_first g }
+pace_at_first g mounted = record { polls = 0; events = mounted; over = false; durable = 0; taken = nothing_taken (start (bounds_of g)); room = room_at_first g }
 
 -- A run went by the manner of its disk: so did each of its commands, and each write is accepted or lost as the manner has it. The first write, which is the mount's, may be accepted, and the mount lost none. No command is refused as spent, of so many as no input has.
 pub record RunsBy (g : Geometry) (m : Manner) (log : List Event) (mounted : ℕ) (cmds : List Cmd) (replies : List Reply) (marks : List ℕ) : Type 0 where

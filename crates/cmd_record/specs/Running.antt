@@ -20,6 +20,7 @@ use Rattle.lang_tree.specs.declared.command.Reply.{Reply}
 use Rattle.lang_tree.specs.declared.command.Reply.TheVariants.{Refused}
 use Rattle.lang_tree.specs.Step.{Session, session_on, start}
 use Rattle.lang_tree.specs.Tree.{Tree}
+use Rattle.crash_stands.specs.Bounds.{bounds_of}
 use Rattle.crash_stands.specs.Stands.{StandsFor}
 use Rattle.crash_argument.specs.Counts.{AreAtMost}
 use Rattle.engine_blocks.specs.State.{State}
@@ -41,15 +42,15 @@ use Rattle.cmd_record.specs.Traces.{BeginsFirst, Serves, ServesBy, says}
 
 -- These commands were answered with these replies, at these marks, since a disk that was formatted with this geometry was mounted; and so much is known of the blocks now.
 pub record Ran (g : Geometry) (mounted : ℕ) (cmds : List Cmd) (replies : List Reply) (marks : List ℕ) (s : State) : Type 0 where
-  pub served : HasServed g (start g.i).tree mounted cmds replies marks s
+  pub served : HasServed g (start (bounds_of g)).tree mounted cmds replies marks s
   pub first : Room
   pub empty : IsFirstRoom g first
   pub after : Session
   pub session : IsSession s after
-  pub rooms : RunsOn g (start g.i) first cmds replies after (room_of s)
+  pub rooms : RunsOn g (start (bounds_of g)) first cmds replies after (room_of s)
   -- no write was owed as the mount ended
-  pub budget : KeepsBudget g (start g.i).tree (writes_in (take mounted s.crash.log)) cmds replies s
-  pub spends : SpendsByMarks g (start g.i) mounted s.crash.log cmds replies marks
+  pub budget : KeepsBudget g (start (bounds_of g)).tree (writes_in (take mounted s.crash.log)) cmds replies s
+  pub spends : SpendsByMarks g (start (bounds_of g)) mounted s.crash.log cmds replies marks
   pub base : (b : ℕ) → b < g.n → s.crash.base b ≡ formatted g b
   pub fits : geometry_fits g ≡ true
   pub lawful : IsLogOf g.n s.crash.log
@@ -58,25 +59,25 @@ pub record Ran (g : Geometry) (mounted : ℕ) (cmds : List Cmd) (replies : List 
 
 -- What other crates say of the formatted disk, of images, and of runs that end.
 pub record RunLaws (g : Geometry) : Type 0 where
-  pub root : StandsFor g.n (formatted g) (start g.i).tree
+  pub root : StandsFor g.n (formatted g) (start (bounds_of g)).tree
   pub one : (n : ℕ) (img : Blocks) (t u : Tree) → StandsFor n img t → StandsFor n img u → t ≡ u
   pub alike : (n : ℕ) (img other : Blocks) (t : Tree) → ((b : ℕ) → b < n → img b ≡ other b) → StandsFor n img t → StandsFor n other t
   pub budget : (cmds : List Cmd) (replies : List Reply) (more : List Cmd) (later : List Reply) → length cmds ≡ length replies
-      → budget_of (bitmap_blocks g) (start g.i) 0 cmds replies ≤ budget_of (bitmap_blocks g) (start g.i) 0 (cmds ++ more) (replies ++ later)
-  pub spends : (log : List Event) → SpendsByMarks g (start g.i) (length log) log [] [] []
+      → budget_of (bitmap_blocks g) (start (bounds_of g)) 0 cmds replies ≤ budget_of (bitmap_blocks g) (start (bounds_of g)) 0 (cmds ++ more) (replies ++ later)
+  pub spends : (log : List Event) → SpendsByMarks g (start (bounds_of g)) (length log) log [] [] []
   pub limits : IsGeometry g
 
 -- What is known of a run over blocks, as one on a disk, and of one that ends behind it.
 pub record KnownRun (g : Geometry) (s : State) (mounted : ℕ) (cmds : List Cmd) (replies : List Reply) (marks : List ℕ) : Type 0 where
-  pub most : AreAtMost mounted s.crash.log (budget_of (bitmap_blocks g) (start g.i) 0 cmds replies)
+  pub most : AreAtMost mounted s.crash.log (budget_of (bitmap_blocks g) (start (bounds_of g)) 0 cmds replies)
   pub room : (f : Session) → IsSession s f → IsRoomOf g f (room_of s)
-  pub ends : (more : List Cmd) → HasRun g (start g.i).tree s.crash.base s.crash.log mounted (cmds ++ more) (replies ++ ending_replies s.books.stopped more) (marks ++ ending_marks (length s.crash.log) more)
-  pub spends : (more : List Cmd) → SpendsByMarks g (start g.i) mounted s.crash.log (cmds ++ more) (replies ++ ending_replies s.books.stopped more) (marks ++ ending_marks (length s.crash.log) more)
+  pub ends : (more : List Cmd) → HasRun g (start (bounds_of g)).tree s.crash.base s.crash.log mounted (cmds ++ more) (replies ++ ending_replies s.books.stopped more) (marks ++ ending_marks (length s.crash.log) more)
+  pub spends : (more : List Cmd) → SpendsByMarks g (start (bounds_of g)) mounted s.crash.log (cmds ++ more) (replies ++ ending_replies s.books.stopped more) (marks ++ ending_marks (length s.crash.log) more)
 
 -- These commands were answered so on a disk of this geometry and manner, and so far have they come.
 pub record PacedRun (g : Geometry) (m : Manner) (mounted : ℕ) (cmds : List Cmd) (replies : List Reply) (marks : List ℕ) (s : State) : Type 0 where
   pub writes : GoesBy m s.crash.log
-  pub goes : GoesByLog (session_by g mounted) (formatted g) m (pace_at_first g mounted) (start g.i).tree cmds replies marks s
+  pub goes : GoesByLog (session_by g mounted) (formatted g) m (pace_at_first g mounted) (start (bounds_of g)).tree cmds replies marks s
   pub opens : IsTrue (m.accepts [])
   pub alone : m.waits_alone ≡ true
   -- the mount lost no write
@@ -95,7 +96,7 @@ pub record IsAnswered (cmd : Cmd) (reply : Reply) (old new : State) : Type 0 whe
   pub serves : (g : Geometry) (t : Tree) (mounted : ℕ) (cmds : List Cmd) (replies : List Reply) (marks : List ℕ) → HasServed g t mounted cmds replies marks old → HasServed g t mounted (cmds ++ cmd ∷ []) (replies ++ reply ∷ []) (marks ++ length new.crash.log ∷ []) new
   pub budget : (g : Geometry) (t : Tree) (mounted begun : ℕ) (cmds : List Cmd) (replies : List Reply) (marks : List ℕ) → HasServed g t mounted cmds replies marks old → KeepsBudget g t begun cmds replies old → KeepsBudget g t begun (cmds ++ cmd ∷ []) (replies ++ reply ∷ []) new
   pub spends : (g : Geometry) (t : Tree) (mounted : ℕ) (cmds : List Cmd) (replies : List Reply) (marks : List ℕ) → HasServed g t mounted cmds replies marks old → KeepsBudget g t (writes_in (take mounted new.crash.log)) (cmds ++ cmd ∷ []) (replies ++ reply ∷ []) new
-      → SpendsByMarks g (session_on g.i t) mounted old.crash.log cmds replies marks → SpendsByMarks g (session_on g.i t) mounted new.crash.log (cmds ++ cmd ∷ []) (replies ++ reply ∷ []) (marks ++ length new.crash.log ∷ [])
+      → SpendsByMarks g (session_on (bounds_of g) t) mounted old.crash.log cmds replies marks → SpendsByMarks g (session_on (bounds_of g) t) mounted new.crash.log (cmds ++ cmd ∷ []) (replies ++ reply ∷ []) (marks ++ length new.crash.log ∷ [])
   pub room : (f : Session) → IsSession old f → (next : Session) × IsSession new next × (new.books.geom ≡ old.books.geom) × AnswersOn old.books.geom f (room_of old) cmd reply next (room_of new)
   pub base : new.crash.base ≡ old.crash.base
   pub grows : Grows old.crash.log new.crash.log

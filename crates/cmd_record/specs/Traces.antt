@@ -3,6 +3,7 @@ use Rattle.std.specs.Prelude.{◌≡◌, ℕ, List, ◌++◌}
 use Rattle.disk_contract.specs.declared.event.Event.{Event}
 use Rattle.layout_geometry.specs.Geometry.{Geometry, bitmap_blocks}
 use Rattle.layout_journal.specs.Formatted.{formatted}
+use Rattle.crash_stands.specs.Bounds.{bounds_of}
 use Rattle.crash_stands.specs.Stands.{StandsFor}
 use Rattle.cmd_trace.specs.Line.{end_line}
 use Rattle.cmd_trace.specs.Contents.{Contents, AreLawful, front_of}
@@ -38,13 +39,13 @@ pub record Serves (g : Geometry) (cmds : List Cmd) (text : List ℕ) : Type 0 wh
   pub room : Room
   pub lawful : AreLawful (says g log mounted cmds replies marks)
   pub empty : IsFirstRoom g first
-  pub run : RunsOn g (start g.i) first cmds replies after room
+  pub run : RunsOn g (start (bounds_of g)) first cmds replies after room
   pub stops : StopsAfterFault cmds replies
-  pub begins : StandsFor g.n (formatted g) (start g.i).tree
-  pub consistent : IsCrashConsistent g.n g.i (formatted g) log mounted cmds replies marks
-  pub issued : IssuesLast g.n (formatted g) (start g.i) log mounted cmds replies marks
-  pub budget : AreAtMost mounted log (budget_of (bitmap_blocks g) (start g.i) 0 cmds replies)
-  pub spends : SpendsByMarks g (start g.i) mounted log cmds replies marks
+  pub begins : StandsFor g.n (formatted g) (start (bounds_of g)).tree
+  pub consistent : IsCrashConsistent g.n (bounds_of g) (formatted g) log mounted cmds replies marks
+  pub issued : IssuesLast g.n (formatted g) (start (bounds_of g)) log mounted cmds replies marks
+  pub budget : AreAtMost mounted log (budget_of (bitmap_blocks g) (start (bounds_of g)) 0 cmds replies)
+  pub spends : SpendsByMarks g (start (bounds_of g)) mounted log cmds replies marks
   pub is : text ≡ front_of (says g log mounted cmds replies marks)
 
 -- what such a text says

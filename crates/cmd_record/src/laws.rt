@@ -1,7 +1,9 @@
 //! Laws of what a recording writes, and of disks that nothing is written to. They run nothing.
 
 ghost use Rattle.std.specs.Prelude.{◌≡◌, ◌≢◌, ◌↔◌, ◌⊎◌, ◌+◌, ◌-◌, ◌<◌, ◌≤◌, ℕ, false, true, length, take, slice_get, List, [], Some};
+ghost use Rattle.lang_tree.specs.Tree.{Bounds};
 ghost use Rattle.base_types.specs.Seal.{Blocks};
+ghost use Rattle.crash_stands.specs.Bounds.{bounds_of};
 ghost use Rattle.disk_contract.specs.declared.event.Event.{Event};
 ghost use Rattle.disk_contract.specs.Cell.{IsNoticed, is_accepted, is_noticed};
 ghost use Rattle.disk_contract.specs.Disk.{writes_in};
@@ -50,7 +52,7 @@ pub fn a_text_is_served_in_one_way()
 /// A disk to which nothing is written is crash consistent, whatever its blocks are, with each run whose
 /// replies promise nothing: each image is the disk as it was.
 pub fn a_disk_at_rest_is_crash_consistent()
-    ensures { (n limit : ℕ) (base : Blocks) (cmds : List Cmd) (replies : List Reply) (marks : List ℕ)
+    ensures { (n : ℕ) (limit : Bounds) (base : Blocks) (cmds : List Cmd) (replies : List Reply) (marks : List ℕ)
         → ((k : ℕ) → floor k replies marks ≡ 0) → IsCrashConsistent n limit base [] 0 cmds replies marks }
 {
     images_alike_below_n_stand_for_the_same();
@@ -60,7 +62,7 @@ pub fn a_disk_at_rest_is_crash_consistent()
 /// writes stands for the last point by then.
 pub fn the_last_point_stands_where_accepted_writes_do()
     ensures { (set : Setting) (cmds : List Cmd) (text : List ℕ) (s : ServesBy set cmds text)
-        → AcceptsLast set.shape.n (formatted set.shape) (start set.shape.i) s.served.log s.served.mounted cmds s.served.replies s.served.marks }
+        → AcceptsLast set.shape.n (formatted set.shape) (start (bounds_of set.shape)) s.served.log s.served.mounted cmds s.served.replies s.served.marks }
 {
     what_was_issued_was_accepted();
 }
@@ -74,14 +76,14 @@ pub fn what_need_not_come_back_is_there()
         → PacesBy (session_by g mounted) (formatted g) m log (pace_at_first g mounted) cmds replies marks last
         → (step : StepsBy (session_by g mounted) (formatted g) m log cmd reply last next)
         → is_sync cmd ≡ true → last.over ≡ false → reply ≢ Refused Spent → m.waits_alone ≡ true
-        → places_by_weight g (start g.i) 0 cmds replies + sync_places last.room.room.weight ≤ g.j
+        → places_by_weight g (start (bounds_of g)) 0 cmds replies + sync_places last.room.room.weight ≤ g.j
         → OrdersAtOnce (session_by g mounted) (formatted g) (take step.room.behind log) last.room.room.weight
         (places_wanted reply last.room.room.weight (own_records (session_by g mounted) log step.room.behind next.events))
         ⊎ ((next.events ≡ step.room.behind) × (reply ≡ Refused DiskFault)) }
     ensures blocks { (g : Geometry) (m : Manner) (log : List Event) (mounted : ℕ) (cmds : List Cmd) (replies : List Reply) (marks : List ℕ)
         (last : Pace) (need : ℕ)
         → PacesBy (session_by g mounted) (formatted g) m log (pace_at_first g mounted) cmds replies marks last
-        → blocks_needed g (start g.i) cmds replies + need ≤ g.n - data_start g → need ≤ length last.room.room.takeable }
+        → blocks_needed g (start (bounds_of g)) cmds replies + need ≤ g.n - data_start g → need ≤ length last.room.room.takeable }
 {
     a_command_takes_no_more_blocks_than_it_needs();
     a_command_costs_at_most_so_much();

@@ -6,6 +6,7 @@ use Rattle.lang_tree.specs.declared.command.Cmd.{Cmd}
 use Rattle.lang_tree.specs.declared.command.Reply.{Reply}
 use Rattle.lang_tree.specs.Points.{Point, after_reply, begun_by, floor, made_by, points_after, promised_by}
 use Rattle.lang_tree.specs.Step.{Session, start}
+use Rattle.crash_stands.specs.Bounds.{bounds_of}
 use Rattle.cmd_trace.specs.Contents.{Contents}
 use Rattle.cmd_trace.specs.Trace.{Ascend}
 use Rattle.cmd_session.specs.Shared.{begun_append}
@@ -40,7 +41,7 @@ none_after s begun cmds replies marks none = ap (λ (l : List Cmd). points_after
 
 -- ---- the beginning
 
-pub begun_walk : (text : List ℕ) (low k : ℕ) (c : Contents) (w : Walk) → IsMarked c → w ≡ record { tree = start c.geometry.i; synced = 0; tally = first_tally text low (start c.geometry.i).tree } → HasCome text low k c 0 c.mounted w
+pub begun_walk : (text : List ℕ) (low k : ℕ) (c : Contents) (w : Walk) → IsMarked c → w ≡ record { tree = start (bounds_of c.geometry); synced = 0; tally = first_tally text low (start (bounds_of c.geometry)).tree } → HasCome text low k c 0 c.mounted w
 begun_walk text low k c w marked is = subst (λ (x : Walk). HasCome text low k c 0 c.mounted x) (sym is) (record {
   before = first ∷ [];
   split = refl;
@@ -54,7 +55,7 @@ begun_walk text low k c w marked is = subst (λ (x : Walk). HasCome text low k c
 })
   where
     first : Point
-    first = record { tree = (start c.geometry.i).tree; begun = 0 }
+    first = record { tree = (start (bounds_of c.geometry)).tree; begun = 0 }
 
 -- ---- one command more
 
@@ -111,7 +112,7 @@ walk_ends text low k c i begun w over h = (count, subst (λ (points : List Point
     all = ap (begun_by k) h.split ∙ begun_append k h.before rest ∙ omega (arith, h.early, none)
 
     count : w.tally.last ≡ top_at k c
-    count = omega (arith, all, h.counted.count, began k (record { tree = (start c.geometry.i).tree; begun = 0 }) (omega arith))
+    count = omega (arith, all, h.counted.count, began k (record { tree = (start (bounds_of c.geometry)).tree; begun = 0 }) (omega arith))
 
 -- ---- the floor
 

@@ -75,6 +75,7 @@ pub(crate) fn may_have_written(reply: &Reply) -> bool
             | Refusal::Stopped
             | Refusal::Spent
             | Refusal::NoMemory
+            | Refusal::NameTooLong
             | Refusal::NoPoint { .. }
             | Refusal::NoSnap,
         ) => false,

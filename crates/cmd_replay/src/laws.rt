@@ -13,7 +13,7 @@ ghost use Rattle.lang_tree.specs.declared.command.Cmd.{Cmd};
 ghost use Rattle.lang_tree.specs.Listing.{listing};
 ghost use Rattle.lang_tree.specs.Points.{Point};
 ghost use Rattle.lang_tree.specs.Step.{Session, start, step};
-ghost use Rattle.lang_tree.specs.Tree.{Tree};
+ghost use Rattle.lang_tree.specs.Tree.{Bounds, Tree};
 
 use crash_stands::a_tree_that_stands_is_sound;
 use lang_tree::{
@@ -46,9 +46,9 @@ pub fn what_stands_has_lawful_names()
 /// The names of the root alone are lawful, and so are those of each tree that a command with lawful arguments leaves
 /// of one with lawful names. Each byte is below 256 there, and stays so, too.
 pub fn commands_keep_names_lawful()
-    ensures start { (limit : ℕ) → HasLawfulNames (start limit).tree }
+    ensures start { (limit : Bounds) → HasLawfulNames (start limit).tree }
     ensures step { (s : Session) (cmd : Cmd) → IsCommand cmd → HasLawfulNames s.tree → HasLawfulNames (step s cmd).0.tree }
-    ensures start_bytes { (limit : ℕ) → HasBytes (start limit).tree }
+    ensures start_bytes { (limit : Bounds) → HasBytes (start limit).tree }
     ensures step_bytes { (s : Session) (cmd : Cmd) → IsCommand cmd → HasBytes s.tree → HasBytes (step s cmd).0.tree }
 {}
 

@@ -54,7 +54,7 @@ fn search(
     let cmds = trace.commands();
     let replies = trace.replies();
     let marks = trace.marks();
-    let mut walk = Walk::begin(alloc, geom.i(), low, text)?;
+    let mut walk = Walk::begin(alloc, geom.i(), geom.layout(), low, text)?;
     let mut begun = trace.mounted();
     let mut i = 0;
     while i < cmds.len() && begun <= moment {

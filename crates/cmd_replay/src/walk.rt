@@ -8,7 +8,7 @@ ghost use Rattle.cmd_replay.specs.Walking.{WalksOn, first_tally, is_sought, with
 
 use crate::comparing::is_listed;
 use crate::kinds::{is_refusal, is_sync, may_have_written};
-use base_types::NoMemory;
+use base_types::{Layout, NoMemory};
 use cmd_trace_reader::{a_reply_tells_the_last_point, is_out_of_memory, numbers_by};
 use fs_memtree::PlainTree;
 use lang_tree::{Cmd, Reply, a_tree_in_memory_refuses_for_no_disk};
@@ -33,15 +33,25 @@ pub struct Walk {
 }
 
 impl Walk {
-    /// The root alone, with at most so many nodes, which is point 0.
+    /// The root alone, with at most so many nodes on a disk of this layout, which is point 0.
     ///
     /// # Errors
     /// Out of memory.
-    pub(crate) fn begin(alloc: Global, nodes: u32, low: u64, text: &[u8]) -> Result<Walk, NoMemory>
+    pub(crate) fn begin(
+        alloc: Global,
+        nodes: u32,
+        layout: Layout,
+        low: u64,
+        text: &[u8],
+    ) -> Result<Walk, NoMemory>
         requires { 1 ≤ nodes }
-        ensures { IfOk result (λ w. w ≡ record { tree = start nodes; synced = 0; tally = first_tally text.now low (start nodes).tree }) }
+        ensures { IfOk result (λ w. w ≡ record {
+          tree = start (record { nodes = nodes; layout = layout });
+          synced = 0;
+          tally = first_tally text.now low (start (record { nodes = nodes; layout = layout })).tree;
+        }) }
     {
-        let tree = PlainTree::new(alloc, nodes)?;
+        let tree = PlainTree::new(alloc, nodes, layout)?;
         let newest = if is_sought(&tree, 0, low, text) {
             Some(0)
         } else {

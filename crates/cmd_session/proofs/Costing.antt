@@ -12,7 +12,7 @@ use Rattle.lang_tree.specs.Conditions.{refusal}
 use Rattle.lang_tree.specs.Figures.{Figures, accepted_figures, are_in_one, blocks_for, blocks_gone, blocks_met, figures_by, growth, moving, nothing, release, shrinking, siblings, touches, writing}
 use Rattle.lang_tree.specs.Sharing.{BlocksAlone, SharedNodes, SharedPlaces, accepted_over, alone_from, alone_gone, cutting, figures_over_by, shared_at, shared_met, writing_over}
 use Rattle.lang_tree.specs.Step.{Session}
-use Rattle.lang_tree.specs.Tree.{Tree}
+use Rattle.lang_tree.specs.Tree.{Bounds, Tree}
 use Rattle.lang_tree.specs.Walk.{content, is_same_node, is_there, links}
 use Rattle.fs_session.specs.NothingKept.{CostsAsAlone, alone_costs}
 use Rattle.fs_session.specs.Room.{Room, alone_by, figures_in, shared_by}
@@ -27,7 +27,7 @@ little_if false f n one other = other
 writes_little : (bitmap : ℕ) (shared : SharedPlaces) (size lo hi : ℕ) → (writing_over bitmap shared size lo hi).need ≤ (writing_over bitmap shared size lo hi).cost
 writes_little bitmap shared size lo hi = omega arith
 
-accepted_little : (bitmap : ℕ) (shared : SharedNodes) (alone : BlocksAlone) (limit : ℕ) (t : Tree) (cmd : Cmd) → (accepted_over bitmap shared alone limit t cmd).need ≤ (accepted_over bitmap shared alone limit t cmd).cost
+accepted_little : (bitmap : ℕ) (shared : SharedNodes) (alone : BlocksAlone) (limit : Bounds) (t : Tree) (cmd : Cmd) → (accepted_over bitmap shared alone limit t cmd).need ≤ (accepted_over bitmap shared alone limit t cmd).cost
 accepted_little bitmap shared alone limit t (cmds.Mkdir path) = omega arith
 accepted_little bitmap shared alone limit t (cmds.Create path) = omega arith
 accepted_little bitmap shared alone limit t (cmds.Link path other) = omega arith
@@ -35,8 +35,8 @@ accepted_little bitmap shared alone limit t (cmds.Unlink path) = omega arith
 accepted_little bitmap shared alone limit t (cmds.Rmdir path) = omega arith
 accepted_little bitmap shared alone limit t (cmds.Rename from to) =
     little_if (is_same_node t from to) nothing _ (omega arith)
-    (little_if (is_there t to) (moving bitmap 0 (release (siblings t.names from) + alone_gone shared t to)) _ (omega arith)
-    (little_if (are_in_one from to) (moving bitmap 0 0) (moving bitmap (growth (siblings t.names to)) (release (siblings t.names from))) (omega arith) (omega arith)))
+    (little_if (is_there t to) (moving bitmap 0 (release limit.layout (siblings t.names from) + alone_gone shared t to)) _ (omega arith)
+    (little_if (are_in_one from to) (moving bitmap 0 0) (moving bitmap (growth limit.layout (siblings t.names to)) (release limit.layout (siblings t.names from))) (omega arith) (omega arith)))
 accepted_little bitmap shared alone limit t (cmds.Write path offset bytes) =
     little_if (length bytes == 0) nothing (writing_over bitmap (shared_at shared (get t.names path)) (length (content t path)) (min offset (length (content t path))) (offset + length bytes)) (omega arith)
     (writes_little bitmap (shared_at shared (get t.names path)) (length (content t path)) (min offset (length (content t path))) (offset + length bytes))
@@ -51,7 +51,7 @@ accepted_little bitmap shared alone limit t (cmds.Snap name) = omega arith
 accepted_little bitmap shared alone limit t (cmds.Unsnap name) = omega arith
 accepted_little bitmap shared alone limit t cmd = omega arith
 
-pub needs_little : (bitmap : ℕ) (shared : SharedNodes) (alone : BlocksAlone) (limit : ℕ) (t : Tree) (cmd : Cmd) (o : Option Refusal)
+pub needs_little : (bitmap : ℕ) (shared : SharedNodes) (alone : BlocksAlone) (limit : Bounds) (t : Tree) (cmd : Cmd) (o : Option Refusal)
     → (figures_over_by bitmap shared alone limit t cmd o).need ≤ (figures_over_by bitmap shared alone limit t cmd o).cost
 needs_little bitmap shared alone limit t cmd (Some why) = omega arith
 needs_little bitmap shared alone limit t cmd None = accepted_little bitmap shared alone limit t cmd
@@ -119,20 +119,20 @@ gone_few shared t path = by (links t path == 1)
     by true = alone_few (shared_at shared (get t.names path)) 0 (blocks_for (length (content t path)))
     by false = omega arith
 
-accepted_within : (bitmap : ℕ) (shared : SharedNodes) (alone : BlocksAlone) (limit : ℕ) (t : Tree) (cmd : Cmd)
+accepted_within : (bitmap : ℕ) (shared : SharedNodes) (alone : BlocksAlone) (limit : Bounds) (t : Tree) (cmd : Cmd)
     → IsWithin (blocks_touched t cmd) (blocks_touched t cmd + freeing_beyond bitmap cmd) (accepted_over bitmap shared alone limit t cmd) (accepted_figures bitmap limit t cmd)
 accepted_within bitmap shared alone limit t (cmds.Unlink path) = record {
   need = omega arith;
-  cost = omega (arith, min_up (release (siblings t.names path) + alone_gone shared t path) (release (siblings t.names path) + blocks_gone t path) bitmap (omega (arith, gone_few shared t path)));
+  cost = omega (arith, min_up (release limit.layout (siblings t.names path) + alone_gone shared t path) (release limit.layout (siblings t.names path) + blocks_gone t path) bitmap (omega (arith, gone_few shared t path)));
 }
 accepted_within bitmap shared alone limit t (cmds.Rename from to) =
     within_if 0 0 (is_same_node t from to) nothing nothing _ _ (itself 0 0 nothing)
-    (within_if 0 0 (is_there t to) (moving bitmap 0 (release (siblings t.names from) + alone_gone shared t to)) (moving bitmap 0 (release (siblings t.names from) + blocks_gone t to)) _ _
+    (within_if 0 0 (is_there t to) (moving bitmap 0 (release limit.layout (siblings t.names from) + alone_gone shared t to)) (moving bitmap 0 (release limit.layout (siblings t.names from) + blocks_gone t to)) _ _
     (record {
       need = omega arith;
-      cost = omega (arith, min_up (release (siblings t.names from) + alone_gone shared t to) (release (siblings t.names from) + blocks_gone t to) bitmap (omega (arith, gone_few shared t to)));
+      cost = omega (arith, min_up (release limit.layout (siblings t.names from) + alone_gone shared t to) (release limit.layout (siblings t.names from) + blocks_gone t to) bitmap (omega (arith, gone_few shared t to)));
     })
-    (itself 0 0 (if are_in_one from to then moving bitmap 0 0 else moving bitmap (growth (siblings t.names to)) (release (siblings t.names from)))))
+    (itself 0 0 (if are_in_one from to then moving bitmap 0 0 else moving bitmap (growth limit.layout (siblings t.names to)) (release limit.layout (siblings t.names from)))))
 accepted_within bitmap shared alone limit t (cmds.Write path offset bytes) =
     let met = blocks_touched t (cmds.Write path offset bytes) in
     within_if met (met + 0) (length bytes == 0) nothing nothing _ _ (itself met (met + 0) nothing)
@@ -154,7 +154,7 @@ accepted_within bitmap shared alone limit t (cmds.Truncate path size) =
 accepted_within bitmap shared alone limit t (cmds.Unsnap name) = record { need = omega arith; cost = omega arith }
 accepted_within bitmap shared alone limit t cmd = itself 0 0 (accepted_figures bitmap limit t cmd)
 
-figures_within : (bitmap : ℕ) (shared : SharedNodes) (alone : BlocksAlone) (limit : ℕ) (t : Tree) (cmd : Cmd) (o : Option Refusal)
+figures_within : (bitmap : ℕ) (shared : SharedNodes) (alone : BlocksAlone) (limit : Bounds) (t : Tree) (cmd : Cmd) (o : Option Refusal)
     → IsWithin (blocks_touched t cmd) (blocks_touched t cmd + freeing_beyond bitmap cmd) (figures_over_by bitmap shared alone limit t cmd o) (figures_by bitmap limit t cmd o)
 figures_within bitmap shared alone limit t cmd (Some why) = itself (blocks_touched t cmd) (blocks_touched t cmd + freeing_beyond bitmap cmd) nothing
 figures_within bitmap shared alone limit t cmd None = accepted_within bitmap shared alone limit t cmd

@@ -11,6 +11,7 @@ use Rattle.layout_journal.specs.Run.{Newest, Record, HeldIs, IsRun, live_part, r
 use Rattle.engine_mount.specs.Mount.{FoundDisk, IsUsedUp}
 use Rattle.engine_store.specs.Refusal as store
 use Rattle.lang_tree.specs.Tree.{Tree}
+use Rattle.crash_stands.specs.Bounds.{bounds_of}
 use Rattle.crash_stands.specs.Files.{files_of}
 use Rattle.crash_stands.specs.Stands.{IsTreeOf}
 use Rattle.fs_check.specs.declared.block_damage.BlockDamage.{BlockDamage}
@@ -36,7 +37,7 @@ pub record ImageLaws : Type 0 where
   pub limits : (g : Geometry) → geometry_fits g ≡ true → IsGeometry g
   pub blocks : (g : Geometry) (m : Blocks) (what : BlockDamage) (t : Tree) → IsBrokenBlock g m what → IsTreeOf g m t → ⊥
   pub snapshot : (g : Geometry) (m : Blocks) (what : SnapshotDamage) (t : Tree) → IsBrokenSnapshot g m what → IsTreeOf g m t → ⊥
-  pub tree : (g : Geometry) (m : Blocks) (what : TreeDamage) (t : Tree) → IsBrokenTree g.i (files_of g m) what → IsTreeOf g m t → ⊥
+  pub tree : (g : Geometry) (m : Blocks) (what : TreeDamage) (t : Tree) → IsBrokenTree (bounds_of g) (files_of g m) what → IsTreeOf g m t → ⊥
 
 -- A wrong bit of the bitmap.
 

@@ -15,6 +15,7 @@ use Rattle.lang_tree.specs.Points.{Point, after_reply, made_by, points_after, po
 use Rattle.lang_tree.specs.Run.{Answers, Run, StopsAfterFault, is_of_disk}
 use Rattle.lang_tree.specs.Step.{Session, session_on}
 use Rattle.lang_tree.specs.Tree.{Tree}
+use Rattle.crash_stands.specs.Bounds.{bounds_of}
 use Rattle.engine_blocks.specs.State.{State}
 use Rattle.cmd_session.specs.Shared.{has_run, begun_append, get_behind}
 use Rattle.cmd_session.specs.Budget.{budget_of, weight_by}
@@ -56,7 +57,7 @@ answers_end f cmd over none h1 = grind (arith, none_is, of_disk)
 
 module _ (laws : EndLaws) (g : Geometry) (t : Tree) (base : Blocks) (log : List Event) (mounted : ℕ) (over : Bool) (cmds : List Cmd) (replies : List Reply) (marks : List ℕ) (cmd : Cmd) (may : MayEnd g t base log mounted over cmds replies marks) where
   abbrev s : Session
-  s = session_on g.i t
+  s = session_on (bounds_of g) t
 
   abbrev f : Session
   f = session_after s cmds replies

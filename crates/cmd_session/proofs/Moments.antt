@@ -4,6 +4,7 @@ use Rattle.std.proofs.lemmas.List.{append-nil, append_assoc, length-append}
 use Rattle.disk_contract.specs.declared.event.Event.{Event}
 use Rattle.disk_contract.specs.Disk.{Grows, writes_in}
 use Rattle.layout_geometry.specs.Geometry.{Geometry, bitmap_blocks}
+use Rattle.crash_stands.specs.Bounds.{bounds_of}
 use Rattle.crash_argument.specs.Counts.{AreAtMost}
 use Rattle.lang_tree.specs.declared.command.Cmd.{Cmd}
 use Rattle.lang_tree.specs.declared.command.Reply.{Reply}
@@ -42,7 +43,7 @@ parts (suc m) [] = omega arith
 parts (suc m) (e ∷ log) = parts_each e (take m log) (drop m log) log (parts m log)
 
 pub within_budget : (g : Geometry) (t : Tree) (begun owed mounted : ℕ) (cmds : List Cmd) (replies : List Reply) (s : State) → KeepsBudget g t begun cmds replies s
-    → begun ≡ writes_in (take mounted s.crash.log) + owed → AreAtMost mounted s.crash.log (owed + budget_of (bitmap_blocks g) (session_on g.i t) 0 cmds replies)
+    → begun ≡ writes_in (take mounted s.crash.log) + owed → AreAtMost mounted s.crash.log (owed + budget_of (bitmap_blocks g) (session_on (bounds_of g) t) 0 cmds replies)
 within_budget g t begun owed mounted cmds replies s keeps at_first = record { each = λ k from upto. omega (arith, keeps.writes, at_first, parts mounted s.crash.log, late_within mounted k s.crash.log) }
 
 -- Up to each mark.

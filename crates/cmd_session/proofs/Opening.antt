@@ -7,6 +7,7 @@ use Rattle.disk_contract.specs.Disk.{writes_in}
 use Rattle.disk_contract.specs.Crash.{IsHonest}
 use Rattle.layout_geometry.specs.Geometry.{Geometry}
 use Rattle.crash_argument.specs.Ledger.{HoldsUnder}
+use Rattle.crash_stands.specs.Bounds.{bounds_of}
 use Rattle.crash_stands.specs.Stands.{IsTreeOf, StandsFor}
 use Rattle.lang_tree.specs.Points.{Point, points_of, floor, top}
 use Rattle.lang_tree.specs.Step.{Session, session_on}
@@ -36,7 +37,7 @@ pub record OpeningLaws {S : Type 0} (tells : Bool) (state : S → State) (new : 
   pub begins : BeginsKnown state new
 
 module _ {S : Type 0} (tells : Bool) (state : S → State) (told : IsTrue tells) (old new : S) (laws : OpeningLaws tells state new) (drawn : IsDrawn (state new)) (begun : IsBegun (state old)) (looks : LooksOnly tells false (state old) (state new))
-    (g : Geometry) (m : Blocks) (t : Tree) (mounted : IsMountedWith g m (state old)) (is : IsTreeOf g m t) (some : (u : Tree) × IsSession (state new) (session_on (state old).books.geom.i u)) where
+    (g : Geometry) (m : Blocks) (t : Tree) (mounted : IsMountedWith g m (state old)) (is : IsTreeOf g m t) (some : (u : Tree) × IsSession (state new) (session_on (bounds_of (state old).books.geom) u)) where
   abbrev log : List Event
   log = (state new).crash.log
 
@@ -44,7 +45,7 @@ module _ {S : Type 0} (tells : Bool) (state : S → State) (told : IsTrue tells)
   base = (state new).crash.base
 
   abbrev first : Session
-  first = session_on g.i t
+  first = session_on (bounds_of g) t
 
   -- the one point of the run
   abbrev start : Point
@@ -72,7 +73,10 @@ module _ {S : Type 0} (tells : Bool) (state : S → State) (told : IsTrue tells)
   tree = subst (λ (k : Geometry). IsTreeOf k (state new).map t) (sym geom) (subst (λ (x : Blocks). IsTreeOf g x t) (sym map) is)
 
   session : IsSession (state new) first
-  session = grind (arith, g.i, laws.one, tree, mounted.geom)
+  session =
+      let here : some.0 ≡ t = laws.one (state new).books.geom (state new).map some.0 t some.1.tree tree in
+      subst (λ (k : Geometry). IsSession (state new) (session_on (bounds_of k) t)) mounted.geom
+      (subst (λ (u : Tree). IsSession (state new) (session_on (bounds_of (state old).books.geom) u)) here some.1)
 
   -- the map now has the live blocks of each map of point 0
   only : HasMapOfPoint (state new) 0

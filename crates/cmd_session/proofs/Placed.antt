@@ -1,16 +1,18 @@
 -- Where each node's blocks lie while nothing changed since the last point: in that point's map as in the room, and so in the image that has all that was issued.
-use Rattle.std.proofs.Common.{◌≡◌, ◌⊎◌, inl, inr, ⊎_elim, ℕ, ◌+◌, ◌-◌, ◌<◌, ◌≤◌, ◌&&◌, ◌||◌, nat_le, nat_lt, Bool, true, false, if◌then◌else◌, List, [], ◌∷◌, ◌++◌, length, take, Option, Some, None, refl, sym, ap, ◌∙◌, subst, arith}
+use Rattle.std.proofs.Common.{◌≡◌, ◌⊎◌, inl, inr, ⊎_elim, ℕ, ◌+◌, ◌-◌, ◌<◌, ◌≤◌, ◌&&◌, ◌||◌, nat_le, nat_lt, Bool, true, false, if◌then◌else◌, List, [], ◌∷◌, ◌++◌, length, take, drop, Option, Some, None, refl, sym, ap, ◌∙◌, subst, arith}
 use Rattle.std.proofs.Math.Logic.{∥∥₁_map}
 use Rattle.std.proofs.Math.Seq.{take-length}
 use Rattle.std.proofs.lemmas.List.{length-append}
 use Rattle.std.proofs.lemmas.Bool.{and_from, and_parts, cases_Bool, cases_lt, false≢true, leb-true, le-leb, lt-ltb, or_parts, true≢false}
 use Rattle.std.specs.FinMap.{get}
 use Rattle.base_types.specs.Seal.{Blocks}
-use Rattle.layout_geometry.specs.Geometry.{Geometry, IsGeometry, bitmap_blocks, bitmap_start, data_start}
+use Rattle.base_types.specs.Layouts.{node_block, node_byte}
+use Rattle.base_types.specs.LayoutLaws.{node_in_table}
+use Rattle.layout_geometry.specs.Geometry.{Geometry, IsGeometry, bitmap_blocks, bitmap_start, table_start, data_start}
 use Rattle.layout_extent.specs.Renew.{renew}
 use Rattle.layout_bytes.specs.Bitmap.{is_set}
 use Rattle.layout_bytes.specs.Bytes.{when}
-use Rattle.layout_bytes.specs.Node.{node_at}
+use Rattle.layout_bytes.specs.Node.{node_size, node_of, node_at}
 use Rattle.layout_journal.specs.declared.header.Header.{Header}
 use Rattle.layout_journal.specs.Run.{Newest}
 use Rattle.lang_tree.specs.declared.command.Cmd.{Cmd}
@@ -48,7 +50,9 @@ module _ (g : Geometry) (limits : IsGeometry g) (map m : Blocks) (same : HasLive
   table_same b from below = same b (and_from _ _ (le-leb _ _ from) (and_from _ _ (lt-ltb b g.n (omega (arith, below, limits.data_room))) (ap (λ t. t || is_set g map b) (lt-ltb _ _ below))))
 
   node_same : (k : ℕ) → 1 ≤ k → k ≤ g.i → node_at g m k ≡ node_at g map k
-  node_same k from upto = grind (arith, table_same, limits.whole_blocks)
+  node_same k from upto =
+      ap (λ (xs : List ℕ). node_of g (take (node_size g.layout) (drop (node_byte g.layout k) xs)))
+      (table_same (table_start g + node_block g.layout k) (omega arith) (omega (arith, node_in_table g.layout g.i k limits.whole_blocks from upto)))
 
   pub places_same : (k : ℕ) → places_of g m k ≡ places_of g map k
   places_same k = ⊎_elim

@@ -8,6 +8,7 @@ use Rattle.base_types.specs.Seal.{Blocks}
 use Rattle.disk_contract.specs.declared.event.Event.{Event}
 use Rattle.disk_contract.specs.Crash.{IsHonest}
 use Rattle.layout_geometry.specs.Geometry.{Geometry}
+use Rattle.crash_stands.specs.Bounds.{bounds_of}
 use Rattle.crash_stands.specs.Stands.{IsTreeOf}
 use Rattle.lang_tree.specs.declared.command.Cmd.{Cmd}
 use Rattle.lang_tree.specs.declared.command.Cmd.TheVariants.{Bad}
@@ -77,7 +78,7 @@ module _ {S : Type 0} (tells : Bool) (state : S → State) (told : IsTrue tells)
     (answers : (f : Session) → IsSession (state old) f → AnswersSession tells state f cmd reply new) (time : PassesTime (state old) (state new))
     (after : KeepsKnown state old new) where
   abbrev first : Session
-  first = session_on g.i t
+  first = session_on (bounds_of g) t
 
   abbrev f : Session
   f = session_after first cmds replies

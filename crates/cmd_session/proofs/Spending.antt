@@ -12,6 +12,7 @@ use Rattle.lang_tree.specs.declared.command.Reply.TheVariants.{Refused}
 use Rattle.lang_tree.specs.Points.{after_reply, is_sync}
 use Rattle.lang_tree.specs.Step.{Session, step, osync, session_on}
 use Rattle.lang_tree.specs.Tree.{Tree}
+use Rattle.crash_stands.specs.Bounds.{bounds_of}
 use Rattle.engine_blocks.specs.Running.{Running}
 use Rattle.engine_blocks.specs.Calls.{MaySync, MovesPipeline, commit_writes}
 use Rattle.engine_blocks.specs.Crashes.{WritesAtMost}
@@ -39,7 +40,7 @@ ticked_writes old new moves = ap (λ (r : Running). commit_writes (record new { 
 
 -- some session of these blocks
 abbrev session_in : (s : State) → Stands s → Session
-session_in s stands = record { tree = stands.0; limit = s.books.geom.i; points = s.books.point; changed = nat_lt 0 s.books.running.weight; durable = 0 }
+session_in s stands = record { tree = stands.0; limit = bounds_of s.books.geom; points = s.books.point; changed = nat_lt 0 s.books.running.weight; durable = 0 }
 
 is_session_in : (s : State) (stands : Stands s) → IsSession s (session_in s stands)
 is_session_in s stands = record { tree = stands.1; limit = refl; points = λ going. refl; changed = λ going. refl; durable = omega arith }
@@ -109,7 +110,13 @@ module _ {S : Type 0} (tells : Bool) (state : S → State) (told : IsTrue tells)
       began not on left = of_began (session_in (state old) stands) cmd reply old new on (is_session_in (state old) stands) (applies.began not on left)
 
       other : cmd ≢ Bad → WritesAtMost (writes_of cmd reply (state old).books) (state old) (state new)
-      other not = grind (arith, cases_Bool (is_spent (state old).books), cases_Bool (state old).books.stopped, same_writes, applies.stopped, applies.spent, began)
+      other not = ⊎_elim
+          (λ off. same_writes (writes_of cmd reply (state old).books) old new (applies.stopped not off).1)
+          (λ on. ⊎_elim
+          (λ spent. same_writes (writes_of cmd reply (state old).books) old new (applies.spent not on spent).1)
+          (λ left. began not on left)
+          (cases_Bool (is_spent (state old).books)))
+          (cases_Bool (state old).books.stopped)
 
   -- a sync that may have begun did so while no call of the disk had failed
   commits_going : (cmd : Cmd) (reply : Reply) (old new : S) → Applies tells state cmd reply old new → commits cmd reply ≡ true → (state old).books.stopped ≡ false
@@ -142,7 +149,7 @@ module _ {S : Type 0} (tells : Bool) (state : S → State) (told : IsTrue tells)
     (served : HasServed g t mounted cmds replies marks (state old)) (keeps : KeepsBudget g t begun cmds replies (state old)) (applies : Applies tells state cmd reply old new)
     (stands : Stands (state old)) (may : MaySync (state old).books) where
   abbrev first : Session
-  first = session_on g.i t
+  first = session_on (bounds_of g) t
 
   abbrev weight : ℕ
   weight = weight_after (bitmap_blocks g) first 0 cmds replies

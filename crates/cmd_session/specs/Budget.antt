@@ -5,6 +5,7 @@ use Rattle.disk_contract.specs.declared.event.Event.{Event}
 use Rattle.disk_contract.specs.Disk.{writes_in}
 use Rattle.layout_geometry.specs.Geometry.{Geometry, bitmap_blocks}
 use Rattle.layout_journal.specs.Layout.{descriptor_count}
+use Rattle.crash_stands.specs.Bounds.{bounds_of}
 use Rattle.crash_argument.specs.Counts.{AreAtMost}
 use Rattle.lang_tree.specs.declared.command.Cmd.{Cmd}
 use Rattle.lang_tree.specs.declared.command.Cmd.TheVariants.{Fill, Truncate, Unsnap, Write}
@@ -89,8 +90,8 @@ budget_of bitmap s w (cmd ∷ cmds) (reply ∷ replies) =
 
 -- A run over blocks that began with tree t keeps within its budget: while no call of the disk failed, its transaction weighs at most what its commands cost; and the writes so far, with those that are still to come for what was committed, are at most those at the beginning and what its commands stand for.
 pub record KeepsBudget (g : Geometry) (t : Tree) (begun : ℕ) (cmds : List Cmd) (replies : List Reply) (s : State) : Type 0 where
-  pub weight : s.books.stopped ≡ false → s.books.running.weight ≤ weight_after (bitmap_blocks g) (session_on g.i t) 0 cmds replies
-  pub writes : writes_in s.crash.log + s.books.owed ≤ begun + budget_of (bitmap_blocks g) (session_on g.i t) 0 cmds replies
+  pub weight : s.books.stopped ≡ false → s.books.running.weight ≤ weight_after (bitmap_blocks g) (session_on (bounds_of g) t) 0 cmds replies
+  pub writes : writes_in s.crash.log + s.books.owed ≤ begun + budget_of (bitmap_blocks g) (session_on (bounds_of g) t) 0 cmds replies
 
 -- Up to each mark the writes keep within what the commands by then stand for: at each moment of the first i of them, since the mount, the writes number at most the budget of these i. As the mount ends, that is nothing.
 pub record SpendsByMarks (g : Geometry) (s : Session) (mounted : ℕ) (log : List Event) (cmds : List Cmd) (replies : List Reply) (marks : List ℕ) : Type 0 where

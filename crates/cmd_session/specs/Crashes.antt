@@ -6,7 +6,7 @@ use Rattle.disk_contract.specs.Crash.{IsHonest}
 use Rattle.crash_stands.specs.Stands.{StandsFor}
 use Rattle.lang_tree.specs.declared.command.Cmd.{Cmd}
 use Rattle.lang_tree.specs.declared.command.Reply.{Reply}
-use Rattle.lang_tree.specs.Tree.{Tree}
+use Rattle.lang_tree.specs.Tree.{Bounds, Tree}
 use Rattle.lang_tree.specs.Step.{Session, session_on}
 use Rattle.lang_tree.specs.Points.{Point, points_of, floor, top}
 
@@ -29,6 +29,6 @@ pub record LeavesNoTree (n : ℕ) (base : Blocks) (log : List Event) : Type 0 wh
   pub each : (k : ℕ) (img : Blocks) → k ≤ length log → IsHonest n base (take k log) img → (t : Tree) → ¬ StandsFor n img t
 
 -- What crashes leave of a disk that began with these blocks, whatever they are. Where they stand for a tree, that is point 0 of the session; where they stand for none, no image does later on.
-pub record IsCrashConsistent (n limit : ℕ) (base : Blocks) (log : List Event) (mounted : ℕ) (cmds : List Cmd) (replies : List Reply) (marks : List ℕ) : Type 0 where
+pub record IsCrashConsistent (n : ℕ) (limit : Bounds) (base : Blocks) (log : List Event) (mounted : ℕ) (cmds : List Cmd) (replies : List Reply) (marks : List ℕ) : Type 0 where
   pub points : (t : Tree) → StandsFor n base t → LeavesPoints n base (session_on limit t) log mounted cmds replies marks
   pub none : ((t : Tree) → ¬ StandsFor n base t) → LeavesNoTree n base log

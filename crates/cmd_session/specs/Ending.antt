@@ -11,6 +11,7 @@ use Rattle.lang_tree.specs.declared.command.Reply.TheVariants.{Bad as NotUnderst
 use Rattle.lang_tree.specs.Run.{Run, StopsAfterFault, is_of_disk}
 use Rattle.lang_tree.specs.Step.{session_on}
 use Rattle.lang_tree.specs.Tree.{Tree}
+use Rattle.crash_stands.specs.Bounds.{bounds_of}
 use Rattle.cmd_trace.specs.Trace.{Ascend}
 use Rattle.cmd_session.specs.Crashes.{LeavesPoints}
 use Rattle.cmd_session.specs.Histories.{session_after}
@@ -40,10 +41,10 @@ ending_marks moment (cmd ∷ cmds) = moment ∷ ending_marks moment cmds
 
 -- What whole runs come to, as far as it can be told without the blocks: each command is answered as the tree answers it or for a reason of the disk, crashes leave points, and all that was issued is the last one.
 pub record HasRun (g : Geometry) (t : Tree) (base : Blocks) (log : List Event) (mounted : ℕ) (cmds : List Cmd) (replies : List Reply) (marks : List ℕ) : Type 0 where
-  pub run : Run is_of_disk (session_on g.i t) cmds replies (session_after (session_on g.i t) cmds replies)
+  pub run : Run is_of_disk (session_on (bounds_of g) t) cmds replies (session_after (session_on (bounds_of g) t) cmds replies)
   pub stops : StopsAfterFault cmds replies
   pub answered : length cmds ≡ length replies
   pub marked : length marks ≡ length replies
   pub ascend : Ascend mounted marks (length log)
-  pub crashes : LeavesPoints g.n base (session_on g.i t) log mounted cmds replies marks
-  pub issued : IssuesLast g.n base (session_on g.i t) log mounted cmds replies marks
+  pub crashes : LeavesPoints g.n base (session_on (bounds_of g) t) log mounted cmds replies marks
+  pub issued : IssuesLast g.n base (session_on (bounds_of g) t) log mounted cmds replies marks

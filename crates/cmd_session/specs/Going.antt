@@ -8,6 +8,7 @@ use Rattle.disk_contract.specs.Lawful.{IsLawful}
 use Rattle.disk_contract.specs.Manner.{Manner, HasFailedBy}
 use Rattle.layout_geometry.specs.Geometry.{Geometry, IsGeometry}
 use Rattle.layout_journal.specs.declared.record.Commit.{Commit}
+use Rattle.crash_stands.specs.Bounds.{bounds_of}
 use Rattle.crash_argument.specs.Points.{MountedSession, records_told}
 use Rattle.lang_tree.specs.declared.command.Cmd.{Cmd}
 use Rattle.lang_tree.specs.declared.command.Reply.{Reply}
@@ -37,7 +38,7 @@ pub record IsOfMount (mount : MountedSession) (base : Blocks) (s : State) : Type
 
 -- the session with which a run over this mount began, in which this tree stood
 abbrev pub session_at : MountedSession → Tree → Session
-session_at mount t = session_on mount.geom.i t
+session_at mount t = session_on (bounds_of mount.geom) t
 
 -- What was taken by these commands is known of the blocks. The writes since the mount, with those that are still to come for what was committed, are within the budget. While no call of the disk failed, there are as many records and spans as points, the log tells those records before any others, and a point waits only for tickets of writes that came in its span.
 pub record KeepsTaken (mount : MountedSession) (m : Manner) (tree : Tree) (cmds : List Cmd) (replies : List Reply) (s : State) (t : Taken) : Type 0 where

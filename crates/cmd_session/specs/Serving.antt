@@ -11,6 +11,7 @@ use Rattle.lang_tree.specs.Points.{Point, points_of, floor}
 use Rattle.lang_tree.specs.Run.{Run, StopsAfterFault, is_of_disk}
 use Rattle.lang_tree.specs.Step.{Session, session_on}
 use Rattle.lang_tree.specs.Tree.{Tree}
+use Rattle.crash_stands.specs.Bounds.{bounds_of}
 use Rattle.cmd_trace.specs.Trace.{Ascend}
 use Rattle.crash_argument.specs.Ledger.{HoldsUnder, issued}
 use Rattle.engine_blocks.specs.Crashes.{HasMapOfPoint}
@@ -54,11 +55,11 @@ pub record IsMountedWith (g : Geometry) (m : Blocks) (s : State) : Type 0 where
 -- These commands were answered with these replies, at these marks, since the disk was mounted with tree t: each as the tree answers it, or refused for a reason of the disk, and none was done after a fault of the disk. Each honest crash image of each moment stands for one sync point, none older than the last one promised by then. At each mark before any fault, all that was issued stands for the last point.
 pub record HasServed (g : Geometry) (t : Tree) (mounted : ℕ) (cmds : List Cmd) (replies : List Reply) (marks : List ℕ) (s : State) : Type 0 where
   pub geom : s.books.geom ≡ g
-  pub run : Run is_of_disk (session_on g.i t) cmds replies (session_after (session_on g.i t) cmds replies)
+  pub run : Run is_of_disk (session_on (bounds_of g) t) cmds replies (session_after (session_on (bounds_of g) t) cmds replies)
   pub stops : StopsAfterFault cmds replies
   pub answered : length cmds ≡ length replies
   pub marked : length marks ≡ length replies
   pub ascend : Ascend mounted marks (length s.crash.log)
-  pub crashes : LeavesPoints g.n s.crash.base (session_on g.i t) s.crash.log mounted cmds replies marks
-  pub issued : IssuesLast g.n s.crash.base (session_on g.i t) s.crash.log mounted cmds replies marks
-  pub goes_on : GoesOn (session_after (session_on g.i t) cmds replies) (points_of (session_on g.i t) mounted cmds replies marks) replies marks s
+  pub crashes : LeavesPoints g.n s.crash.base (session_on (bounds_of g) t) s.crash.log mounted cmds replies marks
+  pub issued : IssuesLast g.n s.crash.base (session_on (bounds_of g) t) s.crash.log mounted cmds replies marks
+  pub goes_on : GoesOn (session_after (session_on (bounds_of g) t) cmds replies) (points_of (session_on (bounds_of g) t) mounted cmds replies marks) replies marks s

@@ -11,6 +11,7 @@ ghost use Rattle.lang_tree.specs.declared.command.Cmd.{Cmd};
 ghost use Rattle.lang_tree.specs.declared.command.Reply.{Reply};
 ghost use Rattle.lang_tree.specs.Step.{Session, session_on};
 ghost use Rattle.lang_tree.specs.Tree.{Tree};
+ghost use Rattle.crash_stands.specs.Bounds.{bounds_of};
 ghost use Rattle.crash_stands.specs.Stands.{StandsFor};
 ghost use Rattle.crash_argument.specs.Counts.{AreAtMost};
 ghost use Rattle.crash_argument.specs.Points.{MountedSession};
@@ -49,7 +50,7 @@ use layout_journal::{an_image_holds_one_map, images_alike_below_n_hold_the_same}
 pub fn a_served_run_is_crash_consistent<S: Blocks>()
     ensures { (s : S) (g : Geometry) (t : Tree) (mounted : ℕ) (cmds : List Cmd) (replies : List Reply) (marks : List ℕ)
         → HasServed g t mounted cmds replies marks (S.state s) → StandsFor g.n (S.state s).crash.base t
-        → IsCrashConsistent g.n g.i (S.state s).crash.base (S.state s).crash.log mounted cmds replies marks }
+        → IsCrashConsistent g.n (bounds_of g) (S.state s).crash.base (S.state s).crash.log mounted cmds replies marks }
 {
     an_image_stands_for_one_tree();
 }
@@ -60,7 +61,7 @@ pub fn the_writes_keep_within_the_budget<S: Blocks>()
     ensures { (s : S) (g : Geometry) (t : Tree) (begun owed mounted : ℕ) (cmds : List Cmd) (replies : List Reply)
         → KeepsBudget g t begun cmds replies (S.state s)
         → begun ≡ writes_in (take mounted (S.state s).crash.log) + owed
-        → AreAtMost mounted (S.state s).crash.log (owed + budget_of (bitmap_blocks g) (session_on g.i t) 0 cmds replies) }
+        → AreAtMost mounted (S.state s).crash.log (owed + budget_of (bitmap_blocks g) (session_on (bounds_of g) t) 0 cmds replies) }
 {}
 
 /// Whatever blocks snapshots keep, a command needs and costs at most so much. So it leaves no more weight, while no call
@@ -82,8 +83,8 @@ pub fn the_writes_keep_within_the_budget_at_each_mark<S: Blocks>()
     ensures more { (old new : S) (g : Geometry) (t : Tree) (mounted : ℕ) (cmds : List Cmd) (replies : List Reply) (marks : List ℕ) (cmd : Cmd)
         (reply : Reply) → HasServed g t mounted cmds replies marks (S.state old) → Grows (S.state old).crash.log (S.state new).crash.log
         → KeepsBudget g t (writes_in (take mounted (S.state new).crash.log)) (cmds ++ cmd ∷ []) (replies ++ reply ∷ []) (S.state new)
-        → SpendsByMarks g (session_on g.i t) mounted (S.state old).crash.log cmds replies marks
-        → SpendsByMarks g (session_on g.i t) mounted (S.state new).crash.log (cmds ++ cmd ∷ []) (replies ++ reply ∷ [])
+        → SpendsByMarks g (session_on (bounds_of g) t) mounted (S.state old).crash.log cmds replies marks
+        → SpendsByMarks g (session_on (bounds_of g) t) mounted (S.state new).crash.log (cmds ++ cmd ∷ []) (replies ++ reply ∷ [])
         (marks ++ length (S.state new).crash.log ∷ []) }
 {}
 
@@ -96,10 +97,10 @@ pub fn a_run_may_end_at_once<S: Blocks>()
         → HasRun g t (S.state s).crash.base (S.state s).crash.log mounted (cmds ++ more) (replies ++ ending_replies (S.state s).books.stopped more)
         (marks ++ ending_marks (length (S.state s).crash.log) more) }
     ensures budget { (g : Geometry) (t : Tree) (cmds : List Cmd) (replies : List Reply) (more : List Cmd) (later : List Reply) → length cmds ≡ length replies
-        → budget_of (bitmap_blocks g) (session_on g.i t) 0 cmds replies ≤ budget_of (bitmap_blocks g) (session_on g.i t) 0 (cmds ++ more) (replies ++ later) }
+        → budget_of (bitmap_blocks g) (session_on (bounds_of g) t) 0 cmds replies ≤ budget_of (bitmap_blocks g) (session_on (bounds_of g) t) 0 (cmds ++ more) (replies ++ later) }
     ensures spends { (s : S) (g : Geometry) (t : Tree) (mounted : ℕ) (cmds : List Cmd) (replies : List Reply) (marks : List ℕ) (more : List Cmd)
-        → HasServed g t mounted cmds replies marks (S.state s) → SpendsByMarks g (session_on g.i t) mounted (S.state s).crash.log cmds replies marks
-        → SpendsByMarks g (session_on g.i t) mounted (S.state s).crash.log (cmds ++ more) (replies ++ ending_replies (S.state s).books.stopped more)
+        → HasServed g t mounted cmds replies marks (S.state s) → SpendsByMarks g (session_on (bounds_of g) t) mounted (S.state s).crash.log cmds replies marks
+        → SpendsByMarks g (session_on (bounds_of g) t) mounted (S.state s).crash.log (cmds ++ more) (replies ++ ending_replies (S.state s).books.stopped more)
         (marks ++ ending_marks (length (S.state s).crash.log) more) }
 {
     a_reply_tells_the_session();

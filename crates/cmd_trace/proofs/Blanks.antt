@@ -3,7 +3,7 @@ use Rattle.std.proofs.Common.{◌≡◌, sym, ap, refl, ◌∙◌, add-one, take
 use Rattle.std.specs.Prelude.{◌-◌, option_map}
 use Rattle.std.specs.List.{list_all, position_or_len, position}
 use Rattle.std.specs.Char.{is_ascii_digit}
-use Rattle.std.proofs.lemmas.Bool.{and_parts}
+use Rattle.std.proofs.lemmas.Bool.{and_parts, le-ltb}
 use Rattle.std.proofs.lemmas.Bool.Decides.{Decides-ltb}
 use Rattle.std.proofs.lemmas.Fmt.{digits_decimal}
 use Rattle.std.proofs.lemmas.List.{take_all, length-append, length-drop}
@@ -31,6 +31,16 @@ cut_at xs ys h =
     let at = blank_behind xs ys h in
     let low = (Decides-ltb (length xs) (length (xs ++ 32 ∷ ys))).1 (length_more xs ys 32) in
     rw at (rw low (rw (take-append_seam xs (32 ∷ ys)) (rw (drop-append-add xs (32 ∷ ys) 1) refl)))
+
+no_blank : (xs : List ℕ) → list_all is_dark xs ≡ true → position_or_len is_blank xs ≡ length xs
+no_blank [] h = refl
+no_blank (x ∷ xs) h =
+    let parts = and_parts (is_dark x) (list_all is_dark xs) h in
+    rw parts.0 (omega (arith, no_blank xs parts.1))
+
+-- a text without a blank
+no_cut : (xs : List ℕ) → list_all is_dark xs ≡ true → cut xs ≡ None
+no_cut xs h = rw (no_blank xs h) (rw (le-ltb (length xs) (length xs) (omega arith)) refl)
 
 -- a list around one of its places
 split_place : (xs : List ℕ) (i : ℕ) → i < length xs → xs ≡ take i xs ++ (get_or xs i 0 ∷ drop (i + 1) xs)
@@ -64,6 +74,10 @@ digit_is_dark b h = grind (arith, tests)
 
 pub number_is_dark : (n : ℕ) → n < 2 ^ 64 → list_all is_dark (decimal n) ≡ true
 number_is_dark n low = weaker is_ascii_digit is_dark digit_is_dark (decimal n) (digits_decimal own n low)
+
+-- a number alone
+pub number_alone : (n : ℕ) → n < 2 ^ 64 → cut (decimal n) ≡ None
+number_alone n low = no_cut (decimal n) (number_is_dark n low)
 
 -- a number and what stands behind a blank
 pub number_at : (n : ℕ) (ys : List ℕ) → n < 2 ^ 64 → cut (decimal n ++ 32 ∷ ys) ≡ Some (decimal n, ys)

@@ -1,17 +1,21 @@
 -- The lines of the geometry, of events and of replies are read as what they say, and as nothing else.
-use Rattle.std.proofs.Common.{◌≡◌, sym, ap, refl, ◌∙◌, subst, arith, ℕ, ◌<◌, ◌^◌, ◌==◌, Bool, true, false, List, [], ◌∷◌, ◌++◌, decimal, Option, Some, None}
+use Rattle.std.proofs.Common.{◌≡◌, sym, ap, refl, ◌∙◌, subst, arith, ℕ, ◌<◌, ◌^◌, ◌==◌, Bool, true, false, List, [], ◌∷◌, ◌++◌, append-nil, decimal, codes, bytes_eq, Option, Some, None}
 use Rattle.std.specs.Prelude.{if◌then◌else◌, option_map, option_and_then}
 use Rattle.std.proofs.lemmas.Bool.Decides.{Decides-ltb, nat_tests}
 use Rattle.std.proofs.lemmas.Bool.{eqb-true}
+use Rattle.std.proofs.lemmas.Slice.Eq.{bytes_eq-Decides}
 use Rattle.hex.specs.Hex.{encode_lower}
+use Rattle.base_types.specs.declared.layout.Layout.{Layout}
+use Rattle.base_types.specs.declared.layout.Layout.TheVariants.{One, Two}
 use Rattle.layout_geometry.specs.Geometry.{Geometry, geometry_fits}
 use Rattle.disk_contract.specs.declared.event.Event.{Event}
 use Rattle.disk_contract.specs.declared.event.Event.TheVariants.{Wrote, Lost, Noticed}
 use Rattle.disk_contract.specs.Lawful.{IsBlock, IsEventOf}
 use Rattle.lang_script.specs.Decimal.{number_of}
 use Rattle.cmd_trace.specs.ReadFields.{cut, small, small_number_of, block_of}
-use Rattle.cmd_trace.specs.ReadLines.{geometry_of, geometry_with, geometry_by, placed_of, both, wrote_of, wrote_by, lost_of, noticed_of, reply_of, marked, behind, event_by_letter, geometry_by_letter, reply_by_letter}
-use Rattle.cmd_trace.proofs.Blanks.{cut_is, number_at}
+use Rattle.cmd_trace.specs.Line.{layout_mark}
+use Rattle.cmd_trace.specs.ReadLines.{geometry_of, geometry_with, geometry_behind, geometry_by, placed_of, both, wrote_of, wrote_by, lost_of, noticed_of, reply_of, marked, behind, event_by_letter, geometry_by_letter, reply_by_letter}
+use Rattle.cmd_trace.proofs.Blanks.{cut_is, number_at, number_alone}
 use Rattle.cmd_trace.proofs.Digits.{block_read, block_is_read, if_gave}
 
 -- What the law of numbers says, as it is handed to each lemma.
@@ -43,13 +47,20 @@ cut_gave None f x none h = cc (none, h)
 -- ---- the geometry
 
 abbrev pub geometry_text : Geometry → List ℕ
-geometry_text g = decimal g.n ++ 32 ∷ (decimal g.j ++ 32 ∷ decimal g.i)
+geometry_text g = decimal g.n ++ 32 ∷ (decimal g.j ++ 32 ∷ (decimal g.i ++ layout_mark g.layout))
+
+-- what stands behind two numbers is a third, and the layout
+nodes_read : (n j : List ℕ) (i : ℕ) (l : Layout) → i < 2 ^ 64
+    → geometry_behind n j (decimal i ++ layout_mark l) (cut (decimal i ++ layout_mark l)) ≡ geometry_by l (small_number_of n) (small_number_of j) (small_number_of (decimal i))
+nodes_read n j i One low = rw (append-nil (decimal i)) (rw (number_alone i low) refl)
+nodes_read n j i Two low = rw (number_at i (codes "2") low) refl
 
 pub geometry_read : Numbers → (g : Geometry) → g.n < 2 ^ 32 → g.j < 2 ^ 32 → g.i < 2 ^ 32 → geometry_fits g ≡ true → geometry_of (geometry_text g) ≡ Some g
 geometry_read law g n j i fits =
-    rw (number_at g.n (decimal g.j ++ 32 ∷ decimal g.i) (omega (arith, n)))
-    (rw (number_at g.j (decimal g.i) (omega (arith, j)))
-    (rw (small_read law g.n n) (rw (small_read law g.j j) (rw (small_read law g.i i) (rw fits refl)))))
+    rw (number_at g.n (decimal g.j ++ 32 ∷ (decimal g.i ++ layout_mark g.layout)) (omega (arith, n)))
+    (rw (number_at g.j (decimal g.i ++ layout_mark g.layout) (omega (arith, j)))
+    (rw (nodes_read (decimal g.n) (decimal g.j) g.i g.layout (omega (arith, i)))
+    (rw (small_read law g.n n) (rw (small_read law g.j j) (rw (small_read law g.i i) (rw fits refl))))))
 
 -- ---- events
 
@@ -147,24 +158,41 @@ event_is_read law line e h =
 
 -- ---- the geometry
 
-geometry_gave : (a b c : Option ℕ) (g : Geometry) → geometry_by a b c ≡ Some g
-    → (a ≡ Some g.n) × (b ≡ Some g.j) × (c ≡ Some g.i) × (geometry_fits g ≡ true)
-geometry_gave (Some n) (Some j) (Some i) g h =
-    let found = if_gave (geometry_fits (record { n = n; j = j; i = i })) (Some record { n = n; j = j; i = i }) g h in
-    let same : record { n = n; j = j; i = i } ≡ g = cc found.1 in
-    (ap (λ x. Some x.n) same, ap (λ x. Some x.j) same, ap (λ x. Some x.i) same, ap geometry_fits (sym same) ∙ found.0)
-geometry_gave other b c g h = cc h
+geometry_gave : (l : Layout) (a b c : Option ℕ) (g : Geometry) → geometry_by l a b c ≡ Some g
+    → (a ≡ Some g.n) × (b ≡ Some g.j) × (c ≡ Some g.i) × (l ≡ g.layout) × (geometry_fits g ≡ true)
+geometry_gave l (Some n) (Some j) (Some i) g h =
+    let found = if_gave (geometry_fits (record { n = n; j = j; i = i; layout = l })) (Some record { n = n; j = j; i = i; layout = l }) g h in
+    let same : record { n = n; j = j; i = i; layout = l } ≡ g = cc found.1 in
+    (ap (λ x. Some x.n) same, ap (λ x. Some x.j) same, ap (λ x. Some x.i) same, ap (λ x. x.layout) same, ap geometry_fits (sym same) ∙ found.0)
+geometry_gave l other b c g h = cc h
+
+-- the third number and the layout, of what stands behind two numbers
+nodes_gave : (n j i : List ℕ) (o : Option (List ℕ × List ℕ)) (g : Geometry) → cut i ≡ o → geometry_behind n j i o ≡ Some g
+    → (number : List ℕ) × (l : Layout) × (geometry_by l (small_number_of n) (small_number_of j) (small_number_of number) ≡ Some g) × (number ++ layout_mark l ≡ i)
+nodes_gave n j i None g at h = (i, One, h, append-nil i)
+nodes_gave n j i (Some parts) g at h =
+    let found = if_gave (bytes_eq parts.1 (codes "2")) (geometry_by Two (small_number_of n) (small_number_of j) (small_number_of parts.0)) g h in
+    let mark : parts.1 ≡ codes "2" = (bytes_eq-Decides parts.1 (codes "2")).0 found.0 in
+    (parts.0, Two, found.1, ap (λ b. parts.0 ++ 32 ∷ b) (sym mark) ∙ sym (cut_is i parts.0 parts.1 at))
+
+-- the text whose parts these are
+geometry_joined : (g : Geometry) (l : Layout) (n j i back rest text : List ℕ) → decimal g.n ≡ n → decimal g.j ≡ j → decimal g.i ≡ i → l ≡ g.layout
+    → i ++ layout_mark l ≡ back → rest ≡ j ++ 32 ∷ back → text ≡ n ++ 32 ∷ rest → geometry_text g ≡ text
+geometry_joined g l n j i back rest text a b c same mark two one = rw (a, b, c, ← same, mark, one, two) refl
 
 pub geometry_is_read : Numbers → (text : List ℕ) (g : Geometry) → geometry_of text ≡ Some g
     → (geometry_text g ≡ text) × (g.n < 2 ^ 32) × (g.j < 2 ^ 32) × (g.i < 2 ^ 32) × (geometry_fits g ≡ true)
 geometry_is_read law text g h =
     let one = cut_gave (cut text) (option_and_then (λ parts. geometry_with parts.0 (cut parts.1))) g refl h in
     let two = cut_gave (cut one.1) (geometry_with one.0) g refl one.3 in
-    let numbers = geometry_gave (small_number_of one.0) (small_number_of two.0) (small_number_of two.1) g two.3 in
+    let three = nodes_gave one.0 two.0 two.1 (cut two.1) g refl two.3 in
+    let numbers = geometry_gave three.1 (small_number_of one.0) (small_number_of two.0) (small_number_of three.0) g three.2 in
     let n = small_is_read law one.0 g.n numbers.0 in
     let j = small_is_read law two.0 g.j numbers.1 in
-    let i = small_is_read law two.1 g.i numbers.2 in
-    (rw (n.0, j.0, i.0, ← cut_is one.1 two.0 two.1 two.2, ← cut_is text one.0 one.1 one.2) refl, n.1, j.1, i.1, numbers.3)
+    let i = small_is_read law three.0 g.i numbers.2 in
+    let joined = geometry_joined g three.1 one.0 two.0 three.0 two.1 one.1 text n.0 j.0 i.0 numbers.3 three.3
+    (cut_is one.1 two.0 two.1 two.2) (cut_is text one.0 one.1 one.2) in
+    (joined, n.1, j.1, i.1, numbers.4)
 
 pub geometry_line_is_read : Numbers → (line : List ℕ) (g : Geometry) → behind geometry_by_letter line ≡ Some g
     → (103 ∷ 32 ∷ geometry_text g ≡ line) × (geometry_fits g ≡ true)

@@ -1,8 +1,10 @@
 -- The text of a trace has one contents.
-use Rattle.std.proofs.Common.{◌≡◌, sym, ap, ap₂, refl, ◌∙◌, arith, subst, ℕ, ◌+◌, ◌-◌, ◌<◌, ◌≤◌, ◌^◌, ◌==◌, ◌||◌, Bool, true, List, [], ◌∷◌, ◌++◌, take, drop, length, decimal, codes, append_assoc, append-nil, take-append-drop}
+use Rattle.std.proofs.Common.{◌≡◌, sym, ap, ap₂, refl, ◌∙◌, arith, subst, ℕ, ◌+◌, ◌-◌, ◌<◌, ◌≤◌, ◌^◌, ◌==◌, ◌||◌, Bool, true, List, [], ◌∷◌, ◌++◌, take, drop, get_or, length, decimal, codes, append_assoc, append-nil, take-append-drop}
 use Rattle.std.proofs.lemmas.Bool.{or_parts, false≢true}
 use Rattle.std.proofs.lemmas.List.{length-take-le, drop_all}
 use Rattle.std.proofs.Math.Seq.{drop-drop}
+use Rattle.base_types.specs.declared.layout.Layout.{Layout}
+use Rattle.base_types.specs.declared.layout.Layout.TheVariants.{One, Two}
 use Rattle.layout_geometry.specs.Geometry.{Geometry}
 use Rattle.disk_contract.specs.declared.event.Event.{Event}
 use Rattle.disk_contract.specs.Lawful.{AreEventsOf}
@@ -11,10 +13,10 @@ use Rattle.lang_tree.specs.declared.command.Reply.{Reply}
 use Rattle.lang_script.specs.Text.{command_text, text_of_reply}
 use Rattle.lang_script.specs.Values.{IsCommand, IsReply, has_no_feed}
 use Rattle.cmd_trace.specs.Shared.{drop_events, take_events, from_le}
-use Rattle.cmd_trace.specs.Line.{geometry_line, event_lines, command_line, reply_line, end_line}
+use Rattle.cmd_trace.specs.Line.{geometry_line, layout_mark, event_lines, command_line, reply_line, end_line}
 use Rattle.cmd_trace.specs.Trace.{between, entry, entries, Ascend}
 use Rattle.cmd_trace.specs.Contents.{Contents, Each, AreLawful, front_of, text_of}
-use Rattle.cmd_trace.proofs.Cuts.{part_cut, number_cut, line_of_one, line_of_two, line_of_three, BeginsNot, is_event_byte, events_cut}
+use Rattle.cmd_trace.proofs.Cuts.{part_cut, number_cut, Low, line_of_one, line_of_two, BeginsNot, is_event_byte, events_cut}
 
 -- what is known of texts of commands and replies
 pub record OneValue : Type 0 where
@@ -120,14 +122,32 @@ entries_stop : (log : List Event) (before : ℕ) (cmds : List Cmd) (replies : Li
 entries_stop log before (cmd ∷ cmds) (reply ∷ replies) (mark ∷ marks) r h = refl
 entries_stop log before other replies marks r h = h
 
+-- one layout is named so
+mark_cut : (l k : Layout) (r s : List ℕ) → layout_mark l ++ 10 ∷ r ≡ layout_mark k ++ 10 ∷ s → (l ≡ k) × (r ≡ s)
+mark_cut One One r s e = (refl, ap (drop 1) e)
+mark_cut Two Two r s e = (refl, ap (drop 3) e)
+mark_cut One Two r s e = absurd (omega (arith, ap (λ l. get_or l 0 0) e))
+mark_cut Two One r s e = absurd (omega (arith, ap (λ l. get_or l 0 0) e))
+
+mark_low : (l : Layout) (r : List ℕ) → Low 32 (layout_mark l ++ 10 ∷ r)
+mark_low One r = omega arith
+mark_low Two r = omega arith
+
+first_line : (w a b c d r : List ℕ) → (w ++ a ++ codes " " ++ b ++ codes " " ++ c ++ d ++ codes "\n") ++ r ≡ w ++ (a ++ 32 ∷ (b ++ 32 ∷ (c ++ (d ++ 10 ∷ r))))
+first_line w a b c d r = simp append_assoc
+
 geometry_cut : (g k : Geometry) (r s : List ℕ) → g.n < 2 ^ 64 → g.j < 2 ^ 64 → g.i < 2 ^ 64 → k.n < 2 ^ 64 → k.j < 2 ^ 64 → k.i < 2 ^ 64
     → geometry_line g ++ r ≡ geometry_line k ++ s → (g ≡ k) × (r ≡ s)
 geometry_cut g k r s gn gj gi kn kj ki e =
-    let whole = sym (line_of_three (codes "g ") (decimal g.n) (decimal g.j) (decimal g.i) r) ∙ e ∙ line_of_three (codes "g ") (decimal k.n) (decimal k.j) (decimal k.i) s in
-    let one = number_cut g.n k.n (32 ∷ (decimal g.j ++ 32 ∷ (decimal g.i ++ 10 ∷ r))) (32 ∷ (decimal k.j ++ 32 ∷ (decimal k.i ++ 10 ∷ s))) gn kn (omega arith) (omega arith) (ap (drop 2) whole) in
-    let two = number_cut g.j k.j (32 ∷ (decimal g.i ++ 10 ∷ r)) (32 ∷ (decimal k.i ++ 10 ∷ s)) gj kj (omega arith) (omega arith) (ap (drop 1) one.1) in
-    let last = number_cut g.i k.i (10 ∷ r) (10 ∷ s) gi ki (omega arith) (omega arith) (ap (drop 1) two.1) in
-    (rw (one.0, two.0, last.0) refl, ap (drop 1) last.1)
+    let mine = layout_mark g.layout ++ 10 ∷ r in
+    let theirs = layout_mark k.layout ++ 10 ∷ s in
+    let whole = sym (first_line (codes "g ") (decimal g.n) (decimal g.j) (decimal g.i) (layout_mark g.layout) r) ∙ e
+    ∙ first_line (codes "g ") (decimal k.n) (decimal k.j) (decimal k.i) (layout_mark k.layout) s in
+    let one = number_cut g.n k.n (32 ∷ (decimal g.j ++ 32 ∷ (decimal g.i ++ mine))) (32 ∷ (decimal k.j ++ 32 ∷ (decimal k.i ++ theirs))) gn kn (omega arith) (omega arith) (ap (drop 2) whole) in
+    let two = number_cut g.j k.j (32 ∷ (decimal g.i ++ mine)) (32 ∷ (decimal k.i ++ theirs)) gj kj (omega arith) (omega arith) (ap (drop 1) one.1) in
+    let last = number_cut g.i k.i mine theirs gi ki (mark_low g.layout r) (mark_low k.layout s) (ap (drop 1) two.1) in
+    let ends = mark_cut g.layout k.layout r s last.1 in
+    (rw (one.0, two.0, last.0, ends.0) refl, ends.1)
 
 front_text : (c : Contents) (r : List ℕ) → front_of c ++ r ≡ geometry_line c.geometry ++ (event_lines (take c.mounted c.log) ++ (entries c.log c.mounted c.cmds c.replies c.marks ++ r))
 front_text c r = simp append_assoc

@@ -12,7 +12,7 @@ use Rattle.disk_contract.specs.declared.event.Event.TheVariants.{Wrote, Lost, No
 use Rattle.disk_contract.specs.Lawful.{IsEventOf}
 use Rattle.lang_tree.specs.declared.command.Reply.TheVariants.{Known}
 use Rattle.lang_script.specs.Text.{refusal_text, text_of_reply}
-use Rattle.cmd_trace.specs.Line.{geometry_line, event_line, reply_line, end_line}
+use Rattle.cmd_trace.specs.Line.{geometry_line, layout_mark, event_line, reply_line, end_line}
 use Rattle.cmd_trace.specs.ReadsAs.{IsReadAs, IsOutside, fed}
 use Rattle.cmd_trace.specs.ReadLines.{behind, geometry_by_letter, event_by_letter, reply_by_letter, refusal_of, known_of}
 use Rattle.cmd_trace.proofs.LinesRead.{Numbers, event_text, event_read, event_is_read, geometry_text, geometry_read, geometry_line_is_read, reply_text, reply_read, reply_line_is_read}
@@ -45,8 +45,11 @@ event_fed (Wrote ticket block bytes) = ap fed (three_fields (codes "w ") (decima
 event_fed (Lost block bytes) = ap fed (two_fields (codes "f ") (decimal block) (encode_lower bytes))
 event_fed (Noticed ticket) = refl
 
+marked_fields : (w a b c d : List ℕ) → w ++ a ++ codes " " ++ b ++ codes " " ++ c ++ d ≡ w ++ (a ++ 32 ∷ (b ++ 32 ∷ (c ++ d)))
+marked_fields w a b c d = simp append_assoc
+
 geometry_fed : (g : Geometry) → geometry_line g ≡ fed (103 ∷ 32 ∷ geometry_text g)
-geometry_fed g = ap fed (three_fields (codes "g ") (decimal g.n) (decimal g.j) (decimal g.i))
+geometry_fed g = ap fed (marked_fields (codes "g ") (decimal g.n) (decimal g.j) (decimal g.i) (layout_mark g.layout))
 
 reply_fed : (reply : ℕ × List ℕ) → reply_line reply.0 reply.1 ≡ fed (114 ∷ 32 ∷ reply_text reply)
 reply_fed reply = ap fed (two_fields (codes "r ") (decimal reply.0) reply.1)

@@ -1,13 +1,20 @@
 -- The lines of a trace. They are described in docs/TRACE.md.
 use Rattle.std.specs.Prelude.{ℕ, List, [], ◌∷◌, ◌++◌, codes, decimal}
 use Rattle.hex.specs.Hex.{encode_lower}
+use Rattle.base_types.specs.declared.layout.Layout.{Layout}
+use Rattle.base_types.specs.declared.layout.Layout.TheVariants.{One, Two}
 use Rattle.layout_geometry.specs.Geometry.{Geometry}
 use Rattle.disk_contract.specs.declared.event.Event.{Event}
 use Rattle.disk_contract.specs.declared.event.Event.TheVariants.{Wrote, Lost, Noticed}
 
--- the first line: how many blocks, journal blocks and nodes
+-- what names the layout: nothing names layout 1
+abbrev pub layout_mark : Layout → List ℕ
+layout_mark One = []
+layout_mark Two = codes " 2"
+
+-- the first line: how many blocks, journal blocks and nodes, and the layout where it is layout 2
 abbrev pub geometry_line : Geometry → List ℕ
-geometry_line g = codes "g " ++ decimal g.n ++ codes " " ++ decimal g.j ++ codes " " ++ decimal g.i ++ codes "\n"
+geometry_line g = codes "g " ++ decimal g.n ++ codes " " ++ decimal g.j ++ codes " " ++ decimal g.i ++ layout_mark g.layout ++ codes "\n"
 
 -- a write that was accepted, one that was lost, or a notice
 abbrev pub event_line : Event → List ℕ

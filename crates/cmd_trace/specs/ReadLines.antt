@@ -1,5 +1,7 @@
 -- What each kind of line says behind its first two bytes, where it says something.
 use Rattle.std.specs.Prelude.{ℕ, ◌==◌, if◌then◌else◌, List, [], ◌∷◌, Option, Some, None, option_map, option_and_then, codes, bytes_eq}
+use Rattle.base_types.specs.declared.layout.Layout.{Layout}
+use Rattle.base_types.specs.declared.layout.Layout.TheVariants.{One, Two}
 use Rattle.layout_geometry.specs.Geometry.{Geometry, geometry_fits}
 use Rattle.disk_contract.specs.declared.event.Event.{Event}
 use Rattle.disk_contract.specs.declared.event.Event.TheVariants.{Wrote, Lost, Noticed}
@@ -10,17 +12,24 @@ use Rattle.cmd_trace.specs.ReadFields.{cut, small_number_of, block_of}
 
 -- ---- the geometry
 
--- the geometry with these numbers, where they are there and fit
-abbrev pub geometry_by : Option ℕ → Option ℕ → Option ℕ → Option Geometry
-geometry_by (Some n) (Some j) (Some i) = if geometry_fits (record { n = n; j = j; i = i }) then Some record { n = n; j = j; i = i } else None
-geometry_by _ _ _ = None
+-- the geometry of this layout with these numbers, where they are there and fit
+abbrev pub geometry_by : Layout → Option ℕ → Option ℕ → Option ℕ → Option Geometry
+geometry_by l (Some n) (Some j) (Some i) =
+    if geometry_fits (record { n = n; j = j; i = i; layout = l }) then Some record { n = n; j = j; i = i; layout = l } else None
+geometry_by l _ _ _ = None
 
--- the geometry of a number and of two more
+-- the geometry of two numbers and what is behind them: a third one, which in layout 2 alone has a blank and a 2 behind it
+abbrev pub geometry_behind : List ℕ → List ℕ → List ℕ → Option (List ℕ × List ℕ) → Option Geometry
+geometry_behind n j i None = geometry_by One (small_number_of n) (small_number_of j) (small_number_of i)
+geometry_behind n j i (Some parts) =
+    if bytes_eq parts.1 (codes "2") then geometry_by Two (small_number_of n) (small_number_of j) (small_number_of parts.0) else None
+
+-- the geometry of a number and of what is behind it
 abbrev pub geometry_with : List ℕ → Option (List ℕ × List ℕ) → Option Geometry
-geometry_with n (Some rest) = geometry_by (small_number_of n) (small_number_of rest.0) (small_number_of rest.1)
+geometry_with n (Some rest) = geometry_behind n rest.0 rest.1 (cut rest.1)
 geometry_with n None = None
 
--- the geometry whose three numbers the text has
+-- the geometry whose numbers and layout the text has
 abbrev pub geometry_of : List ℕ → Option Geometry
 geometry_of text = option_and_then (λ parts. geometry_with parts.0 (cut parts.1)) (cut text)
 

@@ -4,17 +4,17 @@
 
 ghost use Rattle.std.specs.Prelude.{◌≡◌, IfOk, option_map};
 ghost use Rattle.cmd_trace.specs.ReadFields.{cut, small_number_of, block_of};
-ghost use Rattle.cmd_trace.specs.ReadLines.{geometry_of, geometry_with, placed_of, wrote_of, lost_of, noticed_of, reply_of, behind};
+ghost use Rattle.cmd_trace.specs.ReadLines.{geometry_of, geometry_with, geometry_behind, geometry_by, placed_of, wrote_of, lost_of, noticed_of, reply_of, behind};
 ghost use Rattle.cmd_trace.specs.ReadLines.{geometry_by_letter, event_by_letter, reply_by_letter};
 
 use crate::read_fields::{block_of, cut, small_number_of};
-use base_types::NoMemory;
+use base_types::{Layout, NoMemory};
 use disk_contract::{BoxedBlock, Event};
 use lang_script::number_of;
 use layout_geometry::Geom;
 use std::alloc::Global;
 
-/// The geometry whose numbers these are, where it fits.
+/// The geometry whose numbers and layout these are, where it fits.
 fn geometry_of(text: &[u8]) -> Option<Geom>
     ensures { result ≡ geometry_of text.now }
 {
@@ -27,9 +27,29 @@ fn geometry_of(text: &[u8]) -> Option<Geom>
 fn geometry_with(n: &[u8], rest: &[u8]) -> Option<Geom>
     ensures { result ≡ geometry_with n.now (cut rest.now) }
 {
-    let Some((j, i)) = cut(rest) else {
+    let Some((j, behind)) = cut(rest) else {
         return None;
     };
+    geometry_behind(n, j, behind)
+}
+
+fn geometry_behind(n: &[u8], j: &[u8], behind: &[u8]) -> Option<Geom>
+    ensures { result ≡ geometry_behind n.now j.now behind.now (cut behind.now) }
+{
+    match cut(behind) {
+        None => geometry_by(Layout::One, n, j, behind),
+        Some((i, mark)) => {
+            if mark == b"2".as_slice() {
+                return geometry_by(Layout::Two, n, j, i);
+            }
+            None
+        }
+    }
+}
+
+fn geometry_by(layout: Layout, n: &[u8], j: &[u8], i: &[u8]) -> Option<Geom>
+    ensures { result ≡ geometry_by layout (small_number_of n.now) (small_number_of j.now) (small_number_of i.now) }
+{
     let Some(n) = small_number_of(n) else {
         return None;
     };
@@ -39,7 +59,7 @@ fn geometry_with(n: &[u8], rest: &[u8]) -> Option<Geom>
     let Some(i) = small_number_of(i) else {
         return None;
     };
-    match Geom::new(n, j, i) {
+    match Geom::new_in(n, j, i, layout) {
         Ok(geom) => Some(geom),
         Err(_) => None,
     }

@@ -7,16 +7,16 @@ ghost use Rattle.hex.specs.Hex.{encode_lower};
 ghost use Rattle.arrayvec.specs.ArrayVec.{array_vec_len};
 ghost use Rattle.base_types.specs.Counts.{HasCause};
 ghost use Rattle.disk_contract.specs.declared.event.Event.TheVariants.{Wrote, Lost, Noticed};
-ghost use Rattle.cmd_trace.specs.Line.{geometry_line, event_line, command_line, reply_line, end_line};
+ghost use Rattle.cmd_trace.specs.Line.{geometry_line, layout_mark, event_line, command_line, reply_line, end_line};
 
 use crate::line_to_write::{Head, Line, put, put_digits, put_number, put_to_head};
 use base_io::{Sink, SinkFault, prefixes_join, push_all};
-use base_types::Block;
+use base_types::{Block, Layout};
 use disk_contract::Event;
 use itoa::Buffer;
 use layout_geometry::Geom;
 
-/// Writes the first line, with the numbers of the geometry.
+/// Writes the first line, with the numbers of the geometry, and its layout where that isn't layout 1.
 ///
 /// # Errors
 /// The first fault of the sink, which by then took a front of the line and nothing else.
@@ -32,9 +32,21 @@ pub fn write_geom<K: Sink>(out: &mut K, geom: &Geom) -> Result<(), SinkFault>
     put_number(&mut line, u64::from(geom.j()));
     put(&mut line, b" ");
     put_number(&mut line, u64::from(geom.i()));
+    put_layout_mark(&mut line, geom.layout());
     put(&mut line, b"\n");
     push_all(out, line.as_slice())?;
     Ok(())
+}
+
+fn put_layout_mark(line: &mut Line, layout: Layout)
+    requires { array_vec_len line.old + 2 ≤ 2093 }
+    ensures text { line.new.items ≡ line.old.items ++ layout_mark layout }
+    ensures length { array_vec_len line.new ≤ array_vec_len line.old + 2 }
+{
+    match layout {
+        Layout::One => put(line, b""),
+        Layout::Two => put(line, b" 2"),
+    }
 }
 
 /// Writes the line of a write that was accepted.

@@ -3,6 +3,7 @@ use Rattle.std.proofs.Common.{◌≡◌, ◌≢◌, sym, ap, refl, ◌∙◌, su
 use Rattle.std.specs.Prelude.{slice_get}
 use Rattle.std.proofs.lemmas.Option.{same_Some}
 use Rattle.std.proofs.lemmas.Bool.{or_right}
+use Rattle.crash_stands.specs.Bounds.{bounds_of}
 use Rattle.lang_tree.specs.declared.command.Cmd.{Cmd}
 use Rattle.lang_tree.specs.declared.command.Cmd.TheVariants.{Bad}
 use Rattle.lang_tree.specs.declared.command.Reply.{Reply}
@@ -42,8 +43,8 @@ stops s stopped (c ∷ cmds) (reply ∷ replies) zero (suc k) cmd h less fault a
 stops s stopped (c ∷ cmds) (reply ∷ replies) (suc i) (suc k) cmd h less fault at off =
     stops (after_reply s c reply) (stopped || is_fault reply) cmds replies i k cmd h.1 (omega (arith, less)) fault at off
 
-pub trace_runs : Tells → (c : Contents) → IsTrace c → (end : Session) × Run is_of_disk (start c.geometry.i) c.cmds c.replies end
-trace_runs tells c h = runs tells (start c.geometry.i) false c.cmds c.replies h.replies
+pub trace_runs : Tells → (c : Contents) → IsTrace c → (end : Session) × Run is_of_disk (start (bounds_of c.geometry)) c.cmds c.replies end
+trace_runs tells c h = runs tells (start (bounds_of c.geometry)) false c.cmds c.replies h.replies
 
 pub trace_stops : (c : Contents) → IsTrace c → StopsAfterFault c.cmds c.replies
-trace_stops c h = record { each = λ i k cmd. stops (start c.geometry.i) false c.cmds c.replies i k cmd h.replies }
+trace_stops c h = record { each = λ i k cmd. stops (start (bounds_of c.geometry)) false c.cmds c.replies i k cmd h.replies }

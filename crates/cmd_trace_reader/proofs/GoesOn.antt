@@ -2,7 +2,9 @@
 use Rattle.std.proofs.Common.{◌^◌, ◌<◌, ◌≡◌, sym, ap, refl, ◌∙◌, subst, arith, ℕ, true, false, inl, inr, List, [], ◌∷◌, ◌++◌, length, append_assoc, Option, Some, None}
 use Rattle.std.specs.Prelude.{◌↔◌, ◌⊎◌}
 use Rattle.std.proofs.lemmas.List.{append-nil}
+use Rattle.base_types.specs.declared.layout.Layout.TheVariants.{One}
 use Rattle.layout_geometry.specs.Geometry.{Geometry, IsGeometry, geometry_fits}
+use Rattle.crash_stands.specs.Bounds.{bounds_of}
 use Rattle.lang_tree.specs.declared.command.Cmd.{Cmd}
 use Rattle.lang_tree.specs.declared.command.Reply.{Reply}
 use Rattle.lang_tree.specs.declared.command.Reply.TheVariants.{Bad as NotUnderstood, Refused}
@@ -37,8 +39,8 @@ trace_at l s text h here =
     record {
       lawful = assumption (ascend s.mounted s.marks (length s.log) h.within last);
       fits = h.fits;
-      replies = subst (λ c. MayReplyEach (start s.geometry.i) false c s.replies) (append-nil s.cmds)
-          (subst (MayReplyEach (start s.geometry.i) false (s.cmds ++ [])) (append-nil s.replies) (h.may [] [] tt));
+      replies = subst (λ c. MayReplyEach (start (bounds_of s.geometry)) false c s.replies) (append-nil s.cmds)
+          (subst (MayReplyEach (start (bounds_of s.geometry)) false (s.cmds ++ [])) (append-nil s.replies) (h.may [] [] tt));
     }
 
 ended_is : (p : Place) → is_ended p ≡ true → p ≡ Ended
@@ -90,7 +92,7 @@ begins_at l s other text h = between_begins l (record s { place = other }) text 
 
 -- a small geometry
 abbrev small : Geometry
-small = record { n = 64; j = 16; i = 16 }
+small = record { n = 64; j = 16; i = 16; layout = One }
 
 small_fits : geometry_fits small ≡ true
 unfolding geometry_fits

@@ -2,6 +2,8 @@
 use Rattle.std.proofs.Common.{◌≡◌, sym, ap, ap₂, refl, ◌∙◌, arith, ℕ, ◌-◌, ◌<◌, ◌≤◌, ◌^◌, true, List, [], ◌∷◌, ◌++◌, length, take, drop, codes, decimal, append_assoc}
 use Rattle.std.proofs.lemmas.List.{append-nil}
 use Rattle.hex.specs.Hex.{encode_lower}
+use Rattle.base_types.specs.declared.layout.Layout.{Layout}
+use Rattle.base_types.specs.declared.layout.Layout.TheVariants.{One, Two}
 use Rattle.layout_geometry.specs.Geometry.{Geometry, IsGeometry}
 use Rattle.disk_contract.specs.declared.event.Event.{Event}
 use Rattle.disk_contract.specs.declared.event.Event.TheVariants.{Wrote, Lost, Noticed}
@@ -10,7 +12,7 @@ use Rattle.lang_tree.specs.declared.command.Cmd.{Cmd}
 use Rattle.lang_tree.specs.declared.command.Reply.{Reply}
 use Rattle.lang_script.specs.Text.{command_text, text_of_reply}
 use Rattle.lang_script.specs.Values.{IsCommand, IsReply, has_no_feed}
-use Rattle.cmd_trace.specs.Line.{geometry_line, event_line, event_lines, command_line, reply_line, end_line}
+use Rattle.cmd_trace.specs.Line.{geometry_line, layout_mark, event_line, event_lines, command_line, reply_line, end_line}
 use Rattle.cmd_trace.specs.Trace.{between, entry, entries, Ascend}
 use Rattle.cmd_trace.specs.Contents.{Contents, Each, AreLawful, text_of}
 use Rattle.cmd_trace.specs.ReadsAs.{fed}
@@ -30,7 +32,7 @@ event_parts [] = []
 event_parts (event ∷ events) = event_part event ∷ event_parts events
 
 abbrev pub geometry_part : Geometry → List ℕ
-geometry_part g = codes "g " ++ decimal g.n ++ codes " " ++ decimal g.j ++ codes " " ++ decimal g.i
+geometry_part g = codes "g " ++ decimal g.n ++ codes " " ++ decimal g.j ++ codes " " ++ decimal g.i ++ layout_mark g.layout
 
 abbrev pub command_part : Cmd → List ℕ
 command_part cmd = codes "c " ++ command_text cmd
@@ -113,11 +115,17 @@ entries_ones l n log before (cmd ∷ cmds) (reply ∷ replies) (mark ∷ marks) 
     (line_join (codes "c ") (command_text cmd) refl (text_line (command_text cmd) (l.command_line cmd c.0)), each_append (λ line. is_line line ≡ true) (event_parts (between before mark log) ++ reply_part mark reply ∷ []) (entries_parts log mark cmds replies marks) (each_append (λ line. is_line line ≡ true) (event_parts (between before mark log)) (reply_part mark reply ∷ []) (events_ones n (between before mark log) small (take_events n (mark - before) (drop before log) (drop_events n before log events))) (reply_one l mark reply (omega (arith, few, from_le mark marks (length log) a.1)) r.0, tt)) (entries_ones l n log mark cmds replies marks small events few c.1 r.1 a.1))
 entries_ones l n log before other replies marks small events few c r a = tt
 
+mark_line : (l : Layout) → is_line (layout_mark l) ≡ true
+mark_line One = refl
+mark_line Two = refl
+
 geometry_one : (g : Geometry) → IsGeometry g → is_line (geometry_part g) ≡ true
 geometry_one g size =
-    two (codes "g " ++ decimal g.n ++ codes " " ++ decimal g.j) (decimal g.i)
+    line_join (codes "g " ++ decimal g.n ++ codes " " ++ decimal g.j ++ codes " " ++ decimal g.i) (layout_mark g.layout)
+    (two (codes "g " ++ decimal g.n ++ codes " " ++ decimal g.j) (decimal g.i)
     (two (codes "g " ++ decimal g.n) (decimal g.j) (line_join (codes "g ") (decimal g.n) refl (number_line g.n (omega (arith, size.most_blocks)))) (number_line g.j (omega (arith, size.most_journal))))
-    (number_line g.i (omega (arith, size.most_nodes)))
+    (number_line g.i (omega (arith, size.most_nodes))))
+    (mark_line g.layout)
 
 pub trace_lines : NoFeed → (c : Contents) → IsGeometry c.geometry → AreLawful c → AreLines (trace_parts c)
 trace_lines l c size h =

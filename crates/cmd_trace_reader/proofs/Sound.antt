@@ -5,6 +5,7 @@ use Rattle.std.proofs.lemmas.List.{append-nil, take-append-le, drop-append-le, l
 use Rattle.layout_geometry.specs.Geometry.{Geometry, geometry_fits}
 use Rattle.disk_contract.specs.declared.event.Event.{Event}
 use Rattle.disk_contract.specs.Lawful.{MayCome, AreLawfulAfter, IsEventOf, AreEventsOf, IsLogOf}
+use Rattle.crash_stands.specs.Bounds.{bounds_of}
 use Rattle.lang_tree.specs.declared.command.Cmd.{Cmd}
 use Rattle.lang_tree.specs.declared.command.Reply.{Reply}
 use Rattle.lang_tree.specs.Step.{start}
@@ -78,7 +79,7 @@ pending Ended s = end_line
 -- the replies so far may stand there, with any behind them that may stand behind the session
 abbrev MayGoOn : State → Type 0
 MayGoOn s = (more : List Cmd) (answers : List Reply) → MayReplyEach s.kept.session s.kept.stopped more answers
-    → MayReplyEach (start s.geometry.i) false (s.cmds ++ more) (s.replies ++ answers)
+    → MayReplyEach (start (bounds_of s.geometry)) false (s.cmds ++ more) (s.replies ++ answers)
 
 -- this text was read, and left this state
 pub record Holds (s : State) (text : List ℕ) : Type 0 where
@@ -190,8 +191,8 @@ entry_grows base more cmd events reply =
 replied : (s : State) (cmd : Cmd) (reply : Reply) → MayGoOn s → MayReply s.kept.session s.kept.stopped cmd reply
     → MayGoOn (record s { cmds = s.cmds ++ cmd ∷ []; replies = s.replies ++ reply ∷ []; marks = s.marks ++ length s.log ∷ []; kept = after s.kept cmd reply; place = Answered })
 replied s cmd reply h may more answers rest =
-    subst (λ c. MayReplyEach (start s.geometry.i) false c ((s.replies ++ reply ∷ []) ++ answers)) (sym (append_assoc s.cmds (cmd ∷ []) more))
-    (subst (MayReplyEach (start s.geometry.i) false (s.cmds ++ cmd ∷ more)) (sym (append_assoc s.replies (reply ∷ []) answers)) (h (cmd ∷ more) (reply ∷ answers) (may, rest)))
+    subst (λ c. MayReplyEach (start (bounds_of s.geometry)) false c ((s.replies ++ reply ∷ []) ++ answers)) (sym (append_assoc s.cmds (cmd ∷ []) more))
+    (subst (MayReplyEach (start (bounds_of s.geometry)) false (s.cmds ++ cmd ∷ more)) (sym (append_assoc s.replies (reply ∷ []) answers)) (h (cmd ∷ more) (reply ∷ answers) (may, rest)))
 
 reply_text : (s : State) (cmd : Cmd) (reply : Reply) (text : List ℕ) → Holds (record s { place = Asked cmd }) text
     → text ++ reply_line (length s.log) (text_of_reply reply)

@@ -2,6 +2,7 @@
 use Rattle.std.specs.Prelude.{◌≡◌, ℕ, ◌<◌, ◌^◌, Bool, true, false, List, [], ◌∷◌, ◌++◌, length, ◌⊎◌, Option, Some, None}
 use Rattle.layout_geometry.specs.Geometry.{Geometry, geometry_fits}
 use Rattle.disk_contract.specs.declared.event.Event.{Event}
+use Rattle.crash_stands.specs.Bounds.{bounds_of}
 use Rattle.lang_tree.specs.declared.command.Cmd.{Cmd}
 use Rattle.lang_tree.specs.declared.command.Reply.{Reply}
 use Rattle.lang_tree.specs.Step.{start}
@@ -76,7 +77,7 @@ begun g = record {
   cmds = [];
   replies = [];
   marks = [];
-  kept = record { session = start g.i; points = 0; durable = 0; stopped = false };
+  kept = record { session = start (bounds_of g); points = 0; durable = 0; stopped = false };
   place = Mounting;
 }
 

@@ -2,6 +2,7 @@
 use Rattle.std.specs.Prelude.{◌≡◌, ◌||◌, ◌==◌, ◌+◌, ◌⊎◌, Bool, true, false, not, List, [], ◌∷◌, ◌++◌, length, ℕ}
 use Rattle.std.specs.List.{list_all}
 use Rattle.layout_geometry.specs.Geometry.{geometry_fits}
+use Rattle.crash_stands.specs.Bounds.{bounds_of}
 use Rattle.lang_tree.specs.declared.command.Cmd.{Cmd}
 use Rattle.lang_tree.specs.declared.command.Reply.{Reply}
 use Rattle.lang_tree.specs.Step.{Session, start}
@@ -22,7 +23,7 @@ MayReplyEach s stopped (cmd ∷ cmds) (reply ∷ replies) =
 pub record IsTrace (c : Contents) : Type 0 where
   pub lawful : AreLawful c
   pub fits : geometry_fits c.geometry ≡ true
-  pub replies : MayReplyEach (start c.geometry.i) false c.cmds c.replies
+  pub replies : MayReplyEach (start (bounds_of c.geometry)) false c.cmds c.replies
 
 -- some trace begins with these bytes
 pub record BeginsTrace (bytes : List ℕ) : Type 0 where

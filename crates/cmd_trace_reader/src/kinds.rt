@@ -88,6 +88,7 @@ pub fn is_stopped(why: Refusal) -> bool
         | Refusal::DiskFault
         | Refusal::Spent
         | Refusal::NoMemory
+        | Refusal::NameTooLong
         | Refusal::NoPoint { .. }
         | Refusal::NoSnap => false,
     }
@@ -115,6 +116,7 @@ pub fn is_disk_fault(why: Refusal) -> bool
         | Refusal::Stopped
         | Refusal::Spent
         | Refusal::NoMemory
+        | Refusal::NameTooLong
         | Refusal::NoPoint { .. }
         | Refusal::NoSnap => false,
     }
@@ -158,6 +160,7 @@ fn is_no_memory(why: Refusal) -> bool
         | Refusal::DiskFault
         | Refusal::Stopped
         | Refusal::Spent
+        | Refusal::NameTooLong
         | Refusal::NoPoint { .. }
         | Refusal::NoSnap => false,
     }

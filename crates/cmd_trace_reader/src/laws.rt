@@ -2,6 +2,7 @@
 //! reply tells. They run nothing.
 
 ghost use Rattle.std.specs.Prelude.{◌≡◌, ◌↔◌, ◌<◌, ◌^◌, true, List, [], ◌++◌, ℕ, Option, Some, None};
+ghost use Rattle.crash_stands.specs.Bounds.{bounds_of};
 ghost use Rattle.lang_tree.specs.declared.command.Cmd.{Cmd};
 ghost use Rattle.lang_tree.specs.Step.{Session, start, step};
 ghost use Rattle.lang_tree.specs.Run.{Run, StopsAfterFault, is_of_disk};
@@ -41,7 +42,7 @@ pub fn bytes_go_wrong_at_one_line()
 /// The commands of a trace with their replies are a run of a file system over a disk, from the root alone on, and
 /// it stops after a fault of the disk.
 pub fn a_trace_is_a_run()
-    ensures run { (c : Contents) → IsTrace c → (end : Session) × Run is_of_disk (start c.geometry.i) c.cmds c.replies end }
+    ensures run { (c : Contents) → IsTrace c → (end : Session) × Run is_of_disk (start (bounds_of c.geometry)) c.cmds c.replies end }
     ensures stops { (c : Contents) → IsTrace c → StopsAfterFault c.cmds c.replies }
 {
     a_reply_tells_the_session();

@@ -87,7 +87,7 @@ impl Reader {
             return Ok(None);
         };
         geom.lawful();
-        let replay = Replay::new(alloc, geom.i())?;
+        let replay = Replay::new(alloc, geom.i(), geom.layout())?;
         Ok(Some(Reader {
             geom,
             log: EventLog::new(alloc),

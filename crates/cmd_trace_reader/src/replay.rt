@@ -10,7 +10,7 @@ ghost use Rattle.cmd_trace.specs.ReadsAs.{IsReadAs};
 ghost use Rattle.cmd_trace_reader.specs.Replies.{Kept, Takes, Applies, IsKnown, RefusedSo};
 
 use crate::kinds::{is_bad, is_disk_fault, is_durable, is_out_of_memory, is_stopped, numbers_by};
-use base_types::NoMemory;
+use base_types::{Layout, NoMemory};
 use cmd_trace::{read_known, read_refusal};
 use fs_memtree::PlainTree;
 use lang_script::{equal_texts_have_equal_values, reply_text};
@@ -46,16 +46,16 @@ impl Model for Replay {
 }
 
 impl Replay {
-    /// The session that begins with the root alone.
+    /// The session that begins with the root alone, with at most so many nodes, and names as this layout takes them.
     ///
     /// # Errors
     /// Out of memory.
-    pub fn new(alloc: Global, nodes: u32) -> Result<Replay, NoMemory>
+    pub fn new(alloc: Global, nodes: u32, layout: Layout) -> Result<Replay, NoMemory>
         requires { 1 ≤ nodes }
-        ensures { IfOk result (λ replay. replay ≡ record { session = start nodes; points = 0; durable = 0; stopped = false }) }
+        ensures { IfOk result (λ replay. replay ≡ record { session = start (record { nodes = nodes; layout = layout }); points = 0; durable = 0; stopped = false }) }
     {
         no_dsync_answers_a_point_to_come();
-        let tree = PlainTree::new(alloc, nodes)?;
+        let tree = PlainTree::new(alloc, nodes, layout)?;
         Ok(Replay {
             tree,
             points: 0,

@@ -5,13 +5,15 @@ use Rattle.std.specs.Prelude.{IfSome, find, if◌then◌else◌, option_and_then
 use Rattle.std.proofs.lemmas.Bool.{false≢true}
 use Rattle.std.proofs.lemmas.Slice.Eq.{bytes_eq-Decides}
 use Rattle.clap.specs.Walk.{Row, Text, first_of}
+use Rattle.base_types.specs.declared.layout.Layout.{Layout}
+use Rattle.base_types.specs.declared.layout.Layout.TheVariants.{One}
 use Rattle.disk_memory.specs.Choice.{ChoiceState}
 use Rattle.cmd_words.specs.ChoiceTexts.{choice_of}
 use Rattle.cmd_words.specs.declared.request.Request.TheVariants.{AppLog, Copy, RunMirrored, Tree}
 use Rattle.cmd_words.specs.declared.request.Notices.{Notices}
 use Rattle.cmd_words.specs.declared.request.Notices.TheVariants.{Silent, Fifo, Seed}
 use Rattle.cmd_words.specs.Program.{kept}
-use Rattle.cmd_words.specs.Words.{Command, to_record, to_replay, to_show, to_make, to_run, to_load, to_copy, to_log, words_of, options_of, command_of, HasSeedInRange, IsInRange, Named, are_apart, copy_of, copy_with, has_name, load_of, load_with, make_of, make_with, named, notices_of, number_in, record_of, recording_of, replay_at, run_with, asked, asked_apart, asked_with, request_of_texts, seed_of, text_of, value_or}
+use Rattle.cmd_words.specs.Words.{Command, to_record, to_replay, to_show, to_make, to_run, to_load, to_copy, to_log, words_of, options_of, command_of, HasSeedInRange, IsInRange, Named, are_apart, copy_of, copy_with, has_name, layout_in, load_of, load_with, make_of, make_with, named, notices_of, number_in, record_of, recording_of, replay_at, run_with, asked, asked_apart, asked_with, request_of_texts, seed_of, text_of, value_or}
 use Rattle.cmd_words.proofs.Apart.{rows}
 use Rattle.cmd_words.proofs.Steps.{AsksNothing, Refused, has_needed}
 use Rattle.cmd_words.proofs.Texts.{number_range, seed_range}
@@ -34,21 +36,21 @@ asked_same k one other same = ap (asked k) (fun_ext same)
 -- ---- texts that ask for nothing
 
 -- a recording that lacks a part is none
-lacks_journal : (a c : Option ℕ) (d : Option Notices) (e : Option ℕ) (f : Option (Option ℕ)) → record_of a None c d e f ≡ None
-lacks_journal a c d e f = grind arith
+lacks_journal : (a c : Option ℕ) (l : Option Layout) (d : Option Notices) (e : Option ℕ) (f : Option (Option ℕ)) → record_of a None c l d e f ≡ None
+lacks_journal a c l d e f = grind arith
 
-lacks_nodes : (a b : Option ℕ) (d : Option Notices) (e : Option ℕ) (f : Option (Option ℕ)) → record_of a b None d e f ≡ None
-lacks_nodes a b d e f = grind arith
+lacks_nodes : (a b : Option ℕ) (l : Option Layout) (d : Option Notices) (e : Option ℕ) (f : Option (Option ℕ)) → record_of a b None l d e f ≡ None
+lacks_nodes a b l d e f = grind arith
 
 -- and neither is a making, a load, or a copying
-made_lacks_blocks : (a : Option Text) (c d : Option ℕ) → make_with a None c d ≡ None
-made_lacks_blocks a c d = grind arith
+made_lacks_blocks : (a : Option Text) (c d : Option ℕ) (l : Option Layout) → make_with a None c d l ≡ None
+made_lacks_blocks a c d l = grind arith
 
-made_lacks_journal : (a : Option Text) (b d : Option ℕ) → make_with a b None d ≡ None
-made_lacks_journal a b d = grind arith
+made_lacks_journal : (a : Option Text) (b d : Option ℕ) (l : Option Layout) → make_with a b None d l ≡ None
+made_lacks_journal a b d l = grind arith
 
-made_lacks_nodes : (a : Option Text) (b c : Option ℕ) → make_with a b c None ≡ None
-made_lacks_nodes a b c = grind arith
+made_lacks_nodes : (a : Option Text) (b c : Option ℕ) (l : Option Layout) → make_with a b c None l ≡ None
+made_lacks_nodes a b c l = grind arith
 
 load_lacks_count : (a : Option ℕ) → load_with a None ≡ None
 load_lacks_count a = grind arith
@@ -135,21 +137,21 @@ fail_in_range (Some t) = elim (number_in 1 4294967295 t) as (λ n. IfSome n (λ 
   | Some n ↦ λ range. range
 ] (number_range 1 4294967295 t)
 
-record_range : (a b c : Option ℕ) (d : Option Notices) (e : Option ℕ) (f : Option (Option ℕ))
+record_range : (a b c : Option ℕ) (l : Option Layout) (d : Option Notices) (e : Option ℕ) (f : Option (Option ℕ))
     → IfSome a (λ n. (64 ≤ n) × (n ≤ 1048576)) → IfSome b (λ n. (16 ≤ n) × (n ≤ 65536)) → IfSome c (λ n. (16 ≤ n) × (n ≤ 65536))
     → IfSome d HasSeedInRange → IfSome e (λ n. (1 ≤ n) × (n ≤ 65536)) → IfSome f (λ fail. IfSome fail (λ n. (1 ≤ n) × (n ≤ 4294967295)))
-    → IsInRange (record_of a b c d e f)
-record_range (Some a) (Some b) (Some c) (Some d) (Some e) (Some f) ha hb hc hd he hf = (ha.0, ha.1, hb.0, hb.1, hc.0, hc.1, hd, he.0, he.1, hf)
-record_range other b c d e f ha hb hc hd he hf = tt
+    → IsInRange (record_of a b c l d e f)
+record_range (Some a) (Some b) (Some c) (Some l) (Some d) (Some e) (Some f) ha hb hc hd he hf = (ha.0, ha.1, hb.0, hb.1, hc.0, hc.1, hd, he.0, he.1, hf)
+record_range other b c l d e f ha hb hc hd he hf = tt
 
 replay_range : (moment : Option ℕ) (choice : Option ChoiceState) → IfSome moment (λ n. (0 ≤ n) × (n ≤ 4294967295)) → IsInRange (replay_at moment choice)
 replay_range (Some n) (Some choice) range = range.1
 replay_range other choice range = tt
 
-make_range : (a : Option Text) (b c d : Option ℕ) → IfSome b (λ n. (64 ≤ n) × (n ≤ 1048576)) → IfSome c (λ n. (16 ≤ n) × (n ≤ 65536)) → IfSome d (λ n. (16 ≤ n) × (n ≤ 65536))
-    → IsInRange (make_with a b c d)
-make_range (Some a) (Some b) (Some c) (Some d) hb hc hd = (hb.0, hb.1, hc.0, hc.1, hd.0, hd.1)
-make_range other b c d hb hc hd = tt
+make_range : (a : Option Text) (b c d : Option ℕ) (l : Option Layout) → IfSome b (λ n. (64 ≤ n) × (n ≤ 1048576)) → IfSome c (λ n. (16 ≤ n) × (n ≤ 65536)) → IfSome d (λ n. (16 ≤ n) × (n ≤ 65536))
+    → IsInRange (make_with a b c d l)
+make_range (Some a) (Some b) (Some c) (Some d) (Some l) hb hc hd = (hb.0, hb.1, hc.0, hc.1, hd.0, hd.1)
+make_range other b c d l hb hc hd = tt
 
 load_range : (a b : Option ℕ) → IfSome a (λ n. (0 ≤ n) × (n ≤ 4294967295)) → IfSome b (λ n. (0 ≤ n) × (n ≤ 2000)) → IsInRange (load_with a b)
 load_range (Some a) (Some b) ha hb = (ha.1, hb.1)
@@ -179,11 +181,11 @@ asked_range [] = tt
 asked_range (name ∷ words) = elim (command_of name) as (λ o. IsInRange (option_and_then (asked_with words) o)) [ None ↦ tt | Some k ↦ by_texts k (named (options_of k) words None (words_of k)) ]
   where
     text_range : (k : Command) (text : Text → Option Text) → IsInRange (asked k text)
-    text_range to_record text = record_range _ _ _ _ _ _ (given_range 64 1048576 (text (codes "blocks"))) (given_range 16 65536 (text (codes "journal")))
+    text_range to_record text = record_range _ _ _ (value_or One layout_in (text (codes "layout"))) _ _ _ (given_range 64 1048576 (text (codes "blocks"))) (given_range 16 65536 (text (codes "journal")))
         (given_range 16 65536 (text (codes "nodes"))) (notices_in_range (text (codes "notices"))) (room_in_range (text (codes "room"))) (fail_in_range (text (codes "fail")))
     text_range to_replay text = replay_range (option_and_then (number_in 0 4294967295) (text (codes "at"))) (choice_of (unwrap_or (text (codes "stand")) (codes "none")) (text (codes "tear"))) (given_range 0 4294967295 (text (codes "at")))
     text_range to_show text = elim (text (codes "image")) as (λ o. IsInRange (option_map (λ image. Tree image) o)) [ None ↦ tt | Some image ↦ tt ]
-    text_range to_make text = make_range (text (codes "image")) _ _ _ (given_range 64 1048576 (text (codes "blocks")))
+    text_range to_make text = make_range (text (codes "image")) _ _ _ (value_or One layout_in (text (codes "layout"))) (given_range 64 1048576 (text (codes "blocks")))
         (given_range 16 65536 (text (codes "journal"))) (given_range 16 65536 (text (codes "nodes")))
     text_range to_run text = run_range (text (codes "image")) (text (codes "mirror"))
     text_range to_load text = load_range (option_and_then (number_in 0 4294967295) (text (codes "seed"))) (option_and_then (number_in 0 2000) (text (codes "count")))

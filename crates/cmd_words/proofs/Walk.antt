@@ -339,6 +339,9 @@ wait_goes k name is place texts pending arg apart words rest later = go (settles
 abbrev first_of_three : {A : Type 0} → A → A → A → Bool → Bool → Bool → Option A
 first_of_three x y z a b c = cond a (Some x) (cond b (Some y) (cond c (Some z) None))
 
+abbrev first_of_four : {A : Type 0} → A → A → A → A → Bool → Bool → Bool → Bool → Option A
+first_of_four w x y z a b c d = cond a (Some w) (first_of_three x y z b c d)
+
 -- a rule and a name are those of one option, or there is neither
 abbrev IsOption : Command → Option Rule → Option Text → Type 0
 IsOption k None None = Unit {0}
@@ -400,13 +403,15 @@ long_goes k (Some a) (Some name) None is place texts pending arg apart word word
     (wait_goes k name is.1 place texts pending arg apart words (λ name. rest (Some name)) waits)
 long_goes k other more given is place texts pending arg apart word words rest later waits = absurd is
 
-record_option : (a b c : Bool) → IsOption to_record
-    (first_of_three (rule_as (by_name false) (codes "notices")) (rule_as (by_name false) (codes "room")) (rule_as (by_name false) (codes "fail")) (a || false) (b || false) (c || false))
-    (first_of_three (codes "notices") (codes "room") (codes "fail") a b c)
-record_option true b c = (false, is_arg to_record (codes "notices") (by_name false) refl, refl)
-record_option false true c = (false, is_arg to_record (codes "room") (by_name false) refl, refl)
-record_option false false true = (false, is_arg to_record (codes "fail") (by_name false) refl, refl)
-record_option false false false = tt
+record_option : (a b c d : Bool) → IsOption to_record
+    (first_of_four (rule_as (by_name false) (codes "notices")) (rule_as (by_name false) (codes "room")) (rule_as (by_name false) (codes "fail"))
+    (rule_as (by_name false) (codes "layout")) (a || false) (b || false) (c || false) (d || false))
+    (first_of_four (codes "notices") (codes "room") (codes "fail") (codes "layout") a b c d)
+record_option true b c d = (false, is_arg to_record (codes "notices") (by_name false) refl, refl)
+record_option false true c d = (false, is_arg to_record (codes "room") (by_name false) refl, refl)
+record_option false false true d = (false, is_arg to_record (codes "fail") (by_name false) refl, refl)
+record_option false false false true = (false, is_arg to_record (codes "layout") (by_name false) refl, refl)
+record_option false false false false = tt
 
 replay_option : (a b c : Bool) → IsOption to_replay
     (first_of_three (rule_as (by_name true) (codes "at")) (rule_as (by_name false) (codes "stand")) (rule_as (by_name false) (codes "tear")) (a || false) (b || false) (c || false))
@@ -415,6 +420,10 @@ replay_option true b c = (true, is_arg to_replay (codes "at") (by_name true) ref
 replay_option false true c = (false, is_arg to_replay (codes "stand") (by_name false) refl, refl)
 replay_option false false true = (false, is_arg to_replay (codes "tear") (by_name false) refl, refl)
 replay_option false false false = tt
+
+make_option : (a : Bool) → IsOption to_make (cond (a || false) (Some (rule_as (by_name false) (codes "layout"))) None) (cond a (Some (codes "layout")) None)
+make_option true = (false, is_arg to_make (codes "layout") (by_name false) refl, refl)
+make_option false = tt
 
 run_option : (a : Bool) → IsOption to_run (cond (a || false) (Some (rule_as (by_name false) (codes "mirror"))) None) (cond a (Some (codes "mirror")) None)
 run_option true = (false, is_arg to_run (codes "mirror") (by_name false) refl, refl)
@@ -428,8 +437,9 @@ load_option false true = (true, is_arg to_load (codes "count") (by_name true) re
 load_option false false = tt
 
 is_option : (k : Command) (name : Text) → IsOption k (arg_by_long (rules k) name) (find (λ known. bytes_eq known name) (options_of k))
-is_option to_record name = record_option (bytes_eq (codes "notices") name) (bytes_eq (codes "room") name) (bytes_eq (codes "fail") name)
+is_option to_record name = record_option (bytes_eq (codes "notices") name) (bytes_eq (codes "room") name) (bytes_eq (codes "fail") name) (bytes_eq (codes "layout") name)
 is_option to_replay name = replay_option (bytes_eq (codes "at") name) (bytes_eq (codes "stand") name) (bytes_eq (codes "tear") name)
+is_option to_make name = make_option (bytes_eq (codes "layout") name)
 is_option to_run name = run_option (bytes_eq (codes "mirror") name)
 is_option to_load name = load_option (bytes_eq (codes "seed") name) (bytes_eq (codes "count") name)
 is_option other name = tt

@@ -20,9 +20,9 @@ needed id = record (option id) { required = true }
 
 -- `record` with its three numbers and its options
 abbrev pub recording : App
-recording = with_rule (with_rule (with_rule (with_rule (with_rule (with_rule (new_app (codes "record"))
+recording = with_rule (with_rule (with_rule (with_rule (with_rule (with_rule (with_rule (new_app (codes "record"))
     (word (codes "blocks"))) (word (codes "journal"))) (word (codes "nodes")))
-    (option (codes "notices"))) (option (codes "room"))) (option (codes "fail"))
+    (option (codes "notices"))) (option (codes "room"))) (option (codes "fail"))) (option (codes "layout"))
 
 -- `replay` with its options
 abbrev pub replaying : App
@@ -33,10 +33,10 @@ replaying = with_rule (with_rule (with_rule (new_app (codes "replay"))
 abbrev pub showing : App
 showing = with_rule (new_app (codes "tree")) (word (codes "image"))
 
--- `mkfs` with its word and its three numbers
+-- `mkfs` with its word, its three numbers and its option
 abbrev pub making : App
-making = with_rule (with_rule (with_rule (with_rule (new_app (codes "mkfs"))
-    (word (codes "image"))) (word (codes "blocks"))) (word (codes "journal"))) (word (codes "nodes"))
+making = with_rule (with_rule (with_rule (with_rule (with_rule (new_app (codes "mkfs"))
+    (word (codes "image"))) (word (codes "blocks"))) (word (codes "journal"))) (word (codes "nodes"))) (option (codes "layout"))
 
 -- `run` with its word and its option
 abbrev pub running : App

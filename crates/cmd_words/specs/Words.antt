@@ -6,6 +6,8 @@ use Rattle.std.specs.Str.Parse.{digits_value, without_leading_plus}
 use Rattle.std.specs.declared.string.String.{String}
 use Rattle.std.specs.declared.alloc.Global.{Global}
 use Rattle.clap.specs.Lexer.{long_of}
+use Rattle.base_types.specs.declared.layout.Layout.{Layout}
+use Rattle.base_types.specs.declared.layout.Layout.TheVariants.{One, Two}
 use Rattle.disk_memory.specs.Choice.{ChoiceState}
 use Rattle.cmd_words.specs.ChoiceTexts.{choice_of}
 use Rattle.cmd_words.specs.declared.request.Request.{Request}
@@ -35,6 +37,13 @@ notices_of text =
     if bytes_eq text (codes "none") then Some Silent
     else if bytes_eq text (codes "fifo") then Some Fifo
     else option_map (λ seed. Seed seed) (seed_of text)
+
+-- the layout that a text names
+abbrev pub layout_in : List ℕ → Option Layout
+layout_in text =
+    if bytes_eq text (codes "1") then Some One
+    else if bytes_eq text (codes "2") then Some Two
+    else None
 
 -- ---- the commands
 
@@ -73,10 +82,10 @@ words_of to_log = codes "image" ∷ []
 
 -- its options
 abbrev pub options_of : Command → List (List ℕ)
-options_of to_record = codes "notices" ∷ codes "room" ∷ codes "fail" ∷ []
+options_of to_record = codes "notices" ∷ codes "room" ∷ codes "fail" ∷ codes "layout" ∷ []
 options_of to_replay = codes "at" ∷ codes "stand" ∷ codes "tear" ∷ []
 options_of to_show = []
-options_of to_make = []
+options_of to_make = codes "layout" ∷ []
 options_of to_run = codes "mirror" ∷ []
 options_of to_load = codes "seed" ∷ codes "count" ∷ []
 options_of to_copy = []
@@ -161,17 +170,19 @@ value_or default read None = Some default
 value_or default read (Some text) = read text
 
 -- the recording with these numbers and options, where each of them is one
-abbrev pub record_of : Option ℕ → Option ℕ → Option ℕ → Option Notices → Option ℕ → Option (Option ℕ) → Option Request
-record_of (Some blocks) (Some journal) (Some nodes) (Some notices) (Some room) (Some fail) = Some (Record blocks journal nodes notices room fail)
-record_of _ _ _ _ _ _ = None
+abbrev pub record_of : Option ℕ → Option ℕ → Option ℕ → Option Layout → Option Notices → Option ℕ → Option (Option ℕ) → Option Request
+record_of (Some blocks) (Some journal) (Some nodes) (Some layout) (Some notices) (Some room) (Some fail) =
+    Some (Record blocks journal nodes layout notices room fail)
+record_of _ _ _ _ _ _ _ = None
 
--- The recording whose numbers and options have these texts: blocks, journal blocks, nodes; the rule of notices, or none of them come;
--- the room for writes, or 4,096; and the write that fails, or none.
+-- The recording whose numbers and options have these texts: blocks, journal blocks, nodes; the layout, or layout 1; the rule of notices,
+-- or none of them come; the room for writes, or 4,096; and the write that fails, or none.
 abbrev pub recording_of : (List ℕ → Option (List ℕ)) → Option Request
 recording_of text = record_of
     (option_and_then (number_in 64 1048576) (text (codes "blocks")))
     (option_and_then (number_in 16 65536) (text (codes "journal")))
     (option_and_then (number_in 16 65536) (text (codes "nodes")))
+    (value_or One layout_in (text (codes "layout")))
     (value_or Silent notices_of (text (codes "notices")))
     (value_or 4096 (number_in 1 65536) (text (codes "room")))
     (value_or None (λ t. option_map (λ write. Some write) (number_in 1 4294967295 t)) (text (codes "fail")))
@@ -191,18 +202,20 @@ replay_of text = replay_at
 abbrev pub tree_of : (List ℕ → Option (List ℕ)) → Option Request
 tree_of text = option_map (λ image. Tree image) (text (codes "image"))
 
--- the making of this image with these numbers, where each of them is one
-abbrev pub make_with : Option (List ℕ) → Option ℕ → Option ℕ → Option ℕ → Option Request
-make_with (Some image) (Some blocks) (Some journal) (Some nodes) = Some (Make image blocks journal nodes)
-make_with _ _ _ _ = None
+-- the making of this image with these numbers and this layout, where each of them is one
+abbrev pub make_with : Option (List ℕ) → Option ℕ → Option ℕ → Option ℕ → Option Layout → Option Request
+make_with (Some image) (Some blocks) (Some journal) (Some nodes) (Some layout) = Some (Make image blocks journal nodes layout)
+make_with _ _ _ _ _ = None
 
--- the making whose words have these texts: the name of the image; and blocks, journal blocks, nodes, in the ranges that a recording has
+-- The making whose words and option have these texts: the name of the image; blocks, journal blocks, nodes, in the ranges that a recording has;
+-- and the layout, or layout 1.
 abbrev pub make_of : (List ℕ → Option (List ℕ)) → Option Request
 make_of text = make_with
     (text (codes "image"))
     (option_and_then (number_in 64 1048576) (text (codes "blocks")))
     (option_and_then (number_in 16 65536) (text (codes "journal")))
     (option_and_then (number_in 16 65536) (text (codes "nodes")))
+    (value_or One layout_in (text (codes "layout")))
 
 -- the run on the image with this name; or on it and another one with that name, where the names differ
 abbrev pub run_with : Option (List ℕ) → Option (List ℕ) → Option Request
@@ -278,12 +291,12 @@ HasSeedInRange _ = ⊤
 -- each number of a request is in its range, and two images have two names; which numbers a choice has is said where it is read
 abbrev pub IsInRange : Option Request → Type 0
 IsInRange None = ⊤
-IsInRange (Some (Record blocks journal nodes notices room fail)) =
+IsInRange (Some (Record blocks journal nodes layout notices room fail)) =
     (64 ≤ blocks) × (blocks ≤ 1048576) × (16 ≤ journal) × (journal ≤ 65536) × (16 ≤ nodes) × (nodes ≤ 65536)
     × HasSeedInRange notices × (1 ≤ room) × (room ≤ 65536) × IfSome fail (λ write. (1 ≤ write) × (write ≤ 4294967295))
 IsInRange (Some (Replay moment choice)) = moment ≤ 4294967295
 IsInRange (Some (Tree image)) = ⊤
-IsInRange (Some (Make image blocks journal nodes)) =
+IsInRange (Some (Make image blocks journal nodes layout)) =
     (64 ≤ blocks) × (blocks ≤ 1048576) × (16 ≤ journal) × (journal ≤ 65536) × (16 ≤ nodes) × (nodes ≤ 65536)
 IsInRange (Some (Run image)) = ⊤
 IsInRange (Some (RunMirrored image other)) = image ≢ other

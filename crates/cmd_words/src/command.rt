@@ -31,6 +31,9 @@ pub const ROOM: &str = "room";
 /// The name of its write that fails.
 pub const FAIL: &str = "fail";
 
+/// The name of its layout.
+pub const LAYOUT: &str = "layout";
+
 /// The name of the command that replays a trace.
 pub const REPLAY: &str = "replay";
 
@@ -183,6 +186,7 @@ fn record_command<'a>(alloc: Global) -> Result<Command<'a>, NoMemory>
     let command = with_option(alloc, command, NOTICES)?;
     let command = with_option(alloc, command, ROOM)?;
     let command = with_option(alloc, command, FAIL)?;
+    let command = with_option(alloc, command, LAYOUT)?;
     Ok(command)
 }
 
@@ -218,6 +222,7 @@ fn mkfs_command<'a>(alloc: Global) -> Result<Command<'a>, NoMemory>
     let command = with_word(alloc, command, BLOCKS)?;
     let command = with_word(alloc, command, JOURNAL)?;
     let command = with_word(alloc, command, NODES)?;
+    let command = with_option(alloc, command, LAYOUT)?;
     Ok(command)
 }
 

@@ -4,11 +4,11 @@
 use crate::choice_parse::parse_choice;
 use crate::choice_refusal::ChoiceRefusal;
 use crate::command::{
-    AT, BLOCKS, COUNT, FAIL, IMAGE, JOURNAL, MIRROR, NODES, NOTICES, OTHER, ROOM, SEED, STAND,
-    TEAR, program,
+    AT, BLOCKS, COUNT, FAIL, IMAGE, JOURNAL, LAYOUT, MIRROR, NODES, NOTICES, OTHER, ROOM, SEED,
+    STAND, TEAR, program,
 };
 use crate::request::{MOST_COUNT, MOST_ROOM};
-use crate::values::{notices_of, number_in};
+use crate::values::{layout_in, notices_of, number_in};
 use base_types::NoMemory;
 use base_types::limits::{
     LEAST_BLOCKS, LEAST_JOURNAL, LEAST_NODES, MOST_BLOCKS, MOST_JOURNAL, MOST_NODES,
@@ -62,6 +62,11 @@ fn of_texts(alloc: Global, found: &ArgMatches) -> Result<String, NoMemory> {
             return Ok(format!(in alloc;
                 "'{text}' is none of none, fifo and a seed from 1 to 4294967295"
             )?);
+        }
+    }
+    if let Some(text) = found.get_str(LAYOUT) {
+        if layout_in(text).is_none() {
+            return Ok(format!(in alloc; "'{text}' is none of 1 and 2, as <layout> is")?);
         }
     }
     let other = found.get_str(MIRROR).or(found.get_str(OTHER));

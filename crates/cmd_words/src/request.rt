@@ -1,22 +1,23 @@
 //! The request that words ask for: its type, and how it is read from them. How `clap` is known of the
 //! command line is in the module of the command, and what one text says in that of the values.
 
-ghost use Rattle.std.specs.Prelude.{◌≡◌, IfOk, bytes_eq, option_and_then};
+ghost use Rattle.std.specs.Prelude.{◌≡◌, IfOk, bytes_eq, codes, option_and_then};
+ghost use Rattle.base_types.specs.declared.layout.Layout.TheVariants.{One};
 ghost use Rattle.clap.specs.Words.{first_value, found_of};
-ghost use Rattle.cmd_words.specs.Words.{IsInRange, asked_by, copy_of, load_of, log_of, make_of, number_in, recording_of, replay_of, request_of, run_of, tree_of};
+ghost use Rattle.cmd_words.specs.Words.{IsInRange, asked_by, copy_of, layout_in, load_of, log_of, make_of, number_in, recording_of, replay_of, request_of, run_of, tree_of, value_or};
 
 use crate::choice_parse::parse_choice;
 use crate::choice_refusal::ChoiceRefusal;
 use crate::command::{
-    APPLOG, AT, BLOCKS, COPY, COUNT, FAIL, IMAGE, JOURNAL, LOAD, MIRROR, MKFS, NODES, NOTICES,
-    OTHER, RECORD, REPLAY, ROOM, RUN, SEED, STAND, TEAR, TREE, program,
+    APPLOG, AT, BLOCKS, COPY, COUNT, FAIL, IMAGE, JOURNAL, LAYOUT, LOAD, MIRROR, MKFS, NODES,
+    NOTICES, OTHER, RECORD, REPLAY, ROOM, RUN, SEED, STAND, TEAR, TREE, program,
 };
-use crate::values::{notices_of, number_in};
+use crate::values::{layout_in, notices_of, number_in};
 use crate::word::Word;
-use base_types::NoMemory;
 use base_types::limits::{
     LEAST_BLOCKS, LEAST_JOURNAL, LEAST_NODES, MOST_BLOCKS, MOST_JOURNAL, MOST_NODES,
 };
+use base_types::{Layout, NoMemory};
 use clap::ArgMatches;
 use clap::error::ErrorKind;
 use disk_memory::Choice;
@@ -42,6 +43,8 @@ pub enum Request {
         blocks: u32,
         journal: u32,
         nodes: u32,
+        /// How the nodes and slots of the disk are laid out.
+        layout: Layout,
         /// By which rule the disk brings its notices.
         notices: Notices,
         /// For how many writes the disk has room, from 1 to 65,536.
@@ -58,13 +61,14 @@ pub enum Request {
     Tree {
         image: Word,
     },
-    /// Make the image with this name, with so many blocks, journal blocks and nodes. Each number is in its
-    /// range of `base_types::limits`.
+    /// Make the image with this name, with so many blocks, journal blocks and nodes, in this layout. Each number
+    /// is in its range of `base_types::limits`.
     Make {
         image: Word,
         blocks: u32,
         journal: u32,
         nodes: u32,
+        layout: Layout,
     },
     /// Run a script on the image with this name.
     Run {
@@ -172,6 +176,7 @@ fn recording(found: &ArgMatches) -> Option<Request>
     let blocks = number(found, BLOCKS, LEAST_BLOCKS, MOST_BLOCKS)?;
     let journal = number(found, JOURNAL, LEAST_JOURNAL, MOST_JOURNAL)?;
     let nodes = number(found, NODES, LEAST_NODES, MOST_NODES)?;
+    let layout = layout(found)?;
     let notices = match found.get_str(NOTICES) {
         Some(text) => notices_of(text)?,
         None => Notices::Silent,
@@ -188,6 +193,7 @@ fn recording(found: &ArgMatches) -> Option<Request>
         blocks,
         journal,
         nodes,
+        layout,
         notices,
         room,
         fail,
@@ -201,6 +207,16 @@ fn number(found: &ArgMatches, id: &str, low: u32, high: u32) -> Option<u32>
     match found.get_str(id) {
         Some(text) => number_in(text, low, high),
         None => None,
+    }
+}
+
+/// The layout that was found, or layout 1.
+fn layout(found: &ArgMatches) -> Option<Layout>
+    ensures { result ≡ value_or One layout_in (first_value (found_of found.now) (codes "layout")) }
+{
+    match found.get_str(LAYOUT) {
+        Some(text) => layout_in(text),
+        None => Some(Layout::One),
     }
 }
 
@@ -229,7 +245,7 @@ fn showing(alloc: Global, found: &ArgMatches) -> Result<Option<Request>, NoMemor
     }
 }
 
-/// The making whose image and numbers were found.
+/// The making whose image, numbers and layout were found.
 fn making(alloc: Global, found: &ArgMatches) -> Result<Option<Request>, NoMemory>
     ensures { IfOk result (λ request. request ≡ make_of (first_value (found_of found.now))) }
 {
@@ -245,11 +261,15 @@ fn making(alloc: Global, found: &ArgMatches) -> Result<Option<Request>, NoMemory
     let Some(nodes) = number(found, NODES, LEAST_NODES, MOST_NODES) else {
         return Ok(None);
     };
+    let Some(layout) = layout(found) else {
+        return Ok(None);
+    };
     Ok(Some(Request::Make {
         image,
         blocks,
         journal,
         nodes,
+        layout,
     }))
 }
 

@@ -1,10 +1,11 @@
-//! What one text says: a number in its range, or a rule of notices. Where the text stands among the words is not
+//! What one text says: a number in its range, a rule of notices, or a layout. Where the text stands among the words is not
 //! said here.
 
 ghost use Rattle.std.specs.Prelude.{◌≡◌};
-ghost use Rattle.cmd_words.specs.Words.{notices_of, number_in, seed_of};
+ghost use Rattle.cmd_words.specs.Words.{layout_in, notices_of, number_in, seed_of};
 
 use crate::request::Notices;
+use base_types::Layout;
 use itoa::Buffer;
 
 /// The number from `low` to `high` that a text writes in decimal digits, behind a plus sign or none.
@@ -34,6 +35,19 @@ pub fn notices_of(text: &str) -> Option<Notices>
         Some(seed) => Some(Notices::Seed(seed)),
         None => None,
     }
+}
+
+/// The layout that a text names: `1` or `2`.
+pub fn layout_in(text: &str) -> Option<Layout>
+    ensures { result ≡ layout_in text.now }
+{
+    if text == "1" {
+        return Some(Layout::One);
+    }
+    if text == "2" {
+        return Some(Layout::Two);
+    }
+    None
 }
 
 /// The least seed of a draw.

@@ -9,12 +9,12 @@ use disk_file::FileBay;
 use std::rt::HostRuntime;
 
 /// The commands and their words.
-const USAGE: &str = "usage: optfs mkfs IMAGE N J I
+const USAGE: &str = "usage: optfs mkfs IMAGE N J I [--layout 1|2]
        optfs run IMAGE [--mirror OTHER] < SCRIPT > REPLIES
        optfs applog IMAGE < CALLS > REPLIES
        optfs copy IMAGE OTHER
        optfs tree IMAGE > LISTING
-       optfs record N J I [--notices none|fifo|SEED] [--room R] [--fail W] < SCRIPT > TRACE
+       optfs record N J I [--notices none|fifo|SEED] [--room R] [--fail W] [--layout 1|2] < SCRIPT > TRACE
        optfs replay --at K [--stand all|none|LIST] [--tear LIST] < TRACE
        optfs load --seed S --count C";
 

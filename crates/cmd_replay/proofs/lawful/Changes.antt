@@ -11,6 +11,7 @@ use Rattle.std.specs.declared.cmp.Ordering.TheVariants.{Equal}
 use Rattle.std.proofs.lemmas.Bool.{and_parts}
 use Rattle.std.proofs.lemmas.Option.{same_Some, none-some}
 use Rattle.base_types.specs.Name.{is_name}
+use Rattle.lang_script.specs.Shared.{snapshot_name}
 use Rattle.lang_script.specs.Grammar.{fits}
 use Rattle.lang_script.specs.Values.{IsCommand}
 use Rattle.cmd_trace.specs.Contents.{Each}
@@ -21,7 +22,7 @@ use Rattle.lang_tree.specs.Conditions.{least_unused, refusal}
 use Rattle.lang_tree.specs.Names.{path_count, renamed}
 use Rattle.lang_tree.specs.Paths.{strip, moved_by, moved_path}
 use Rattle.lang_tree.specs.Step.{Session, kept_of, snapped_by, unsnapped, start, step, answered, accepted, osync, dwait, write, truncate, rename, written, resized, with_node, added, with_bytes, edited_at, edited, linked_by, linked, removed_by, removed, moved, changed_to}
-use Rattle.lang_tree.specs.Tree.{Tree, Names, Nodes, Kept, Thing, Dir, File, alone, kept_tree, path_cmp}
+use Rattle.lang_tree.specs.Tree.{Bounds, Tree, Names, Nodes, Kept, Thing, Dir, File, alone, kept_tree, path_cmp}
 use Rattle.lang_tree.specs.Walk.{content, is_same_node}
 use Rattle.cmd_replay.specs.Named.{HasLawfulNames, HasBytes, OfEachSnapshot}
 use Rattle.cmd_replay.proofs.telling.Lines.{ThingBytes}
@@ -298,8 +299,8 @@ module _ (P : Tree → Type 0) (kept : IsKept P) where
   wait_keeps s n false h = h
 
   accepted_keeps : (s : Session) (cmd : Cmd) → IsCommand cmd → P s.tree → P (accepted s cmd).0.tree
-  accepted_keeps s (Mkdir path) law h = kept.made s.limit s.tree path Dir law tt h
-  accepted_keeps s (Create path) law h = kept.made s.limit s.tree path (File []) law refl h
+  accepted_keeps s (Mkdir path) law h = kept.made s.limit.nodes s.tree path Dir law tt h
+  accepted_keeps s (Create path) law h = kept.made s.limit.nodes s.tree path (File []) law refl h
   accepted_keeps s (Write path offset bytes) law h =
       let names = and_parts (list_all is_name path) _ law in
       let numbers = and_parts (fits offset) _ names.1 in
@@ -317,7 +318,7 @@ module _ (P : Tree → Type 0) (kept : IsKept P) where
   accepted_keeps s (Unlink path) law h = kept.gone s.tree path h
   accepted_keeps s (Rmdir path) law h = kept.gone s.tree path h
   accepted_keeps s (Rename from to) law h = rename_keeps s from to (and_parts (list_all is_name from) (list_all is_name to) law).1 h
-  accepted_keeps s (Snap name) law h = kept.snapped s.tree name (least_unused s.limit s.tree) law h
+  accepted_keeps s (Snap name) law h = kept.snapped s.tree name (least_unused s.limit.nodes s.tree) (snapshot_name name law) h
   accepted_keeps s (Unsnap name) law h = kept.unsnapped s.tree name h
   accepted_keeps s Osync law h = sync_keeps s s.changed h
   accepted_keeps s Dsync law h = sync_keeps s s.changed h
@@ -347,17 +348,17 @@ step_named = step_keeps AllNamed (with_snapshots HasLawfulNames (λ name u. (is_
 pub step_all_bytes : (s : Session) (cmd : Cmd) → IsCommand cmd → AllBytes s.tree → AllBytes (step s cmd).0.tree
 step_all_bytes = step_keeps AllBytes (with_snapshots HasBytes (λ name u. HasBytes u) bytes_kept (λ name t law h. h))
 
-pub start_names : (limit : ℕ) → HasLawfulNames (start limit).tree
+pub start_names : (limit : Bounds) → HasLawfulNames (start limit).tree
 start_names limit = names_put empty [] 1 refl (λ p n e. absurd (none-some n (sym (get-empty path_cmp p) ∙ e)))
 
-pub start_bytes : (limit : ℕ) → HasBytes (start limit).tree
+pub start_bytes : (limit : Bounds) → HasBytes (start limit).tree
 start_bytes limit = nodes_put empty 1 Dir tt (λ n bytes e. absurd (none-some (File bytes) (sym (get-empty nat_cmp n) ∙ e)))
 
-none_first : (R : List ℕ → Tree → Type 0) (limit : ℕ) → OfEachSnapshot R (start limit).tree
+none_first : (R : List ℕ → Tree → Type 0) (limit : Bounds) → OfEachSnapshot R (start limit).tree
 none_first R limit name k e = absurd (none-some k (sym (get-empty (slice_cmp nat_cmp) name) ∙ e))
 
-pub start_named : (limit : ℕ) → AllNamed (start limit).tree
+pub start_named : (limit : Bounds) → AllNamed (start limit).tree
 start_named limit = (start_names limit, none_first (λ name u. (is_name name ≡ true) × HasLawfulNames u) limit)
 
-pub start_all_bytes : (limit : ℕ) → AllBytes (start limit).tree
+pub start_all_bytes : (limit : Bounds) → AllBytes (start limit).tree
 start_all_bytes limit = (start_bytes limit, none_first (λ name u. HasBytes u) limit)

@@ -1,8 +1,11 @@
 -- The files of the tree that an image stands for have bytes, where the image's blocks do.
-use Rattle.std.proofs.Common.{◌≡◌, sym, ◌∙◌, refl, subst, ℕ, suc, ◌+◌, ◌/◌, ◌<◌, ◌==◌, Bool, true, false, if◌then◌else◌, List, [], ◌∷◌, length, Option, Some, None}
+use Rattle.std.proofs.Common.{◌≡◌, sym, ◌∙◌, refl, subst, ℕ, suc, ◌+◌, ◌<◌, ◌==◌, Bool, true, false, if◌then◌else◌, List, [], ◌∷◌, length, Option, Some, None}
 use Rattle.std.specs.Prelude.{slice_index, option_map}
 use Rattle.std.proofs.lemmas.Bool.Decides.{Decides-ltb}
 use Rattle.std.proofs.lemmas.Option.{same_Some}
+use Rattle.layout_bytes.specs.Node.{content_of}
+use Rattle.base_types.specs.Layouts.{slots_held}
+use Rattle.base_types.specs.declared.layout.Layout.{Layout}
 use Rattle.base_types.specs.Runs.{run_places}
 use Rattle.base_types.specs.Seal.{Blocks}
 use Rattle.layout_geometry.specs.Geometry.{Geometry}
@@ -13,7 +16,7 @@ use Rattle.layout_journal.specs.Layout.{unescaped}
 use Rattle.layout_geometry.specs.Geometry.{ring_block}
 use Rattle.layout_journal.specs.Run.{Record, HeldIs, names_block, heads, payload_from, payload_of, or_else, covered_by, otherwise, replayed, is_live}
 use Rattle.layout_bytes.specs.Bytes.{when}
-use Rattle.layout_bytes.specs.Slot.{slot_size, slots_in}
+use Rattle.layout_bytes.specs.Slot.{slots_in}
 use Rattle.layout_bytes.specs.declared.node.NodeKind.{NodeKind}
 use Rattle.layout_bytes.specs.declared.node.NodeKind.TheVariants.{Dir as DirNode}
 use Rattle.layout_bytes.specs.declared.slot.Slot.{Slot}
@@ -91,20 +94,20 @@ FileBytes None = Unit {0}
 FileBytes (Some file) = AreBytes file.bytes
 
 files_bytes : (g : Geometry) (m : Blocks) (k : ℕ) → AllBytes m → FileBytes (files_of g m k)
-files_bytes g m k h = elim (used_node g m k) as (λ o. FileBytes (option_map (file_of m) o)) [ None ↦ tt | Some node ↦ all_take node.size (joined m (run_places node.runs)) (joined_bytes m (run_places node.runs) h) ]
+files_bytes g m k h = elim (used_node g m k) as (λ o. FileBytes (option_map (file_of g.layout m) o)) [ None ↦ tt | Some node ↦ all_take (content_of g.layout node.kind node.size) (joined m (run_places node.runs)) (joined_bytes m (run_places node.runs) h) ]
 
 no_file : (t : Bool) (o : Option (List Slot)) (links : ℕ) (bytes : List ℕ) → when t (option_map ADir o) ≡ Some (AFile links bytes) → ⊥
 no_file true None links bytes e = cc e
 no_file other o links bytes e = cc e
 
-same_bytes : (kind : NodeKind) (count : ℕ) (xs : List ℕ) (links : ℕ) (bytes : List ℕ) → inode_by kind count xs ≡ Some (AFile links bytes) → xs ≡ bytes
-same_bytes DirNode count xs links bytes e = absurd (no_file (count == 1) (slots_in (length xs / slot_size) xs) links bytes e)
-same_bytes other count xs links bytes e = cc e
+same_bytes : (l : Layout) (kind : NodeKind) (count : ℕ) (xs : List ℕ) (links : ℕ) (bytes : List ℕ) → inode_by l kind count xs ≡ Some (AFile links bytes) → xs ≡ bytes
+same_bytes l DirNode count xs links bytes e = absurd (no_file (count == 1) (slots_in l (slots_held l (length xs)) xs) links bytes e)
+same_bytes l other count xs links bytes e = cc e
 
-inode_bytes : (file : Option FileNode) (x : Inode) → FileBytes file → IsInodeOf file (Some x) → ThingBytes (thing_of x)
-inode_bytes file (ADir slots) h is = tt
-inode_bytes None (AFile links bytes) h is = cc is
-inode_bytes (Some file) (AFile links bytes) h is = subst AreBytes (same_bytes file.kind file.links file.bytes links bytes is) h
+inode_bytes : (l : Layout) (file : Option FileNode) (x : Inode) → FileBytes file → IsInodeOf l file (Some x) → ThingBytes (thing_of x)
+inode_bytes l file (ADir slots) h is = tt
+inode_bytes l None (AFile links bytes) h is = cc is
+inode_bytes l (Some file) (AFile links bytes) h is = subst AreBytes (same_bytes l file.kind file.links file.bytes links bytes is) h
 
 pub stands_bytes : (n : ℕ) (img : Blocks) (t : Tree) → ((b i : ℕ) → slice_index (img b) i < 256) → StandsFor n img t → HasBytes t
 stands_bytes n img t small is k bytes e = by (is.tree.inodes k) (is.tree.read k) (sym (is.tree.map.shows.nodes k) ∙ e)
@@ -112,6 +115,6 @@ stands_bytes n img t small is k bytes e = by (is.tree.inodes k) (is.tree.read k)
     file : FileBytes (files_of is.held.header.geom is.map k)
     file = files_bytes is.held.header.geom is.map k (held_bytes n img is.map (λ b. small_ones (img b) (small b)) is.held)
 
-    by : (o : Option Inode) → IsInodeOf (files_of is.held.header.geom is.map k) o → option_map thing_of o ≡ Some (File bytes) → AreBytes bytes
+    by : (o : Option Inode) → IsInodeOf is.held.header.geom.layout (files_of is.held.header.geom is.map k) o → option_map thing_of o ≡ Some (File bytes) → AreBytes bytes
     by None read same = cc same
-    by (Some x) read same = subst ThingBytes (same_Some (thing_of x) (File bytes) same) (inode_bytes (files_of is.held.header.geom is.map k) x file read)
+    by (Some x) read same = subst ThingBytes (same_Some (thing_of x) (File bytes) same) (inode_bytes is.held.header.geom.layout (files_of is.held.header.geom is.map k) x file read)

@@ -1,10 +1,12 @@
 -- The tree that an image stands for has lawful names: slots have no others.
-use Rattle.std.proofs.Common.{◌≡◌, sym, ap, refl, ◌∙◌, subst, arith, ℕ, zero, suc, ◌+◌, ◌/◌, ◌<◌, ◌^◌, ◌==◌, Bool, true, false, if◌then◌else◌, List, [], ◌∷◌, length, take, drop, Option, Some, None, bytes_eq, nat_le}
+use Rattle.std.proofs.Common.{◌≡◌, sym, ap, refl, ◌∙◌, subst, arith, ℕ, zero, suc, ◌+◌, ◌<◌, ◌^◌, ◌==◌, Bool, true, false, if◌then◌else◌, List, [], ◌∷◌, length, take, drop, Option, Some, None, bytes_eq, nat_le}
 use Rattle.std.specs.Prelude.{◌-◌, ◌&&◌, slice_index, option_map, option_and_then}
 use Rattle.std.specs.List.{list_all}
 use Rattle.std.proofs.lemmas.Bool.{and_parts}
 use Rattle.std.proofs.lemmas.Slice.Eq.{bytes_eq-Decides}
 use Rattle.std.proofs.lemmas.Option.{same_Some}
+use Rattle.base_types.specs.Layouts.{longest_name, slot_place, slots_held}
+use Rattle.base_types.specs.declared.layout.Layout.{Layout}
 use Rattle.base_types.specs.Name.{is_name}
 use Rattle.base_types.specs.Runs.{run_places}
 use Rattle.base_types.specs.Seal.{Blocks}
@@ -12,7 +14,7 @@ use Rattle.layout_geometry.specs.Geometry.{Geometry, IsGeometry, geometry_fits}
 use Rattle.layout_journal.specs.declared.header.Header.{Header}
 use Rattle.layout_journal.specs.Layout.{header_of, IsWithinDisk}
 use Rattle.layout_bytes.specs.Bytes.{when, field, has_zeros}
-use Rattle.layout_bytes.specs.Slot.{slot_size, slot_of, slots_in, then_slot, name_in}
+use Rattle.layout_bytes.specs.Slot.{slots_in, slots_at, slot_size, slot_of, then_slot, name_in}
 use Rattle.layout_bytes.specs.declared.node.NodeKind.{NodeKind}
 use Rattle.layout_bytes.specs.declared.node.NodeKind.TheVariants.{Free, Dir as DirNode, File as FileOf, Snapshot}
 use Rattle.layout_bytes.specs.declared.slot.Slot.{Slot}
@@ -29,27 +31,32 @@ use Rattle.cmd_replay.specs.Named.{HasLawfulNames, IsListable, OfEachSnapshot}
 abbrev IsNamed : Slot → Type 0
 IsNamed s = is_name s.name ≡ true
 
-slot_is_named : (b : List ℕ) (s : Slot) → slot_of b ≡ Some s → IsNamed s
+slot_is_named : (l : Layout) (b : List ℕ) (s : Slot) → slot_of l b ≡ Some s → IsNamed s
 unfolding slot_of
-slot_is_named b s e = by _ refl e
+slot_is_named l b s e = by _ refl e
   where
     slot : Slot
     slot = record { node = field b 0 4; name = name_in b }
 
-    by : (t : Bool) → (nat_le (slice_index b 4) (slot_size - 5) && (is_name (name_in b) && has_zeros b (5 + slice_index b 4) slot_size)) ≡ t → when t (Some slot) ≡ Some s → IsNamed s
+    by : (t : Bool) → (nat_le (slice_index b 4) (longest_name l) && (is_name (name_in b) && has_zeros b (5 + slice_index b 4) (slot_size l))) ≡ t → when t (Some slot) ≡ Some s → IsNamed s
     by true h is =
-        let names = (and_parts (nat_le (slice_index b 4) (slot_size - 5)) _ h).1 in
-        subst IsNamed (same_Some slot s is) (and_parts (is_name (name_in b)) (has_zeros b (5 + slice_index b 4) slot_size) names).0
+        let names = (and_parts (nat_le (slice_index b 4) (longest_name l)) _ h).1 in
+        subst IsNamed (same_Some slot s is) (and_parts (is_name (name_in b)) (has_zeros b (5 + slice_index b 4) (slot_size l)) names).0
     by false h is = cc is
 
-slots_are_named : (n : ℕ) (b : List ℕ) (slots : List Slot) → slots_in n b ≡ Some slots → Each IsNamed slots
-slots_are_named zero b slots e = subst (Each IsNamed) (same_Some [] slots e) tt
-slots_are_named (suc n) b slots e = by (slot_of (take slot_size b)) (slots_in n (drop slot_size b)) refl (slots_are_named n (drop slot_size b)) e
+slots_are_named : (l : Layout) (from n : ℕ) (b : List ℕ) (slots : List Slot) → slots_at l from n b ≡ Some slots → Each IsNamed slots
+slots_are_named l from zero b slots e = subst (Each IsNamed) (same_Some [] slots e) tt
+slots_are_named l from (suc n) b slots e =
+    by (has_zeros b (slot_place l from + slot_size l) (slot_place l (from + 1))) (slot_of l (take (slot_size l) (drop (slot_place l from) b))) (slots_at l (from + 1) n b) refl
+    (slots_are_named l (from + 1) n b) e
   where
-    by : (o : Option Slot) (r : Option (List Slot)) → slot_of (take slot_size b) ≡ o → ((more : List Slot) → r ≡ Some more → Each IsNamed more) → then_slot o r ≡ Some slots → Each IsNamed slots
-    by None r first rest is = cc is
-    by (Some s) None first rest is = cc is
-    by (Some s) (Some more) first rest is = subst (Each IsNamed) (same_Some (s ∷ more) slots is) (slot_is_named (take slot_size b) s first, rest more refl)
+    by : (t : Bool) (o : Option Slot) (r : Option (List Slot)) → slot_of l (take (slot_size l) (drop (slot_place l from) b)) ≡ o → ((more : List Slot) → r ≡ Some more → Each IsNamed more)
+        → when t (then_slot o r) ≡ Some slots → Each IsNamed slots
+    by false o r first rest is = cc is
+    by true None r first rest is = cc is
+    by true (Some s) None first rest is = cc is
+    by true (Some s) (Some more) first rest is =
+        subst (Each IsNamed) (same_Some (s ∷ more) slots is) (slot_is_named l (take (slot_size l) (drop (slot_place l from) b)) s first, rest more refl)
 
 -- what stands under a name among slots is under a lawful one
 under_a_name : (slots : List Slot) (name : List ℕ) (n : ℕ) → Each IsNamed slots → node_in slots name ≡ Some n → is_name name ≡ true
@@ -61,26 +68,27 @@ under_a_name (s ∷ slots) name n h e = by (bytes_eq s.name name) refl (under_a_
     by false same later is = later is
 
 -- the slots of a directory are named
-dir_is_named : (kind : NodeKind) (links : ℕ) (bytes : List ℕ) (slots : List Slot) → inode_by kind links bytes ≡ Some (ADir slots) → Each IsNamed slots
-dir_is_named Free links bytes slots e = cc e
-dir_is_named Snapshot links bytes slots e = cc e
-dir_is_named FileOf links bytes slots e = cc e
-dir_is_named DirNode links bytes slots e = by (links == 1) (slots_in (length bytes / slot_size) bytes) (slots_are_named (length bytes / slot_size) bytes) e
+dir_is_named : (l : Layout) (kind : NodeKind) (links : ℕ) (bytes : List ℕ) (slots : List Slot) → inode_by l kind links bytes ≡ Some (ADir slots) → Each IsNamed slots
+dir_is_named l Free links bytes slots e = cc e
+dir_is_named l Snapshot links bytes slots e = cc e
+dir_is_named l FileOf links bytes slots e = cc e
+dir_is_named l DirNode links bytes slots e =
+    by (links == 1) (slots_in l (slots_held l (length bytes)) bytes) (slots_are_named l 0 (slots_held l (length bytes)) bytes) e
   where
     by : (t : Bool) (o : Option (List Slot)) → ((more : List Slot) → o ≡ Some more → Each IsNamed more) → when t (option_map ADir o) ≡ Some (ADir slots) → Each IsNamed slots
     by false o named is = cc is
     by true None named is = cc is
     by true (Some more) named is = let same : more ≡ slots = cc is in subst (Each IsNamed) same (named more refl)
 
-inode_is_named : (file : Option FileNode) (slots : List Slot) → IsInodeOf file (Some (ADir slots)) → Each IsNamed slots
-inode_is_named None slots h = cc h
-inode_is_named (Some file) slots h = dir_is_named file.kind file.links file.bytes slots h
+inode_is_named : (l : Layout) (file : Option FileNode) (slots : List Slot) → IsInodeOf l file (Some (ADir slots)) → Each IsNamed slots
+inode_is_named l None slots h = cc h
+inode_is_named l (Some file) slots h = dir_is_named l file.kind file.links file.bytes slots h
 
-module _ (files : Files) (m : Inodes) (read : AreInodesOf files m) where
+module _ (l : Layout) (files : Files) (m : Inodes) (read : AreInodesOf l files m) where
   entry_is_named : (k : ℕ) (name : List ℕ) (n : ℕ) (o : Option Inode) → m k ≡ o → entry_in o name ≡ Some n → is_name name ≡ true
   entry_is_named k name n None at e = cc e
   entry_is_named k name n (Some (AFile links bytes)) at e = cc e
-  entry_is_named k name n (Some (ADir slots)) at e = under_a_name slots name n (inode_is_named (files k) slots (subst (IsInodeOf (files k)) at (read k))) e
+  entry_is_named k name n (Some (ADir slots)) at e = under_a_name slots name n (inode_is_named l (files k) slots (subst (IsInodeOf l (files k)) at (read k))) e
 
   walk_is_named : (p : List (List ℕ)) (k n : ℕ) → walk (entries_of m) k p ≡ Some n → list_all is_name p ≡ true
   walk_is_named [] k n e = refl
@@ -92,13 +100,13 @@ module _ (files : Files) (m : Inodes) (read : AreInodesOf files m) where
       by (Some j) at later is = rw (entry_is_named k name j (m k) refl at) (later j is)
 
 tree_is_named : (g : Geometry) (m : Blocks) (t : Tree) → IsTreeOf g m t → HasLawfulNames t
-tree_is_named g m t is p n e = walk_is_named (files_of g m) is.inodes is.read p 1 n (sym (is.map.shows.names p) ∙ e)
+tree_is_named g m t is p n e = walk_is_named g.layout (files_of g m) is.inodes is.read p 1 n (sym (is.map.shows.names p) ∙ e)
 
 kept_is_named : (g : Geometry) (m : Blocks) (t : Tree) → IsTreeOf g m t → OfEachSnapshot (λ name u. (is_name name ≡ true) × HasLawfulNames u) t
 kept_is_named g m t is name k at =
     let holds = is.keeps name k at in
     let kept = holds.keeps in
-    (holds.lawful, λ p n e. walk_is_named (kept_files g m (run_places holds.node.runs)) kept.inodes kept.read p 1 n (sym (kept.map.shows.names p) ∙ e))
+    (holds.lawful, λ p n e. walk_is_named g.layout (kept_files g m (run_places holds.node.runs)) kept.inodes kept.read p 1 n (sym (kept.map.shows.names p) ∙ e))
 
 pub stands_named : ((g : Geometry) → geometry_fits g ≡ true → IsGeometry g) → ((n : ℕ) (b : List ℕ) (h : Header) → header_of n b ≡ Some h → IsWithinDisk n h)
     → ((g : Geometry) (m : Blocks) (t : Tree) → IsTreeOf g m t → IsSound g.i t) → ((g : Geometry) (m : Blocks) (t : Tree) → IsTreeOf g m t → HasSoundSnapshots g.i t)

@@ -3,6 +3,7 @@ use Rattle.disk_contract.specs.Manner.{Manner}
 use Rattle.disk_memory.specs.MemDisk.{state_of as disk_state}
 use Rattle.layout_journal.specs.Formatted.{formatted}
 use Rattle.layout_journal.specs.Run.{live_part}
+use Rattle.crash_stands.specs.Bounds.{bounds_of}
 use Rattle.crash_stands.specs.Stands.{IsTreeOf}
 use Rattle.lang_tree.specs.Step.{start}
 use Rattle.lang_tree.specs.Tree.{Tree}
@@ -36,7 +37,7 @@ unreachable-requires c =
     let g = c.args.geom.now in
     let s = state_of disk_state c.args.store in
     let none = subst (λ (why : CheckRefusal). OnDamage why (λ what. (t : Tree) → IsTreeOf s.books.geom s.map t → ⊥)) c.in-Err-default-Damaged.field-0-1-is (c.in-Err-default-Damaged.ensures.none refl) in
-    none (start g.i).tree (root_stands g s c.requires (c.the_formatted_disk_stands_for_the_root.ensures.blocks g c.lawful.ensures.fits))
+    none (start (bounds_of g)).tree (root_stands g s c.requires (c.the_formatted_disk_stands_for_the_root.ensures.blocks g c.lawful.ensures.fits))
 
 pub returns-in-Ok : goal.returns-in-Ok
 returns-in-Ok c =
@@ -45,10 +46,10 @@ returns-in-Ok c =
     let t = state_of disk_state (blocks_in c.in-Ok.system) in
     let looks = c.in-Ok.ensures.looks in
     let tree = c.the_formatted_disk_stands_for_the_root.ensures.blocks g c.lawful.ensures.fits in
-    let served = c.in-Ok.ensures.serves refl (λ x. drawn disk_state x) g (live_part g (formatted g)) (start g.i).tree (mounted_with g s c.requires) tree in
+    let served = c.in-Ok.ensures.serves refl (λ x. drawn disk_state x) g (live_part g (formatted g)) (start (bounds_of g)).tree (mounted_with g s c.requires) tree in
     let h = c.requires.begun in
     let begun : IsBegun t = subst (λ (k : Bookkeeping). IsBegun (record t { books = k })) (sym looks.books) (record { point = h.point; weight = h.weight; held = h.held; payloads = h.payloads; fresh = h.fresh; none_bare = h.none_bare; going = h.going }) in
-    let room = c.nothing_is_taken_at_first.ensures refl (blocks_in c.in-Ok.system) (start g.i) (nothing_waits g s c.requires t looks) served.goes_on.session
+    let room = c.nothing_is_taken_at_first.ensures refl (blocks_in c.in-Ok.system) (start (bounds_of g)) (nothing_waits g s c.requires t looks) served.goes_on.session
     (has_none g c.lawful.ensures.limits (λ b. c.the_formatted_disk_is_empty.ensures.bits g b c.lawful.ensures.fits) s t c.requires looks)
     begun in
-    opened_with g s c.requires t looks served (c.in-Ok.ensures.budget refl (start g.i).tree) room c.the_disk_keeps_to_its_manner.ensures.log c.the_disk_keeps_to_its_manner.ensures.events c.the_disk_keeps_to_its_manner.ensures.writes c.the_disk_keeps_to_its_manner.ensures.floor
+    opened_with g s c.requires t looks served (c.in-Ok.ensures.budget refl (start (bounds_of g)).tree) room c.the_disk_keeps_to_its_manner.ensures.log c.the_disk_keeps_to_its_manner.ensures.events c.the_disk_keeps_to_its_manner.ensures.writes c.the_disk_keeps_to_its_manner.ensures.floor

@@ -2,6 +2,7 @@ use Rattle.std.proofs.Common.{sym, subst}
 use Rattle.base_types.specs.Seal.{Blocks}
 use Rattle.layout_geometry.specs.Geometry.{Geometry}
 use Rattle.lang_tree.specs.Step.{session_on}
+use Rattle.crash_stands.specs.Bounds.{bounds_of}
 use Rattle.cmd_session.specs.Accepted.{AcceptsLast}
 use Rattle.cmd_session.specs.Issued.{IssuesLast}
 use Rattle.cmd_image.specs.Serves.{pace_at_mount}
@@ -9,7 +10,7 @@ use Rattle.cmd_image.proofs.image_laws.a_run_stands_where_accepted_writes_do.Goa
 
 pub returns : goal.returns
 returns c = λ first last marks cmds replies r alone.
-    let f = session_on r.geom.i r.tree in
+    let f = session_on (bounds_of r.geom) r.tree in
     let issues : IssuesLast r.mount.geom.n first.base f last.log r.mounted cmds replies r.moments =
     subst (λ (g : Geometry). IssuesLast g.n first.base f last.log r.mounted cmds replies r.moments) (sym r.is_mount.geom)
     (subst (λ (base : Blocks). IssuesLast r.geom.n base f last.log r.mounted cmds replies r.moments) r.base r.run.issued) in

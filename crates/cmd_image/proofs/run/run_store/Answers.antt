@@ -2,6 +2,7 @@ use Rattle.std.proofs.Common.{[], None, ◌∙◌, ap, length, sym, subst, List}
 use Rattle.disk_contract.specs.declared.bay.Mark.{Mark}
 use Rattle.disk_contract.specs.Lawful.{IsSoundDisk}
 use Rattle.layout_geometry.specs.Geometry.{Geometry, IsGeometry}
+use Rattle.crash_stands.specs.Bounds.{bounds_of}
 use Rattle.engine_blocks.specs.State.{Bookkeeping}
 use Rattle.fs_check.specs.Whole.{fails_by}
 use Rattle.fs_commands.specs.Opened.{blocks_in}
@@ -41,7 +42,7 @@ returns-in-Ok-clause-comes g c = λ first is.
     (c.mark_of-mark.ensures.moment t ∙ ap (λ d. length (known d).log) c.disk.ensures.value)
     (c.mark_of-mark.ensures.read_faults ∙ ap (λ d. (known d).read_faults) c.disk.ensures.value)
     (c.mark_of-mark.ensures.faults ∙ ap (λ d. (known d).faults) c.disk.ensures.value))
-    (c.the_writes_keep_within_the_budget_at_each_mark.ensures.first s.books.geom (session_on s.books.geom.i tree.0) u.crash.log)))))
+    (c.the_writes_keep_within_the_budget_at_each_mark.ensures.first s.books.geom (session_on (bounds_of s.books.geom) tree.0) u.crash.log)))))
 
 pub returns-in-Err-clause-comes : goal.returns-in-Err-clause-comes
 returns-in-Err-clause-comes g c = λ first is.

@@ -1,6 +1,7 @@
 use Rattle.std.proofs.Common.{Err, false, length, List, ap, subst, sym, ◌∙◌}
 use Rattle.disk_contract.specs.declared.bay.Mark.{Mark}
 use Rattle.disk_contract.specs.declared.event.Event.{Event}
+use Rattle.crash_stands.specs.Bounds.{bounds_of}
 use Rattle.engine_blocks.specs.State.{Bookkeeping}
 use Rattle.fs_check.specs.Whole.{fails_by}
 use Rattle.fs_commands.specs.Opened.{blocks_in}
@@ -16,7 +17,7 @@ returns-in-Ok-clause-shows g c = λ first is.
     let s = state_of g.D.Disk.state c.args.store in
     let u = state_of g.D.Disk.state (blocks_in c.in-Ok.fs) in
     c.list_shown.ensures.shows first (still_mounted g.D.Disk.tells false first s u is c.in-Ok.ensures.looks)
-    (λ t. let session = c.in-Ok.ensures.session t in (session_on s.books.geom.i session.0, session.1))
+    (λ t. let session = c.in-Ok.ensures.session t in (session_on (bounds_of s.books.geom) session.0, session.1))
     (record {
       moment = λ t. c.mark_of-mark.ensures.moment t ∙ ap (λ d. length (g.D.Disk.state d).log) c.disk.ensures.value ∙ ap (λ (es : List Event). length es) (sym (c.in-Ok.ensures.looks.crash t).log);
       read_faults = c.mark_of-mark.ensures.read_faults ∙ ap (λ d. (g.D.Disk.state d).read_faults) c.disk.ensures.value ∙ is.read_faults;

@@ -6,6 +6,7 @@ use Rattle.base_types.specs.Seal.{Blocks, blocks_of}
 use Rattle.layout_geometry.specs.Geometry.{Geometry}
 use Rattle.layout_journal.specs.Formatted.{formatted}
 use Rattle.disk_memory.specs.Choice.{ChoiceState}
+use Rattle.crash_stands.specs.Bounds.{bounds_of}
 use Rattle.crash_stands.specs.Stands.{StandsFor}
 use Rattle.lang_tree.specs.Points.{Point}
 use Rattle.lang_tree.specs.Step.{start}
@@ -34,7 +35,7 @@ OneTree = (n : ℕ) (img : Blocks) (t u : Tree) → StandsFor n img t → Stands
 
 -- what each honest crash of a trace leaves stands for one of its points
 abbrev LeavesPoint : Contents → Type 0
-LeavesPoint c = LeavesPoints c.geometry.n (formatted c.geometry) (start c.geometry.i) c.log c.mounted c.cmds c.replies c.marks
+LeavesPoint c = LeavesPoints c.geometry.n (formatted c.geometry) (start (bounds_of c.geometry)) c.log c.mounted c.cmds c.replies c.marks
 
 -- this image stands for one of the points that a crash at the moment may leave
 abbrev HasPoint : Contents → ℕ → List (List ℕ) → Type 0
@@ -45,7 +46,7 @@ leaves : OneContents → (g : Geometry) (seen text : List ℕ) → IsTrace (Serv
 leaves one g seen text t c lawful is =
     let served = contents g _ t.body t.served in
     let same = one served c t.served.lawful lawful (ap (λ l. l ++ end_line) (sym t.served.is) ∙ sym t.is ∙ sym is) in
-    subst LeavesPoint same (t.served.consistent.points (start g.i).tree t.served.begins)
+    subst LeavesPoint same (t.served.consistent.points (start (bounds_of g)).tree t.served.begins)
 
 -- and so does the image of a choice
 stands : (c : Contents) → LeavesPoint c → (moment : ℕ) (choice : ChoiceState) → IsHonestCrash c moment choice → (image : List (List ℕ)) → LeavesImage c.geometry c.log moment choice image → HasPoint c moment image

@@ -1,7 +1,10 @@
-use Rattle.std.proofs.Common.{◌∙◌, ◌≡◌, ℕ, ◌+◌, ◌<◌, inl, inr, sym, ap, subst, arith, List, ◌∷◌, drop, length, get_or}
+use Rattle.std.proofs.Common.{◌∙◌, ◌≡◌, ℕ, ◌+◌, ◌<◌, inl, inr, sym, ap, ap₂, subst, arith, List, ◌∷◌, drop, length, get_or}
+use Rattle.base_types.specs.declared.layout.Layout.{Layout}
 use Rattle.lang_tree.specs.declared.command.Cmd.{Cmd}
 use Rattle.lang_tree.specs.declared.command.Reply.{Reply}
 use Rattle.lang_tree.specs.Step.{start}
+use Rattle.lang_tree.specs.Tree.{Bounds}
+use Rattle.crash_stands.specs.Bounds.{bounds_of}
 use Rattle.cmd_replay.specs.Newest.{IsNewest}
 use Rattle.cmd_replay.specs.Points.{points_in, top_at}
 use Rattle.cmd_replay.specs.Walking.{HasCome, IsListedAs, first_tally}
@@ -14,9 +17,11 @@ use Rattle.cmd_replay.proofs.points.search.Goals as goal
 pub loop-i-init : goal.loop-i-init
 loop-i-init c =
     let nodes : c.i.result ≡ c.args.trace.now.geometry.i = c.i.ensures ∙ ap (λ g. g.i) c.geom-geom.ensures in
+    let layout : c.layout.result ≡ c.args.trace.now.geometry.layout = c.layout.ensures ∙ ap (λ g. g.layout) c.geom-geom.ensures in
+    let bounds : record { nodes = c.i.result; layout = c.layout.result } ≡ bounds_of c.args.trace.now.geometry = ap₂ (λ (n : ℕ) (l : Layout). record { nodes = n; layout = l }) nodes layout in
     subst (λ (b : ℕ). HasCome c.args.text.now c.args.low c.args.moment c.args.trace.now 0 b c.in_ok-walk.walk) (sym c.mounted-begun.ensures)
     (begun_walk c.args.text.now c.args.low c.args.moment c.args.trace.now c.in_ok-walk.walk c.requires
-    (c.in_ok-walk.ensures ∙ ap (λ (n : ℕ). record { tree = start n; synced = 0; tally = first_tally c.args.text.now c.args.low (start n).tree }) nodes))
+    (c.in_ok-walk.ensures ∙ ap (λ (b : Bounds). record { tree = start b; synced = 0; tally = first_tally c.args.text.now c.args.low (start b).tree }) bounds))
 
 pub loop-i-preserved : goal.loop-i-preserved
 loop-i-preserved c =

@@ -1,7 +1,8 @@
-use Rattle.std.proofs.Common.{subst, sym, arith}
+use Rattle.std.proofs.Common.{subst, sym}
 use Rattle.lang_tree.specs.Run.{is_of_disk}
+use Rattle.engine_blocks.specs.Crashes.{WritesAtMost}
 use Rattle.fs_commands.specs.Opened.{blocks_in}
-use Rattle.cmd_session.specs.Budget.{KeepsBudget}
+use Rattle.cmd_session.specs.Budget.{KeepsBudget, writes_of}
 use Rattle.cmd_session.specs.Serving.{HasServed}
 use Rattle.cmd_session.proofs.Serving.{KeepsKnown, serves_more}
 use Rattle.cmd_session.proofs.Spending.{keeps_more, writes_more}
@@ -32,4 +33,8 @@ returns-clause-budget g c = λ told k t mounted begun cmds replies marks served 
     c.apply-reply.ensures.applies (c.self.invariant.stands told) c.self.invariant.ready.between.goes_on.may
 
 pub returns-clause-writes : goal.returns-clause-writes
-returns-clause-writes g c = grind (arith, c.apply-reply.new.self, c.args.cmd.now, c.apply-reply.result, g.S.Blocks.state, c.self.view_is, writes_more, g.S.Blocks.tells, c.self.inside.fs, c.self.invariant.stands, c.apply-reply.ensures.applies)
+returns-clause-writes g c = λ told.
+    subst (λ fs. WritesAtMost (writes_of c.args.cmd.now c.apply-reply.result (g.S.Blocks.state (blocks_in fs)).books) (g.S.Blocks.state (blocks_in fs)) (g.S.Blocks.state (blocks_in c.apply-reply.new.self)))
+    c.self.view_is
+    (writes_more g.S.Blocks.tells g.S.Blocks.state told c.args.cmd.now c.apply-reply.result (blocks_in c.self.inside.fs) (blocks_in c.apply-reply.new.self) (c.self.invariant.stands told)
+    c.apply-reply.ensures.applies)

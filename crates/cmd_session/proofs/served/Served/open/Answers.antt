@@ -1,4 +1,4 @@
-use Rattle.std.proofs.Common.{subst, arith}
+use Rattle.std.proofs.Common.{subst}
 use Rattle.fs_commands.specs.Opened.{blocks_in}
 use Rattle.cmd_session.proofs.Opening.{BeginsKnown, begins, begins_budget, stood}
 use Rattle.cmd_session.proofs.served.Served.open.Goals as goal
@@ -15,7 +15,9 @@ returns-in-Ok-clause-serves g c = λ told drawn k m t mounted is.
     (drawn new) c.requires.begun c.in-Ok.ensures.looks k m t mounted is (c.in-Ok.ensures.session told)
 
 pub returns-in-Ok-clause-budget : goal.returns-in-Ok-clause-budget
-returns-in-Ok-clause-budget g c = grind (arith, begins_budget, g.S.Blocks.tells, g.S.Blocks.state, c.args.blocks, c.in-Ok.fs, c.requires.begun, c.in-Ok.ensures.looks)
+returns-in-Ok-clause-budget g c = λ told t.
+    begins_budget g.S.Blocks.tells told (g.S.Blocks.state c.args.blocks) (g.S.Blocks.state (blocks_in c.in-Ok.fs)) (g.S.Blocks.state c.args.blocks).books.geom t c.requires.begun
+    c.in-Ok.ensures.looks
 
 pub returns-in-Ok-clause-stands : goal.returns-in-Ok-clause-stands
 returns-in-Ok-clause-stands g c = λ told. stood g.S.Blocks.tells told (g.S.Blocks.state c.args.blocks) (g.S.Blocks.state (blocks_in c.in-Ok.fs)) c.in-Ok.ensures.looks (c.in-Ok.ensures.stands told)
