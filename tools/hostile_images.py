@@ -8,9 +8,10 @@ else. What stands in an image isn't known here: that is for a reader to say.
 import struct
 
 import plain_disk
-from plain_disk import BLOCK, COMMIT, DESCRIPTOR, ESCAPED, FRESH, HEADER, MOST_RUNS, NODE, PAYLOAD, SLOT, SPENT, ZEROS, Entry, Header
+from plain_disk import BLOCK, COMMIT, DESCRIPTOR, ENTRY, ESCAPED, FRESH, LAYOUTS, PAYLOAD, SPENT, ZEROS, Entry, Header
 
 GEOMETRIES = [(64, 16, 16)] * 6 + [(64, 16, 24), (72, 18, 20), (96, 24, 32), (128, 32, 16)]
+GEOMETRIES += [(64, 16, 16, 2)] * 4 + [(64, 16, 24, 2), (96, 24, 32, 2), (128, 32, 16, 2)]
 # Offsets and widths of the fields of each kind of block, of an entry, of a node and of a slot.
 HEADER_FIELDS = [(8, 8), (16, 8), (24, 8), (32, 8), (40, 4), (44, 4), (48, 4), (52, 4), (56, 4), (0, 8), (60, 4)]
 COMMIT_FIELDS = [(8, 8), (16, 8), (24, 4), (28, 4), (32, 4), (0, 8), (36, 4)]
@@ -18,11 +19,28 @@ DESCRIPTOR_FIELDS = [(8, 8), (16, 8), (24, 4), (28, 4), (0, 8)]
 ENTRY_FIELDS = [(0, 4), (4, 1), (5, 1), (8, 8), (32, 8)]
 NODE_FIELDS = [(0, 1), (1, 1), (2, 2), (4, 4), (8, 8), (16, 8), (32, 4), (36, 4), (40, 4), (44, 4), (248, 8)]
 NAMES = [b"a", b"b", b"A", b"...", b"~", b"!", b"a" * 59, b"b" * 58, b"a.b", b"-", b"x" * 30]
+LONG_NAMES = [b"a" * 255, b"b" * 254, b"c" * 60, b"d" * 251]
 ODD_NAMES = [b"/", b".", b"..", b" ", b"\x7f", b"a/b", b"\x80", b"\0", b""]
 
 
 def geometry_of(random):
     return plain_disk.Geometry(*random.choice(GEOMETRIES))
+
+
+def names_of(geometry):
+    """The names that are drawn: they may be long in layout 2."""
+    return NAMES if geometry.layout == 1 else NAMES + LONG_NAMES
+
+
+def place_of(geometry, number):
+    """The block of a node, counted from the first one of the node table, and its first byte there."""
+    numbers = geometry.numbers
+    return (number - 1) // numbers.nodes, numbers.node * ((number - 1) % numbers.nodes)
+
+
+def is_header(block):
+    """Whether a block begins as headers do, of either layout."""
+    return block[:8] in [layout.tag for layout in LAYOUTS.values()]
 
 
 def edge(random, old, width, geometry):
@@ -71,7 +89,7 @@ class Drawn:
         used = [name for name, _ in self.slots[above]]
         if self.random.random() < 0.01:
             return self.random.choice(ODD_NAMES)
-        names = [*NAMES, *(b"n%d" % number for number in range(30))]
+        names = [*names_of(self.geometry), *(b"n%d" % number for number in range(30))]
         return next((name for name in self.random.sample(names, 12) if name not in used), None)
 
     def enter(self, number):
@@ -94,17 +112,18 @@ class Drawn:
 
     def place_all(self):
         """Takes blocks for all nodes, and puts together what they have."""
-        nodes, directories = {}, {}
+        nodes, directories, layout = {}, {}, self.geometry.layout
         for number, slots in self.slots.items():
-            data = directories[number] = b"".join(plain_disk.slot_bytes(child, name) for name, child in slots)
-            nodes[number] = plain_disk.node_bytes(1, 1, len(data), self.place(data, b"\0"))
+            data = directories[number] = plain_disk.directory_bytes([(child, name) for name, child in slots], layout)
+            nodes[number] = plain_disk.node_bytes(1, 1, ENTRY * len(slots), self.place(data, b"\0"), layout)
         for number, links in self.links.items():
             size = self.sizes[number] if len(self.free) > self.sizes[number] // BLOCK + 4 else 0
             data = (self.random.choice([b"", b"", b"OPT", b"\0PT", COMMIT]) + self.random.randbytes(size))[:size]
             runs = self.place(data, self.random.choice([b"\0", b"\xff"]))
-            nodes[number] = plain_disk.node_bytes(2, links, len(data), runs)
+            nodes[number] = plain_disk.node_bytes(2, links, len(data), runs, layout)
         self.add_snapshots(nodes, directories)
-        table = b"".join(nodes.get(number, bytes(NODE)) for number in range(1, self.geometry.nodes + 1))
+        free = bytes(self.geometry.numbers.node)
+        table = b"".join(nodes.get(number, free) for number in range(1, self.geometry.nodes + 1))
         used = [*range(self.geometry.data), *(set(range(self.geometry.data, self.geometry.blocks)) - set(self.free))]
         bits = sum(1 << number for number in used).to_bytes(BLOCK * (self.geometry.table - self.geometry.bitmap), "little")
         for first, area in ((self.geometry.bitmap, bits), (self.geometry.table, table)):
@@ -115,12 +134,13 @@ class Drawn:
         unused = [number for number in range(2, self.geometry.nodes + 1) if number not in nodes]
         for number in self.random.sample(unused, min(len(unused), self.random.choice([0, 0, 0, 0, 1, 1, 2, 3]))):
             name = self.random.choice(ODD_NAMES if self.random.random() < 0.01 else NAMES)
-            rows = [nodes.get(one, bytes(NODE)) for one in range(1, self.geometry.nodes + 1)]
-            table = b"".join(bytes(NODE) if row[0] == 3 else row for row in rows)
+            free = bytes(self.geometry.numbers.node)
+            rows = [nodes.get(one, free) for one in range(1, self.geometry.nodes + 1)]
+            table = b"".join(free if row[0] == 3 else row for row in rows)
             copies = [data.ljust(-len(data) % BLOCK + len(data), b"\0") for _, data in sorted(directories.items())]
             data = (bytes([len(name)]) + name).ljust(BLOCK, b"\0") + table + b"".join(copies)
             if len(self.free) > len(data) // BLOCK + 2:
-                nodes[number] = plain_disk.node_bytes(3, 1, len(data), self.place(data, b"\0"))
+                nodes[number] = plain_disk.node_bytes(3, 1, len(data), self.place(data, b"\0"), self.geometry.layout)
                 self.change_file(nodes)
 
     def change_file(self, nodes):
@@ -133,8 +153,8 @@ class Drawn:
             rest = [*([(first + 1, length - 1)] if length > 1 else []), *runs[1:]]
             is_cut = self.random.random() < 0.3
             new = [] if is_cut else [*self.place(self.random.randbytes(BLOCK), b"\0"), *rest]
-            if len(new) <= MOST_RUNS and (len(new) < 2 or sum(new[0]) != new[1][0]):
-                nodes[number] = plain_disk.node_bytes(2, links, 0 if is_cut else size, new)
+            if len(new) <= self.geometry.numbers.most_runs and (len(new) < 2 or sum(new[0]) != new[1][0]):
+                nodes[number] = plain_disk.node_bytes(2, links, 0 if is_cut else size, new, self.geometry.layout)
 
     def place(self, data, filler):
         """Takes blocks for these bytes, and returns their runs."""
@@ -147,7 +167,7 @@ class Drawn:
         if runs and self.random.random() < 0.02:
             odd = [(runs[0][0] + 2, 0), (self.geometry.blocks, 1), (self.geometry.data - 1, 1)]
             runs.insert(self.random.randrange(len(runs) + 1), self.random.choice(odd))
-        return runs[:MOST_RUNS + 1]
+        return runs[: self.geometry.numbers.most_runs + 1]
 
 
 def spelled(random, geometry):
@@ -310,8 +330,11 @@ def change_block(random, image, geometry):
 
 
 def change_header(random, image, geometry):
-    block = random.choice([block for block in (0, 1) if image[block][:8] == HEADER] or [0])
-    change_field(random, image, geometry, block, 0, HEADER_FIELDS)
+    """A field of a header, or the layout that it says."""
+    block = random.choice([block for block in (0, 1) if is_header(image[block])] or [0])
+    if random.random() < 0.1:
+        return put(random, image, block, 7, random.choice([b"1", b"2", b"3"]))
+    return change_field(random, image, geometry, block, 0, HEADER_FIELDS)
 
 
 def change_record(random, image, geometry):
@@ -344,7 +367,7 @@ def change_bits(random, image, geometry):
 
 def used_nodes(image, geometry):
     """The numbers of the nodes whose first byte isn't zero."""
-    at = lambda number: image[geometry.table + (number - 1) // 4][NODE * ((number - 1) % 4)]
+    at = lambda number: image[geometry.table + place_of(geometry, number)[0]][place_of(geometry, number)[1]]
     return [number for number in range(1, geometry.nodes + 1) if at(number)]
 
 
@@ -352,42 +375,43 @@ def change_node(random, image, geometry):
     """A field of a node, most often of one in use; or its bytes or its runs, which become those of another one."""
     used = used_nodes(image, geometry)
     number = random.choice(used) if used and random.random() < 0.85 else random.randrange(1, geometry.nodes + 1)
-    block, base = geometry.table + (number - 1) // 4, NODE * ((number - 1) % 4)
+    size, (place, base) = geometry.numbers.node, place_of(geometry, number)
     if random.random() < 0.7:
-        return change_field(random, image, geometry, block, base, NODE_FIELDS)
-    other = random.choice(used or [1])
-    data = image[geometry.table + (other - 1) // 4][NODE * ((other - 1) % 4) :][:NODE]
-    at, data = random.choice([(0, data), (0, bytes(NODE)), (32, data[32:36]), (32, data[32:]), (4, bytes([random.randrange(4)]))])
-    return put(random, image, block, base + at, data)
+        return change_field(random, image, geometry, geometry.table + place, base, NODE_FIELDS)
+    other, other_base = place_of(geometry, random.choice(used or [1]))
+    data = image[geometry.table + other][other_base : other_base + size]
+    at, data = random.choice([(0, data), (0, bytes(size)), (32, data[32:36]), (32, data[32:]), (4, bytes([random.randrange(4)]))])
+    return put(random, image, geometry.table + place, base + at, data)
 
 
 def change_slot(random, image, geometry):
     """A slot of a directory: its node, its name, or all of it; or one is put behind the last one."""
-    blocks = [block for block in range(geometry.data, geometry.blocks) if image[block][0] and 1 <= image[block][4] <= 59]
+    size, longest = geometry.numbers.slot, geometry.numbers.longest_name
+    blocks = [block for block in range(geometry.data, geometry.blocks) if image[block][0] and 1 <= image[block][4] <= longest]
     if not blocks:
         return change_node(random, image, geometry)
     block = random.choice(blocks)
-    slots = [at for at in range(0, BLOCK, SLOT) if any(image[block][at : at + SLOT])]
+    slots = [size * at for at in range(geometry.numbers.slots) if any(image[block][size * at : size * (at + 1)])]
     at, other = random.choice(slots), random.choice(slots)
-    name = random.choice([*NAMES, *ODD_NAMES])
+    name = random.choice([*names_of(geometry), *ODD_NAMES])
     new = random.choice([
         random.choice([*used_nodes(image, geometry), 0, 1, geometry.nodes + 1]).to_bytes(4, "little"),
         random.randrange(2**32).to_bytes(4, "little"),
-        image[block][at : at + 4] + bytes([len(name)]) + name.ljust(59, b"\0"),
-        image[block][at : at + 4] + image[block][other + 4 : other + SLOT],
-        image[block][other : other + SLOT],
-        bytes(SLOT),
-        image[block][at : at + 4] + bytes([random.choice([0, 1, 2, 58, 59, 60, 255])]),
+        image[block][at : at + 4] + bytes([len(name)]) + name.ljust(longest, b"\0"),
+        image[block][at : at + 4] + image[block][other + 4 : other + size],
+        image[block][other : other + size],
+        bytes(size),
+        image[block][at : at + 4] + bytes([random.choice([0, 1, 2, 58, 59, 60, 254, 255])]),
     ])
-    return put(random, image, block, min(at + random.choice([0, 0, 0, SLOT]), BLOCK - SLOT), new)
+    return put(random, image, block, min(at + random.choice([0, 0, 0, size]), BLOCK - size), new)
 
 
 def change_snapshot(random, image, geometry):
     """A field of a node that a snapshot keeps, or its name; or a kept node becomes another one."""
-    at = lambda number: (geometry.table + (number - 1) // 4, NODE * ((number - 1) % 4))
+    at = lambda number: (geometry.table + place_of(geometry, number)[0], place_of(geometry, number)[1])
     first = lambda number: int.from_bytes(image[at(number)[0]][at(number)[1] + 32 :][:4], "little")
     found = [number for number in used_nodes(image, geometry) if image[at(number)[0]][at(number)[1]] == 3]
-    places = [first(number) for number in found if geometry.data <= first(number) < geometry.blocks - geometry.nodes // 4]
+    places = [first(number) for number in found if geometry.data <= first(number) < geometry.blocks - geometry.data + geometry.table]
     if not places:
         return change_node(random, image, geometry)
     place = random.choice(places)
@@ -395,11 +419,11 @@ def change_snapshot(random, image, geometry):
         name = random.choice([*NAMES, *ODD_NAMES])
         return put(random, image, place, 0, random.choice([bytes([len(name)]) + name.ljust(59, b"\0"), b"\0", b"\x3c"]))
     number = random.choice([number for number in used_nodes(image, geometry)])
-    block, base = place + 1 + (number - 1) // 4, NODE * ((number - 1) % 4)
+    size, (kept, base) = geometry.numbers.node, place_of(geometry, number)
     if random.random() < 0.8:
-        return change_field(random, image, geometry, block, base, NODE_FIELDS)
+        return change_field(random, image, geometry, place + 1 + kept, base, NODE_FIELDS)
     other, other_base = at(random.choice(used_nodes(image, geometry)))
-    return put(random, image, block, base, random.choice([image[other][other_base : other_base + NODE], bytes(NODE)]))
+    return put(random, image, place + 1 + kept, base, random.choice([image[other][other_base : other_base + size], bytes(size)]))
 
 
 HOME_CHANGES = [change_bits, change_node, change_slot, change_node, change_slot, change_snapshot]
@@ -411,7 +435,7 @@ def of_another_size(random, image, geometry):
     count = random.choice([0, 1, 2, len(image) - 1, len(image) + 1, len(image) + 8, random.randrange(len(image)), 63, 65])
     image = (image + [random.choice([ZEROS, b"\xff" * BLOCK])] * max(0, count - len(image)))[:count]
     for block in (0, 1):
-        if len(image) > block and image[block][:8] == HEADER and random.random() < 0.5:
+        if len(image) > block and is_header(image[block]) and random.random() < 0.5:
             image[block] = plain_disk.sealed(image[block][:48] + count.to_bytes(4, "little") + image[block][52:-32])
     return image
 

@@ -18,6 +18,7 @@ refused 16 Spent|refused 17 NoMemory|refused 17 Stopped|refused 18 Other|refused
 REPLIES += ["refused 19 NoPoint", "nopoint", "nopoint 0", "nopoint 1", "nopoint 2", "nopoint 01"]
 ODD_LINES = [b"", b"#", b" ", b"end", b"end ", b"END", b"g 64 16 16", b"w", b"d", b"f", b"c", b"r", b"c ?", b"c  ?", b"r 0 ok", b"\r", b"\0", b"\xff"]
 GEOMETRY_LINES = [b"g 64 16 20", b"g 65 16 16", b"g 64 17 16", b"g 300 40 64", b"g 64 16 18", b"g 63 16 16", b"g 1048577 16 16", b"g 064 16 16", b"g 8300 24 16"]
+GEOMETRY_LINES += [b"g 64 16 16 2", b"g 64 16 20 2", b"g 64 16 18 2", b"g 65 50 16 2", b"g 64 16 16 1", b"g 64 16 16 3", b"g 64 16 16 02"]
 
 
 REFUSALS = ["refused 13 ReadFault", "refused 14 DiskFault", "refused 16 Spent", "refused 17 NoMemory"]
@@ -157,8 +158,8 @@ def data_of(line):
 
 def geometry_of(lines):
     """The geometry of the first line, or `None`."""
-    found = re.fullmatch(rb"g ([0-9]{1,7}) ([0-9]{1,7}) ([0-9]{1,7})\n", lines[0]) if lines else None
-    geometry = plain_disk.Geometry(*map(int, found.groups())) if found else None
+    found = re.fullmatch(rb"g ([0-9]{1,7}) ([0-9]{1,7}) ([0-9]{1,7})( 2)?\n", lines[0]) if lines else None
+    geometry = plain_disk.Geometry(*map(int, filter(None, found.groups()))) if found else None
     return geometry if geometry and geometry.fits() and geometry.blocks < 10000 else None
 
 

@@ -88,7 +88,7 @@ class Page:
         if is_wrong(crashes):
             claim = "No recording leaves that, as is proved: so <code>optfs</code> didn't write this trace, or not all of it."
         left_out = f"{counted(self.chart.left_out, 'command')} had no room for a label; the list below the picture has them."
-        shape, calls = " ".join(map(str, recording.geometry)), counted(crashes.calls, "call")
+        shape, calls = recording.geometry.text, counted(crashes.calls, "call")
         told = [
             f"{html.escape(self.name)}: geometry {shape}, {counted(len(recording.events), 'event')}.",
             some if whole < moments else "At each moment all choices of lost, torn and arrived were tried.",

@@ -115,7 +115,7 @@ class Recording:
 
     def find_points(self):
         """Runs the commands that were done: which of all make a sync point, and the listing of each point."""
-        tree = plain_tree.Tree(self.geometry.nodes)
+        tree = plain_tree.Tree(self.geometry.nodes, self.geometry.layout)
         self.listings = [tree.listing()]
         for place, command in enumerate(self.commands):
             is_left = command.reply.split(" ")[0] in LEAVE_ALL

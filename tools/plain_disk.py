@@ -10,13 +10,13 @@ import re
 import struct
 from typing import NamedTuple
 
-BLOCK = 1024
+from plain_layout import BLOCK, ENTRY, LAYOUTS, LONGEST_SNAPSHOT_NAME
+
 ZEROS = bytes(BLOCK)
-NODE, SLOT, MOST_RUNS = 256, 64, 28
 ENTRIES = 24
 PAYLOAD, FRESH, ESCAPED = 1, 2, 3
 SPENT = 2**63 - 16
-HEADER, COMMIT, DESCRIPTOR = b"OPTH0001", b"OPTC0001", b"OPTD0001"
+COMMIT, DESCRIPTOR = b"OPTC0001", b"OPTD0001"
 
 
 class Damage(Exception):
@@ -49,11 +49,33 @@ def is_sealed(block):
 
 
 class Geometry(NamedTuple):
-    """The blocks of a disk, those of its journal, and how many nodes there are."""
+    """The blocks of a disk, those of its journal, how many nodes there are, and which layout the disk has."""
 
     blocks: int
     journal: int
     nodes: int
+    layout: int = 1
+
+    @classmethod
+    def of(cls, words):
+        """The geometry of these words of a command: numbers, and `--layout` with the layout where it is named."""
+        *numbers, layout = words if "--layout" in words else (*words, 1)
+        return cls(*(int(word) for word in numbers if word != "--layout"), int(layout))
+
+    @property
+    def words(self):
+        """The words by which a command makes a disk of this geometry."""
+        return [*map(str, self[:3]), *(["--layout", str(self.layout)] if self.layout != 1 else [])]
+
+    @property
+    def text(self):
+        """Its numbers as the first line of a trace has them, with that of the layout where it isn't 1."""
+        return " ".join(map(str, self if self.layout != 1 else self[:3]))
+
+    @property
+    def numbers(self):
+        """The numbers of its layout."""
+        return LAYOUTS[self.layout]
 
     @property
     def bitmap(self):
@@ -65,12 +87,13 @@ class Geometry(NamedTuple):
 
     @property
     def data(self):
-        return self.table + self.nodes // 4
+        return self.table + self.nodes // self.numbers.nodes
 
     def fits(self):
         limits = 64 <= self.blocks <= 2**20 and 16 <= self.journal <= 2**16 and 16 <= self.nodes <= 2**16
         bits = self.table - self.bitmap
         fits = self.data + 8 <= self.blocks and 25 * (7 + bits) <= 24 * (self.journal - 2)
+        # in fours in both layouts
         return limits and self.nodes % 4 == 0 and fits
 
     def ring(self, place):
@@ -88,15 +111,16 @@ class Header(NamedTuple):
 
 
 def header_block(geometry, header):
-    return sealed(HEADER + struct.pack("<QQQQIIIII", *header, *geometry))
+    return sealed(geometry.numbers.tag + struct.pack("<QQQQIIIII", *header, *geometry[:3]))
 
 
 def read_header(blocks, block):
     """The geometry and the header of a block of a disk of so many blocks, or `None`."""
-    if not is_sealed(block) or block[:8] != HEADER or any(block[60:-32]):
+    layout = next((number for number, layout in LAYOUTS.items() if block[:8] == layout.tag), None)
+    if not is_sealed(block) or layout is None or any(block[60:-32]):
         return None
     *fields, n, j, i = struct.unpack("<QQQQIIIII", block[8:60])
-    geometry, header = Geometry(n, j, i), Header(*fields)
+    geometry, header = Geometry(n, j, i, layout), Header(*fields)
     is_within = header.epoch and header.turn and header.start and header.closed < 2
     if n != blocks or not geometry.fits() or not is_within or header.start > header.sure + 1 or header.at >= j:
         return None
@@ -324,7 +348,7 @@ def formatted(geometry):
     for number in range(geometry.bitmap, geometry.table):
         first = BLOCK * (number - geometry.bitmap)
         image[number] = bits[first : first + BLOCK]
-    image[geometry.table] = struct.pack("<BBHIQ", 1, 0, 0, 1, 0).ljust(BLOCK, b"\0")
+    image[geometry.table] = node_bytes(1, 1, 0, [], geometry.layout).ljust(BLOCK, b"\0")
     return image
 
 
@@ -341,15 +365,23 @@ class Node(NamedTuple):
     places: list
 
 
-def node_bytes(kind, links, size, runs):
+def node_bytes(kind, links, size, runs, layout=1):
     """The bytes of a node in use."""
     head = struct.pack("<BBHIQ16x", kind, 0, len(runs), links, size)
-    return (head + b"".join(struct.pack("<II", *run) for run in runs)).ljust(NODE, b"\0")
+    return (head + b"".join(struct.pack("<II", *run) for run in runs)).ljust(LAYOUTS[layout].node, b"\0")
 
 
-def slot_bytes(number, name):
+def slot_bytes(number, name, layout=1):
     """The bytes of a slot."""
-    return (struct.pack("<IB", number, len(name)) + name).ljust(SLOT, b"\0")
+    return (struct.pack("<IB", number, len(name)) + name).ljust(LAYOUTS[layout].slot, b"\0")
+
+
+def directory_bytes(slots, layout=1):
+    """The bytes of a directory with these slots, each as its number and name, up to the end of the last one."""
+    numbers, data = LAYOUTS[layout], b""
+    for place, slot in enumerate(slots):
+        data = data.ljust(numbers.slot_place(place), b"\0") + slot_bytes(*slot, layout)
+    return data
 
 
 def damaged_by(texts):
@@ -368,32 +400,41 @@ def check_bits(geometry, blocks):
         raise Damage(f"the bit of block {(wrong & -wrong).bit_length() - 1} is wrong")
 
 
+def content_size(geometry, kind, size):
+    """How many bytes the content of a node has: of a directory the bytes of its blocks up to the end of the last slot."""
+    return geometry.numbers.directory_bytes(size // ENTRY) if kind == 1 else size
+
+
 def read_node(geometry, spelled):
     """The node with these bytes; `None` where they are those of no node in use."""
     kind, zero, count, links, size = struct.unpack("<BBHIQ", spelled[:16])
-    is_odd = kind not in (1, 2, 3) or zero or any(spelled[16:32]) or count > MOST_RUNS or any(spelled[32 + 8 * count :])
-    if is_odd or not links or (kind == 1 and size % SLOT) or (kind == 2 and (links > 65535 or size > 2**30)):
+    is_odd = kind not in (1, 2, 3) or zero or any(spelled[16:32]) or count > geometry.numbers.most_runs
+    is_odd = is_odd or any(spelled[32 + 8 * count :])
+    if is_odd or not links or (kind == 1 and size % ENTRY) or (kind == 2 and (links > 65535 or size > 2**30)):
         return None
     runs = [struct.unpack("<II", spelled[first : first + 8]) for first in range(32, 32 + 8 * count, 8)]
     within = all(length and geometry.data <= first and first + length <= geometry.blocks for first, length in runs)
     tidy = all(sum(one) != other[0] for one, other in zip(runs, runs[1:]))
     blocks = sum(length for _, length in runs)
-    if not within or not tidy or blocks != -(-size // BLOCK):
+    if not within or not tidy or blocks != -(-content_size(geometry, kind, size) // BLOCK):
         return None
     return Node(kind, links, size, runs, [b for first, length in runs for b in range(first, first + length)])
 
 
-def is_name(name):
-    return 1 <= len(name) <= 59 and re.fullmatch(rb"[!-.0-~]+", name) and name not in (b".", b"..")
+def is_name(name, longest):
+    return 1 <= len(name) <= longest and re.fullmatch(rb"[!-.0-~]+", name) and name not in (b".", b"..")
 
 
-def read_slots(data):
-    """The slots with these bytes, as names and numbers of nodes, or `None` where one of them is no slot."""
+def read_slots(numbers, data, count):
+    """So many slots in these bytes, as names and numbers of nodes, or `None` where one of them is no slot, or bytes between two
+    of them aren't zeros."""
     slots = []
-    for first in range(0, len(data), SLOT):
+    for place in range(count):
+        first, last = numbers.slot_place(place), numbers.slot_place(place) + numbers.slot
         child, length = struct.unpack("<IB", data[first : first + 5])
-        name, rest = data[first + 5 : first + 5 + length], data[first + 5 + length : first + SLOT]
-        if length > 59 or not is_name(name) or any(rest):
+        name, rest = data[first + 5 : first + 5 + length], data[first + 5 + length : last]
+        gap = data[last : numbers.slot_place(place + 1)]
+        if length > numbers.longest_name or not is_name(name, numbers.longest_name) or any(rest) or any(gap):
             return None
         slots.append((name.decode(), child))
     return slots
@@ -401,7 +442,8 @@ def read_slots(data):
 
 def spelled_nodes(geometry, table):
     """The nodes in use of a node table, and the numbers whose bytes are neither zeros nor those of a node in use."""
-    spelled = {number: table[NODE * (number - 1) : NODE * number] for number in range(1, geometry.nodes + 1)}
+    size = geometry.numbers.node
+    spelled = {number: table[size * (number - 1) : size * number] for number in range(1, geometry.nodes + 1)}
     used = {number: read_node(geometry, one) for number, one in spelled.items() if any(one)}
     return {number: node for number, node in used.items() if node}, [number for number in used if used[number] is None]
 
@@ -409,14 +451,15 @@ def spelled_nodes(geometry, table):
 class Names:
     """Directories and files by their numbers, with their bytes: the slots, and the paths to which these lead."""
 
-    def __init__(self, nodes, bytes_of):
-        self.nodes, self.bytes_of = nodes, bytes_of
+    def __init__(self, numbers, nodes, bytes_of):
+        self.numbers, self.nodes, self.bytes_of = numbers, nodes, bytes_of
         self.slots = {number: self.slots_of(number) for number, node in nodes.items() if node.kind == 1}
         self.paths = self.walk() if self.slots.get(1) is not None else {}
 
     def slots_of(self, number):
         """The slots of a directory, or `None` where its bytes or its links are wrong."""
-        return read_slots(self.bytes_of(number)) if self.nodes[number].links == 1 else None
+        node = self.nodes[number]
+        return read_slots(self.numbers, self.bytes_of(number), node.size // ENTRY) if node.links == 1 else None
 
     def broken(self):
         """What is broken in names, slots and links."""
@@ -486,20 +529,20 @@ class Snapshot:
         self.places, place = {}, 1 + table
         for one, node in sorted(self.nodes.items()):
             if node.kind == 1:
-                count = -(-node.size // BLOCK)
+                count = tree.geometry.numbers.directory_blocks(node.size // ENTRY)
                 self.places[one] = self.node.places[place : place + count]
                 place += count
             elif node.kind == 2:
                 self.places[one] = node.places
         self.is_whole = self.node.links == 1 and self.node.size == BLOCK * len(blocks) and len(blocks) == place
         if self.is_whole and all(node.kind != 3 for node in self.nodes.values()):
-            self.names = Names(self.nodes, self.bytes_of)
+            self.names = Names(tree.geometry.numbers, self.nodes, self.bytes_of)
 
     @property
     def name(self):
         """Its name, or `None` where its first block has none."""
         length = self.first[0]
-        is_spelled = is_name(self.first[1 : 1 + length]) and not any(self.first[1 + length :])
+        is_spelled = is_name(self.first[1 : 1 + length], LONGEST_SNAPSHOT_NAME) and not any(self.first[1 + length :])
         return self.first[1 : 1 + length].decode() if is_spelled else None
 
     @property
@@ -512,7 +555,7 @@ class Snapshot:
 
     def bytes_of(self, number):
         """All bytes of a node that it keeps."""
-        return self.whole(number)[: self.nodes[number].size]
+        return self.whole(number)[: self.tree.size_of(self.nodes[number])]
 
     def broken(self, before, firm):
         """What is broken in it, where these snapshots come before it, and directories and snapshots have these blocks."""
@@ -528,7 +571,7 @@ class Snapshot:
         odd = [*self.bad, *(number for number, node in self.nodes.items() if node.kind == 3)]
         yield from (f"the bytes of node {number} in {about} are no node's" for number in odd)
         for number, node in self.nodes.items():
-            if node.kind == 1 and any(self.whole(number)[node.size :]):
+            if node.kind == 1 and any(self.whole(number)[self.tree.size_of(node) :]):
                 yield f"directory {number} in {about} has bytes behind its last slot"
         met = set()
         for place in self.kept:
@@ -558,7 +601,8 @@ class Tree:
         firm = {place for node in self.nodes.values() if node.kind != 2 for place in node.places}
         damaged_by(text for at, one in enumerate(self.snapshots) for text in one.broken(self.snapshots[:at], firm))
         damaged_by(self.lost())
-        self.names = Names({number: node for number, node in self.nodes.items() if node.kind != 3}, self.bytes_of)
+        live = {number: node for number, node in self.nodes.items() if node.kind != 3}
+        self.names = Names(geometry.numbers, live, self.bytes_of)
         damaged_by(self.names.broken())
         self.paths, self.slots = self.names.paths, self.names.slots
 
@@ -572,7 +616,7 @@ class Tree:
                 if place in owned:
                     yield f"node {number} has block {place}, which has a place before"
                 owned.add(place)
-            if node.kind == 1 and any(self.whole(node)[node.size :]):
+            if node.kind == 1 and any(self.whole(node)[self.size_of(node) :]):
                 yield f"directory {number} has bytes behind its last slot"
 
     def lost(self):
@@ -590,9 +634,13 @@ class Tree:
         """All bytes of the blocks of a node. A block whose bit is clear is empty."""
         return b"".join(self.blocks.get(place, ZEROS) for place in node.places)
 
+    def size_of(self, node):
+        """How many bytes the content of a node has."""
+        return content_size(self.geometry, node.kind, node.size)
+
     def bytes_of(self, number):
         """All bytes of a node."""
-        return self.whole(self.nodes[number])[: self.nodes[number].size]
+        return self.whole(self.nodes[number])[: self.size_of(self.nodes[number])]
 
     def listing(self):
         """The lines of the tree and of its snapshots, as `tree` of the program writes them."""

@@ -79,11 +79,13 @@ class Reader:
         return False
 
     def take_geometry(self, rest):
-        numbers = [number_of(text, 2**32) for text in rest.split(" ")]
-        if len(numbers) != 3 or None in numbers or not plain_disk.Geometry(*numbers).fits():
+        parts = rest.split(" ")
+        layout = 2 if len(parts) == 4 and parts[3] == "2" else 1
+        numbers = [number_of(text, 2**32) for text in (parts if layout == 1 else parts[:3])]
+        if len(numbers) != 3 or None in numbers or not plain_disk.Geometry(*numbers, layout).fits():
             return False
-        self.geometry, self.place = plain_disk.Geometry(*numbers), "mount"
-        self.tree = plain_tree.Tree(self.geometry.nodes)
+        self.geometry, self.place = plain_disk.Geometry(*numbers, layout), "mount"
+        self.tree = plain_tree.Tree(self.geometry.nodes, layout)
         self.points.append(Point(0, self.tree.listing()))
         return True
 

@@ -9,6 +9,8 @@ also be drawn, line by line, for the tree as it is by then (`Draws`).
 import re
 from typing import NamedTuple
 
+from plain_layout import ENTRY, LAYOUTS, LONGEST_SNAPSHOT_NAME
+
 REFUSALS = {
     1: "NotFound",
     2: "Exists",
@@ -24,6 +26,7 @@ REFUSALS = {
     15: "Stopped",
     16: "Spent",
     17: "NoMemory",
+    18: "NameTooLong",
     20: "NoSnap",
 }
 ARGUMENTS = {
@@ -49,18 +52,19 @@ ARGUMENTS = {
     "snaps": (),
 }
 LOOKS = ("read", "stat", "list")
-NAME = re.compile("[!-.0-~]{1,59}")
+NAME = re.compile("[!-.0-~]{1,255}")
 NUMBER = re.compile("0|[1-9][0-9]{0,9}")
 HEX = re.compile("(?:[0-9a-fA-F]{2})+")
 LONGEST_LINE = 262_144
 LARGEST_FILE = 2**30
 LONGEST_READ = 2**20
 MOST_LINKS = 65_535
-SLOT = 64
 NO_ROOM = re.compile("(?:full|toobig|scattered)(?: [0-9]+)+")
 OUTSIDE = re.compile("refused 1[3-7] [A-Za-z]+")
 # of the snapshots that are drawn there are so many names
 SNAPSHOTS = 4
+# where long names are drawn, a name has so many bytes, by its number
+LENGTHS = [1, 59, 60, 255, 100, 2]
 KNOWN = re.compile("known ([0-9]+)")
 PROMISE = re.compile("(?:durable|known) ([0-9]+)")
 
@@ -110,10 +114,17 @@ class Refused(Exception):
 
 
 def name_of(text):
-    """A name, of a file, a directory or a snapshot."""
+    """A name of a file or a directory."""
     if not NAME.fullmatch(text) or text in (".", ".."):
         raise Unlawful
     return text
+
+
+def snapshot_name_of(text):
+    """A name of a snapshot."""
+    if len(text) > LONGEST_SNAPSHOT_NAME:
+        raise Unlawful
+    return name_of(text)
 
 
 def path_of(text):
@@ -140,7 +151,7 @@ def bytes_of(text):
     return bytes.fromhex(text)
 
 
-READERS = {"path": path_of, "number": number_of, "bytes": bytes_of, "name": name_of}
+READERS = {"path": path_of, "number": number_of, "bytes": bytes_of, "name": snapshot_name_of}
 
 
 def parse(line):
@@ -168,7 +179,7 @@ def at(parts):
         return BAD
     command = parse(" ".join(look).encode("latin-1"))
     try:
-        return BAD if command == BAD else Command("at", (name_of(name), command))
+        return BAD if command == BAD else Command("at", (snapshot_name_of(name), command))
     except Unlawful:
         return BAD
 
@@ -187,11 +198,11 @@ class Kept(NamedTuple):
 
 
 class Tree:
-    """A session: the tree and what its snapshots keep, by their names, the greatest number of a node, the last sync point, and
-    the greatest that a dsync or a dwait answered."""
+    """A session: the tree and what its snapshots keep, by their names, the greatest number of a node, the layout of the disk,
+    the last sync point, and the greatest that a dsync or a dwait answered."""
 
-    def __init__(self, limit):
-        self.limit = limit
+    def __init__(self, limit, layout=1):
+        self.limit, self.layout = limit, layout
         self.names = {(): 1}
         # a directory is `None`, and a file its bytes
         self.nodes = {1: None}
@@ -199,22 +210,27 @@ class Tree:
         self.point, self.durable, self.changed = 0, 0, False
 
     @classmethod
+    def new(cls, geometry):
+        """A session on a new disk of a geometry (`plain_disk.Geometry`)."""
+        return cls(geometry.nodes, geometry.layout)
+
+    @classmethod
     def of(cls, stood):
         """A session on a tree that a reader of blocks found (`plain_disk.Tree`)."""
-        tree = cls(stood.geometry.nodes)
+        tree = cls.new(stood.geometry)
         tree.names, tree.nodes = maps_of(stood.names)
         tree.snapshots = {one.name: Kept(one.number, *maps_of(one.names)) for one in stood.snapshots}
         return tree
 
     def copy(self):
         """The same tree, as a session on it begins."""
-        other = Tree(self.limit)
+        other = Tree(self.limit, self.layout)
         other.names, other.nodes, other.snapshots = dict(self.names), dict(self.nodes), dict(self.snapshots)
         return other
 
     def kept(self, name):
         """The tree that a snapshot keeps."""
-        other = Tree(self.limit)
+        other = Tree(self.limit, self.layout)
         _, other.names, other.nodes = self.snapshots[name]
         return other
 
@@ -282,6 +298,10 @@ class Tree:
         """How many paths a node has."""
         return sum(other == number for other in self.names.values())
 
+    def is_too_long(self, path):
+        """Whether the last name of a path is longer than a slot of the disk takes."""
+        return bool(path) and len(path[-1]) > LAYOUTS[self.layout].longest_name
+
     def unused(self):
         """The least number that no node and no snapshot has, or `None`."""
         used = {*self.nodes, *(kept.number for kept in self.snapshots.values())}
@@ -298,7 +318,7 @@ class Tree:
         """Makes a node at a path."""
         self.walk_above(path)
         number = self.unused()
-        refuse({2: path in self.names, 9: number is None})
+        refuse({2: path in self.names, 9: number is None, 18: self.is_too_long(path)})
         self.names[path], self.nodes[number] = number, data
         self.changed = True
 
@@ -342,7 +362,8 @@ class Tree:
     def do_link(self, path, other):
         number = self.walk(path)
         self.walk_above(other)
-        refuse({2: other in self.names, 4: self.is_directory(path), 8: self.links(number) >= MOST_LINKS})
+        is_full = self.links(number) >= MOST_LINKS
+        refuse({2: other in self.names, 4: self.is_directory(path), 8: is_full, 18: self.is_too_long(other)})
         self.names[other] = number
         self.changed = True
 
@@ -369,6 +390,7 @@ class Tree:
                 4: not directory and over,
                 5: directory and over and bool(self.held(other)),
                 6: directory and other[: len(path)] == path,
+                18: self.is_too_long(other),
             }
         )
         if there:
@@ -383,7 +405,7 @@ class Tree:
         number = self.walk(path)
         data = self.nodes[number]
         if data is None:
-            return f"stat dir {number} {SLOT * len(self.held(path))} 1"
+            return f"stat dir {number} {ENTRY * len(self.held(path))} 1"
         return f"stat file {number} {len(data)} {self.links(number)}"
 
     def do_list(self, path):
@@ -477,11 +499,11 @@ class Draws:
     """Draws the lines of a script, most of which can be done as the tree is by then.
 
     One of so many lines is a sync, and one of so many syncs is a dsync. A name is one of so many, and what is put into
-    a file at once has so many bytes at most. Snapshots are drawn where that is asked for.
+    a file at once has so many bytes at most. Snapshots are drawn where that is asked for, and so are names of up to 255 bytes.
     """
 
-    def __init__(self, random, syncs, dsyncs, names, longest, with_snapshots=False):
-        self.random = random
+    def __init__(self, random, syncs, dsyncs, names, longest, with_snapshots=False, with_long_names=False):
+        self.random, self.with_long_names = random, with_long_names
         self.syncs, self.dsyncs, self.names, self.longest = syncs, dsyncs, names, longest
         self.weights = WEIGHTS | SNAPSHOT_WEIGHTS if with_snapshots else WEIGHTS
 
@@ -524,7 +546,8 @@ class Draws:
         """The paths of a command that has nothing else."""
         directories = [path for path in tree.names if tree.is_directory(path)]
         above = self.random.choice([path for path in directories if len(path) < 3])
-        new = (*above, f"n{self.random.randrange(self.names)}")
+        number = self.random.randrange(self.names)
+        new = (*above, f"n{number}".ljust(LENGTHS[number % len(LENGTHS)] if self.with_long_names else 0, "x"))
         of = {"rmdir": directories, "list": directories, "rename": files + directories, "stat": files + directories}
         first = new if word in ("create", "mkdir") else self.random.choice(of.get(word, files))
         return [first, new][: len(ARGUMENTS[word])]
