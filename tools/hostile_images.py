@@ -416,7 +416,7 @@ def change_snapshot(random, image, geometry):
         return change_node(random, image, geometry)
     place = random.choice(places)
     if random.random() < 0.2:
-        name = random.choice([*NAMES, *ODD_NAMES])
+        name = random.choice([*NAMES, *LONG_NAMES, *ODD_NAMES])
         return put(random, image, place, 0, random.choice([bytes([len(name)]) + name.ljust(59, b"\0"), b"\0", b"\x3c"]))
     number = random.choice([number for number in used_nodes(image, geometry)])
     size, (kept, base) = geometry.numbers.node, place_of(geometry, number)

@@ -10,7 +10,7 @@ import re
 import struct
 from typing import NamedTuple
 
-from plain_layout import BLOCK, ENTRY, LAYOUTS, LONGEST_SNAPSHOT_NAME
+from plain_layout import BLOCK, ENTRY, LAYOUTS, LONGEST_NAME
 
 ZEROS = bytes(BLOCK)
 ENTRIES = 24
@@ -542,7 +542,7 @@ class Snapshot:
     def name(self):
         """Its name, or `None` where its first block has none."""
         length = self.first[0]
-        is_spelled = is_name(self.first[1 : 1 + length], LONGEST_SNAPSHOT_NAME) and not any(self.first[1 + length :])
+        is_spelled = is_name(self.first[1 : 1 + length], LONGEST_NAME) and not any(self.first[1 + length :])
         return self.first[1 : 1 + length].decode() if is_spelled else None
 
     @property

@@ -8,8 +8,8 @@ from typing import NamedTuple
 BLOCK = 1024
 # what `stat` and a directory's size count for each name, in both layouts
 ENTRY = 64
-# the name of a snapshot has a block of its own, in both layouts
-LONGEST_SNAPSHOT_NAME = 59
+# the name of a snapshot has a block of its own in both layouts; a line of a script has shorter ones
+LONGEST_NAME, LONGEST_SNAPSHOT_NAME = 255, 59
 
 
 class Layout(NamedTuple):
