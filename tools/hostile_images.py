@@ -151,7 +151,7 @@ class Drawn:
             runs = [struct.unpack_from("<II", nodes[number], 32 + 8 * at) for at in range(count)]
             first, length = runs[0]
             rest = [*([(first + 1, length - 1)] if length > 1 else []), *runs[1:]]
-            is_cut = self.random.random() < 0.3
+            is_cut = self.random.random() < 0.3 or not self.free
             new = [] if is_cut else [*self.place(self.random.randbytes(BLOCK), b"\0"), *rest]
             if len(new) <= self.geometry.numbers.most_runs and (len(new) < 2 or sum(new[0]) != new[1][0]):
                 nodes[number] = plain_disk.node_bytes(2, links, 0 if is_cut else size, new, self.geometry.layout)
