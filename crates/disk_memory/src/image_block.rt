@@ -1,7 +1,8 @@
 //! A block of an image, which takes memory for its bytes only where they aren't zeros. What blocks an image
 //! has isn't its matter.
 
-ghost use Rattle.std.specs.Prelude.{◌≡◌, length, replicate, IfOk, OnOk, OnErr};
+ghost use Rattle.std.specs.Prelude.{◌≡◌, ◌==◌, length, replicate, IfOk, OnOk, OnErr};
+ghost use Rattle.std.specs.List.{list_all};
 ghost use Rattle.disk_contract.specs.Lawful.{IsBlock};
 
 use base_types::{Block, NoMemory};
@@ -63,7 +64,7 @@ impl ImageBlock {
         ensures done { OnOk result (self.new ≡ bytes.now) }
         ensures same { OnErr result (self.new ≡ self.old) }
     {
-        if *bytes == ZEROS {
+        if are_zeros(bytes) {
             self.boxed = None;
             return Ok(());
         }
@@ -73,6 +74,17 @@ impl ImageBlock {
         }
         Ok(())
     }
+}
+
+/// Whether every byte is zero. All bytes are looked at, so that many can be at once.
+fn are_zeros(bytes: &Block) -> bool
+    ensures { result ≡ list_all (λ b. b == 0) bytes.now }
+{
+    let mut greatest = 0u8;
+    for byte in bytes {
+        greatest = greatest.max(*byte);
+    }
+    greatest == 0
 }
 
 /// Equal blocks have the same bytes.

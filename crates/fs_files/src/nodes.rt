@@ -106,11 +106,12 @@ pub(crate) fn open_node(bytes: &[u8], geom: &Geom) -> Option<OpenNode>
         return None;
     };
     let layout = geom.layout();
+    // Each arm returns, so that the node is made in the place of the answer.
     match node.kind {
-        NodeKind::Free => None,
-        NodeKind::Dir => Some(opened(node, layout)),
-        NodeKind::File => Some(opened(node, layout)),
-        NodeKind::Snapshot => Some(opened(node, layout)),
+        NodeKind::Free => return None,
+        NodeKind::Dir => return Some(opened(node, layout)),
+        NodeKind::File => return Some(opened(node, layout)),
+        NodeKind::Snapshot => return Some(opened(node, layout)),
     }
 }
 

@@ -1,7 +1,7 @@
 //! A directory over its borrowed blocks: finding an entry. The slots are read in their places, and none is
 //! built in between.
 
-ghost use Rattle.std.specs.Prelude.{◌≡◌, ◌≤◌, ◌+◌, ◌*◌, Some, List, length};
+ghost use Rattle.std.specs.Prelude.{◌≡◌, ◌≤◌, ◌+◌, ◌-◌, ◌*◌, ◌==◌, not, Some, List, length, slice_index};
 ghost use Rattle.std.specs.List.{concat};
 ghost use Rattle.base_types.specs.Layouts.{slot_size, slot_place, longest_name, directory_bytes};
 ghost use Rattle.layout_directory.specs.Slots.{Slot as SlotValue};
@@ -57,5 +57,21 @@ fn has_name(slot: &[u8], name: &[u8], layout: Layout) -> bool
     if rest.len() < name.len() {
         return false;
     }
-    &rest[..name.len()] == name
+    let here = &rest[..name.len()];
+    if end_apart(here, name) {
+        return false;
+    }
+    here == name
+}
+
+/// Whether the last bytes differ, as they do for most names of one length.
+fn end_apart(left: &[u8], right: &[u8]) -> bool
+    requires { length left.now ≡ length right.now }
+    ensures { result ≡ not (slice_index left.now (length left.now - 1) == slice_index right.now (length left.now - 1)) }
+{
+    if left.is_empty() {
+        return false;
+    }
+    let last = left.len() - 1;
+    left[last] != right[last]
 }

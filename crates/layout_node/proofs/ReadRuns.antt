@@ -1,8 +1,9 @@
 -- The runs of a node, read one by one from the front.
 use Rattle.std.proofs.Common.{◌≡◌, ℕ, suc, ◌+◌, ◌-◌, ◌*◌, ◌<◌, false, nat_lt, nat_le, List, [], ◌∷◌, ◌++◌, length, take, drop, slice_index, Some, None, sym, ap, ◌∙◌, arith, append_assoc, drop-drop, take_all, length-drop}
 use Rattle.std.proofs.lemmas.Bool.{lt-leb, and_left, and_right}
-use Rattle.std.proofs.lemmas.List.{length-append}
+use Rattle.std.proofs.lemmas.List.{length-append, drop-take}
 use Rattle.byteorder.specs.Endian.{little_number}
+use Rattle.byteorder.specs.Numbers.{little_from-take}
 use Rattle.base_types.specs.declared.places.Run.{Run}
 use Rattle.layout_geometry.specs.Geometry.{Geometry}
 use Rattle.layout_bytes.specs.declared.node.NodeKind.{NodeKind}
@@ -22,6 +23,21 @@ one_more n b k rs first count more f c =
     ∙ ap (λ x. rs ++ record { first = x; count = field b (8 * k + 4) 4 } ∷ behind) (sym f)
     ∙ ap (λ x. rs ++ record { first = first; count = x } ∷ behind) (sym c)
     ∙ sym (append_assoc rs (record { first = first; count = count } ∷ []) behind)
+
+-- the run in eight bytes
+pub run_at : (n at : ℕ) (b : List ℕ) (r : Run) → n ≡ 8 → r ≡ record { first = field (take n (drop at b)) 0 4; count = field (take n (drop at b)) 4 4 }
+    → r ≡ record { first = field b at 4; count = field b (at + 4) 4 }
+run_at n at b r e is =
+    is
+    ∙ run_is (little_number 4 (drop 0 (take n (drop at b)))) (little_number 4 (drop at b)) (little_number 4 (drop 4 (take n (drop at b)))) (little_number 4 (drop (at + 4) b))
+    (little_from-take 0 4 n (drop at b) (omega (arith, e)))
+    (ap (λ k. little_number 4 (drop 4 (take k (drop at b)))) {x = n} {y = 4 + 4} (omega (arith, e))
+    ∙ ap (λ xs. little_number 4 xs) (drop-take 4 4 (drop at b))
+    ∙ little_from-take 0 4 4 (drop 4 (drop at b)) (omega arith)
+    ∙ ap (λ xs. little_number 4 xs) (drop-drop 4 at b))
+  where
+    run_is : (f g c d : ℕ) → f ≡ g → c ≡ d → ◌≡◌ {A = Run} (record { first = f; count = c }) (record { first = g; count = d })
+    run_is f g c d e h = cc
 
 pub length_one_more : (rs : List Run) (r : Run) → length (rs ++ r ∷ []) ≡ length rs + 1
 length_one_more rs r = length-append rs (r ∷ [])

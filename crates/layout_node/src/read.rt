@@ -2,6 +2,7 @@
 //! geometry. Whether blocks belong to one node alone is described by the check of a whole tree.
 
 ghost use Rattle.std.specs.Prelude.{◌≡◌, ◌≤◌, ◌+◌, ◌*◌, ◌&&◌, ◌==◌, not, nat_lt, nat_le, length, IfOk, OnErr};
+ghost use Rattle.std.specs.Option.{ok_or};
 ghost use Rattle.base_types.specs.Layouts.{most_runs, node_size};
 ghost use Rattle.layout_extent.specs.Runs.{AreTidy, LieBelow, most_blocks};
 ghost use Rattle.layout_geometry.specs.Geometry.{data_start};
@@ -55,7 +56,7 @@ pub fn read_node(bytes: &[u8], geom: &Geom) -> Result<Node, BadNode>
     if are_zeros(bytes) {
         return Ok(free_node());
     }
-    used_node(bytes, geom).ok_or(BadNode)
+    used_node(bytes, geom)
 }
 
 /// A node that isn't in use.
@@ -70,27 +71,29 @@ fn free_node() -> Node
     }
 }
 
-/// The node in use in these bytes, if they are one's.
+/// The node in use in these bytes, if they are one's. What is read is made in the place of the answer.
 #[tactic(auto, using(crate::proofs::ReadRuns::too_many), unfolding(layout_bytes::specs::Node::node_of))]
-fn used_node(bytes: &[u8], geom: &Geom) -> Option<Node>
+fn used_node(bytes: &[u8], geom: &Geom) -> Result<Node, BadNode>
     requires { length bytes.now ≡ node_size geom.now.layout }
-    ensures { result ≡ node_of geom.now bytes.now }
+    ensures { result ≡ ok_or (node_of geom.now bytes.now) (record {}) }
 {
     the_numbers_of_a_layout_go_together();
     let layout = geom.layout();
-    let kind = used_kind(bytes[0])?;
+    let Some(kind) = used_kind(bytes[0]) else {
+        return Err(BadNode);
+    };
     let count = usize::from(number_2(bytes, 2));
     if count > layout.most_runs() {
-        return None;
+        return Err(BadNode);
     }
     if !has_spare_zeros(bytes, count, layout) {
-        return None;
+        return Err(BadNode);
     }
     let node = node_fields(kind, count, bytes, layout);
     if !node_fits(&node, geom) {
-        return None;
+        return Err(BadNode);
     }
-    Some(node)
+    Ok(node)
 }
 
 fn used_kind(number: u8) -> Option<NodeKind>
@@ -146,12 +149,20 @@ fn runs_in(count: usize, bytes: &[u8]) -> RunList
     let mut runs = RunList::new();
     for k in 0..count {
         let at = RUN_LENGTH * k;
-        runs.push(Run {
-            first: number_4(bytes, at),
-            count: number_4(bytes, at + 4),
-        });
+        runs.push(run_in(&bytes[at..at + RUN_LENGTH]));
     }
     runs
+}
+
+/// The run in these bytes.
+fn run_in(bytes: &[u8]) -> Run
+    requires { length bytes.now ≡ 8 }
+    ensures { result ≡ record { first = field bytes.now 0 4; count = field bytes.now 4 4 } }
+{
+    Run {
+        first: number_4(bytes, 0),
+        count: number_4(bytes, 4),
+    }
 }
 
 /// Whether a node in use is within the limits of its kind and of the disk.
