@@ -181,6 +181,10 @@ fn next_member(words: &[u64], filled: &[u64], from: u32) -> Option<u32>
     ensures before { IfSome result (λ b. (c : ℕ) → from ≤ c → c < b → has_bit words.now c ≡ false) }
     ensures none { IfNone result ((c : ℕ) → from ≤ c → has_bit words.now c ≡ false) }
 {
+    // Members often follow each other.
+    if words::has(words, from) {
+        return Some(from);
+    }
     let word = from / BITS_IN_WORD;
     if word as usize >= words.len() {
         return None;
