@@ -1,14 +1,13 @@
 //! The commands of an input, one by one, pulled from a source: what the lines of a script say.
 
 ghost use Rattle.std.specs.Prelude.{◌≡◌, ◌≤◌, true, [], IfOk, OnErr};
-ghost use Rattle.lang_lines.specs.Reading.{ReadsOn, HoldsOn, as_item, first_state};
+ghost use Rattle.lang_lines.specs.Reading.{ReadsOn, HoldsOn, first_state};
 
 use crate::lines::Commands;
 use crate::next::{Next, NextItem};
 use crate::reader::LineReader;
 use base_io::Source;
 use base_types::NoMemory;
-use lang_tree::Cmd;
 use std::alloc::Global;
 use std::marker::Model;
 
@@ -51,19 +50,12 @@ impl CommandReader {
         ensures faults { S.faults input.old ≤ S.faults input.new }
         ensures rest { self.new.over ≡ true → self.new.ahead ≡ [] }
     {
-        let next = self.lines.next::<Commands, S>(alloc, input)?;
-        Ok(command_in(next))
-    }
-}
-
-// What comes next, as a command.
-fn command_in(next: NextItem<Cmd>) -> Next
-    ensures { as_item result ≡ next }
-{
-    match next {
-        NextItem::Item(cmd) => Next::Command(cmd),
-        NextItem::End => Next::End,
-        NextItem::SourceFault => Next::SourceFault,
-        NextItem::LongInput => Next::LongInput,
+        match self.lines.next::<Commands, S>(alloc, input) {
+            Ok(NextItem::Item(cmd)) => Ok(Next::Command(cmd)),
+            Ok(NextItem::End) => Ok(Next::End),
+            Ok(NextItem::SourceFault) => Ok(Next::SourceFault),
+            Ok(NextItem::LongInput) => Ok(Next::LongInput),
+            Err(NoMemory) => Err(NoMemory),
+        }
     }
 }

@@ -72,8 +72,10 @@ pub fn item_of_line<P: LineParser>(alloc: Global, line: &[u8]) -> Result<Option<
     if line.len() > LONGEST_LINE {
         return Ok(Some(P::bad()));
     }
-    let item = P::parse(alloc, line)?;
-    Ok(Some(item))
+    match P::parse(alloc, line) {
+        Ok(item) => Ok(Some(item)),
+        Err(NoMemory) => Err(NoMemory),
+    }
 }
 
 /// The command that a line is, or `None` where it is empty or a comment. A line that is longer than a

@@ -88,17 +88,20 @@ impl LineReader {
         ensures rest { self.new.over ≡ true → self.new.ahead ≡ [] }
     {
         while !self.is_over() {
-            if let Some(item) = self.next_ahead::<P>(alloc)? {
-                return Ok(NextItem::Item(item));
+            match self.next_ahead::<P>(alloc) {
+                Ok(None) => {}
+                Ok(Some(item)) => return Ok(NextItem::Item(item)),
+                Err(NoMemory) => return Err(NoMemory),
             }
             match self.pull::<P, S>(input) {
                 Pulled::Bytes => {}
                 Pulled::Fault => return Ok(NextItem::SourceFault),
                 Pulled::TooMany => return Ok(NextItem::LongInput),
                 Pulled::Nothing => {
-                    return match self.take_last::<P>(alloc)? {
-                        Some(item) => Ok(NextItem::Item(item)),
-                        None => Ok(NextItem::End),
+                    return match self.take_last::<P>(alloc) {
+                        Ok(Some(item)) => Ok(NextItem::Item(item)),
+                        Ok(None) => Ok(NextItem::End),
+                        Err(NoMemory) => Err(NoMemory),
                     };
                 }
             }
@@ -130,8 +133,9 @@ impl LineReader {
         ensures err { OnErr result (GoesOn (items_of_line P.bad P.says longest) [] self.old self.new) }
     {
         while !self.has_none_ahead() {
-            if let Some(item) = self.take_some::<P>(alloc)? {
-                return Ok(Some(item));
+            let found = self.take_some::<P>(alloc);
+            if !matches!(found, Ok(None)) {
+                return found;
             }
         }
         Ok(None)
@@ -153,12 +157,10 @@ impl LineReader {
             }
             Some(at) => {
                 if self.line.is_empty() {
-                    let found = self.take_whole::<P>(alloc, at)?;
-                    return Ok(found);
+                    return self.take_whole::<P>(alloc, at);
                 }
                 self.keep::<P>(at)?;
-                let found = self.take_open::<P>(alloc)?;
-                Ok(found)
+                self.take_open::<P>(alloc)
             }
         }
     }
@@ -192,9 +194,11 @@ impl LineReader {
         ensures ahead { IfOk result (λ _. self.new.ahead ≡ drop (at + 1) self.old.ahead) }
         ensures err { OnErr result (self.new ≡ self.old) }
     {
-        let found = item_of_line::<P>(alloc, &self.chunk.bytes()[..at])?;
-        self.chunk.pass(at + 1);
-        Ok(found)
+        let found = item_of_line::<P>(alloc, &self.chunk.bytes()[..at]);
+        if found.is_ok() {
+            self.chunk.pass(at + 1);
+        }
+        found
     }
 
     // Takes the open line, whose line feed comes next.
@@ -205,10 +209,12 @@ impl LineReader {
         ensures ahead { IfOk result (λ _. self.new.ahead ≡ drop 1 self.old.ahead) }
         ensures err { OnErr result (self.new ≡ self.old) }
     {
-        let found = item_of_line::<P>(alloc, self.line.as_slice())?;
-        self.line.clear();
-        self.chunk.pass(1);
-        Ok(found)
+        let found = item_of_line::<P>(alloc, self.line.as_slice());
+        if found.is_ok() {
+            self.line.clear();
+            self.chunk.pass(1);
+        }
+        found
     }
 
     // Takes the last line of an input that is over.
@@ -218,10 +224,12 @@ impl LineReader {
         ensures ok { IfOk result (λ found. EndsWith (items_of_line P.bad P.says longest) (option_to_list found) self.old self.new) }
         ensures err { OnErr result (self.new ≡ self.old) }
     {
-        let found = item_of_line::<P>(alloc, self.line.as_slice())?;
-        self.line.clear();
-        self.over = true;
-        Ok(found)
+        let found = item_of_line::<P>(alloc, self.line.as_slice());
+        if found.is_ok() {
+            self.line.clear();
+            self.over = true;
+        }
+        found
     }
 
     // Pulls the next bytes, where all before are looked at.

@@ -23,8 +23,7 @@ pub fn parse_line(alloc: Global, line: &[u8]) -> Result<Cmd, NoMemory>
     ensures lawful { IfOk result (λ cmd. (cmd ≡ Bad) ⊎ (is_in_grammar cmd ≡ true)) }
 {
     let parts = parts(alloc, line, b' ')?;
-    let cmd = cmd_of_parts(alloc, parts.as_slice())?;
-    Ok(cmd)
+    cmd_of_parts(alloc, parts.as_slice())
 }
 
 fn cmd_of_parts(alloc: Global, parts: &[&[u8]]) -> Result<Cmd, NoMemory>
@@ -35,11 +34,9 @@ fn cmd_of_parts(alloc: Global, parts: &[&[u8]]) -> Result<Cmd, NoMemory>
         [word] => Ok(cmd_of_word(word)),
         [word, name, look @ ..] => {
             if *word == b"at".as_slice() {
-                let cmd = look_at(alloc, name, look)?;
-                return Ok(cmd);
+                return look_at(alloc, name, look);
             }
-            let cmd = cmd_on_tree(alloc, parts)?;
-            Ok(cmd)
+            cmd_on_tree(alloc, parts)
         }
     }
 }
@@ -93,22 +90,10 @@ fn cmd_on_tree(alloc: Global, parts: &[&[u8]]) -> Result<Cmd, NoMemory>
 {
     match parts {
         [word] => Ok(cmd_of_word(word)),
-        [word, last] => {
-            let cmd = with_one(alloc, word, last)?;
-            Ok(cmd)
-        }
-        [word, path, last] => {
-            let cmd = with_two(alloc, word, path, last)?;
-            Ok(cmd)
-        }
-        [word, path, offset, last] => {
-            let cmd = with_three(alloc, word, path, offset, last)?;
-            Ok(cmd)
-        }
-        [word, path, offset, length, byte] => {
-            let cmd = with_four(alloc, word, path, offset, length, byte)?;
-            Ok(cmd)
-        }
+        [word, last] => { with_one(alloc, word, last) }
+        [word, path, last] => { with_two(alloc, word, path, last) }
+        [word, path, offset, last] => { with_three(alloc, word, path, offset, last) }
+        [word, path, offset, length, byte] => { with_four(alloc, word, path, offset, length, byte) }
         [] => Ok(Cmd::Bad),
         [_, _, _, _, _, _, ..] => Ok(Cmd::Bad),
     }
@@ -149,8 +134,7 @@ fn with_one(alloc: Global, word: &[u8], last: &[u8]) -> Result<Cmd, NoMemory>
     if word == b"unsnap".as_slice() {
         return Ok(unsnap(last));
     }
-    let cmd = with_path(alloc, word, last)?;
-    Ok(cmd)
+    with_path(alloc, word, last)
 }
 
 fn dwait(point: &[u8]) -> Cmd
@@ -219,11 +203,9 @@ fn with_two(alloc: Global, word: &[u8], part: &[u8], last: &[u8]) -> Result<Cmd,
     ensures { IfOk result (λ cmd. cmd ≡ command_on_tree (word.now ∷ part.now ∷ last.now ∷ [])) }
 {
     if word == b"truncate".as_slice() {
-        let cmd = truncate(alloc, part, last)?;
-        return Ok(cmd);
+        return truncate(alloc, part, last);
     }
-    let cmd = with_paths(alloc, word, part, last)?;
-    Ok(cmd)
+    with_paths(alloc, word, part, last)
 }
 
 fn truncate(alloc: Global, part: &[u8], size: &[u8]) -> Result<Cmd, NoMemory>
@@ -273,12 +255,10 @@ fn with_three(
     ensures { IfOk result (λ cmd. cmd ≡ command_on_tree (word.now ∷ part.now ∷ offset.now ∷ last.now ∷ [])) }
 {
     if word == b"write".as_slice() {
-        let cmd = write(alloc, part, offset, last)?;
-        return Ok(cmd);
+        return write(alloc, part, offset, last);
     }
     if word == b"read".as_slice() {
-        let cmd = read(alloc, part, offset, last)?;
-        return Ok(cmd);
+        return read(alloc, part, offset, last);
     }
     Ok(Cmd::Bad)
 }
@@ -328,8 +308,7 @@ fn with_four(
     ensures { IfOk result (λ cmd. cmd ≡ command_on_tree (word.now ∷ part.now ∷ offset.now ∷ length.now ∷ byte.now ∷ [])) }
 {
     if word == b"fill".as_slice() {
-        let cmd = fill(alloc, part, offset, length, byte)?;
-        return Ok(cmd);
+        return fill(alloc, part, offset, length, byte);
     }
     Ok(Cmd::Bad)
 }

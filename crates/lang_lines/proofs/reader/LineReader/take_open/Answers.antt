@@ -1,13 +1,16 @@
 -- The line feed ends the open line.
-use Rattle.std.proofs.Common.{ap, ◌∙◌, drop}
+use Rattle.std.proofs.Common.{ap, ◌∙◌, drop, option_to_list}
+use Rattle.std.proofs.lemmas.Result.{IfOk-weaker}
 use Rattle.lang_lines.specs.Lines.{longest, items_of_line}
 use Rattle.lang_lines.specs.Reading.{ReaderState}
 use Rattle.lang_lines.proofs.Giving.{closes}
 use Rattle.lang_lines.proofs.reader.LineReader.take_open.Goals as goal
 
-pub returns-clause-ok : goal.returns-clause-ok
-returns-clause-ok g c =
-    closes g.P.LineParser.bad g.P.LineParser.says c.args.self.now _ _ c.requires.going c.requires.feed
-    (c.in_ok-found.ensures ∙ ap ((items_of_line g.P.LineParser.bad g.P.LineParser.says longest)) (c.as_slice.ensures.value ∙ ap (λ (r : ReaderState). r.line) c.self.view_is))
+pub returns-then-is_ok-clause-ok : goal.returns-then-is_ok-clause-ok
+returns-then-is_ok-clause-ok g c =
+    IfOk-weaker c.item_of_line-found.result _ _
+    (λ found says. closes g.P.LineParser.bad g.P.LineParser.says c.args.self.now _ (option_to_list found) c.requires.going c.requires.feed
+    (says ∙ ap ((items_of_line g.P.LineParser.bad g.P.LineParser.says longest)) (c.as_slice.ensures.value ∙ ap (λ (r : ReaderState). r.line) c.self.view_is))
     (ap (λ (r : ReaderState). r.count) c.self.view_is) (ap (λ (r : ReaderState). r.over) c.self.view_is)
-    (c.pass.ensures ∙ ap (λ (r : ReaderState). drop 1 r.ahead) c.self.view_is) c.clear.ensures.items
+    (c.pass.ensures ∙ ap (λ (r : ReaderState). drop 1 r.ahead) c.self.view_is) c.clear.ensures.items)
+    c.item_of_line-found.ensures

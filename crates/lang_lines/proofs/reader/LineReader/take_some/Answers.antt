@@ -1,6 +1,7 @@
 -- Where the first line feed is, and what is ahead behind it.
-use Rattle.std.proofs.Common.{ap, ◌∙◌, arith, List, ℕ, length}
+use Rattle.std.proofs.Common.{◌≡◌, ◌<◌, ap, ◌∙◌, arith, List, ℕ, drop, length}
 use Rattle.std.proofs.lemmas.List.{length-drop}
+use Rattle.std.proofs.lemmas.Result.{IfOk-weaker}
 use Rattle.lang_lines.specs.Reading.{ReaderState}
 use Rattle.lang_lines.proofs.Feeds.{none_in, none_before, feed_there, feed_next}
 use Rattle.lang_lines.proofs.reader.LineReader.take_some.Goals as goal
@@ -27,16 +28,20 @@ take_open-requires-clause-feed g c =
     feed_next c.keep-in-Some.new.self.ahead c.args.self.now.ahead c.in-Some.at c.in_ok-keep-in-Some.ensures.ahead
     (feed_there c.feed_in.result c.bytes.result.now c.args.self.now.ahead c.in-Some.at c.in-Some.is c.feed_in.ensures.first (c.bytes.ensures ∙ ap (λ (r : ReaderState). r.ahead) c.self.view_is))
 
-pub returns-in_ok-found-in-Some-2-clause-fewer : goal.returns-in_ok-found-in-Some-2-clause-fewer
-returns-in_ok-found-in-Some-2-clause-fewer g c =
+pub returns-in_ok-keep-in-Some-clause-fewer : goal.returns-in_ok-keep-in-Some-clause-fewer
+returns-in_ok-keep-in-Some-clause-fewer g c =
     let ahead = c.args.self.now.ahead in
     let came = ap (λ (l : List ℕ). length l) (c.bytes.ensures ∙ ap (λ (r : ReaderState). r.ahead) c.self.view_is) in
-    omega (
+    let kept = c.keep-in-Some.new.self.ahead in
+    let left = c.take_open.new.self.ahead in
+    IfOk-weaker c.take_open.result (λ _. left ≡ drop 1 kept) (λ _. length left < length ahead)
+    (λ _ passed. omega (
       arith,
-      ap (λ (l : List ℕ). length l) c.in_ok-found-in-Some-2.ensures.ahead,
+      ap (λ (l : List ℕ). length l) passed,
       ap (λ (l : List ℕ). length l) c.in_ok-keep-in-Some.ensures.ahead,
-      length-drop 1 c.keep-in-Some.new.self.ahead,
+      length-drop 1 kept,
       length-drop c.in-Some.at ahead,
       c.in-Some.ensures.below,
       came,
-    )
+    ))
+    c.take_open.ensures.ahead
