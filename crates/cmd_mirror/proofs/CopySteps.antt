@@ -1,4 +1,4 @@
--- What a stretch makes of a copying: of the log of the disk that is written, and of its blocks; and how stretches join.
+-- What a stretch makes of a copying: of the log of the disk that is written, and of its blocks; how stretches join; and a block that is copied alone.
 use Rattle.std.proofs.Common.{◌≡◌, ◌≢◌, inl, inr, ⊎_elim, ℕ, ◌+◌, ◌-◌, ◌<◌, ◌≤◌, Bool, true, false, ◌==◌, if◌then◌else◌, IsTrue, List, [], ◌∷◌, ◌++◌, length, slice_index_or, slice_set, OnOk, Some, Result, Ok, Err, refl, sym, ◌∙◌, ap, subst, arith, append-nil, append_assoc}
 use Rattle.std.proofs.lemmas.Bool.{cases_eq, cases_lt, eqb-true, eqb-false, or_cases, or_left, or_right, false≢true}
 use Rattle.std.proofs.lemmas.List.{get_or-set_other, get_or-set_same}
@@ -11,8 +11,9 @@ use Rattle.disk_contract.specs.Disk.{AddsNotices, AddsWrite, HasFailed, OnlyRead
 use Rattle.disk_contract.specs.Logs.{IsAccepted-last as accepted_last, IsAccepted-more as accepted_still}
 use Rattle.cmd_mirror.proofs.Readings.{untouched}
 use Rattle.cmd_mirror.specs.declared.copying.CopyFault.{CopyFault}
-use Rattle.cmd_mirror.specs.declared.copying.CopyFault.TheVariants.{Write as Written}
-use Rattle.cmd_mirror.specs.Copies.{AreCopied, AreCopiesOf, AreGiven, CopiesBlocks, CopiesPart, CopiesRange, IsSent, IsStretch, SendsStretch, WaitsForStretch, WritesAndWaits, fails_reading, fails_writing}
+use Rattle.cmd_mirror.specs.declared.copying.CopyFault.TheVariants.{Read as Unread, Write as Written}
+use Rattle.cmd_mirror.specs.Copies.{AreCopiesOf, AreGiven, CopiesPart, CopiesRange, GrowsWithin, IsSent, IsStretch, SendsStretch, WaitsForStretch, WritesAndWaits, fails_reading, fails_writing}
+use Rattle.cmd_mirror.proofs.CopyOrder.{grows_none, grows_noticed, grows_on, grows_wider, grows_wrote}
 
 -- The log.
 
@@ -174,18 +175,48 @@ by_base P Q same step before = subst Q same (step (subst P (sym same) before))
 
 -- A stretch.
 
-module _ (together : SpendTogether) (tells : Bool) (first i : ℕ) (tickets : List ℕ) (from mid to to_mid : State) (so_far : SendsStretch tells first i tickets (Ok tt) from mid to to_mid) where
-  module _ (now : State) (reads : OnlyReads false mid now) (log : IsTrue tells → now.log ≡ mid.log) (x : List ℕ) (read : IsTrue tells → Reads mid (first + i) x) where
-    bytes : IsTrue tells → from.log ≡ [] → x ≡ from.base (first + i)
-    bytes t empty = read_is mid (first + i) x (so_far.unwritten t ∙ empty) (read t) ∙ ap (λ (at : Blocks). at (first + i)) so_far.reads.same.base
+-- no block was sent yet
+pub sends_none : (tells : Bool) (first : ℕ) (tickets : List ℕ) (from to : State) → SendsStretch tells first 0 tickets (Ok tt) from from to to
+sends_none tells first tickets from to = record {
+  reads = untouched from;
+  unwritten = λ t. refl;
+  spends = record { same = record { blocks = refl; base = refl; manner = refl }; faults = refl; read_faults = refl; waits = refl; polls = refl };
+  copies = λ t empty before. before;
+  grows = λ t. grows_none first (first + 0) to.log;
+  sent = λ t empty idle. record { copied = λ b low high. absurd (omega (arith, low, high)); sent = λ j low high. absurd (omega (arith, high)); others = λ b out. refl };
+  given = λ t j below. absurd (omega (arith, below));
+  cause = λ t is. absurd (false≢true is);
+}
 
+-- what was read of a block that nothing was written to
+pub bytes_read : (tells : Bool) (from mid : State) (b : ℕ) (x : List ℕ) → OnlyReads false from mid → (IsTrue tells → mid.log ≡ from.log) → (IsTrue tells → Reads mid b x) → IsTrue tells → from.log ≡ [] → x ≡ from.base b
+bytes_read tells from mid b x reads unwritten read t empty = read_is mid b x (unwritten t ∙ empty) (read t) ∙ ap (λ (at : Blocks). at b) reads.same.base
+
+module _ (together : SpendTogether) (tells : Bool) (first i : ℕ) (tickets : List ℕ) (from mid to to_mid : State) (so_far : SendsStretch tells first i tickets (Ok tt) from mid to to_mid) where
+  -- a read failed
+  pub sends_unread : (count : ℕ) → i ≤ count → (now : State) → OnlyReads true mid now → (IsTrue tells → now.log ≡ mid.log) → SendsStretch tells first count tickets (Err Unread) from now to to_mid
+  sends_unread count few now reads log = record {
+    reads = reads_on true from mid now so_far.reads reads;
+    unwritten = λ t. log t ∙ so_far.unwritten t;
+    spends = so_far.spends;
+    copies = so_far.copies;
+    grows = λ t. grows_wider first (first + i) first (first + count) to.log to_mid.log (omega arith) (omega (arith, few)) (so_far.grows t);
+    sent = λ t empty idle. tt;
+    given = λ t. tt;
+    cause = λ t is. absurd (false≢true is);
+  }
+
+  module _ (now : State) (reads : OnlyReads false mid now) (log : IsTrue tells → now.log ≡ mid.log) (x : List ℕ) (bytes : IsTrue tells → from.log ≡ [] → x ≡ from.base (first + i)) where
     -- a write failed
-    pub sends_unwritten : {E : Type 0} (e : E) (count : ℕ) (to_now : State) → OnlyWrites true to_mid to_now → (IsTrue tells → AddsWrite (first + i) x (Err e) to_mid.log to_now.log) → (IsTrue tells → HasFailed to_now) → SendsStretch tells first count tickets (Err Written) from now to to_now
-    sends_unwritten e count to_now writes adds failed = record {
+    pub sends_unwritten : {E : Type 0} (e : E) (count : ℕ) (to_now : State) → i < count → OnlyWrites true to_mid to_now → (IsTrue tells → AddsWrite (first + i) x (Err e) to_mid.log to_now.log) → (IsTrue tells → HasFailed to_now) → SendsStretch tells first count tickets (Err Written) from now to to_now
+    sends_unwritten e count to_now below writes adds failed = record {
       reads = reads_on false from mid now so_far.reads reads;
       unwritten = λ t. log t ∙ so_far.unwritten t;
       spends = together true 0 0 0 0 to to_mid to_now so_far.spends writes;
       copies = λ t empty before. copies_wrote from.base (first + i) x (Err e) to_mid.log to_now.log (bytes t empty) (adds t) (so_far.copies t empty before);
+      grows = λ t.
+          grows_on first (first + count) to.log to_mid.log to_now.log (grows_wider first (first + i) first (first + count) to.log to_mid.log (omega arith) (omega (arith, below)) (so_far.grows t))
+          (grows_wrote first (first + count) (first + i) x (Err e) to_mid.log to_now.log (omega arith) (omega (arith, below)) (adds t));
       sent = λ t empty before. tt;
       given = λ t. tt;
       cause = λ t is. failed t;
@@ -199,6 +230,9 @@ module _ (together : SpendTogether) (tells : Bool) (first i : ℕ) (tickets : Li
       unwritten = λ t. log t ∙ so_far.unwritten t;
       spends = together false 0 0 0 0 to to_mid to_now so_far.spends writes;
       copies = λ t empty before. copies_wrote {E = Unit {0}} from.base (first + i) x (Ok ticket) to_mid.log to_now.log (bytes t empty) (adds t) (so_far.copies t empty before);
+      grows = λ t.
+          grows_on first (first + (i + 1)) to.log to_mid.log to_now.log (grows_wider first (first + i) first (first + (i + 1)) to.log to_mid.log (omega arith) (omega arith) (so_far.grows t))
+          (grows_wrote {E = Unit {0}} first (first + (i + 1)) (first + i) x (Ok ticket) to_mid.log to_now.log (omega arith) (omega arith) (adds t));
       sent = λ t empty idle.
           subst (λ (l : List Event). IsStretch from.base first 0 (i + 1) (slice_set tickets i ticket) to.base to.log l) (sym (adds t).2)
           (sends laws to.base from.base to.log idle first i ticket x tickets to_mid.log room (bytes t empty) (adds t).1 (so_far.sent t empty idle));
@@ -219,6 +253,7 @@ waits_none tells all tickets to = record {
   spends = writes_nothing to;
   given = λ t before. before;
   copies = λ t at before. before;
+  grows = λ t first end. grows_none first end to.log;
   whole = λ t at first old idle before. before;
   cause = λ t given is. absurd (false≢true is);
 }
@@ -234,6 +269,7 @@ module _ (together : SpendTogether) (tells : Bool) (i all : ℕ) (tickets : List
     spends = at_most true (i + 1) count to now few (writes_on together true i 1 to mid now so_far.spends (1, omega arith, waits));
     given = given_on;
     copies = λ t at before. copies_noticed at mid.log now.log (adds t) (so_far.copies t at before);
+    grows = λ t first end. grows_on first end to.log mid.log now.log (so_far.grows t first end) (grows_noticed first end mid.log now.log (adds t));
     whole = λ t at first old idle before. tt;
     cause = λ t given is. failed t (so_far.given t given i below);
   }
@@ -245,13 +281,14 @@ module _ (together : SpendTogether) (tells : Bool) (i all : ℕ) (tickets : List
     spends = writes_on together false i 1 to mid now so_far.spends (1, omega arith, waits);
     given = given_on;
     copies = λ t at before. copies_noticed at mid.log now.log (adds t) (so_far.copies t at before);
+    grows = λ t first end. grows_on first end to.log mid.log now.log (so_far.grows t first end) (grows_noticed first end mid.log now.log (adds t));
     whole = λ t at first old idle before.
         subst (λ (l : List Event). IsStretch at first (i + 1) all tickets to.base old l) (sym (adds t).log)
         (hears laws to.base at old idle first i all tickets mid.log (adds t).tickets below (subst (IsNoticed (slice_index_or tickets i 0)) (adds t).log (noticed t)) (so_far.whole t at first old idle before));
     cause = λ t given is. absurd (false≢true is);
   }
 
-on_ok : {A E P Q : Type 0} (r : Result A E) → (P → Q) → OnOk r P → OnOk r Q
+pub on_ok : {A E P Q : Type 0} (r : Result A E) → (P → Q) → OnOk r P → OnOk r Q
 on_ok (Ok x) f p = f p
 on_ok (Err e) f p = tt
 
@@ -263,6 +300,7 @@ copies_stretch together tells first count tickets result from from_now to to_mid
   unwritten = s.unwritten;
   spends = at_most (fails_writing result) (0 + count) ((first + count) - first) to to_now (omega arith) (writes_on together (fails_writing result) 0 count to to_mid to_now (0, omega arith, s.spends) w.spends);
   copies = λ t empty before. w.copies t from.base (s.copies t empty before);
+  grows = λ t. grows_on first (first + count) to.log to_mid.log to_now.log (s.grows t) (w.grows t first (first + count));
   whole = λ t empty idle.
       on_ok result (λ (r : IsStretch from.base first count count tickets to_mid.base to.log to_now.log). subst (λ (b : Blocks). CopiesRange from.base first (first + count) b to.log to_now.log) s.spends.same.base (record { copied = r.copied; others = r.others }))
       (w.whole t from.base first to.log (subst (λ (base : Blocks). (b : ℕ) → (cell_of base to.log b).pending ≡ []) (sym s.spends.same.base) idle) (subst (λ (b : Blocks). IsStretch from.base first 0 count tickets b to.log to_mid.log) (sym s.spends.same.base) (s.sent t empty idle)));
@@ -276,6 +314,7 @@ copies_none tells first count tickets fault from from_now to to_now s = record {
   unwritten = s.unwritten;
   spends = (0, omega arith, s.spends);
   copies = s.copies;
+  grows = s.grows;
   whole = λ t empty idle. tt;
   cause = s.cause;
 }
@@ -290,8 +329,16 @@ range_then at base a b c old mid new one_way other_way first second = record {
       ⊎_elim (λ before. second.others x (inl (omega (arith, before, one_way))) ∙ first.others x (inl before)) (λ behind. second.others x (inr behind) ∙ first.others x (inr (omega (arith, behind, other_way)))) out;
 }
 
+-- and the one before it
+range_before : (at base : Blocks) (a b c : ℕ) (old mid new : List Event) → a ≤ b → b ≤ c → CopiesRange at b c base old mid → CopiesRange at a b base mid new → CopiesRange at a c base old new
+range_before at base a b c old mid new one_way other_way first second = record {
+  copied = λ x low high. ⊎_elim (λ before. second.copied x low before) (λ behind. second.others x (inr behind) ∙ first.copied x behind high) (cases_lt x b);
+  others = λ x out.
+      ⊎_elim (λ before. second.others x (inl before) ∙ first.others x (inl (omega (arith, before, one_way)))) (λ behind. second.others x (inr (omega (arith, behind, other_way))) ∙ first.others x (inr behind)) out;
+}
+
 -- nothing is pending behind one
-idle_after : (at base : Blocks) (a b : ℕ) (old new : List Event) → ((x : ℕ) → (cell_of base old x).pending ≡ []) → CopiesRange at a b base old new → (x : ℕ) → (cell_of base new x).pending ≡ []
+pub idle_after : (at base : Blocks) (a b : ℕ) (old new : List Event) → ((x : ℕ) → (cell_of base old x).pending ≡ []) → CopiesRange at a b base old new → (x : ℕ) → (cell_of base new x).pending ≡ []
 idle_after at base a b old new idle range x =
     ⊎_elim (λ before. ap (λ (d : Cell). d.pending) (range.others x (inl before)) ∙ idle x)
     (λ low. ⊎_elim (λ high. ap (λ (d : Cell). d.pending) (range.copied x low high)) (λ behind. ap (λ (d : Cell). d.pending) (range.others x (inr behind)) ∙ idle x) (cases_lt x b)) (cases_lt x a)
@@ -303,37 +350,42 @@ part_none tells a from to = record {
   unwritten = λ t. refl;
   spends = at_most false 0 (a - a) to to (omega arith) (writes_nothing to);
   copies = λ t empty before. before;
+  grows = λ t. grows_none a a to.log;
   whole = λ t empty idle. record { copied = λ b low high. absurd (omega (arith, low, high)); others = λ b out. refl };
   cause = λ t is. absurd (false≢true is);
 }
 
 -- a part that failed is one of a longer range
-pub part_to : (tells : Bool) (a b c : ℕ) (fault : CopyFault) (from from_now to to_now : State) → b ≤ c → CopiesPart tells a b (Err fault) from from_now to to_now → CopiesPart tells a c (Err fault) from from_now to to_now
-part_to tells a b c fault from from_now to to_now longer p = record {
+pub part_to : (tells : Bool) (a b c d : ℕ) (fault : CopyFault) (from from_now to to_now : State) → c ≤ a → b ≤ d → CopiesPart tells a b (Err fault) from from_now to to_now → CopiesPart tells c d (Err fault) from from_now to to_now
+part_to tells a b c d fault from from_now to to_now before behind p = record {
   reads = p.reads;
   unwritten = p.unwritten;
-  spends = at_most (fails_writing (Err fault)) (b - a) (c - a) to to_now (omega (arith, longer)) p.spends;
+  spends = at_most (fails_writing (Err fault)) (b - a) (d - c) to to_now (omega (arith, before, behind)) p.spends;
   copies = p.copies;
+  grows = λ t. grows_wider a b c d to.log to_now.log before behind (p.grows t);
   whole = λ t empty idle. tt;
   cause = p.cause;
 }
 
 module _ (together : SpendTogether) (tells : Bool) (a b c d : ℕ) (result : Result (Unit {0}) CopyFault) (from from_mid from_now to to_mid to_now : State) (one : CopiesPart tells a b (Ok tt) from from_mid to to_mid) (two : CopiesPart tells c d result from_mid from_now to_mid to_now) where
-  reads : OnlyReads (fails_reading result) from from_now
+  pub reads : OnlyReads (fails_reading result) from from_now
   reads = reads_on (fails_reading result) from from_mid from_now one.reads two.reads
 
-  spends : (most : ℕ) → (b - a) + (d - c) ≤ most → WritesAndWaits (fails_writing result) most to to_now
+  pub spends : (most : ℕ) → (b - a) + (d - c) ≤ most → WritesAndWaits (fails_writing result) most to to_now
   spends most few = at_most (fails_writing result) ((b - a) + (d - c)) most to to_now few (writes_on together (fails_writing result) (b - a) (d - c) to to_mid to_now one.spends two.spends)
 
-  copies : IsTrue tells → from.log ≡ [] → AreCopiesOf from.base to.log → AreCopiesOf from.base to_now.log
+  pub copies : IsTrue tells → from.log ≡ [] → AreCopiesOf from.base to.log → AreCopiesOf from.base to_now.log
   copies t empty before = by_base (λ (at : Blocks). AreCopiesOf at to_mid.log) (λ (at : Blocks). AreCopiesOf at to_now.log) one.reads.same.base (two.copies t (one.unwritten t ∙ empty)) (one.copies t empty before)
 
   -- what the second part copied
-  second : IsTrue tells → from.log ≡ [] → ((x : ℕ) → (cell_of to.base to.log x).pending ≡ []) → OnOk result (CopiesRange from.base c d to.base to_mid.log to_now.log)
+  pub second : IsTrue tells → from.log ≡ [] → ((x : ℕ) → (cell_of to.base to.log x).pending ≡ []) → OnOk result (CopiesRange from.base c d to.base to_mid.log to_now.log)
   second t empty idle =
       let here : (x : ℕ) → (cell_of to_mid.base to_mid.log x).pending ≡ [] = subst (λ (base : Blocks). (x : ℕ) → (cell_of base to_mid.log x).pending ≡ []) (sym one.spends.2.same.base) (idle_after from.base to.base a b to.log to_mid.log idle (one.whole t empty idle)) in
       on_ok result (λ (r : CopiesRange from_mid.base c d to_mid.base to_mid.log to_now.log). subst (λ (at : Blocks). CopiesRange at c d to.base to_mid.log to_now.log) one.reads.same.base (subst (λ (base : Blocks). CopiesRange from_mid.base c d base to_mid.log to_now.log) one.spends.2.same.base r))
       (two.whole t (one.unwritten t ∙ empty) here)
+
+  grows : IsTrue tells → (low high : ℕ) → low ≤ a → b ≤ high → low ≤ c → d ≤ high → GrowsWithin low high to.log to_now.log
+  grows t low high a_low b_high c_low d_high = grows_on low high to.log to_mid.log to_now.log (grows_wider a b low high to.log to_mid.log a_low b_high (one.grows t)) (grows_wider c d low high to_mid.log to_now.log c_low d_high (two.grows t))
 
 -- a part, and the one behind it
 pub part_then : SpendTogether → (tells : Bool) (a b c : ℕ) (result : Result (Unit {0}) CopyFault) (from from_mid from_now to to_mid to_now : State) → a ≤ b → b ≤ c → CopiesPart tells a b (Ok tt) from from_mid to to_mid → CopiesPart tells b c result from_mid from_now to_mid to_now
@@ -343,43 +395,54 @@ part_then together tells a b c result from from_mid from_now to to_mid to_now lo
   unwritten = λ t. two.unwritten t ∙ one.unwritten t;
   spends = spends together tells a b b c result from from_mid from_now to to_mid to_now one two (c - a) (omega (arith, low, high));
   copies = copies together tells a b b c result from from_mid from_now to to_mid to_now one two;
+  grows = λ t. grows together tells a b b c result from from_mid from_now to to_mid to_now one two t a c (omega arith) high low (omega arith);
   whole = λ t empty idle. on_ok result (range_then from.base to.base a b c to.log to_mid.log to_now.log low high (one.whole t empty idle)) (second together tells a b b c result from from_mid from_now to to_mid to_now one two t empty idle);
   cause = two.cause;
 }
 
--- what is known of the two disks as the copying begins
-abbrev pub Knows : Bool → Bool → State → State → Type 0
-Knows tells told from to = IsTrue tells → IsTrue told × (from.log ≡ []) × (to.log ≡ [])
-
--- nothing is pending on a disk with no event
-idle_blank : (to : State) → to.log ≡ [] → (x : ℕ) → (cell_of to.base to.log x).pending ≡ []
-idle_blank to blank x = ap (λ (l : List Event). (cell_of to.base l x).pending) blank
-
--- the blocks behind the headers weren't copied
-pub headers_left : (tells told : Bool) (headers : ℕ) (fault : CopyFault) (from from_now to to_now : State) → Knows tells told from to → CopiesPart told headers from.blocks (Err fault) from from_now to to_now → CopiesBlocks tells (Err fault) from from_now to to_now
-headers_left tells told headers fault from from_now to to_now knows p = record {
-  reads = p.reads;
-  unwritten = λ t. p.unwritten (knows t).0 ∙ (knows t).1;
-  spends = at_most (fails_writing (Err fault)) (from.blocks - headers) from.blocks to to_now (omega arith) p.spends;
-  copies = λ t. p.copies (knows t).0 (knows t).1 (no_copies from.base to.log (knows t).2);
-  whole = λ t. tt;
-  cause = λ t is. p.cause (knows t).0 is;
+-- and the one before it
+pub part_before : SpendTogether → (tells : Bool) (a b c : ℕ) (result : Result (Unit {0}) CopyFault) (from from_mid from_now to to_mid to_now : State) → a ≤ b → b ≤ c → CopiesPart tells b c (Ok tt) from from_mid to to_mid → CopiesPart tells a b result from_mid from_now to_mid to_now
+    → CopiesPart tells a c result from from_now to to_now
+part_before together tells a b c result from from_mid from_now to to_mid to_now low high one two = record {
+  reads = reads together tells b c a b result from from_mid from_now to to_mid to_now one two;
+  unwritten = λ t. two.unwritten t ∙ one.unwritten t;
+  spends = spends together tells b c a b result from from_mid from_now to to_mid to_now one two (c - a) (omega (arith, low, high));
+  copies = copies together tells b c a b result from from_mid from_now to to_mid to_now one two;
+  grows = λ t. grows together tells b c a b result from from_mid from_now to to_mid to_now one two t a c low (omega arith) (omega arith) high;
+  whole = λ t empty idle. on_ok result (range_before from.base to.base a b c to.log to_mid.log to_now.log low high (one.whole t empty idle)) (second together tells b c a b result from from_mid from_now to to_mid to_now one two t empty idle);
+  cause = two.cause;
 }
 
--- they were, and then the headers
-pub headers_last : SpendTogether → (tells told : Bool) (headers : ℕ) (result : Result (Unit {0}) CopyFault) (from from_mid from_now to to_mid to_now : State) → headers ≤ from.blocks → Knows tells told from to → CopiesPart told headers from.blocks (Ok tt) from from_mid to to_mid
-    → CopiesPart told 0 headers result from_mid from_now to_mid to_now → CopiesBlocks tells result from from_now to to_now
-headers_last together tells told headers result from from_mid from_now to to_mid to_now few knows one two = record {
-  reads = reads together told headers from.blocks 0 headers result from from_mid from_now to to_mid to_now one two;
-  unwritten = λ t. two.unwritten (knows t).0 ∙ one.unwritten (knows t).0 ∙ (knows t).1;
-  spends = spends together told headers from.blocks 0 headers result from from_mid from_now to to_mid to_now one two from.blocks (omega (arith, few));
-  copies = λ t. copies together told headers from.blocks 0 headers result from from_mid from_now to to_mid to_now one two (knows t).0 (knows t).1 (no_copies from.base to.log (knows t).2);
-  whole = λ t.
-      on_ok result (λ (r : CopiesRange from.base 0 headers to.base to_mid.log to_now.log). subst (λ (base : Blocks). AreCopied from.base from.blocks base to_now.log) (sym (two.spends.2.same.base ∙ one.spends.2.same.base)) (all t r))
-      (second together told headers from.blocks 0 headers result from from_mid from_now to to_mid to_now one two (knows t).0 (knows t).1 (idle_blank to (knows t).2));
-  cause = λ t is. two.cause (knows t).0 is;
-}
-  where
-    all : IsTrue tells → CopiesRange from.base 0 headers to.base to_mid.log to_now.log → AreCopied from.base from.blocks to.base to_now.log
-    all t r x below =
-        ⊎_elim (λ before. r.copied x (omega arith) before) (λ behind. r.others x (inr behind) ∙ (one.whole (knows t).0 (knows t).1 (idle_blank to (knows t).2)).copied x behind below) (cases_lt x headers)
+-- A block alone.
+
+module _ (together : SpendTogether) (tells : Bool) (b : ℕ) (x : List ℕ) (from from_now to to_mid : State) (reads : OnlyReads false from from_now) (log : IsTrue tells → from_now.log ≡ from.log) (bytes : IsTrue tells → from.log ≡ [] → x ≡ from.base b) where
+  here : b ≡ b + 0
+  here = omega arith
+
+  there : IsTrue tells → from.log ≡ [] → x ≡ from.base (b + 0)
+  there t empty = subst (λ (c : ℕ). x ≡ from.base c) here (bytes t empty)
+
+  -- it couldn't be written
+  pub puts_unwritten : {E : Type 0} (e : E) → OnlyWrites true to to_mid → (IsTrue tells → AddsWrite b x (Err e) to.log to_mid.log) → (IsTrue tells → HasFailed to_mid) → CopiesPart tells b (b + 1) (Err Written) from from_now to to_mid
+  puts_unwritten e writes adds failed =
+      copies_none tells b 1 (0 ∷ []) Written from from_now to to_mid
+      (sends_unwritten together tells b 0 (0 ∷ []) from from to to (sends_none tells b (0 ∷ []) from to) from_now reads log x there e 1 to_mid (omega arith) writes (λ t. subst (λ (c : ℕ). AddsWrite c x (Err e) to.log to_mid.log) here (adds t)) failed)
+
+  module _ (laws : CellLaws) (ticket : ℕ) (writes : OnlyWrites false to to_mid) (adds : IsTrue tells → AddsWrite {E = Unit {0}} b x (Ok ticket) to.log to_mid.log) where
+    sent : SendsStretch tells b 1 (ticket ∷ []) (Ok tt) from from_now to to_mid
+    sent =
+        sends_one together tells b 0 (0 ∷ []) from from to to (sends_none tells b (0 ∷ []) from to) from_now reads log x there laws (omega arith) ticket to_mid writes
+        (λ t. subst (λ (c : ℕ). AddsWrite {E = Unit {0}} c x (Ok ticket) to.log to_mid.log) here (adds t))
+
+    module _ (now : State) (hears : IsTrue tells → AddsNotices to_mid.log now.log) where
+      -- it was, and the wait failed
+      pub puts_unheard : OnlyWaits true to_mid now → (IsTrue tells → IsAccepted ticket to_mid.log → HasFailed now) → CopiesPart tells b (b + 1) (Err Written) from from_now to now
+      puts_unheard waits failed =
+          copies_stretch together tells b 1 (ticket ∷ []) (Err Written) from from_now to to_mid now sent
+          (waits_failed together tells 0 1 (ticket ∷ []) to_mid to_mid (waits_none tells 1 (ticket ∷ []) to_mid) (omega arith) now hears 1 (omega arith) waits failed)
+
+      -- it is durable
+      pub puts : OnlyWaits false to_mid now → (IsTrue tells → IsNoticed ticket now.log) → CopiesPart tells b (b + 1) (Ok tt) from from_now to now
+      puts waits noticed =
+          copies_stretch together tells b 1 (ticket ∷ []) (Ok tt) from from_now to to_mid now sent
+          (waits_one together tells 0 1 (ticket ∷ []) to_mid to_mid (waits_none tells 1 (ticket ∷ []) to_mid) (omega arith) now hears laws waits noticed)

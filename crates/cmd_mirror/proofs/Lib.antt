@@ -7,5 +7,7 @@ pub mod Moments
 pub mod Points
 pub mod Honest
 pub mod Backs
+pub mod CopyOrder
 pub mod CopySteps
+pub mod CopyHeaders
 pub mod CopyBays

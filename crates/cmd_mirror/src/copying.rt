@@ -1,19 +1,25 @@
 //! Copies the image under a name to another name, block by block: a disk is opened on the one, a disk of as many blocks is
 //! made under the other, and the blocks are read, written and waited for, a stretch at a time; then both go back.
 
-ghost use Rattle.std.specs.Prelude.{◌≡◌, ◌≢◌, ◌⊎◌, ◌≤◌, ◌+◌, Bool, IsTrue, [], Ok, Err, Result, IfOk, IfErr, OnOk};
+ghost use Rattle.std.specs.Prelude.{◌≡◌, ◌≢◌, ◌⊎◌, ◌<◌, ◌≤◌, ◌+◌, ℕ, Bool, true, false, IsTrue, [], Ok, Err, Result, IfOk, IfErr, OnOk};
+ghost use Rattle.base_types.specs.Seal.{Blocks};
 ghost use Rattle.disk_contract.specs.declared.bay.BayFault.{BayFault as Failure};
 ghost use Rattle.disk_contract.specs.Bay.{Closes, Makes, Opens, SameImage};
+ghost use Rattle.disk_contract.specs.Disk.{OnlyReads, State};
+ghost use Rattle.layout_journal.specs.declared.header.Header as headers;
+ghost use Rattle.layout_journal.specs.Run.{Newest};
 ghost use Rattle.cmd_image.specs.declared.make_refusal.MakeRefusal.TheVariants.{Fault};
 ghost use Rattle.cmd_image.specs.Makes.{HasMakeCause, make_refusal_of_bay};
-ghost use Rattle.cmd_mirror.specs.Copies.{CopiesBlocks, CopiesPart, HasPart, HaveOneImage, SendsStretch, WaitsForStretch};
+ghost use Rattle.cmd_mirror.specs.Copies.{CopiesBlocks, CopiesHeaders, CopiesPart, HasPart, HaveOneImage, SendsStretch, WaitsForStretch};
 ghost use Rattle.cmd_mirror.specs.Returns.{ClosesBoth, Copied, CopiesOpened, CopyLeavesBay, HasCopyReason, SameBeside};
 
 use base_types::Block;
 use base_types::limits::BLOCK_LENGTH;
 use cmd_image::{MakeRefusal, make_refusal_of_bay};
 use crash_argument::a_read_gives_what_was_written_last;
+use crash_record::{headers_need_a_size, newer_header};
 use disk_contract::{Bay, Disk, an_event_changes_one_block, calls_in_a_row_spend_together};
+use layout_journal::{an_image_holds_one_map, read_header};
 use std::alloc::Global;
 use std::error::Error;
 use std::fmt;
@@ -41,16 +47,17 @@ impl Error for CopyFault {}
 /// Copies the image under `name` to `other`, in place of what stood there: the bay opens a disk on the image and makes one
 /// of as many blocks of zeros under the other name; the blocks are read from the one and written to the other; then the
 /// first disk goes back, and then the second, with no marks. The blocks behind the headers are copied first, a stretch at a
-/// time, and each write is waited for before the next stretch begins; the headers are the last stretch. Where a call failed,
-/// those behind it aren't made, but each disk that was handed out goes back. An image of no blocks is copied too: a disk of
-/// no blocks is made and goes back, and no block is read or written.
+/// time, and each write is waited for before the next stretch begins; behind them comes the newer header, and once that is
+/// durable the other one. Where a call failed, those behind it aren't made, but each disk that was handed out goes back. An
+/// image of no blocks is copied too: a disk of no blocks is made and goes back, and no block is read or written.
 ///
 /// # Errors
 /// `Fault` comes of a call of the bay or of a disk that failed, which was counted; that nothing is under `name` is one.
 /// Where the bay tells, it comes only where the bay's calls may fail, where nothing is under `name`, or where a call of a
 /// disk failed as the disk's manner lets it. `NoMemory` comes of want of memory. Where no disk was made under the other
 /// name, the image there is as it was; where one was made, a part of the copy is there, and its other blocks are zeros.
-/// A crash before the end is promised nothing of the other name.
+/// A crash before the end leaves under the other name a part of the copy: where a block of the headers isn't as it was made,
+/// those behind them are copied, and where that of the older header isn't, the newer one is copied.
 pub fn copy_image<B: Bay>(
     alloc: Global,
     bay: &mut B,
@@ -198,8 +205,7 @@ const STRETCH: u32 = 1024;
 const HEADERS: u32 = 2;
 
 /// Copies all blocks of a disk to another one of as many blocks: first those behind the headers, and once they are durable
-/// the headers. So an image whose copying was broken off before them has no header. What is said of contents is said of
-/// disks with no event yet.
+/// the newer header, and once that is durable the other one. What is said of contents is said of disks with no event yet.
 ///
 /// # Errors
 /// Which of the disks failed, which that disk has counted; the blocks behind aren't copied.
@@ -209,12 +215,85 @@ fn copy_blocks<D: Disk>(original: &mut D, copy: &mut D) -> Result<(), CopyFault>
         → CopiesBlocks tells result (D.state original.old) (D.state original.new) (D.state copy.old) (D.state copy.new) }
 {
     calls_in_a_row_spend_together();
+    headers_need_a_size();
     let blocks = original.blocks();
     let headers = HEADERS.min(blocks);
     if let Err(fault) = copy_range(original, copy, headers, blocks) {
         return Err(fault);
     }
-    copy_range(original, copy, 0, headers)
+    if headers < HEADERS {
+        return copy_range(original, copy, 0, headers);
+    }
+    copy_headers(original, copy)
+}
+
+/// Copies the first two blocks, in which the headers are. Both are read before either is written; the newer header is
+/// written first, and waited for before the other block is written. Where neither is a header, block 0 is the first.
+///
+/// # Errors
+/// Which of the disks failed, which that disk has counted; the block behind isn't copied.
+fn copy_headers<D: Disk>(original: &mut D, copy: &mut D) -> Result<(), CopyFault>
+    requires there { 2 ≤ (D.state original.old).blocks }
+    requires within { 2 ≤ (D.state copy.old).blocks }
+    ensures { CopiesHeaders D.tells result (D.state original.old) (D.state original.new) (D.state copy.old) (D.state copy.new) }
+{
+    calls_in_a_row_spend_together();
+    let blocks = original.blocks();
+    let mut zero: Block = [0; BLOCK_LENGTH];
+    let Ok(()) = original.read(0, &mut zero) else {
+        return Err(CopyFault::Read);
+    };
+    let mut one: Block = [0; BLOCK_LENGTH];
+    let Ok(()) = original.read(1, &mut one) else {
+        return Err(CopyFault::Read);
+    };
+    if is_newer_second(&zero, &one, blocks) {
+        if let Err(fault) = put_block(copy, 1, &one) {
+            return Err(fault);
+        }
+        return put_block(copy, 0, &zero);
+    }
+    if let Err(fault) = put_block(copy, 0, &zero) {
+        return Err(fault);
+    }
+    put_block(copy, 1, &one)
+}
+
+/// Whether the newest header of a disk of so many blocks is in slot 1, where these are the blocks of the two slots.
+fn is_newer_second(zero: &Block, one: &Block, blocks: u32) -> bool
+    ensures second { result ≡ true → (img : Blocks) → zero.now ≡ img 0 → one.now ≡ img 1
+        → (slot : ℕ) (h : headers.Header) → Newest blocks img slot h → slot ≡ 1 }
+    ensures first { result ≡ false → (img : Blocks) → zero.now ≡ img 0 → one.now ≡ img 1
+        → (slot : ℕ) (h : headers.Header) → Newest blocks img slot h → slot ≡ 0 }
+{
+    an_image_holds_one_map();
+    let first = read_header(zero, blocks).ok();
+    let second = read_header(one, blocks).ok();
+    match newer_header(first, second) {
+        Some((slot, _)) => slot == 1,
+        None => false,
+    }
+}
+
+/// Writes one block, whose bytes were read from another disk, and waits until it is durable.
+///
+/// # Errors
+/// The write or the wait failed, which the disk has counted.
+fn put_block<D: Disk>(copy: &mut D, b: u32, block: &Block) -> Result<(), CopyFault>
+    requires within { b < (D.state copy.old).blocks }
+    ensures { (from from_now : State) → OnlyReads false from from_now → (IsTrue D.tells → from_now.log ≡ from.log)
+        → (IsTrue D.tells → from.log ≡ [] → block.now ≡ from.base b)
+        → CopiesPart D.tells b (b + 1) result from from_now (D.state copy.old) (D.state copy.new) }
+{
+    an_event_changes_one_block();
+    calls_in_a_row_spend_together();
+    let Ok(ticket) = copy.write(b, block) else {
+        return Err(CopyFault::Write);
+    };
+    let Ok(()) = copy.wait(ticket) else {
+        return Err(CopyFault::Write);
+    };
+    Ok(())
 }
 
 /// Copies the blocks from `start` on and before `end`, in order, a stretch at a time.

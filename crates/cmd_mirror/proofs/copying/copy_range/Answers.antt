@@ -21,7 +21,7 @@ pub returns-in-Err : goal.returns-in-Err
 returns-in-Err g c =
     let so_far = c.loop-first.invariant in
     let upto : c.loop-first.first + c.min-count.result ≤ c.args.end = search rules in
-    part_to g.D.Disk.tells c.args.start (c.loop-first.first + c.min-count.result) c.args.end c.in-Err.fault (g.D.Disk.state c.args.original.now) (g.D.Disk.state c.copy_stretch.new.original) (g.D.Disk.state c.args.copy.now) (g.D.Disk.state c.copy_stretch.new.copy) upto
+    part_to g.D.Disk.tells c.args.start (c.loop-first.first + c.min-count.result) c.args.start c.args.end c.in-Err.fault (g.D.Disk.state c.args.original.now) (g.D.Disk.state c.copy_stretch.new.original) (g.D.Disk.state c.args.copy.now) (g.D.Disk.state c.copy_stretch.new.copy) (omega arith) upto
     (part_then c.calls_in_a_row_spend_together.ensures g.D.Disk.tells c.args.start c.loop-first.first (c.loop-first.first + c.min-count.result) (Err c.in-Err.fault) (g.D.Disk.state c.args.original.now) (g.D.Disk.state c.loop-first.original) (g.D.Disk.state c.copy_stretch.new.original)
     (g.D.Disk.state c.args.copy.now) (g.D.Disk.state c.loop-first.copy) (g.D.Disk.state c.copy_stretch.new.copy) so_far.from (omega arith) so_far.part c.in-Err.ensures)
 
