@@ -1,0 +1,17 @@
+pub mod Lists
+pub mod Maps
+pub mod Order
+pub mod Places
+pub mod Numbers
+pub mod Counting
+pub mod Walks
+pub mod Steps
+pub mod Writes
+pub mod Paths
+pub mod Filling
+pub mod Trees
+pub mod Between
+pub mod Example
+pub mod FewPaths
+pub mod Renumbered
+pub mod OnTheWay
