@@ -9,11 +9,11 @@ use Rattle.base_types.specs.declared.layout.Layout.{Layout}
 use Rattle.base_types.specs.declared.layout.Layout.TheVariants.{One}
 use Rattle.disk_memory.specs.Choice.{ChoiceState}
 use Rattle.cmd_words.specs.ChoiceTexts.{choice_of}
-use Rattle.cmd_words.specs.declared.request.Request.TheVariants.{AppLog, Copy, RunMirrored, Tree}
+use Rattle.cmd_words.specs.declared.request.Request.TheVariants.{AppLog, Copy, RunMirrored, Tree, Upgrade}
 use Rattle.cmd_words.specs.declared.request.Notices.{Notices}
 use Rattle.cmd_words.specs.declared.request.Notices.TheVariants.{Silent, Fifo, Seed}
 use Rattle.cmd_words.specs.Program.{kept}
-use Rattle.cmd_words.specs.Words.{Command, to_record, to_replay, to_show, to_make, to_run, to_load, to_copy, to_log, words_of, options_of, command_of, HasSeedInRange, IsInRange, Named, are_apart, copy_of, copy_with, has_name, layout_in, load_of, load_with, make_of, make_with, named, notices_of, number_in, record_of, recording_of, replay_at, run_with, asked, asked_apart, asked_with, request_of_texts, seed_of, text_of, value_or}
+use Rattle.cmd_words.specs.Words.{Command, to_record, to_replay, to_show, to_make, to_run, to_load, to_copy, to_log, to_upgrade, words_of, options_of, command_of, HasSeedInRange, IsInRange, Named, are_apart, copy_of, copy_with, upgrade_of, upgrade_with, has_name, layout_in, load_of, load_with, make_of, make_with, named, notices_of, number_in, record_of, recording_of, replay_at, run_with, asked, asked_apart, asked_with, request_of_texts, seed_of, text_of, value_or}
 use Rattle.cmd_words.proofs.Apart.{rows}
 use Rattle.cmd_words.proofs.Steps.{AsksNothing, Refused, has_needed}
 use Rattle.cmd_words.proofs.Texts.{number_range, seed_range}
@@ -42,7 +42,7 @@ lacks_journal a c l d e f = grind arith
 lacks_nodes : (a b : Option ℕ) (l : Option Layout) (d : Option Notices) (e : Option ℕ) (f : Option (Option ℕ)) → record_of a b None l d e f ≡ None
 lacks_nodes a b l d e f = grind arith
 
--- and neither is a making, a load, or a copying
+-- and neither is a making, a load, a copying, or an upgrade
 made_lacks_blocks : (a : Option Text) (c d : Option ℕ) (l : Option Layout) → make_with a None c d l ≡ None
 made_lacks_blocks a c d l = grind arith
 
@@ -57,6 +57,18 @@ load_lacks_count a = grind arith
 
 copy_lacks_other : (a : Option Text) → copy_with a None ≡ None
 copy_lacks_other a = grind arith
+
+upgrade_lacks_other : (a : Option Text) (c d e : Option ℕ) → upgrade_with a None c d e ≡ None
+upgrade_lacks_other a c d e = grind arith
+
+upgrade_lacks_blocks : (a b : Option Text) (d e : Option ℕ) → upgrade_with a b None d e ≡ None
+upgrade_lacks_blocks a b d e = grind arith
+
+upgrade_lacks_journal : (a b : Option Text) (c e : Option ℕ) → upgrade_with a b c None e ≡ None
+upgrade_lacks_journal a b c e = grind arith
+
+upgrade_lacks_nodes : (a b : Option Text) (c d : Option ℕ) → upgrade_with a b c d None ≡ None
+upgrade_lacks_nodes a b c d = grind arith
 
 -- the texts in their places
 abbrev notices_in : Option Text → Option Notices
@@ -91,12 +103,28 @@ load_missing texts h = grind (arith, no_name texts (codes "seed"), no_name texts
 copy_missing : (texts : List Named) → has_needed to_copy texts ≡ false → copy_of (text_of texts) ≡ None
 copy_missing texts h = grind (arith, no_name texts (codes "image"), no_name texts (codes "other"), copy_lacks_other)
 
+upgrade_missing : (texts : List Named) → has_needed to_upgrade texts ≡ false → upgrade_of (text_of texts) ≡ None
+upgrade_missing texts h =
+    grind (
+      arith,
+      no_name texts (codes "image"),
+      no_name texts (codes "other"),
+      no_name texts (codes "blocks"),
+      no_name texts (codes "journal"),
+      no_name texts (codes "nodes"),
+      upgrade_lacks_other,
+      upgrade_lacks_blocks,
+      upgrade_lacks_journal,
+      upgrade_lacks_nodes,
+    )
+
 needed_missing : (k : Command) (texts : List Named) → has_needed k texts ≡ false → asked k (text_of texts) ≡ None
 needed_missing to_record texts h = numbers_missing texts h
 needed_missing to_replay texts h = rw (no_name texts (codes "at") h) refl
 needed_missing to_make texts h = made_missing texts h
 needed_missing to_load texts h = load_missing texts h
 needed_missing to_copy texts h = copy_missing texts h
+needed_missing to_upgrade texts h = upgrade_missing texts h
 needed_missing other texts h = rw (no_name texts (codes "image") h) refl
 
 pub refused_none : (k : Command) (want : Option (List Named)) → Refused k want → option_and_then (asked_apart k) want ≡ None
@@ -176,6 +204,14 @@ copy_range (Some image) (Some other) = elim (bytes_eq image other) as (λ b. byt
 ] refl
 copy_range image other = tt
 
+upgrade_range : (image other : Option Text) (b c d : Option ℕ) → IfSome b (λ n. (64 ≤ n) × (n ≤ 1048576)) → IfSome c (λ n. (16 ≤ n) × (n ≤ 65536)) → IfSome d (λ n. (16 ≤ n) × (n ≤ 65536))
+    → IsInRange (upgrade_with image other b c d)
+upgrade_range (Some image) (Some other) (Some b) (Some c) (Some d) hb hc hd = elim (bytes_eq image other) as (λ e. bytes_eq image other ≡ e → IsInRange (if e then None else Some (Upgrade image other b c d))) [
+  | true ↦ λ e. tt
+  | false ↦ λ e. (differ image other e, hb.0, hb.1, hc.0, hc.1, hd.0, hd.1)
+] refl
+upgrade_range image other b c d hb hc hd = tt
+
 pub asked_range : (words : List Text) → IsInRange (request_of_texts words)
 asked_range [] = tt
 asked_range (name ∷ words) = elim (command_of name) as (λ o. IsInRange (option_and_then (asked_with words) o)) [ None ↦ tt | Some k ↦ by_texts k (named (options_of k) words None (words_of k)) ]
@@ -191,6 +227,8 @@ asked_range (name ∷ words) = elim (command_of name) as (λ o. IsInRange (optio
     text_range to_load text = load_range (option_and_then (number_in 0 4294967295) (text (codes "seed"))) (option_and_then (number_in 0 2000) (text (codes "count")))
         (given_range 0 4294967295 (text (codes "seed"))) (given_range 0 2000 (text (codes "count")))
     text_range to_copy text = copy_range (text (codes "image")) (text (codes "other"))
+    text_range to_upgrade text = upgrade_range (text (codes "image")) (text (codes "other")) _ _ _ (given_range 64 1048576 (text (codes "blocks"))) (given_range 16 65536 (text (codes "journal")))
+        (given_range 16 65536 (text (codes "nodes")))
     text_range to_log text = elim (text (codes "image")) as (λ o. IsInRange (option_map (λ image. AppLog image) o)) [ None ↦ tt | Some image ↦ tt ]
 
     apart_range : (k : Command) (b : Bool) (texts : List Named) → IsInRange (if b then asked k (text_of texts) else None)

@@ -11,7 +11,7 @@ use Rattle.clap.specs.Simple.{Shape, built, entered, names_of, subcommand_of}
 use Rattle.clap.proofs.WalkLemmas.{walk_stopped}
 use Rattle.clap.proofs.FaultLemmas.{stopped_fault}
 use Rattle.cmd_words.specs.Program.{program}
-use Rattle.cmd_words.specs.Words.{Command, to_record, to_replay, to_show, to_make, to_run, to_load, to_copy, to_log, name_of, words_of, options_of, command_of, Named, are_apart, named}
+use Rattle.cmd_words.specs.Words.{Command, to_record, to_replay, to_show, to_make, to_run, to_load, to_copy, to_log, to_upgrade, name_of, words_of, options_of, command_of, Named, are_apart, named}
 use Rattle.cmd_words.proofs.Apart.{rows}
 use Rattle.cmd_words.proofs.Steps.{is_clean, unclean_first, or_else_nil, AsksNothing, Fate}
 use Rattle.cmd_words.proofs.Walk.{faults_from, rows_from, none_yet, words_go}
@@ -136,19 +136,20 @@ line_goes [] = tt
 line_goes (word ∷ words) =
     by_names (bytes_eq (codes "record") word) (bytes_eq (codes "replay") word) (bytes_eq (codes "tree") word)
     (bytes_eq (codes "mkfs") word) (bytes_eq (codes "run") word) (bytes_eq (codes "load") word) (bytes_eq (codes "copy") word)
-    (bytes_eq (codes "applog") word)
+    (bytes_eq (codes "applog") word) (bytes_eq (codes "upgrade") word)
   where
-    name_by : Bool → Bool → Bool → Bool → Bool → Bool → Bool → Bool → Option Text
-    name_by a b c d e f g h = option_map (λ (s : Text × List Text). s.0)
+    name_by : Bool → Bool → Bool → Bool → Bool → Bool → Bool → Bool → Bool → Option Text
+    name_by a b c d e f g h i = option_map (λ (s : Text × List Text). s.0)
         (cond (a || false) (Some (codes "record", [])) (cond (b || false) (Some (codes "replay", [])) (cond (c || false) (Some (codes "tree", []))
         (cond (d || false) (Some (codes "mkfs", [])) (cond (e || false) (Some (codes "run", [])) (cond (f || false) (Some (codes "load", []))
-        (cond (g || false) (Some (codes "copy", [])) (cond (h || false) (Some (codes "applog", [])) None))))))))
+        (cond (g || false) (Some (codes "copy", [])) (cond (h || false) (Some (codes "applog", []))
+        (cond (i || false) (Some (codes "upgrade", [])) None)))))))))
 
-    command_by : Bool → Bool → Bool → Bool → Bool → Bool → Bool → Bool → Option Command
-    command_by a b c d e f g h =
+    command_by : Bool → Bool → Bool → Bool → Bool → Bool → Bool → Bool → Bool → Option Command
+    command_by a b c d e f g h i =
         if a then Some to_record else if b then Some to_replay else if c then Some to_show
         else if d then Some to_make else if e then Some to_run else if f then Some to_load
-        else if g then Some to_copy else if h then Some to_log else None
+        else if g then Some to_copy else if h then Some to_log else if i then Some to_upgrade else None
 
     met : Option Text → Held × Step
     met name = subcommand_or_other top.rules name idle 1 word nothing_held
@@ -174,15 +175,16 @@ line_goes (word ∷ words) =
         subst (λ (b : Bool). LineFate b sub (behind_command words k)) (sym (command_faults k words))
         (of_fate k (is_clean (faults_from k none_yet words)) sub (rows_from k none_yet words) (named (options_of k) words None (words_of k)) (command_found k words) (words_go k words))
 
-    by_names : (a b c d e f g h : Bool) → LineGoes (name_by a b c d e f g h) (option_and_then (behind_command words) (command_by a b c d e f g h))
-    by_names true b c d e f g h = command_goes to_record
-    by_names false true c d e f g h = command_goes to_replay
-    by_names false false true d e f g h = command_goes to_show
-    by_names false false false true e f g h = command_goes to_make
-    by_names false false false false true f g h = command_goes to_run
-    by_names false false false false false true g h = command_goes to_load
-    by_names false false false false false false true h = command_goes to_copy
-    by_names false false false false false false false true = command_goes to_log
-    by_names false false false false false false false false =
+    by_names : (a b c d e f g h i : Bool) → LineGoes (name_by a b c d e f g h i) (option_and_then (behind_command words) (command_by a b c d e f g h i))
+    by_names true b c d e f g h i = command_goes to_record
+    by_names false true c d e f g h i = command_goes to_replay
+    by_names false false true d e f g h i = command_goes to_show
+    by_names false false false true e f g h i = command_goes to_make
+    by_names false false false false true f g h i = command_goes to_run
+    by_names false false false false false true g h i = command_goes to_load
+    by_names false false false false false false true h i = command_goes to_copy
+    by_names false false false false false false false true i = command_goes to_log
+    by_names false false false false false false false false true = command_goes to_upgrade
+    by_names false false false false false false false false false =
         subst (λ (b : Bool). LineFate b (entered (built program) (fold (walked top.rules names) (next None) words).stopped) None)
         (sym (other_refused (bytes_eq word (codes "--")) word words)) tt

@@ -16,8 +16,8 @@ use Rattle.clap.specs.Takes.{is_given}
 use Rattle.clap.specs.declared.builder.value_parser.Reading.TheVariants.{AsWritten}
 use Rattle.clap.specs.declared.error.kind.ErrorKind.TheVariants.{ArgumentConflict}
 use Rattle.clap.specs.declared.parser.matches.ValueSource.TheVariants.{CommandLine}
-use Rattle.cmd_words.specs.Program.{copying, loading, logging, making, recording, replaying, running, showing, kept, word as word_rule, option as option_rule}
-use Rattle.cmd_words.specs.Words.{Command, to_record, to_replay, to_show, to_make, to_run, to_load, to_copy, to_log, name_of, Named, has_name, are_apart}
+use Rattle.cmd_words.specs.Program.{copying, loading, logging, making, recording, replaying, running, showing, upgrading, kept, word as word_rule, option as option_rule}
+use Rattle.cmd_words.specs.Words.{Command, to_record, to_replay, to_show, to_make, to_run, to_load, to_copy, to_log, to_upgrade, name_of, Named, has_name, are_apart}
 use Rattle.cmd_words.proofs.Apart.{rows, has_row_is, without_fresh, with_fresh, apart_repeat, apart_more}
 
 -- ---- lists of kinds
@@ -57,6 +57,7 @@ made to_run = running
 made to_load = loading
 made to_copy = copying
 made to_log = logging
+made to_upgrade = upgrading
 
 abbrev pub rules : Command → List Rule
 rules k = filled_from 1 (made k).top.rules
@@ -235,6 +236,8 @@ has_needed to_run texts = has_name (codes "image") texts
 has_needed to_load texts = has_name (codes "seed") texts && has_name (codes "count") texts
 has_needed to_copy texts = has_name (codes "image") texts && has_name (codes "other") texts
 has_needed to_log texts = has_name (codes "image") texts
+has_needed to_upgrade texts =
+    has_name (codes "image") texts && (has_name (codes "other") texts && (has_name (codes "blocks") texts && (has_name (codes "journal") texts && has_name (codes "nodes") texts)))
 
 check_is : (k : Command) (texts : List Named) → is_clean (check_fault (shape k) (rows texts) false) ≡ has_needed k texts
 check_is to_record texts =
@@ -261,6 +264,14 @@ check_is to_copy texts =
     check_two (is_given (codes "image") (rows texts)) (is_given (codes "other") (rows texts))
     ∙ rw (given_is (codes "image") texts, given_is (codes "other") texts) refl
 check_is to_log texts = check_one (is_given (codes "image") (rows texts)) ∙ given_is (codes "image") texts
+check_is to_upgrade texts =
+    go (is_given (codes "image") (rows texts)) (is_given (codes "other") (rows texts)) (is_given (codes "blocks") (rows texts)) (is_given (codes "journal") (rows texts))
+    (is_given (codes "nodes") (rows texts))
+    ∙ rw (given_is (codes "image") texts, given_is (codes "other") texts, given_is (codes "blocks") texts, given_is (codes "journal") texts, given_is (codes "nodes") texts) refl
+  where
+    go : (a b c d e : Bool) → is_clean (check_kinds false false (not a || (not b || (not c || (not d || (not e || false)))))) ≡ (a && (b && (c && (d && e))))
+    go true true true true true = refl
+    go other b c d e = refl
 
 -- the faults of the end
 abbrev pub end_faults : Command → Held → Kinds

@@ -13,7 +13,7 @@ use Rattle.clap.specs.Walk.{Held, Row, Rule, Step, Text, Waiting, Walk, bundle_m
 use Rattle.clap.specs.declared.builder.value_parser.Reading.TheVariants.{AsWritten}
 use Rattle.clap.specs.declared.error.kind.ErrorKind.TheVariants.{TooManyValues}
 use Rattle.clap.specs.declared.parser.matches.ValueSource.TheVariants.{CommandLine}
-use Rattle.cmd_words.specs.Words.{Command, to_record, to_replay, to_show, to_make, to_run, to_load, to_copy, to_log, words_of, options_of, Named, is_flag, before, with_next, with_option, with_word, placed, named, are_apart}
+use Rattle.cmd_words.specs.Words.{Command, to_record, to_replay, to_show, to_make, to_run, to_load, to_copy, to_log, to_upgrade, words_of, options_of, Named, is_flag, before, with_next, with_option, with_word, placed, named, are_apart}
 use Rattle.cmd_words.proofs.Apart.{rows}
 use Rattle.cmd_words.proofs.Steps.{is_clean, unclean_first, unclean_second, clean_first, or_else_nil, or_else_assoc, shape, rules, held_at, at, pends, listed, IsArg, is_arg, at_place, by_name, rule_as, IsKept, IsRepeated, settles, end_faults, Refused, Fate, behind, ends}
 
@@ -68,6 +68,7 @@ data Place : Type 0 where
   second : Place
   third : Place
   fourth : Place
+  fifth : Place
   past : Place
 
 abbrev position : Place → ℕ
@@ -75,7 +76,8 @@ position first = 1
 position second = 2
 position third = 3
 position fourth = 4
-position past = 5
+position fifth = 5
+position past = 6
 
 -- the names of the words that are still to come
 abbrev names_from : Command → Place → List Text
@@ -88,6 +90,10 @@ names_from to_make second = codes "blocks" ∷ codes "journal" ∷ codes "nodes"
 names_from to_make third = codes "journal" ∷ codes "nodes" ∷ []
 names_from to_make fourth = codes "nodes" ∷ []
 names_from to_copy second = codes "other" ∷ []
+names_from to_upgrade second = codes "other" ∷ codes "blocks" ∷ codes "journal" ∷ codes "nodes" ∷ []
+names_from to_upgrade third = codes "blocks" ∷ codes "journal" ∷ codes "nodes" ∷ []
+names_from to_upgrade fourth = codes "journal" ∷ codes "nodes" ∷ []
+names_from to_upgrade fifth = codes "nodes" ∷ []
 names_from k place = []
 
 -- the walk over these words finds what `rest` says of them, wherever it stands
@@ -117,11 +123,16 @@ at_each to_show first = inr record { name = codes "image"; next = second; is = i
 at_each to_make first = inr record { name = codes "image"; next = second; is = is_arg to_make (codes "image") (at_place 1) refl; there = refl; names = refl; leads = refl }
 at_each to_make second = inr record { name = codes "blocks"; next = third; is = is_arg to_make (codes "blocks") (at_place 2) refl; there = refl; names = refl; leads = refl }
 at_each to_make third = inr record { name = codes "journal"; next = fourth; is = is_arg to_make (codes "journal") (at_place 3) refl; there = refl; names = refl; leads = refl }
-at_each to_make fourth = inr record { name = codes "nodes"; next = past; is = is_arg to_make (codes "nodes") (at_place 4) refl; there = refl; names = refl; leads = refl }
+at_each to_make fourth = inr record { name = codes "nodes"; next = fifth; is = is_arg to_make (codes "nodes") (at_place 4) refl; there = refl; names = refl; leads = refl }
 at_each to_run first = inr record { name = codes "image"; next = second; is = is_arg to_run (codes "image") (at_place 1) refl; there = refl; names = refl; leads = refl }
 at_each to_copy first = inr record { name = codes "image"; next = second; is = is_arg to_copy (codes "image") (at_place 1) refl; there = refl; names = refl; leads = refl }
 at_each to_copy second = inr record { name = codes "other"; next = third; is = is_arg to_copy (codes "other") (at_place 2) refl; there = refl; names = refl; leads = refl }
 at_each to_log first = inr record { name = codes "image"; next = second; is = is_arg to_log (codes "image") (at_place 1) refl; there = refl; names = refl; leads = refl }
+at_each to_upgrade first = inr record { name = codes "image"; next = second; is = is_arg to_upgrade (codes "image") (at_place 1) refl; there = refl; names = refl; leads = refl }
+at_each to_upgrade second = inr record { name = codes "other"; next = third; is = is_arg to_upgrade (codes "other") (at_place 2) refl; there = refl; names = refl; leads = refl }
+at_each to_upgrade third = inr record { name = codes "blocks"; next = fourth; is = is_arg to_upgrade (codes "blocks") (at_place 3) refl; there = refl; names = refl; leads = refl }
+at_each to_upgrade fourth = inr record { name = codes "journal"; next = fifth; is = is_arg to_upgrade (codes "journal") (at_place 4) refl; there = refl; names = refl; leads = refl }
+at_each to_upgrade fifth = inr record { name = codes "nodes"; next = past; is = is_arg to_upgrade (codes "nodes") (at_place 5) refl; there = refl; names = refl; leads = refl }
 at_each other place = inl record { there = refl; names = refl }
 
 -- the faults of such a word, by the test whether the last word was this one's too, and where it leads

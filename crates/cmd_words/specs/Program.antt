@@ -54,6 +54,11 @@ copying = with_rule (with_rule (new_app (codes "copy")) (word (codes "image"))) 
 abbrev pub logging : App
 logging = with_rule (new_app (codes "applog")) (word (codes "image"))
 
+-- `upgrade` with its two words and its three numbers
+abbrev pub upgrading : App
+upgrading = with_rule (with_rule (with_rule (with_rule (with_rule (new_app (codes "upgrade"))
+    (word (codes "image"))) (word (codes "other"))) (word (codes "blocks"))) (word (codes "journal"))) (word (codes "nodes"))
+
 -- words behind the program's name, of which the first is a subcommand; and no help
 abbrev pub bare : Shape
 bare = record (new_app (codes "optfs")).top {
@@ -65,8 +70,8 @@ bare = record (new_app (codes "optfs")).top {
 
 -- the whole command line
 abbrev pub program : App
-program = with_subcommand (with_subcommand (with_subcommand (with_subcommand (with_subcommand (with_subcommand (with_subcommand (with_subcommand (record { top = bare; subs = [] })
-    recording.top) replaying.top) showing.top) making.top) running.top) loading.top) copying.top) logging.top
+program = with_subcommand (with_subcommand (with_subcommand (with_subcommand (with_subcommand (with_subcommand (with_subcommand (with_subcommand (with_subcommand (record { top = bare; subs = [] })
+    recording.top) replaying.top) showing.top) making.top) running.top) loading.top) copying.top) logging.top) upgrading.top
 
 -- what `clap` keeps of a text with a name
 abbrev pub kept : Named → Row

@@ -11,7 +11,7 @@ use Rattle.base_types.specs.declared.layout.Layout.TheVariants.{One, Two}
 use Rattle.disk_memory.specs.Choice.{ChoiceState}
 use Rattle.cmd_words.specs.ChoiceTexts.{choice_of}
 use Rattle.cmd_words.specs.declared.request.Request.{Request}
-use Rattle.cmd_words.specs.declared.request.Request.TheVariants.{Record, Replay, Tree, Make, Run, RunMirrored, Copy, Load, AppLog}
+use Rattle.cmd_words.specs.declared.request.Request.TheVariants.{Record, Replay, Tree, Make, Run, RunMirrored, Copy, Load, AppLog, Upgrade}
 use Rattle.cmd_words.specs.declared.request.Notices.{Notices}
 use Rattle.cmd_words.specs.declared.request.Notices.TheVariants.{Silent, Fifo, Seed}
 
@@ -47,7 +47,7 @@ layout_in text =
 
 -- ---- the commands
 
--- what a run is asked for: to record a script, to replay a trace, to show the tree of an image, to make an image, to run a script on one or two, a load, to copy an image, or to serve the log in one
+-- what a run is asked for: to record a script, to replay a trace, to show the tree of an image, to make an image, to run a script on one or two, a load, to copy an image, to serve the log in one, or to make the tree of an image again on a new one
 pub data Command : Type 0 where
   to_record : Command
   to_replay : Command
@@ -57,6 +57,7 @@ pub data Command : Type 0 where
   to_load : Command
   to_copy : Command
   to_log : Command
+  to_upgrade : Command
 
 -- the word that names the command
 abbrev pub name_of : Command → List ℕ
@@ -68,6 +69,7 @@ name_of to_run = codes "run"
 name_of to_load = codes "load"
 name_of to_copy = codes "copy"
 name_of to_log = codes "applog"
+name_of to_upgrade = codes "upgrade"
 
 -- the words that must stand behind it, in their order
 abbrev pub words_of : Command → List (List ℕ)
@@ -79,6 +81,7 @@ words_of to_run = codes "image" ∷ []
 words_of to_load = []
 words_of to_copy = codes "image" ∷ codes "other" ∷ []
 words_of to_log = codes "image" ∷ []
+words_of to_upgrade = codes "image" ∷ codes "other" ∷ codes "blocks" ∷ codes "journal" ∷ codes "nodes" ∷ []
 
 -- its options
 abbrev pub options_of : Command → List (List ℕ)
@@ -90,6 +93,7 @@ options_of to_run = codes "mirror" ∷ []
 options_of to_load = codes "seed" ∷ codes "count" ∷ []
 options_of to_copy = []
 options_of to_log = []
+options_of to_upgrade = []
 
 -- the command that a word names
 abbrev pub command_of : List ℕ → Option Command
@@ -101,7 +105,8 @@ command_of word =
     else if bytes_eq (codes "run") word then Some to_run
     else if bytes_eq (codes "load") word then Some to_load
     else if bytes_eq (codes "copy") word then Some to_copy
-    else if bytes_eq (codes "applog") word then Some to_log else None
+    else if bytes_eq (codes "applog") word then Some to_log
+    else if bytes_eq (codes "upgrade") word then Some to_upgrade else None
 
 -- ---- which texts stand behind the command
 
@@ -251,6 +256,21 @@ load_of text = load_with
 abbrev pub log_of : (List ℕ → Option (List ℕ)) → Option Request
 log_of text = option_map (λ image. AppLog image) (text (codes "image"))
 
+-- the upgrade of this image onto that one with these numbers, where each of them is one and the names differ
+abbrev pub upgrade_with : Option (List ℕ) → Option (List ℕ) → Option ℕ → Option ℕ → Option ℕ → Option Request
+upgrade_with (Some image) (Some other) (Some blocks) (Some journal) (Some nodes) =
+    if bytes_eq image other then None else Some (Upgrade image other blocks journal nodes)
+upgrade_with _ _ _ _ _ = None
+
+-- the upgrade whose words have these texts: the names of the two images; blocks, journal blocks and nodes of the new one, in the ranges that a recording has
+abbrev pub upgrade_of : (List ℕ → Option (List ℕ)) → Option Request
+upgrade_of text = upgrade_with
+    (text (codes "image"))
+    (text (codes "other"))
+    (option_and_then (number_in 64 1048576) (text (codes "blocks")))
+    (option_and_then (number_in 16 65536) (text (codes "journal")))
+    (option_and_then (number_in 16 65536) (text (codes "nodes")))
+
 -- what a command asks for, by the texts of its words and options
 abbrev pub asked : Command → (List ℕ → Option (List ℕ)) → Option Request
 asked to_record = recording_of
@@ -261,6 +281,7 @@ asked to_run = run_of
 asked to_load = load_of
 asked to_copy = copy_of
 asked to_log = log_of
+asked to_upgrade = upgrade_of
 
 -- the same of the command that a word names
 abbrev pub asked_by : List ℕ → (List ℕ → Option (List ℕ)) → Option Request
@@ -303,3 +324,5 @@ IsInRange (Some (RunMirrored image other)) = image ≢ other
 IsInRange (Some (Copy image other)) = image ≢ other
 IsInRange (Some (Load seed count)) = (seed ≤ 4294967295) × (count ≤ 2000)
 IsInRange (Some (AppLog image)) = ⊤
+IsInRange (Some (Upgrade image other blocks journal nodes)) =
+    (image ≢ other) × (64 ≤ blocks) × (blocks ≤ 1048576) × (16 ≤ journal) × (journal ≤ 65536) × (16 ≤ nodes) × (nodes ≤ 65536)

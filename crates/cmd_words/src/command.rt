@@ -4,7 +4,7 @@
 ghost use Rattle.std.specs.Prelude.{◌≡◌, IfOk, false};
 ghost use Rattle.clap.specs.Words.{app_of, rule_of, with_rule, with_subcommand};
 ghost use Rattle.clap.specs.declared.builder.command.Command.TheViews.{out-Command as fields_of};
-ghost use Rattle.cmd_words.specs.Program.{copying, loading, logging, making, needed, option, program, recording, replaying, running, showing, word};
+ghost use Rattle.cmd_words.specs.Program.{copying, loading, logging, making, needed, option, program, recording, replaying, running, showing, upgrading, word};
 
 use base_types::NoMemory;
 use clap::{Arg, ArgAction, Command};
@@ -67,6 +67,9 @@ pub const COPY: &str = "copy";
 /// The name of the image that it makes.
 pub const OTHER: &str = "other";
 
+/// The name of the command that makes the tree of an image again on a new one, which has layout 2.
+pub const UPGRADE: &str = "upgrade";
+
 /// The name of the command that asks for a load.
 pub const LOAD: &str = "load";
 
@@ -99,6 +102,7 @@ pub fn program<'a>(alloc: Global) -> Result<Command<'a>, NoMemory>
     let line = with_load(alloc, line)?;
     let line = with_copy(alloc, line)?;
     let line = with_applog(alloc, line)?;
+    let line = with_upgrade(alloc, line)?;
     Ok(line)
 }
 
@@ -171,6 +175,15 @@ fn with_applog<'a>(alloc: Global, line: Command<'a>) -> Result<Command<'a>, NoMe
 {
     let logging = applog_command(alloc)?;
     let command = line.subcommand(logging)?;
+    Ok(command)
+}
+
+/// This command line with `upgrade`.
+fn with_upgrade<'a>(alloc: Global, line: Command<'a>) -> Result<Command<'a>, NoMemory>
+    ensures { IfOk result (λ command. app_of command ≡ with_subcommand (app_of line.entry) upgrading.top) }
+{
+    let upgrading = upgrade_command(alloc)?;
+    let command = line.subcommand(upgrading)?;
     Ok(command)
 }
 
@@ -266,6 +279,20 @@ fn applog_command<'a>(alloc: Global) -> Result<Command<'a>, NoMemory>
 {
     let command = Command::new(alloc, APPLOG);
     let command = with_word(alloc, command, IMAGE)?;
+    Ok(command)
+}
+
+/// The command `upgrade`.
+fn upgrade_command<'a>(alloc: Global) -> Result<Command<'a>, NoMemory>
+    ensures app { IfOk result (λ command. app_of command ≡ upgrading) }
+    ensures local { IfOk result (λ command. (fields_of command).has_globals ≡ false) }
+{
+    let command = Command::new(alloc, UPGRADE);
+    let command = with_word(alloc, command, IMAGE)?;
+    let command = with_word(alloc, command, OTHER)?;
+    let command = with_word(alloc, command, BLOCKS)?;
+    let command = with_word(alloc, command, JOURNAL)?;
+    let command = with_word(alloc, command, NODES)?;
     Ok(command)
 }
 

@@ -4,13 +4,13 @@
 ghost use Rattle.std.specs.Prelude.{◌≡◌, IfOk, bytes_eq, codes, option_and_then};
 ghost use Rattle.base_types.specs.declared.layout.Layout.TheVariants.{One};
 ghost use Rattle.clap.specs.Words.{first_value, found_of};
-ghost use Rattle.cmd_words.specs.Words.{IsInRange, asked_by, copy_of, layout_in, load_of, log_of, make_of, number_in, recording_of, replay_of, request_of, run_of, tree_of, value_or};
+ghost use Rattle.cmd_words.specs.Words.{IsInRange, asked_by, copy_of, layout_in, load_of, log_of, make_of, number_in, recording_of, replay_of, request_of, run_of, tree_of, upgrade_of, value_or};
 
 use crate::choice_parse::parse_choice;
 use crate::choice_refusal::ChoiceRefusal;
 use crate::command::{
     APPLOG, AT, BLOCKS, COPY, COUNT, FAIL, IMAGE, JOURNAL, LAYOUT, LOAD, MIRROR, MKFS, NODES,
-    NOTICES, OTHER, RECORD, REPLAY, ROOM, RUN, SEED, STAND, TEAR, TREE, program,
+    NOTICES, OTHER, RECORD, REPLAY, ROOM, RUN, SEED, STAND, TEAR, TREE, UPGRADE, program,
 };
 use crate::values::{layout_in, notices_of, number_in};
 use crate::word::Word;
@@ -94,6 +94,15 @@ pub enum Request {
     AppLog {
         image: Word,
     },
+    /// Make the tree of the image with the first name again on a new disk under the second, with so many blocks, journal
+    /// blocks and nodes, in layout 2. The names differ, and each number is in its range of `base_types::limits`.
+    Upgrade {
+        image: Word,
+        other: Word,
+        blocks: u32,
+        journal: u32,
+        nodes: u32,
+    },
 }
 
 /// The room for writes that a recording has without the option.
@@ -164,6 +173,10 @@ fn requested(alloc: Global, name: &str, found: &ArgMatches) -> Result<Option<Req
     }
     if APPLOG == name {
         let request = logging(alloc, found)?;
+        return Ok(request);
+    }
+    if UPGRADE == name {
+        let request = upgrading(alloc, found)?;
         return Ok(request);
     }
     Ok(None)
@@ -303,6 +316,37 @@ fn copying(alloc: Global, found: &ArgMatches) -> Result<Option<Request>, NoMemor
         return Ok(None);
     }
     Ok(Some(Request::Copy { image, other }))
+}
+
+/// The upgrade whose two images and numbers were found.
+fn upgrading(alloc: Global, found: &ArgMatches) -> Result<Option<Request>, NoMemory>
+    ensures { IfOk result (λ request. request ≡ upgrade_of (first_value (found_of found.now))) }
+{
+    let Some(image) = word_in(alloc, found, IMAGE)? else {
+        return Ok(None);
+    };
+    let Some(other) = word_in(alloc, found, OTHER)? else {
+        return Ok(None);
+    };
+    let Some(blocks) = number(found, BLOCKS, LEAST_BLOCKS, MOST_BLOCKS) else {
+        return Ok(None);
+    };
+    let Some(journal) = number(found, JOURNAL, LEAST_JOURNAL, MOST_JOURNAL) else {
+        return Ok(None);
+    };
+    let Some(nodes) = number(found, NODES, LEAST_NODES, MOST_NODES) else {
+        return Ok(None);
+    };
+    if are_one(&image, &other) {
+        return Ok(None);
+    }
+    Ok(Some(Request::Upgrade {
+        image,
+        other,
+        blocks,
+        journal,
+        nodes,
+    }))
 }
 
 /// Whether two images have one name.
