@@ -4,6 +4,7 @@ use Rattle.std.proofs.KnownBytes.{Keeps-refl}
 use Rattle.std.proofs.KnownBytes.{Consumes-nil}
 use Rattle.std.proofs.lemmas.Bool.{and_right, eqb-true, false≢true, lt-ltb, not_from_true, or_from}
 use Rattle.base_types.specs.Counts.{Rose}
+use Rattle.base_types.specs.declared.layout.Layout.TheVariants.{Two}
 use Rattle.disk_contract.specs.declared.event.Event.{Event}
 use Rattle.disk_contract.specs.declared.bay.BayFault.TheVariants as failed
 use Rattle.disk_contract.specs.Bay.{BayState}
@@ -35,8 +36,10 @@ use Rattle.cmd_mirror.specs.declared.refusal.MirroredRefusal.{MirroredRefusal}
 use Rattle.cmd_mirror.specs.declared.refusal.MirroredRefusal.TheVariants as mirrored
 use Rattle.cmd_log.specs.declared.refusal.LogRunRefusal.{LogRunRefusal}
 use Rattle.cmd_log.specs.declared.refusal.LogRunRefusal.TheVariants as logs
+use Rattle.cmd_upgrade.specs.declared.refusal.UpgradeRefusal.{UpgradeRefusal}
+use Rattle.cmd_upgrade.specs.declared.refusal.UpgradeRefusal.TheVariants as upgrade
 use Rattle.cmd_words.specs.declared.request.Request.{Request}
-use Rattle.cmd_words.specs.declared.request.Request.TheVariants.{Record, Replay, Tree, Make, Run, RunMirrored, Copy, Load, AppLog}
+use Rattle.cmd_words.specs.declared.request.Request.TheVariants.{Record, Replay, Tree, Make, Run, RunMirrored, Copy, Load, AppLog, Upgrade}
 use Rattle.cmd_host.specs.declared.disk.Behaviour.{Behaviour}
 use Rattle.cmd_host.specs.Behaving.{MountFails, fails_of, rule_of}
 use Rattle.cmd_host.specs.Disks.{setting_on}
@@ -46,10 +49,11 @@ use Rattle.cmd_program.specs.Loading.{LoadsTo}
 use Rattle.cmd_program.specs.Logging.{EndsServing, LogsTo}
 use Rattle.cmd_program.specs.Making.{EndsMaking}
 use Rattle.cmd_program.specs.Mirroring.{EndsMirrored, RunsMirroredTo}
-use Rattle.cmd_program.specs.Program.{Completes, Does, EndsLoad, EndsLog, EndsMake, EndsReplay, EndsRun, EndsRunOnTwo, EndsShow, EndsSo, MakesWhere, RecordsWhere, RecordsTo, Refuses, setting_of, shape_of}
+use Rattle.cmd_program.specs.Program.{Completes, Does, EndsLoad, EndsLog, EndsMake, EndsReplay, EndsRun, EndsRunOnTwo, EndsShow, EndsSo, EndsUpgrade, MakesWhere, RecordsWhere, RecordsTo, Refuses, UpgradesWhere, setting_of, shape_of}
 use Rattle.cmd_program.specs.Replaying.{EndsAt, EndsCrash, EndsFound, EndsReading, ReplaysTo, trace_line}
 use Rattle.cmd_program.specs.Scripting.{EndsScript, RunsTo}
 use Rattle.cmd_program.specs.Showing.{EndsShowing, ShowsTo}
+use Rattle.cmd_program.specs.Upgrading.{EndsUpgrading}
 use Rattle.cmd_program.specs.declared.status.Status.{Status}
 use Rattle.cmd_program.specs.declared.status.Status.TheVariants.{Done, Usage, BadTrace, NoMemory, DiskFault, Damaged, SourceFault, SinkFault, Spent, NoPrefix, LongInput, BadChoice, NoRoom, Unlike, BadLog}
 use Rattle.cmd_program.proofs.ProgramLemmas.{never_begun}
@@ -256,6 +260,33 @@ does_memory tells (Some (AppLog image)) left told source sink bay = record {
   reason = λ known fault. absurd (unlogged (Err (logs.Run run.NoMemory)) refl fault);
   ends = (refl, refl);
 }
+does_memory tells (Some (Upgrade image other blocks journal nodes)) left told source sink bay = by (geometry_fits (shape_of blocks journal nodes Two))
+  where
+    by : (fits : Bool) → UpgradesWhere fits tells image other (shape_of blocks journal nodes Two) NoMemory (met left left told told source source sink sink bay bay)
+    by true = record {
+      answer = Err upgrade.NoMemory;
+      leaves = λ known. tt;
+      room = λ known. tt;
+      others = λ known each apart beside. refl;
+      comes = inl (record {
+        fault = failed.NoMemory;
+        opens = record {
+          counts = tt;
+          disk = λ known. tt;
+          manner = λ known. tt;
+          kept = λ known each. refl;
+          cause = (omega arith, tt);
+          fails = λ known. tt;
+          same = record { may_fail = refl; manner = λ each. refl };
+          disk_faults = refl;
+          handed = refl;
+          closed = refl;
+        };
+        answer = refl;
+      });
+      ends = (refl, refl);
+    }
+    by false = inr (refl, refl)
 
 pub completes_memory : (request : Option Request) (m : Met) → Completes request NoMemory m
 completes_memory None m = tt
@@ -263,6 +294,7 @@ completes_memory (Some (Record blocks journal nodes layout notices room fail)) m
 completes_memory (Some (Tree image)) m = λ no_sink. tt
 completes_memory (Some (Make image blocks journal nodes layout)) m = λ fits no_sink. tt
 completes_memory (Some (Copy image other)) m = λ no_sink. tt
+completes_memory (Some (Upgrade image other blocks journal nodes)) m = λ fits no_sink. tt
 completes_memory (Some (Load seed count)) m = λ no_sink. tt
 completes_memory other m = λ no_source no_sink. tt
 
@@ -338,6 +370,22 @@ completes_make false tells image g status m s fault does no_sink = absurd (false
 pub completes_copy : (tells : Bool) (image other : List ℕ) (status : Status) (m : Met) → CopiesTo tells image other status m → HasFault status m.source m.source_now m.sink m.sink_now
     → ¬ Rose m.sink m.sink_now → EndsMake (CountsFault m.bay m.bay_now) status
 completes_copy tells image other status m s fault no_sink = ends_making s.answer status m s.cause s.ends fault no_sink
+
+pub completes_upgrade : (fits tells : Bool) (image other : List ℕ) (g : Geometry) (status : Status) (m : Met) → UpgradesWhere fits tells image other g status m → HasFault status m.source m.source_now m.sink m.sink_now
+    → fits ≡ true → ¬ Rose m.sink m.sink_now → EndsUpgrade status
+completes_upgrade false tells image other g status m u fault does no_sink = absurd (false≢true does)
+completes_upgrade true tells image other g status m u fault does no_sink = by u.answer u.ends
+  where
+    behind_line : (X : Status) (line : List ℕ) → EndsUpgrade X → EndsBehind X line status m.taken m.taken_now → EndsUpgrade status
+    behind_line X line may e = ends_so_behind EndsUpgrade X status line m.taken m.taken_now m.source m.source_now m.sink m.sink_now may e fault no_sink
+
+    by : (answer : Result (Unit {0}) UpgradeRefusal) → EndsUpgrading answer status m.taken m.taken_now → EndsUpgrade status
+    by (Ok x) e = subst EndsUpgrade (sym e.0) tt
+    by (Err upgrade.Fault) e = behind_line DiskFault disk_line tt e
+    by (Err (upgrade.Damaged damage)) e = behind_line (Damaged damage) damaged_line tt e
+    by (Err upgrade.Spent) e = behind_line Spent spent_line tt e
+    by (Err upgrade.NoRoom) e = behind_line NoRoom room_line tt e
+    by (Err upgrade.NoMemory) e = subst EndsUpgrade (sym e.0) tt
 
 pub completes_load : (seed count : ℕ) (status : Status) (m : Met) → LoadsTo seed count status m.taken m.taken_now → HasFault status m.source m.source_now m.sink m.sink_now → ¬ Rose m.sink m.sink_now → EndsLoad status
 completes_load seed count status m (inl e) fault no_sink = ends_so_behind EndsLoad Done status (summary_text (summary_of seed count)) m.taken m.taken_now m.source m.source_now m.sink m.sink_now tt e fault no_sink

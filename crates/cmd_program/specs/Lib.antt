@@ -14,3 +14,4 @@ pub mod Program
 pub mod Statuses
 pub mod Recordings
 pub mod Calm
+pub mod Upgrading

@@ -3,10 +3,11 @@ use Rattle.std.specs.Prelude.{◌≡◌, ℕ, ◌^◌, ◌≤◌, ◌⊎◌, ⊤
 use Rattle.std.specs.Io.KnownBytes.{Appends, Consumes, IsAtEnd}
 use Rattle.base_types.specs.Counts.{Rose}
 use Rattle.base_types.specs.declared.layout.Layout.{Layout}
+use Rattle.base_types.specs.declared.layout.Layout.TheVariants.{Two}
 use Rattle.layout_geometry.specs.Geometry.{Geometry, geometry_fits}
 use Rattle.cmd_words.specs.declared.request.Notices.{Notices}
 use Rattle.cmd_words.specs.declared.request.Request.{Request}
-use Rattle.cmd_words.specs.declared.request.Request.TheVariants.{Record, Replay, Tree, Make, Run, RunMirrored, Copy, Load, AppLog}
+use Rattle.cmd_words.specs.declared.request.Request.TheVariants.{Record, Replay, Tree, Make, Run, RunMirrored, Copy, Load, AppLog, Upgrade}
 use Rattle.disk_memory.specs.MemDisk.{manner_by}
 use Rattle.cmd_image.specs.Shows.{CountsFault}
 use Rattle.cmd_host.specs.Behaving.{fails_of, rule_of, Setting}
@@ -20,6 +21,7 @@ use Rattle.cmd_program.specs.Output.{Recorded}
 use Rattle.cmd_program.specs.Replaying.{ReplaysTo}
 use Rattle.cmd_program.specs.Scripting.{RunsTo}
 use Rattle.cmd_program.specs.Showing.{ShowsTo}
+use Rattle.cmd_program.specs.Upgrading.{UpgradesImageTo}
 use Rattle.cmd_program.specs.declared.status.Status.{Status}
 use Rattle.cmd_program.specs.declared.status.Status.TheVariants.{Done, Usage, NoMemory, DiskFault, Damaged, SourceFault, SinkFault, Spent, BadShape, LongInput, NoRoom, Unlike, BadLog}
 
@@ -62,6 +64,11 @@ abbrev pub MakesWhere : Bool → Bool → List ℕ → Geometry → Status → M
 MakesWhere true tells image g status m = MakesTo tells image g status m
 MakesWhere false tells image g status m = Refuses BadShape shape_line status m.taken m.taken_now
 
+-- the tree of an image is made again on a disk of this geometry where the geometry fits, and else that is said
+abbrev pub UpgradesWhere : Bool → Bool → List ℕ → List ℕ → Geometry → Status → Met → Type 0
+UpgradesWhere true tells image other g status m = UpgradesImageTo tells image other g status m
+UpgradesWhere false tells image other g status m = Refuses BadShape shape_line status m.taken m.taken_now
+
 -- the geometry that the words ask for
 abbrev pub shape_of : ℕ → ℕ → ℕ → Layout → Geometry
 shape_of blocks journal nodes layout = record { n = blocks; j = journal; i = nodes; layout = layout }
@@ -70,7 +77,7 @@ shape_of blocks journal nodes layout = record { n = blocks; j = journal; i = nod
 abbrev pub setting_of : ℕ → ℕ → ℕ → Layout → Notices → ℕ → Option ℕ → Setting
 setting_of blocks journal nodes layout notices room fail = record { shape = shape_of blocks journal nodes layout; manner = manner_by room (fails_of fail) (rule_of notices) }
 
--- What the program does for what its words ask, over a bay that tells or doesn't. It records on a disk of the geometry, where that fits, and else says so. It replays a crash of the trace that is its input. It shows the tree of an image of the bay. It makes an image under a name of the bay, where its geometry fits. It serves the load of a seed. It runs the script that is its input on an image of the bay, or on two that are kept alike. It copies an image to another name. It serves the log of an application that an image of the bay keeps. Words that ask for nothing are told the usage.
+-- What the program does for what its words ask, over a bay that tells or doesn't. It records on a disk of the geometry, where that fits, and else says so. It replays a crash of the trace that is its input. It shows the tree of an image of the bay. It makes an image under a name of the bay, where its geometry fits. It serves the load of a seed. It runs the script that is its input on an image of the bay, or on two that are kept alike. It copies an image to another name. It serves the log of an application that an image of the bay keeps. It makes the tree of an image again under another name on a disk of the geometry, where that fits. Words that ask for nothing are told the usage.
 abbrev pub Does : Bool → Option Request → Status → Met → Type 0
 Does tells None status m = Refuses Usage usage_line status m.taken m.taken_now
 Does tells (Some (Record blocks journal nodes layout notices room fail)) status m =
@@ -83,6 +90,8 @@ Does tells (Some (RunMirrored image other)) status m = RunsMirroredTo tells imag
 Does tells (Some (Copy image other)) status m = CopiesTo tells image other status m
 Does tells (Some (Load seed count)) status m = LoadsTo seed count status m.taken m.taken_now
 Does tells (Some (AppLog image)) status m = LogsTo tells image status m
+Does tells (Some (Upgrade image other blocks journal nodes)) status m =
+    UpgradesWhere (geometry_fits (shape_of blocks journal nodes Two)) tells image other (shape_of blocks journal nodes Two) status m
 
 -- the words ask for something that reads the input: a recording on a disk of a geometry that fits, a replay, a run, or a log
 abbrev pub reads_input : Option Request → Bool
@@ -96,6 +105,7 @@ reads_input (Some (RunMirrored image other)) = true
 reads_input (Some (Copy image other)) = false
 reads_input (Some (Load seed count)) = false
 reads_input (Some (AppLog image)) = true
+reads_input (Some (Upgrade image other blocks journal nodes)) = false
 
 -- they ask for something that opens the bay: they name an image of it, with a geometry that fits where one is to be made
 abbrev pub opens_bay : Option Request → Bool
@@ -109,6 +119,7 @@ opens_bay (Some (RunMirrored image other)) = true
 opens_bay (Some (Copy image other)) = true
 opens_bay (Some (Load seed count)) = false
 opens_bay (Some (AppLog image)) = true
+opens_bay (Some (Upgrade image other blocks journal nodes)) = geometry_fits (shape_of blocks journal nodes Two)
 
 -- how a recording may end where neither source nor sink failed and this write is to be lost: as it should, out of memory, or behind an input that is too long; and by a fault of the disk exactly where the first write is lost
 abbrev pub EndsSo : Option ℕ → Status → Type 0
@@ -173,7 +184,12 @@ EndsLog NoRoom = ⊤
 EndsLog BadLog = ⊤
 EndsLog other = EndsRun ⊤ other
 
--- Completeness: unless the source or the sink failed, a recording on a disk of a geometry that fits ends so, and so do a replay, a showing, a making of such a geometry, a copying, a load, a run on an image or on two, and a log.
+-- how an upgrade may end where the sink didn't fail: as a showing, or without room; from what these and a fault of the disk come is said of the upgrade
+abbrev pub EndsUpgrade : Status → Type 0
+EndsUpgrade NoRoom = ⊤
+EndsUpgrade other = EndsShow ⊤ other
+
+-- Completeness: unless the source or the sink failed, a recording on a disk of a geometry that fits ends so, and so do a replay, a showing, a making of such a geometry, a copying, a load, a run on an image or on two, a log, and an upgrade onto such a geometry.
 abbrev pub Completes : Option Request → Status → Met → Type 0
 Completes None status m = ⊤
 Completes (Some (Record blocks journal nodes layout notices room fail)) status m =
@@ -187,3 +203,5 @@ Completes (Some (RunMirrored image other)) status m = ¬ Rose m.source m.source_
 Completes (Some (Copy image other)) status m = ¬ Rose m.sink m.sink_now → EndsMake (CountsFault m.bay m.bay_now) status
 Completes (Some (Load seed count)) status m = ¬ Rose m.sink m.sink_now → EndsLoad status
 Completes (Some (AppLog image)) status m = ¬ Rose m.source m.source_now → ¬ Rose m.sink m.sink_now → EndsLog status
+Completes (Some (Upgrade image other blocks journal nodes)) status m =
+    geometry_fits (shape_of blocks journal nodes Two) ≡ true → ¬ Rose m.sink m.sink_now → EndsUpgrade status

@@ -17,6 +17,7 @@ mod scripting;
 mod showing;
 mod status;
 mod telling;
+mod upgrading;
 
 pub use cmd_session::ImageDamage;
 pub use laws::{a_crash_of_a_recording_is_found, no_fault_is_made_where_nothing_fails};

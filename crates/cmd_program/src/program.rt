@@ -25,6 +25,7 @@ use crate::scripting::run;
 use crate::showing::show;
 use crate::status::Status;
 use crate::telling::{DISK, END, LONG, SHAPE, SOURCE, USAGE, tell};
+use crate::upgrading::upgrade;
 use base_io::{Sink, SinkFault, Source};
 use base_types::{Layout, NoMemory};
 use cmd_host::{Behaviour, Mounted, System, begin};
@@ -55,6 +56,8 @@ use std::alloc::Global;
 /// - `copy IMAGE OTHER` has the bay make a disk under the other name, and makes it a copy of the image.
 /// - `applog IMAGE` mounts the image of the bay, opens the log that it keeps, or a new one, and reads calls from `input`. It
 ///   answers them by the log, and writes their replies to `out`.
+/// - `upgrade IMAGE NEW N J I` has the bay make a disk of this geometry in layout 2 under the new name, formats it, and makes
+///   the tree of the image again on it.
 pub fn optfs<S: Source, K: Sink, Y: Bay>(
     alloc: Global,
     words: &[String],
@@ -149,6 +152,20 @@ fn serve<S: Source, K: Sink, Y: Bay>(
         Request::Copy { image, other } => copy(alloc, image.as_str(), other.as_str(), out, bay),
         Request::Load { seed, count } => load(alloc, *seed, *count, out),
         Request::AppLog { image } => log(alloc, image.as_str(), input, out, bay),
+        Request::Upgrade {
+            image,
+            other,
+            blocks,
+            journal,
+            nodes,
+        } => upgrade(
+            alloc,
+            image.as_str(),
+            other.as_str(),
+            (*blocks, *journal, *nodes),
+            out,
+            bay,
+        ),
     }
 }
 

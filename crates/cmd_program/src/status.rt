@@ -35,7 +35,8 @@ pub enum Status {
     LongInput,
     /// 13: the moment is past the log, or a write that is named isn't pending at it.
     BadChoice,
-    /// 14: there was no room for what was to be made before anything else, as the line before the last one says.
+    /// 14: there was no room: for a log that was to be made before anything else, as the line before the last one says, or on
+    /// a new disk for a tree.
     NoRoom,
     /// 15: two images that are to be run as one don't have the same blocks.
     Unlike,

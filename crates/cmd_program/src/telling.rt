@@ -48,7 +48,7 @@ pub const LONG: &[u8] = b"error 12 long input\n";
 /// That of a choice that isn't one of the log.
 pub const CHOICE: &[u8] = b"error 13 choice\n";
 
-/// That of an image that has no room for what was to be made.
+/// That of an image, or a new disk, that has no room for what was to be made.
 pub const ROOM: &[u8] = b"error 14 room\n";
 
 /// That of two images that are to be run as one, and don't have the same blocks.

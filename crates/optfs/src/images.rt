@@ -1,5 +1,6 @@
-//! Which image the words name that is judged, what is said on standard error of one in which no log can be opened, and what
-//! a run on two images says there beside what the system said: which one was lost, and how one goes on.
+//! Which image the words name that is judged, what is said on standard error of one in which no log can be opened, or of a new
+//! one that has no room, and what a run on two images says there beside what the system said: which one was lost, and how one
+//! goes on.
 
 use cmd_program::Status;
 use cmd_words::{Request, read_words};
@@ -14,20 +15,29 @@ pub(crate) fn request_in(rt: &HostRuntime, words: &[String]) -> Option<Request> 
     }
 }
 
-/// The image that is judged where a tree is to be shown, a script to be run, or a log to be served.
+/// The image that is judged where a tree is to be shown or made again, a script to be run, or a log to be served.
 pub(crate) fn image_of(request: Option<&Request>) -> Option<&str> {
     match request? {
         Request::Tree { image } | Request::Run { image } | Request::AppLog { image } => {
             Some(image.as_str())
         }
         Request::RunMirrored { image, other: _ } => Some(image.as_str()),
+        Request::Upgrade { image, .. } => Some(image.as_str()),
         _ => None,
     }
 }
 
-/// Says of an image in which no log could be opened, so that its run ended with this status, what is wrong with it.
-pub(crate) fn say_of_log(rt: &HostRuntime, status: Status, request: Option<&Request>) {
+/// Says of an image in which no log could be opened, or of a new one that has no room for a tree, so that the run ended with
+/// this status, what is wrong with it.
+pub(crate) fn say_of_room_or_log(rt: &HostRuntime, status: Status, request: Option<&Request>) {
     let image = image_of(request).unwrap_or("the image");
+    if let Some(Request::Upgrade { other, .. }) = request {
+        let other = other.as_str();
+        let _ = eprintln!(rt;
+            "optfs: {other} has too few nodes or data blocks for the tree of {image}, and wasn't made"
+        );
+        return;
+    }
     let _ = match status {
         Status::NoRoom => eprintln!(rt;
             "optfs: {image} has no room for a directory /log, as the refusal says in the line before the last"

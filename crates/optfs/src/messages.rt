@@ -1,7 +1,7 @@
 //! What a run says on standard error: why its status isn't 0, and what the system said. Standard output has what the
 //! pages promise, and none of this; no contract reads it.
 
-use crate::images::{image_of, request_in, say_of_log, say_of_two};
+use crate::images::{image_of, request_in, say_of_room_or_log, say_of_two};
 use crate::streams::Streams;
 use cmd_program::Status;
 use cmd_words::{Request, complaint};
@@ -13,6 +13,7 @@ const USAGE: &str = "usage: optfs mkfs IMAGE N J I [--layout 1|2]
        optfs run IMAGE [--mirror OTHER] < SCRIPT > REPLIES
        optfs applog IMAGE < CALLS > REPLIES
        optfs copy IMAGE OTHER
+       optfs upgrade IMAGE NEW N J I
        optfs tree IMAGE > LISTING
        optfs record N J I [--notices none|fifo|SEED] [--room R] [--fail W] [--layout 1|2] < SCRIPT > TRACE
        optfs replay --at K [--stand all|none|LIST] [--tear LIST] < TRACE
@@ -58,7 +59,7 @@ fn say_status(
                 None => eprintln!(rt; "optfs: the crash leaves no tree: {damage}"),
             };
         }
-        Status::NoRoom | Status::BadLog => say_of_log(rt, status, request),
+        Status::NoRoom | Status::BadLog => say_of_room_or_log(rt, status, request),
         Status::SourceFault => say_of(rt, "the input can't be read", streams.input_error),
         Status::SinkFault => say_of(rt, "the output can't be written", streams.output_error()),
         status => {

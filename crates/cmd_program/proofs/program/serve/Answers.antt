@@ -4,7 +4,7 @@ use Rattle.cmd_words.specs.declared.request.Request.{Request}
 use Rattle.cmd_words.specs.Words.{IsInRange}
 use Rattle.cmd_program.specs.Endings.{Met, met}
 use Rattle.cmd_program.specs.Program.{Completes}
-use Rattle.cmd_program.proofs.Requests.{completes_copy, completes_load, completes_log, completes_make, completes_mirrored, completes_replay, completes_run, completes_show}
+use Rattle.cmd_program.proofs.Requests.{completes_copy, completes_load, completes_log, completes_make, completes_mirrored, completes_replay, completes_run, completes_show, completes_upgrade}
 use Rattle.cmd_program.proofs.program.serve.Goals as goal
 
 pub returns-in-Record-clause-completes : goal.returns-in-Record-clause-completes
@@ -52,3 +52,10 @@ returns-in-Copy-clause-completes g c =
 pub returns-in-AppLog-clause-completes : goal.returns-in-AppLog-clause-completes
 returns-in-AppLog-clause-completes g c =
     rw c.in-AppLog.is (completes_log _ _ c.log.result _ c.log.ensures.logs c.log.ensures.faults)
+
+pub upgrade-requires : goal.upgrade-requires
+upgrade-requires g c = λ same. (subst (λ (r : Request). IsInRange (Some r)) c.in-Upgrade.is c.requires.range).0 (sym c.as_str-in-Upgrade.ensures ∙ same ∙ c.as_str-in-Upgrade-2.ensures)
+
+pub returns-in-Upgrade-clause-completes : goal.returns-in-Upgrade-clause-completes
+returns-in-Upgrade-clause-completes g c =
+    rw c.in-Upgrade.is (completes_upgrade _ _ _ _ _ c.upgrade.result _ (c.upgrade.ensures.upgrades (g.S.Source.remaining c.args.input.now) (g.S.Source.faults c.args.input.now)) (c.upgrade.ensures.faults (g.S.Source.faults c.args.input.now)))
