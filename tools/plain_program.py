@@ -12,7 +12,7 @@ import trial
 
 
 class PlainProgram:
-    """The models, which are called as the program is: `mkfs`, `tree`, `run`, `record` and `replay`."""
+    """The models, which are called as the program is: `mkfs`, `tree`, `run`, `record`, `replay` and `upgrade`."""
 
     is_program = False
     # what may be told of the image that was found damaged last
@@ -61,6 +61,10 @@ class PlainProgram:
         except plain_trace.WrongLine as wrong:
             return trial.Done(3, f"error 3 line {wrong.number}\n", "")
         return trial.Done(answer.status, answer.out, "")
+
+    def upgrade(self, image, numbers):
+        status, new = plain_record.upgrade(image, [int(number) for number in numbers])
+        return trial.Done(status, {11: "error 11 shape\n", 14: "error 14 room\n"}.get(status, ""), ""), new
 
     def damage(self, done, wanted):
         """The model knows all that may be told: what is wanted, where it is among this."""

@@ -1,8 +1,8 @@
 """A plain recorder: the trace of a script on a disk without notices, with each event and all its bytes, in either layout.
 
 It follows docs/FILES.md, docs/DIRECTORIES.md, docs/PIPELINE.md, docs/JOURNAL.md and docs/TRACE.md, and counts by plain_room.py.
-Trials ask it what the program records. No rule of notices is part of it, and no write that fails. What a `run` makes of an
-image has the right tree, but not the right journal.
+Trials ask it what the program records. No rule of notices is part of it, and no write that fails. What it makes of an image
+(`run`, `upgrade`) has the right tree, but not the right journal.
 """
 
 from typing import NamedTuple
@@ -13,6 +13,8 @@ from plain_disk import BLOCK, ENTRY, FRESH, Entry, Event, Header
 from plain_room import Room
 
 EPOCH = 2
+# so many bytes of a file an upgrade writes at once
+PIECE = 65536
 COMMITTED, DURABLE, SURE, PLACED, RELEASED = range(5)
 
 
@@ -348,6 +350,40 @@ def run(image, lines):
     recorder = Recorder.of(image)
     commands = [plain_tree.parse(line.encode("latin-1")) for line in lines]
     return [recorder.answer(command) for command in commands if command is not None], recorder.synced
+
+
+def upgrade(image, numbers):
+    """The status of an upgrade of an image to a disk of layout 2 of these numbers, and the new image, or `None`."""
+    geometry, tree = plain_disk.Geometry(*numbers, 2), plain_disk.tree_of(image)
+    if not geometry.fits():
+        return 11, None
+    live = [node for node in tree.nodes.values() if node.kind != 3]
+    blocks = sum(-(-plain_disk.content_size(geometry, node.kind, node.size) // BLOCK) for node in live)
+    if len(live) > geometry.nodes or blocks > geometry.blocks - geometry.data:
+        return 14, None
+    recorder = Recorder(geometry)
+    for command in making(plain_tree.Tree.of(tree)):
+        if recorder.answer(command).startswith("toobig"):
+            recorder.answer(plain_tree.Command("osync"))
+            recorder.answer(command)
+    recorder.answer(plain_tree.Command("dsync"))
+    return 0, recorder.synced
+
+
+def making(tree):
+    """The commands that make a tree anew: the names of each directory, and then the bytes of each file."""
+    first = {}
+    for path in sorted(path for path in tree.names if tree.is_directory(path)):
+        for name in tree.held(path):
+            below = (*path, name)
+            number = tree.names[below]
+            word = "mkdir" if tree.is_directory(below) else "link" if number in first else "create"
+            yield plain_tree.Command(word, (first[number], below) if word == "link" else (below,))
+            first.setdefault(number, below)
+    for number, path in first.items():
+        data = tree.nodes[number] or b""
+        for at in range(0, len(data), PIECE):
+            yield plain_tree.Command("write", (path, at, data[at : at + PIECE]))
 
 
 def pairs(places):
